@@ -1,0 +1,2 @@
+//! One owner's delay queue over a row of words.
+#![tactic(auto)]

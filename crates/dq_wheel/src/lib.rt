@@ -1,0 +1,2 @@
+//! A hierarchical timing wheel over indexes.
+#![tactic(auto)]

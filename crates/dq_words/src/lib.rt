@@ -1,0 +1,2 @@
+//! Words shared without a lock: the keeper and its callers.
+#![tactic(auto)]
