@@ -1,0 +1,4 @@
+pub mod Digits
+pub mod Keys
+pub mod Units
+pub mod Word

@@ -1,0 +1,75 @@
+//! Words: a stamp, a mark and a field, packed into one `u64` in that order.
+ghost use Rattle.std.specs.Prelude.{◌≡◌, ◌<◌, ◌≤◌};
+ghost use Rattle.dq_ticks.specs.Word.{mark_by, mark_number, packed, parts_of};
+
+use crate::{LAST_FIELD, LAST_STAMP};
+
+const STAMP_UNIT: u64 = 17592186044416;
+
+const MARK_UNIT: u64 = 4398046511104;
+
+/// How an entry stands.
+#[derive(Clone, Copy, PartialEq, Eq, Debug)]
+pub enum Mark {
+    /// Waits for its deadline.
+    LiveMark,
+    /// Was cancelled by a caller.
+    CancelledMark,
+    /// Came out at its deadline.
+    ExpiredMark,
+    /// Was removed by the keeper.
+    RemovedMark,
+}
+
+/// The parts of a word.
+#[derive(Clone, Copy, PartialEq, Eq, Debug)]
+pub struct Parts {
+    /// At most [`LAST_STAMP`] in a word.
+    pub stamp: u32,
+    pub mark: Mark,
+    /// A tick of one millisecond, at most [`LAST_FIELD`] in a word.
+    pub field: u64,
+}
+
+fn number_of(mark: Mark) -> u64
+    ensures { result ≡ mark_number mark }
+{
+    match mark {
+        Mark::LiveMark => 0,
+        Mark::CancelledMark => 1,
+        Mark::ExpiredMark => 2,
+        Mark::RemovedMark => 3,
+    }
+}
+
+fn mark_at(number: u64) -> Mark
+    requires { number < 4 }
+    ensures { result ≡ mark_by number }
+{
+    match number {
+        0 => Mark::LiveMark,
+        1 => Mark::CancelledMark,
+        2 => Mark::ExpiredMark,
+        _ => Mark::RemovedMark,
+    }
+}
+
+/// The word of its parts: 20 bits of stamp, 2 of mark, 42 of field.
+pub fn pack(parts: Parts) -> u64
+    requires stamp { parts.stamp ≤ LAST_STAMP }
+    requires field { parts.field ≤ LAST_FIELD }
+    ensures { result ≡ packed parts }
+{
+    u64::from(parts.stamp) * STAMP_UNIT + number_of(parts.mark) * MARK_UNIT + parts.field
+}
+
+/// The parts of a word: every `u64` is the word of exactly one triple.
+pub fn unpack(word: u64) -> Parts
+    ensures { result ≡ parts_of word }
+{
+    Parts {
+        stamp: (word / STAMP_UNIT) as u32,
+        mark: mark_at(word / MARK_UNIT % 4),
+        field: word % MARK_UNIT,
+    }
+}
