@@ -1,2 +1,4 @@
 //! A hierarchical timing wheel over indexes.
 #![tactic(auto)]
+
+pub mod wheel;
