@@ -1,1 +1,4 @@
 pub mod State
+pub mod Places
+pub mod Moves
+pub mod Wakes

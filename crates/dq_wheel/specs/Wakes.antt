@@ -1,0 +1,14 @@
+-- When a wheel has to be looked at next.
+
+use Rattle.std.specs.Prelude.{◌≡◌, ℕ, ◌≤◌, List, Option, Some, if◌then◌else◌, ◌==◌}
+use Rattle.dq_ticks.specs.Digits.{start_for}
+use Rattle.dq_wheel.specs.State.{filed_at}
+
+-- when an index that is filed at f has to be looked at: now, or when its slot starts
+abbrev pub wake_for : ℕ → ℕ → ℕ
+wake_for e f = if e == f then e else start_for e f
+
+-- w is the least of these over all that are filed
+pub record IsNextWake (e : ℕ) (filed : List (Option ℕ)) (w : ℕ) : Type 0 where
+  pub some : (i : ℕ) × (f : ℕ) × (filed_at filed i ≡ Some f) × (w ≡ wake_for e f)
+  pub least : (i f : ℕ) → filed_at filed i ≡ Some f → w ≤ wake_for e f
