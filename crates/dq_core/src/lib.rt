@@ -2,5 +2,7 @@
 #![tactic(auto)]
 
 pub mod errors;
+pub mod words;
 
 pub use errors::{CoreConfig, CoreError};
+pub use words::{CallError, Desk, Look, Settled, Words};
