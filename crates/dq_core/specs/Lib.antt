@@ -1,1 +1,2 @@
+pub mod WordRows
 pub mod Words

@@ -2,7 +2,9 @@
 #![tactic(auto)]
 
 pub mod errors;
+pub mod vec_words;
 pub mod words;
 
 pub use errors::{CoreConfig, CoreError};
+pub use vec_words::VecWords;
 pub use words::{CallError, Desk, Look, Settled, Words};

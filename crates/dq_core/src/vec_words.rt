@@ -1,0 +1,210 @@
+//! A plain row of words, for a queue that nobody shares.
+
+ghost use Rattle.std.specs.Prelude.{◌≡◌, ℕ, ◌+◌, ◌<◌, ◌≤◌, length, slice_set, replicate, false, max, MatchResult};
+ghost use Rattle.dq_core.specs.Words.{Counts, word_at, look_by};
+ghost use Rattle.dq_core.specs.WordRows.{IsMadeRow, IsNamed, IsCalled, IsExtend, IsCancel, IsLook};
+
+use crate::errors::CoreError;
+use crate::words::{CallError, Look, Settled, Words};
+use dq_ticks::{Key, LAST_TICK, Mark, Parts};
+use std::alloc::{Allocator, Global};
+use std::marker::Model;
+
+/// A row of words that its owner alone changes: so nothing comes between the steps of a queue over it.
+#[derive(Drop)]
+pub struct VecWords<A: Allocator = Global> {
+    row: Vec<Parts, A>,
+    begins: u64,
+    expiries: u64,
+    removals: u64,
+}
+
+impl<A: Allocator> Model for VecWords<A> {
+    ghost use Rattle.dq_core.specs.WordRows.{WordRow, IsWordRow};
+
+    ghost Value = { WordRow };
+
+    ghost view = { λ a. record { known = a.row.items; counts = record { begins = a.begins; expiries = a.expiries; removals = a.removals } } };
+
+    ghost invariant = { λ a. IsWordRow a.row.items (record { begins = a.begins; expiries = a.expiries; removals = a.removals }) };
+}
+
+const UNUSED: Parts = Parts {
+    stamp: 0,
+    mark: Mark::LiveMark,
+    field: 0,
+};
+
+/// The greatest number of words.
+pub const CAPACITY_LIMIT: usize = 65536;
+
+impl<A: Allocator> VecWords<A> {
+    /// A row of words that were never used; BadConfig for a capacity of 0 or beyond 65536.
+    pub fn new(alloc: A, capacity: usize) -> Result<VecWords<A>, CoreError>
+        ensures { IsMadeRow capacity result }
+    {
+        if capacity == 0 || capacity > CAPACITY_LIMIT {
+            return Err(CoreError::BadConfig);
+        }
+        let row = vec![in alloc; UNUSED; capacity]?;
+        Ok(VecWords {
+            row,
+            begins: 0,
+            expiries: 0,
+            removals: 0,
+        })
+    }
+
+    /// The word that a key names, where the key's stamp is its stamp.
+    fn named(&self, key: &Key) -> Result<Parts, CallError>
+        ensures { IsNamed self.now.known key.now result }
+    {
+        let index = key.entry().index() as usize;
+        if index >= self.row.len() || key.stamp() == 0 {
+            return Err(CallError::Unknown);
+        }
+        let word = self.row[index];
+        if word.stamp < key.stamp() {
+            return Err(CallError::Unknown);
+        }
+        if key.stamp() < word.stamp {
+            return Err(CallError::Stale { seen: word.stamp });
+        }
+        Ok(word)
+    }
+
+    /// The deadline of the word that a key names, where it is live.
+    fn callable(&self, key: &Key) -> Result<u64, CallError>
+        ensures { IsCalled self.now.known key.now result }
+    {
+        let word = self.named(key)?;
+        match word.mark {
+            Mark::LiveMark => Ok(word.field),
+            _ => Err(CallError::Ended {
+                how: shown(word.mark, word.field),
+            }),
+        }
+    }
+
+    /// Raises the deadline of a live word, and answers the deadline that is then in force.
+    pub fn extend(&mut self, key: &Key, when: u64) -> Result<u64, CallError>
+        ensures { IsExtend self.old key.now when result self.new }
+    {
+        if when > LAST_TICK {
+            return Err(CallError::TooFar { limit: LAST_TICK });
+        }
+        let deadline = self.callable(key)?.max(when);
+        self.row[key.entry().index() as usize] = Parts {
+            stamp: key.stamp(),
+            mark: Mark::LiveMark,
+            field: deadline,
+        };
+        Ok(deadline)
+    }
+
+    /// Cancels a live word, and answers the deadline that is given up.
+    pub fn cancel(&mut self, key: &Key) -> Result<u64, CallError>
+        ensures { IsCancel self.old key.now result self.new }
+    {
+        let deadline = self.callable(key)?;
+        self.row[key.entry().index() as usize] = Parts {
+            stamp: key.stamp(),
+            mark: Mark::CancelledMark,
+            field: 0,
+        };
+        Ok(deadline)
+    }
+
+    /// What the word that a key names shows.
+    pub fn look_key(&self, key: &Key) -> Result<Look, CallError>
+        ensures { IsLook self.now.known key.now result }
+    {
+        let word = self.named(key)?;
+        Ok(shown(word.mark, word.field))
+    }
+}
+
+/// What a mark and a field show.
+pub fn shown(mark: Mark, field: u64) -> Look
+    ensures { result ≡ look_by mark field }
+{
+    match mark {
+        Mark::LiveMark => Look::StillLive(field),
+        Mark::CancelledMark => Look::LookCancelled,
+        Mark::ExpiredMark => Look::LookExpired(field),
+        Mark::RemovedMark => Look::LookRemoved(field),
+    }
+}
+
+impl<A: Allocator> Words for VecWords<A> {
+    ghost known = { λ w. w.known };
+
+    ghost counts = { λ w. w.counts };
+
+    ghost shared = { false };
+
+    fn rows(&self) -> usize {
+        self.row.len()
+    }
+
+    fn begin(&mut self, index: usize, stamp: u32, when: u64) {
+        self.row[index] = Parts {
+            stamp,
+            mark: Mark::LiveMark,
+            field: when,
+        };
+        self.begins += 1;
+    }
+
+    fn look(&mut self, index: usize) -> Parts {
+        self.row[index]
+    }
+
+    fn settle(&mut self, index: usize, stamp: u32, at: u64) -> Settled {
+        let word = self.row[index];
+        match word.mark {
+            Mark::LiveMark if word.field == at => {
+                self.row[index] = Parts {
+                    stamp,
+                    mark: Mark::ExpiredMark,
+                    field: at,
+                };
+                self.expiries += 1;
+                Settled::SettledExpired
+            }
+            Mark::LiveMark => Settled::Later(word.field),
+            _ => Settled::SettledCancelled,
+        }
+    }
+
+    fn renew(&mut self, index: usize, stamp: u32, when: u64) -> Option<u64> {
+        let word = self.row[index];
+        match word.mark {
+            Mark::LiveMark => {
+                self.row[index] = Parts {
+                    stamp: stamp + 1,
+                    mark: Mark::LiveMark,
+                    field: when,
+                };
+                Some(word.field)
+            }
+            _ => None,
+        }
+    }
+
+    fn finish(&mut self, index: usize, stamp: u32) -> Option<u64> {
+        let word = self.row[index];
+        match word.mark {
+            Mark::LiveMark => {
+                self.row[index] = Parts {
+                    stamp,
+                    mark: Mark::RemovedMark,
+                    field: word.field,
+                };
+                self.removals += 1;
+                Some(word.field)
+            }
+            _ => None,
+        }
+    }
+}
