@@ -1,9 +1,11 @@
 //! Ticks of one millisecond, their base-64 digits, packed words and keys.
 #![tactic(auto)]
 
+pub mod digits;
 pub mod keys;
 pub mod words;
 
+pub use digits::{digit, level_of, slot_start, span};
 pub use keys::{EntryId, Key};
 pub use words::{Mark, Parts, pack, unpack};
 
