@@ -189,7 +189,7 @@ high_order_top e f g a b at_f at_g before =
 high_order : (e f g L : ℕ) → IsAhead e f → IsAhead e g → IsLevel e f L → IsLevel e g L → turn e L (digit_of f L) < turn e L (digit_of g L) → f / 64 ^ L < g / 64 ^ L
 high_order e f g L a b at_f at_g before =
     elim (cases_lt L 5) [
-      | inl below ↦ high_order_low e f g L below at_f at_g (omega (arith, turn_low e L (digit_of f L) below, turn_low e L (digit_of g L) below))
+      | inl below ↦ let other : L ≢ 5 = omega arith in high_order_low e f g L below at_f at_g (omega (arith, turn_low e L (digit_of f L) other, turn_low e L (digit_of g L) other))
       | inr top ↦
           let is : 5 ≡ L = omega (arith, at_f.small) in
           let P : ℕ → Type 0 = λ M. IsLevel e f M → IsLevel e g M → turn e M (digit_of f M) < turn e M (digit_of g M) → f / 64 ^ M < g / 64 ^ M in
