@@ -33,15 +33,15 @@ floor_high : (f p : ℕ) → 0 < p → f / p * p / p ≡ f / p
 floor_high f p pos = mul-div_cancel (f / p) pos
 
 -- ---- the start of a slot
-start_low : (e place k : ℕ) → place < 5 → start e place k ≡ e / 64 ^ (place + 1) * 64 ^ (place + 1) + k * 64 ^ place
+pub start_low : (e place k : ℕ) → place < 5 → start e place k ≡ e / 64 ^ (place + 1) * 64 ^ (place + 1) + k * 64 ^ place
 unfolding start
 start_low e place k below = grind (arith, nat_tests)
 
-start_top : (e k : ℕ) → start e 5 k ≡ (e / lap + (if nat_lt (digit_of e 5) k then 0 else 1)) * lap + k * top_span
+pub start_top : (e k : ℕ) → start e 5 k ≡ (e / lap + (if nat_lt (digit_of e 5) k then 0 else 1)) * lap + k * top_span
 unfolding start
 start_top e k = refl
 
-rejoin : (q r p a : ℕ) → a ≡ q * 64 + r → q * (p * 64) + r * p ≡ a * p
+pub rejoin : (q r p a : ℕ) → a ≡ q * 64 + r → q * (p * 64) + r * p ≡ a * p
 rejoin q r p a is =
     ap (λ x. x + r * p) (ap (λ x. q * x) (mul_comm p 64) ∙ sym (mul_assoc q 64 p)) ∙ sym (add-mul (q * 64) r p) ∙ ap (λ x. x * p) (sym is)
 

@@ -49,10 +49,10 @@ level_only e f L M at other =
           ]
     ]
 
-highest_lower : (n e f : ℕ) → digit_of e n ≡ digit_of f n → highest_differing (suc n) e f ≡ highest_differing n e f
+pub highest_lower : (n e f : ℕ) → digit_of e n ≡ digit_of f n → highest_differing (suc n) e f ≡ highest_differing n e f
 highest_lower n e f same = grind (arith, nat_tests)
 
-highest_here : (n e f : ℕ) → digit_of e n ≢ digit_of f n → highest_differing (suc n) e f ≡ n
+pub highest_here : (n e f : ℕ) → digit_of e n ≢ digit_of f n → highest_differing (suc n) e f ≡ n
 highest_here n e f apart = grind (arith, nat_tests)
 
 -- n is the highest place in which e and f differ
@@ -60,7 +60,7 @@ pub record IsHighest (e f n : ℕ) : Type 0 where
   pub differs : e / 64 ^ n ≢ f / 64 ^ n
   pub agrees : e / 64 ^ suc n ≡ f / 64 ^ suc n
 
-digits_make : (a b : ℕ) → a / 64 ≡ b / 64 → a % 64 ≡ b % 64 → a ≡ b
+pub digits_make : (a b : ℕ) → a / 64 ≡ b / 64 → a % 64 ≡ b % 64 → a ≡ b
 digits_make a b high low = omega arith
 
 pub highest_is : (n e f : ℕ) → e ≢ f → e / 64 ^ n ≡ f / 64 ^ n → IsHighest e f (highest_differing n e f)
@@ -90,7 +90,7 @@ level_by_highest e f h highest =
           })
     ]
 
-high_none : (t : ℕ) → t < tick_limit → t / 64 ^ 7 ≡ 0
+pub high_none : (t : ℕ) → t < tick_limit → t / 64 ^ 7 ≡ 0
 high_none t small = div-eq_of_lt small
 
 level_min : (e f : ℕ) → level e f ≡ min 5 (highest_differing 7 e f)

@@ -1,4 +1,6 @@
 pub mod Digits
 pub mod Keys
+pub mod Order
+pub mod Places
 pub mod Units
 pub mod Word

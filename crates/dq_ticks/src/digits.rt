@@ -1,6 +1,7 @@
 //! Base-64 digits of ticks, and the levels, slots and starts that they name.
 ghost use Rattle.std.specs.Prelude.{◌≡◌, ◌≢◌, ◌+◌, ◌*◌, ◌/◌, ◌%◌, ◌^◌, ◌<◌, ◌≤◌, MatchOption};
 ghost use Rattle.dq_ticks.specs.Digits.{digit_of, level, start};
+ghost use Rattle.dq_ticks.specs.Places.{DigitsTellTicks, EarlierTurnsComeFirst, HighestDiffers, LowerLevelsComeFirst, PlacesAreStable, RingStartsAreLeast, SlotsOpenDownward, SlotsStartAhead, StartsByDigits};
 ghost use Rattle.dq_ticks.specs.Units.{top_span};
 
 use crate::LAST_TICK;
@@ -84,3 +85,25 @@ fn ring_start(now: u64, slot: u64) -> u64
         (now / LAP + 1) * LAP + slot * TOP_SPAN
     }
 }
+
+/// Digits mean what they are called: they tell ticks apart, the highest differing place is one, and a slot starts at
+/// the tick that its digit names.
+pub fn starts_have_digits()
+    ensures apart { DigitsTellTicks }
+    ensures highest { HighestDiffers }
+    ensures low { StartsByDigits }
+    ensures ring { RingStartsAreLeast }
+{}
+
+/// Places are stable until their slot starts; opening it leads to a lower level or to due.
+pub fn places_are_stable()
+    ensures ahead { SlotsStartAhead }
+    ensures stable { PlacesAreStable }
+    ensures opening { SlotsOpenDownward }
+{}
+
+/// The lowest level and, there, the slot that comes soonest has the least start.
+pub fn soonest_slots_come_first()
+    ensures lower { LowerLevelsComeFirst }
+    ensures earlier { EarlierTurnsComeFirst }
+{}

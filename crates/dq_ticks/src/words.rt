@@ -1,5 +1,6 @@
 //! Words: a stamp, a mark and a field, packed into one `u64` in that order.
 ghost use Rattle.std.specs.Prelude.{◌≡◌, ◌<◌, ◌≤◌};
+ghost use Rattle.dq_ticks.specs.Order.{CancelsEnd, ExtendsRaise, PartsComeBack, PastWordsStay, WordsAreApart, WordsAreOrdered, WordsHaveParts};
 ghost use Rattle.dq_ticks.specs.Word.{mark_by, mark_number, packed, parts_of};
 
 use crate::{LAST_FIELD, LAST_STAMP};
@@ -73,3 +74,19 @@ pub fn unpack(word: u64) -> Parts
         field: word % MARK_UNIT,
     }
 }
+
+/// Words are the numbers of their parts, one for each, and in their order: stamp, then mark, then field.
+pub fn words_are_ordered()
+    ensures parts { WordsHaveParts }
+    ensures back { PartsComeBack }
+    ensures apart { WordsAreApart }
+    ensures ordered { WordsAreOrdered }
+{}
+
+/// The greater of two words is how an extend and a cancel act in one atomic step: an extend raises the deadline of a
+/// live word, a cancel ends it, and a word that is past their stamp or mark stays.
+pub fn greater_words_win()
+    ensures extends { ExtendsRaise }
+    ensures cancels { CancelsEnd }
+    ensures stays { PastWordsStay }
+{}
