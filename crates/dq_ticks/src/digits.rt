@@ -4,7 +4,7 @@ ghost use Rattle.dq_ticks.specs.Digits.{digit_of, level, start};
 ghost use Rattle.dq_ticks.specs.Places.{DigitsTellTicks, EarlierTurnsComeFirst, HighestDiffers, LowerLevelsComeFirst, PlacesAreStable, RingStartsAreLeast, SlotsOpenDownward, SlotsStartAhead, StartsByDigits};
 ghost use Rattle.dq_ticks.specs.Units.{top_span};
 
-use crate::LAST_TICK;
+use crate::{LAST_TICK, LEVELS, SLOTS};
 
 const TOP_SPAN: u64 = 1073741824;
 
@@ -12,7 +12,7 @@ const LAP: u64 = 68719476736;
 
 #[tactic(auto, using(crate::proofs::Bits::shifted))]
 fn without_lowest(t: u64, places: usize) -> u64
-    requires { places < 6 }
+    requires { places < LEVELS }
     ensures { result ≡ t / 64 ^ places }
 {
     t >> (6 * places as u64)
@@ -20,16 +20,16 @@ fn without_lowest(t: u64, places: usize) -> u64
 
 /// The base-64 digit of `t` at a place, the lowest place being 0.
 pub fn digit(t: u64, level: usize) -> u64
-    requires { level < 6 }
+    requires { level < LEVELS }
     ensures { result ≡ digit_of t level }
 {
     without_lowest(t, level) % 64
 }
 
-#[tactic(auto, using(crate::proofs::Bits::power_shifted, crate::proofs::Bits::power_small))]
 /// How many ticks of one millisecond a slot of a level spans.
+#[tactic(auto, using(crate::proofs::Bits::power_shifted, crate::proofs::Bits::power_small))]
 pub fn span(level: usize) -> u64
-    requires { level < 6 }
+    requires { level < LEVELS }
     ensures value { result ≡ 64 ^ level }
     ensures positive { 0 < result }
     ensures small { result ≤ top_span }
@@ -42,32 +42,27 @@ pub fn span(level: usize) -> u64
 pub fn level_of(now: u64, when: u64) -> Option<usize>
     requires ordered { now ≤ when }
     requires tick { when ≤ LAST_TICK }
-    ensures { MatchOption result (now ≡ when) (λ n. (now ≢ when) × (n < 6) × (n ≡ level now when)) }
+    ensures { MatchOption result (now ≡ when) (λ n. (now ≢ when) × (n < LEVELS) × (n ≡ level now when)) }
 {
     let differing = now ^ when;
     if differing == 0 {
         return None;
     }
-    Some((differing.ilog2() as usize / 6).min(5))
+    Some((differing.ilog2() as usize / 6).min(LEVELS - 1))
 }
 
-#[tactic(auto, unfolding(crate::specs::Digits::start))]
 /// The tick at which a slot of a level starts, seen from the tick `now`. Below the top level it is `now` with its digit
 /// at that level set to `slot` and all lower digits 0. The top level is a ring: there it is the least multiple of
 /// `2^30` after `now` with that digit, so that the slot of `now` itself comes last.
+#[tactic(auto, unfolding(crate::specs::Digits::start))]
 pub fn slot_start(now: u64, level: usize, slot: u64) -> u64
     requires tick { now ≤ LAST_TICK }
-    requires level_in { level < 6 }
-    requires slot_in { slot < 64 }
+    requires level_in { level < LEVELS }
+    requires slot_in { slot < SLOTS }
     ensures { result ≡ start now level slot }
 {
-    if level == 5 {
-        let laps = if digit(now, 5) < slot {
-            now / LAP
-        } else {
-            now / LAP + 1
-        };
-        laps * LAP + slot * TOP_SPAN
+    if level == LEVELS - 1 {
+        ring_start(now, slot)
     } else {
         without_lowest(now, level + 1) * span(level + 1) + slot * span(level)
     }
@@ -76,10 +71,10 @@ pub fn slot_start(now: u64, level: usize, slot: u64) -> u64
 #[tactic(auto, unfolding(crate::specs::Digits::start))]
 fn ring_start(now: u64, slot: u64) -> u64
     requires tick { now ≤ LAST_TICK }
-    requires slot_in { slot < 64 }
+    requires slot_in { slot < SLOTS }
     ensures { result ≡ start now 5 slot }
 {
-    if digit(now, 5) < slot {
+    if digit(now, LEVELS - 1) < slot {
         now / LAP * LAP + slot * TOP_SPAN
     } else {
         (now / LAP + 1) * LAP + slot * TOP_SPAN

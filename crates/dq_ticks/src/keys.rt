@@ -1,14 +1,16 @@
-//! The names of entries and of their lives. They check nothing: the calls that take a key do.
+//! The names of entries and of their lives. Making one checks nothing: the calls that take a key do.
 ghost use Rattle.std.specs.Prelude.{◌≡◌};
 
+use std::fmt;
+use std::fmt::{Debug, Formatter};
 use std::marker::Model;
 
 const HALF_UNIT: u64 = 4294967296;
 
 /// An entry: its shard, its index there, and the stamp of its birth.
-#[derive(Clone, Copy, PartialEq, Eq, Debug)]
+#[derive(Clone, Copy, PartialEq, Eq)]
 pub struct EntryId {
-    // shard and index in one number, so that an id comes back in two registers
+    // Shard and index share a number, so that an id fits two registers.
     place: u64,
     born: u64,
 }
@@ -38,18 +40,21 @@ impl EntryId {
         }
     }
 
+    /// The shard in which the entry stands.
     pub fn shard(&self) -> u32
         ensures { result ≡ self.now.shard }
     {
         (self.place / HALF_UNIT) as u32
     }
 
+    /// The entry's index in its shard.
     pub fn index(&self) -> u32
         ensures { result ≡ self.now.index }
     {
         (self.place % HALF_UNIT) as u32
     }
 
+    /// The stamp of the entry's birth, which tells it from earlier entries at its index.
     pub fn born(&self) -> u32
         ensures { result ≡ self.now.born }
     {
@@ -57,10 +62,20 @@ impl EntryId {
     }
 }
 
-/// A key: an entry, and the stamp of the life at which it is meant.
-#[derive(Clone, Copy, PartialEq, Eq, Debug)]
+impl Debug for EntryId {
+    fn fmt<W: fmt::Write>(&self, f: &mut Formatter<W>) -> fmt::Result {
+        f.debug_struct("EntryId")
+            .field("shard", &self.shard())
+            .field("index", &self.index())
+            .field("born", &self.born())
+            .finish()
+    }
+}
+
+/// A key: an entry, and the stamp at which it is meant. A reset gives the entry a new stamp, and its old keys are stale.
+#[derive(Clone, Copy, PartialEq, Eq)]
 pub struct Key {
-    // shard and index; birth and stamp
+    // Shard and index share a number, and so do birth and stamp, so that a key fits two registers.
     place: u64,
     stamps: u64,
 }
@@ -72,11 +87,17 @@ impl Model for Key {
 
     ghost Value = { KeyName };
 
-    ghost view = { λ a. record { entry = record { shard = a.place / half_unit; index = a.place % half_unit; born = a.stamps / half_unit }; stamp = a.stamps % half_unit } };
+    ghost view = { λ a. record {
+      entry = record { shard = a.place / half_unit; index = a.place % half_unit; born = a.stamps / half_unit };
+      stamp = a.stamps % half_unit;
+    } };
 
     ghost invariant = { λ a. (a.place < half_unit * half_unit) × (a.stamps < half_unit * half_unit) };
 
-    ghost inverse = { λ n. record { place = n.entry.shard * half_unit + n.entry.index; stamps = n.entry.born * half_unit + n.stamp } };
+    ghost inverse = { λ n. record {
+      place = n.entry.shard * half_unit + n.entry.index;
+      stamps = n.entry.born * half_unit + n.stamp;
+    } };
 }
 
 impl Key {
@@ -90,6 +111,7 @@ impl Key {
         }
     }
 
+    /// The entry that is meant.
     pub fn entry(&self) -> EntryId
         ensures { result ≡ self.now.entry }
     {
@@ -99,9 +121,19 @@ impl Key {
         }
     }
 
+    /// The stamp at which the entry is meant.
     pub fn stamp(&self) -> u32
         ensures { result ≡ self.now.stamp }
     {
         (self.stamps % HALF_UNIT) as u32
+    }
+}
+
+impl Debug for Key {
+    fn fmt<W: fmt::Write>(&self, f: &mut Formatter<W>) -> fmt::Result {
+        f.debug_struct("Key")
+            .field("entry", &self.entry())
+            .field("stamp", &self.stamp())
+            .finish()
     }
 }
