@@ -1,1 +1,3 @@
+mod Cells
+pub mod Shelves
 pub mod WordRow

@@ -1,0 +1,9 @@
+use Rattle.std.proofs.Common.{arith}
+use Rattle.dq_core.proofs.Shelves.{worn_count}
+use Rattle.dq_core.proofs.slots.Slots.worn.Goals as goal
+
+pub overflow_sub-result-2 : goal.overflow_sub-result-2
+overflow_sub-result-2 g c = let w = worn_count c.self.invariant in omega arith
+
+pub returns : goal.returns
+returns g c = let w = worn_count c.self.invariant in rw (← c.self.view_is) (omega arith)

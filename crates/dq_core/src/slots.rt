@@ -1,0 +1,270 @@
+//! The fixed row of slots, with a stack of those that are free.
+//!
+//! A slot has a stamp, at first 0, which rises by one with each value that is put there and with each reset of what is
+//! held there. A slot that holds nothing at the last stamp is worn: it is never used again. All the memory is taken by
+//! `new`, and every other call is of constant time.
+ghost use Rattle.std.specs.Prelude.{◌≡◌, ℕ, ◌+◌, ◌<◌, ◌≤◌, ◌^◌, length, replicate, IfOk, Some, true};
+ghost use Rattle.std.specs.List.{count_by};
+
+use std::alloc::{AllocError, Allocator, Global};
+use std::marker::Model;
+
+/// What is held at a slot.
+#[derive(Drop)]
+pub struct Held<T> {
+    /// The stamp under which the value was put there.
+    pub born: u32,
+    /// The value.
+    pub value: T,
+}
+
+// A slot as it lies in memory: one row, so that an insert and a removal touch one line.
+#[derive(Drop)]
+struct Cell<T> {
+    stamp: u32,
+    // The birth stamp, where there is a value.
+    born: u32,
+    value: Option<T>,
+}
+
+impl<T> Model for Cell<T> {
+    ghost use Rattle.dq_core.specs.Slots.{Row};
+    ghost use Rattle.dq_core.specs.Cells.{held_of};
+
+    ghost Value = { Row T };
+
+    ghost view = { λ a. record { stamp = a.stamp; held = held_of a.born a.value } };
+}
+
+impl<T: Drop> Cell<T> {
+    ghost use Rattle.dq_core.specs.Slots.{unused, is_held, IsBorn, filled_row, vacated_row, raised_row};
+
+    fn unused() -> Self
+        ensures { result ≡ unused }
+    {
+        Cell {
+            stamp: 0,
+            born: 0,
+            value: None,
+        }
+    }
+
+    #[inline]
+    fn stamp(&self) -> u32
+        ensures { result ≡ self.now.stamp }
+    {
+        self.stamp
+    }
+
+    #[inline]
+    fn is_held(&self) -> bool
+        ensures { result ≡ is_held self.now }
+    {
+        self.value.is_some()
+    }
+
+    #[inline]
+    fn born(&self) -> Option<u32>
+        ensures { IsBorn self.now result }
+    {
+        match &self.value {
+            Some(_) => Some(self.born),
+            None => None,
+        }
+    }
+
+    #[inline]
+    fn fill(&mut self, value: T)
+        requires { self.old.stamp + 1 < 2 ^ 32 }
+        ensures { self.new ≡ filled_row self.old value }
+    {
+        self.stamp += 1;
+        self.born = self.stamp;
+        self.value = Some(value);
+    }
+
+    #[inline]
+    fn vacate(&mut self) -> Held<T>
+        requires { is_held self.old ≡ true }
+        ensures held { self.old.held ≡ Some result }
+        ensures vacated { self.new ≡ vacated_row self.old }
+    {
+        let value = self.value.take().unwrap();
+        Held {
+            born: self.born,
+            value,
+        }
+    }
+
+    #[inline]
+    fn raise(&mut self)
+        requires { self.old.stamp + 1 < 2 ^ 32 }
+        ensures { self.new ≡ raised_row self.old }
+    {
+        self.stamp += 1;
+    }
+}
+
+/// The fixed row of slots.
+#[derive(Drop)]
+pub struct Slots<T, A: Allocator = Global> {
+    last: u32,
+    taken: usize,
+    cells: Vec<Cell<T>, A>,
+    free: Vec<u32, A>,
+}
+
+impl<T, A: Allocator> Model for Slots<T, A> {
+    ghost use Rattle.std.specs.Prelude.{vec_capacity};
+    ghost use Rattle.dq_core.specs.Slots.{Shelf};
+    ghost use Rattle.dq_core.specs.Shelved.{IsShelved};
+
+    ghost Value = { Shelf T };
+
+    ghost view = { λ a. record { last_stamp = a.last; rows = a.cells.items } };
+
+    ghost invariant = { λ a. IsShelved a.last a.cells.items a.free.items a.taken (vec_capacity a.free) };
+}
+
+impl<T: Drop, A: Allocator + Clone> Slots<T, A> {
+    ghost use Rattle.dq_core.specs.Slots.{Shelf, unused};
+    ghost use Rattle.dq_ticks.specs.declared.TheConstants.{LAST_STAMP};
+
+    /// A row of slots that were never used.
+    pub fn new(alloc: A, capacity: usize, last: u32) -> Result<Slots<T, A>, AllocError>
+        requires size { capacity ≤ 65536 }
+        requires used { 0 < last }
+        requires bound { last ≤ LAST_STAMP }
+        ensures { IfOk result (λ s. s ≡ record { last_stamp = last; rows = replicate capacity unused }) }
+    {
+        let mut cells = Vec::with_capacity(alloc.clone()?, capacity)?;
+        let mut free = Vec::with_capacity(alloc, capacity)?;
+        // The lowest index goes on top.
+        for turn in 0..capacity {
+            cells.push_reserved(Cell::unused());
+            free.push_reserved((capacity - 1 - turn) as u32);
+        }
+        Ok(Slots {
+            last,
+            taken: 0,
+            cells,
+            free,
+        })
+    }
+}
+
+impl<T: Drop, A: Allocator> Slots<T, A> {
+    ghost use Rattle.dq_core.specs.Slots.{Shelf, row_at, is_free, is_held, is_worn, vacated, raised, unused, IsBorn, IsFilled, IsShelf};
+
+    /// The row is in good order.
+    pub fn law(&self)
+        ensures { IsShelf self.now }
+    {
+        let _ = &self.last;
+    }
+
+    /// How many slots there are.
+    #[inline]
+    pub fn capacity(&self) -> usize
+        ensures { result ≡ length self.now.rows }
+    {
+        self.cells.len()
+    }
+
+    /// How many slots hold a value.
+    #[inline]
+    pub fn linked(&self) -> usize
+        ensures { result ≡ count_by is_held self.now.rows }
+    {
+        self.taken
+    }
+
+    /// How many slots are worn: they hold nothing and have no stamp left.
+    #[inline]
+    pub fn worn(&self) -> usize
+        ensures { result ≡ count_by (is_worn self.now.last_stamp) self.now.rows }
+    {
+        self.cells.len() - self.taken - self.free.len()
+    }
+
+    /// The last stamp.
+    #[inline]
+    pub fn last(&self) -> u32
+        ensures { result ≡ self.now.last_stamp }
+    {
+        self.last
+    }
+
+    /// The present stamp of a slot.
+    #[inline]
+    pub fn stamp(&self, index: usize) -> u32
+        requires { index < length self.now.rows }
+        ensures { result ≡ (row_at self.now.rows index).stamp }
+    {
+        let cell = &self.cells[index];
+        cell.stamp()
+    }
+
+    /// Whether a slot holds a value.
+    #[inline]
+    pub fn is_held(&self, index: usize) -> bool
+        requires { index < length self.now.rows }
+        ensures { result ≡ is_held (row_at self.now.rows index) }
+    {
+        let cell = &self.cells[index];
+        cell.is_held()
+    }
+
+    /// The birth stamp of what a slot holds.
+    #[inline]
+    pub fn born(&self, index: usize) -> Option<u32>
+        requires { index < length self.now.rows }
+        ensures { IsBorn (row_at self.now.rows index) result }
+    {
+        let cell = &self.cells[index];
+        cell.born()
+    }
+
+    /// Puts a value into a free slot, under that slot's next stamp, and answers its index; hands the value back where no
+    /// slot is free.
+    #[inline]
+    pub fn fill(&mut self, value: T) -> Result<usize, T>
+        ensures { IsFilled self.old value result self.new }
+    {
+        let Some(top) = self.free.pop() else {
+            return Err(value);
+        };
+        let index = top as usize;
+        let cell = &mut self.cells[index];
+        cell.fill(value);
+        self.taken += 1;
+        Ok(index)
+    }
+
+    /// Takes out what a slot holds.
+    #[inline]
+    pub fn vacate(&mut self, index: usize) -> Held<T>
+        requires { is_held (row_at self.old.rows index) ≡ true }
+        ensures held { (row_at self.old.rows index).held ≡ Some result }
+        ensures vacated { self.new ≡ vacated self.old index }
+    {
+        let cell = &mut self.cells[index];
+        let held = cell.vacate();
+        if cell.stamp() < self.last {
+            self.free.push_reserved(index as u32);
+        }
+        self.taken -= 1;
+        held
+    }
+
+    /// Gives what a slot holds its next stamp.
+    #[inline]
+    pub fn raise(&mut self, index: usize)
+        requires held { is_held (row_at self.old.rows index) ≡ true }
+        requires left { (row_at self.old.rows index).stamp < self.old.last_stamp }
+        ensures { self.new ≡ raised self.old index }
+    {
+        let cell = &mut self.cells[index];
+        cell.raise();
+    }
+}
