@@ -1,0 +1,217 @@
+//! `peers time ROW ENTRIES THREADS ROUNDS [PEER..]`: times what servers use now in place of the shared delay queue.
+//! One line for each peer and round; README.md says what stands in it.
+
+mod floor;
+mod heap;
+mod plan;
+mod queue;
+mod rows;
+mod tokio_queue;
+
+use std::process::ExitCode;
+
+use floor::Floor;
+use heap::{Extending, HeapQueue};
+use queue::{Locked, Queue, Shared};
+use rows::{Clock, Counts, Load, NoClock, Row, Sample};
+use tokio_queue::{PausedClock, TokioQueue};
+
+const USAGE: &str = "usage: peers time ROW ENTRIES THREADS ROUNDS [PEER..]
+rows: insert extend reset remove cancel poll mixed callers
+entries: 1 to 65536; threads: 1, and 1 to 64 for callers";
+
+/// What one call of the program times.
+struct Asked {
+    row_name: String,
+    row: Row,
+    entries: usize,
+    threads: usize,
+    rounds: usize,
+    peers: Vec<String>,
+}
+
+impl Asked {
+    fn read(args: &[String]) -> Option<Asked> {
+        let [time, row_name, entries, threads, rounds, peers @ ..] = args else {
+            return None;
+        };
+        let (_, row) = Row::ALL.into_iter().find(|(name, _)| name == row_name)?;
+        let entries = entries.parse().ok().filter(|entries| (1..=65_536).contains(entries))?;
+        let threads = threads.parse().ok().filter(|threads| (1..=64).contains(threads))?;
+        let rounds = rounds.parse().ok()?;
+        let known = peers.iter().all(|peer| peers_of(row).contains(&peer.as_str()));
+        if time != "time" || !known || (row != Row::Callers && threads != 1) {
+            return None;
+        }
+        Some(Asked { row_name: row_name.clone(), row, entries, threads, rounds, peers: peers.to_vec() })
+    }
+
+    fn wants(&self, peer: &str) -> bool {
+        self.peers.is_empty() || self.peers.iter().any(|asked| asked == peer)
+    }
+}
+
+/// The peers of a row. The two heaps differ in an extend alone, and only what is locked can be shared.
+fn peers_of(row: Row) -> &'static [&'static str] {
+    match row {
+        Row::Extend => &[
+            "delay-queue",
+            "delay-queue-locked",
+            "heap-push",
+            "heap-push-locked",
+            "heap-note",
+            "heap-note-locked",
+            "fetch-max",
+        ],
+        Row::Mixed => {
+            &["delay-queue", "delay-queue-locked", "heap-push", "heap-push-locked", "heap-note", "heap-note-locked"]
+        }
+        Row::Callers => &["fetch-max", "heap-push-locked", "heap-note-locked", "delay-queue-locked"],
+        _ => &["delay-queue", "delay-queue-locked", "heap-note", "heap-note-locked"],
+    }
+}
+
+/// A peer's rounds, one call for each.
+type Rounds<'a> = Box<dyn FnMut() -> Sample + 'a>;
+
+/// The rounds of one owner. One pass warms up.
+fn owned<'a, Q: Queue + 'a>(asked: &'a Asked, queue: Q, clock: &'a dyn Clock) -> Rounds<'a> {
+    let mut load = Load::new(queue, clock, asked.entries);
+    clock.within(&mut || load.pass(asked.row));
+    Box::new(move || {
+        let mut sample = Sample::default();
+        clock.within(&mut || sample = load.round(asked.row));
+        sample
+    })
+}
+
+/// The rounds of a queue behind a lock, or of one that needs none.
+fn shared<'a, Q: Shared + 'a>(asked: &'a Asked, queue: Q, clock: &'a dyn Clock) -> Rounds<'a> {
+    if asked.row != Row::Callers {
+        return owned(asked, queue, clock);
+    }
+    let mut load = Load::new(queue, clock, asked.entries);
+    clock.within(&mut || load.pass(Row::Insert));
+    Box::new(move || {
+        let mut sample = Sample::default();
+        clock.within(&mut || sample = load.callers(asked.threads));
+        sample
+    })
+}
+
+fn rounds_of<'a>(asked: &'a Asked, peer: &str, clock: &'a PausedClock) -> Rounds<'a> {
+    let entries = asked.entries;
+    match peer {
+        "delay-queue" => owned(asked, TokioQueue::new(clock, entries), clock),
+        "delay-queue-locked" => shared(asked, Locked::new(TokioQueue::new(clock, entries)), clock),
+        "heap-push" => owned(asked, HeapQueue::new(Extending::Push, entries), &NoClock),
+        "heap-push-locked" => shared(asked, Locked::new(HeapQueue::new(Extending::Push, entries)), &NoClock),
+        "heap-note" => owned(asked, HeapQueue::new(Extending::Note, entries), &NoClock),
+        "heap-note-locked" => shared(asked, Locked::new(HeapQueue::new(Extending::Note, entries)), &NoClock),
+        _ => shared(asked, Floor::new(entries), &NoClock),
+    }
+}
+
+/// Whether a peer's last deadlines are the schedule's: `DelayQueue` has no call that only raises a deadline.
+fn is_by_schedule(asked: &Asked, peer: &str) -> bool {
+    asked.threads > 1 && peer.starts_with("delay-queue")
+}
+
+fn print_sample(asked: &Asked, peer: &str, round: usize, sample: &Sample) {
+    let Asked { row_name, entries, threads, .. } = asked;
+    let Counts { inserts, extends, resets, removes, cancels, outs, values, deadlines } = sample.counts;
+    let deadlines = if is_by_schedule(asked, peer) { "-".to_string() } else { deadlines.to_string() };
+    println!(
+        "{peer} {row_name} {entries} {threads} {round} {} {} {inserts} {extends} {resets} {removes} {cancels} {outs} {values} {deadlines}",
+        sample.spent.as_nanos(),
+        sample.operations
+    );
+}
+
+fn time(asked: &Asked) {
+    let names: Vec<&str> = peers_of(asked.row).iter().copied().filter(|peer| asked.wants(peer)).collect();
+    let clocks: Vec<PausedClock> = names.iter().map(|_| PausedClock::new()).collect();
+    let mut peers: Vec<(&str, Rounds)> =
+        names.iter().zip(&clocks).map(|(name, clock)| (*name, rounds_of(asked, name, clock))).collect();
+    for round in 1..=asked.rounds {
+        let mut expected: Option<Counts> = None;
+        for (name, next_round) in &mut peers {
+            let sample = next_round();
+            print_sample(asked, name, round, &sample);
+            let mut counts = sample.counts;
+            let expected = *expected.get_or_insert(counts);
+            if is_by_schedule(asked, name) {
+                counts.deadlines = expected.deadlines;
+            }
+            assert_eq!(counts, expected, "{name} did what the peers before it did");
+        }
+    }
+}
+
+fn main() -> ExitCode {
+    let args: Vec<String> = std::env::args().skip(1).collect();
+    match Asked::read(&args) {
+        Some(asked) => {
+            time(&asked);
+            ExitCode::SUCCESS
+        }
+        None => {
+            eprintln!("{USAGE}");
+            ExitCode::from(2)
+        }
+    }
+}
+
+#[cfg(test)]
+mod tests {
+    use super::*;
+
+    fn asked(row: Row, threads: usize) -> Asked {
+        Asked { row_name: String::new(), row, entries: 500, threads, rounds: 1, peers: Vec::new() }
+    }
+
+    /// Every peer does in every row what the others do.
+    #[test]
+    fn peers_agree() {
+        for (_, row) in Row::ALL {
+            time(&asked(row, if row == Row::Callers { 2 } else { 1 }));
+        }
+    }
+
+    fn polled<Q: Queue>(queue: &mut Q, clock: &dyn Clock, tick: u64) -> Vec<(u64, u64)> {
+        clock.moment(tick);
+        let mut outs = Vec::new();
+        while let Some(out) = queue.poll(tick) {
+            outs.push((queue.deadline(&out), Q::value(&out)));
+        }
+        outs
+    }
+
+    fn keeps_deadlines<Q: Queue>(mut queue: Q, clock: &dyn Clock) {
+        clock.within(&mut || {
+            let a = queue.insert(1, 10);
+            let b = queue.insert(2, 20);
+            let c = queue.insert(3, 30);
+            let d = queue.insert(4, 40);
+            assert_eq!(queue.extend(a, 25), 25);
+            queue.reset(d, 5);
+            queue.cancel(b);
+            assert_eq!(polled(&mut queue, clock, 4), []);
+            assert_eq!(polled(&mut queue, clock, 24), [(5, 4)]);
+            assert_eq!(queue.remove(c), 3);
+            assert_eq!(polled(&mut queue, clock, 100), [(25, 1)]);
+            assert_eq!(polled(&mut queue, clock, 1_000), []);
+        });
+    }
+
+    #[test]
+    fn each_peer_keeps_deadlines() {
+        let clocks = [PausedClock::new(), PausedClock::new()];
+        keeps_deadlines(TokioQueue::new(&clocks[0], 4), &clocks[0]);
+        keeps_deadlines(Locked::new(TokioQueue::new(&clocks[1], 4)), &clocks[1]);
+        for extending in [Extending::Push, Extending::Note] {
+            keeps_deadlines(HeapQueue::new(extending, 4), &NoClock);
+            keeps_deadlines(Locked::new(HeapQueue::new(extending, 4)), &NoClock);
+        }
+    }
+}

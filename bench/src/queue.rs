@@ -1,0 +1,91 @@
+//! What the rows ask of a peer.
+
+use std::sync::Mutex;
+
+/// A queue of values with deadlines. Ticks are of one millisecond.
+pub trait Queue {
+    type Key: Copy + Send + Sync;
+    /// What a poll gives; its parts are read by the functions below, so that a row pays only for what it reads.
+    type Out;
+
+    fn insert(&mut self, value: u64, deadline: u64) -> Self::Key;
+    /// Raises a deadline, and gives the one in force.
+    fn extend(&mut self, key: Self::Key, deadline: u64) -> u64;
+    /// Sets a deadline, also to an earlier one.
+    fn reset(&mut self, key: Self::Key, deadline: u64) -> Self::Key;
+    /// Ends an entry and gives its value.
+    fn remove(&mut self, key: Self::Key) -> u64;
+    /// Ends an entry.
+    fn cancel(&mut self, key: Self::Key);
+    /// An entry whose deadline is at most `tick`.
+    fn poll(&mut self, tick: u64) -> Option<Self::Out>;
+
+    fn value(out: &Self::Out) -> u64;
+    fn deadline(&self, out: &Self::Out) -> u64;
+}
+
+/// A queue that several threads extend.
+pub trait Shared: Queue + Sync {
+    fn extend_shared(&self, key: Self::Key, deadline: u64) -> u64;
+    fn poll_shared(&self, tick: u64) -> Option<Self::Out>;
+}
+
+/// A queue behind the standard lock, which each call takes once.
+pub struct Locked<Q>(pub Mutex<Q>);
+
+impl<Q> Locked<Q> {
+    pub fn new(queue: Q) -> Locked<Q> {
+        Locked(Mutex::new(queue))
+    }
+
+    fn with<R>(&self, call: impl FnOnce(&mut Q) -> R) -> R {
+        call(&mut self.0.lock().expect("no call panics under the lock"))
+    }
+}
+
+impl<Q: Queue> Queue for Locked<Q> {
+    type Key = Q::Key;
+    type Out = Q::Out;
+
+    fn insert(&mut self, value: u64, deadline: u64) -> Q::Key {
+        self.with(|queue| queue.insert(value, deadline))
+    }
+
+    fn extend(&mut self, key: Q::Key, deadline: u64) -> u64 {
+        self.with(|queue| queue.extend(key, deadline))
+    }
+
+    fn reset(&mut self, key: Q::Key, deadline: u64) -> Q::Key {
+        self.with(|queue| queue.reset(key, deadline))
+    }
+
+    fn remove(&mut self, key: Q::Key) -> u64 {
+        self.with(|queue| queue.remove(key))
+    }
+
+    fn cancel(&mut self, key: Q::Key) {
+        self.with(|queue| queue.cancel(key))
+    }
+
+    fn poll(&mut self, tick: u64) -> Option<Q::Out> {
+        self.with(|queue| queue.poll(tick))
+    }
+
+    fn value(out: &Q::Out) -> u64 {
+        Q::value(out)
+    }
+
+    fn deadline(&self, out: &Q::Out) -> u64 {
+        self.with(|queue| queue.deadline(out))
+    }
+}
+
+impl<Q: Queue + Send> Shared for Locked<Q> {
+    fn extend_shared(&self, key: Q::Key, deadline: u64) -> u64 {
+        self.with(|queue| queue.extend(key, deadline))
+    }
+
+    fn poll_shared(&self, tick: u64) -> Option<Q::Out> {
+        self.with(|queue| queue.poll(tick))
+    }
+}
