@@ -1,4 +1,5 @@
 //! A hierarchical timing wheel over indexes.
 #![tactic(auto)]
 
+mod rings;
 pub mod wheel;

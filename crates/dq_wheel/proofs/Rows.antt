@@ -1,0 +1,125 @@
+-- The circular lists as rows of numbers.
+
+use Rattle.std.proofs.Common.{◌≡◌, ◌≢◌, ℕ, ◌+◌, ◌<◌, ◌≤◌, List, length, get_or, set, take, min, refl, sym, arith, ◌∙◌, ap}
+use Rattle.std.proofs.Math.ListN.{length-set}
+use Rattle.std.proofs.lemmas.List.{get_or-set_same, get_or-set_other}
+use Rattle.std.proofs.Math.Seq.{take-set-lt}
+use Rattle.std.proofs.lemmas.List.{length-take-le, get_or-take, length-take}
+use Rattle.dq_wheel.specs.Ring.{Node, Ring, IsRings}
+use Rattle.dq_wheel.specs.Rows.{homes}
+use Rattle.dq_wheel.specs.declared.rings.Row.{Row}
+use Rattle.dq_wheel.proofs.Links.{linked, unlinked, rank2, first_home, first_in, first_back, none_in, last_home, last_in, before_in, after_in}
+
+-- a row with two numbers written
+set_first : (xs : List ℕ) (i j v w : ℕ) → i < length xs → i ≢ j → get_or (set (set xs i v) j w) i 0 ≡ v
+set_first xs i j v w i_in d = get_or-set_other (set xs i v) j i w 0 d ∙ get_or-set_same xs i v 0 i_in
+
+set_second : (xs : List ℕ) (i j v w : ℕ) → j < length xs → get_or (set (set xs i v) j w) j 0 ≡ w
+set_second xs i j v w j_in = get_or-set_same (set xs i v) j w 0 (rw length-set j_in)
+
+set_others : (xs : List ℕ) (i j v w x : ℕ) → x ≢ i → x ≢ j → get_or (set (set xs i v) j w) x 0 ≡ get_or xs x 0
+set_others xs i j v w x d e = get_or-set_other (set xs i v) j x w 0 e ∙ get_or-set_other xs i x v 0 d
+
+-- entry i is linked at the end of list p
+pub rings_link : (cap : ℕ) (next prev homes : List ℕ) (i p last : ℕ) → IsRings cap next prev homes → i < cap → p < 385 →
+    get_or homes i 0 ≡ 0 → last ≡ get_or prev (cap + p) 0 →
+    IsRings cap (set (set next i (cap + p)) last i) (set (set prev i last) (cap + p) i) (set homes i (p + 1))
+rings_link cap next prev homes i p last r i_in p_in loose last_is =
+    let stands : get_or homes (get_or prev (cap + p) 0) 0 ≡ p + 1 = last_home cap 385 _ _ _ r.rank r.ring p p_in in
+    let inside : get_or prev (cap + p) 0 < cap + 385 = last_in cap 385 _ _ _ r.rank r.ring p p_in in
+    let last_below : last < cap + 385 = rw last_is inside in
+    let last_stands : get_or homes last 0 ≡ p + 1 = rw last_is stands in
+    let apart : i ≢ last = λ e. let h : get_or homes last 0 ≡ 0 = rw e at loose in omega arith in
+    record {
+      small = r.small;
+      next_len = simp length-set r.next_len;
+      prev_len = simp length-set r.prev_len;
+      homes_len = simp length-set r.homes_len;
+      rank = _;
+      ring = linked cap 385 (λ x. get_or next x 0) (λ x. get_or prev x 0) (λ x. get_or homes x 0) r.rank r.ring i i_in p last p_in loose last_is
+          (λ x. get_or (set (set next i (cap + p)) last i) x 0) (λ x. get_or (set (set prev i last) (cap + p) i) x 0) (λ x. get_or (set homes i (p + 1)) x 0)
+          (set_first next i last (cap + p) i (omega (arith, r.next_len)) apart) (set_second next i last (cap + p) i (omega (arith, r.next_len)))
+          (set_others next i last (cap + p) i)
+          (set_first prev i (cap + p) last i (omega (arith, r.prev_len)) (λ e. omega arith)) (set_second prev i (cap + p) last i (omega (arith, r.prev_len)))
+          (set_others prev i (cap + p) last i)
+          (get_or-set_same homes i (p + 1) 0 (omega (arith, r.homes_len))) (λ x. get_or-set_other homes i x (p + 1) 0);
+    }
+
+-- entry i is taken out of its list
+pub rings_unlink : (cap : ℕ) (next prev homes : List ℕ) (i before after : ℕ) → IsRings cap next prev homes → i < cap →
+    0 < get_or homes i 0 → before ≡ get_or prev i 0 → after ≡ get_or next i 0 →
+    IsRings cap (set next before after) (set prev after before) (set homes i 0)
+rings_unlink cap next prev homes i before after r i_in on before_is after_is =
+    let before_below : get_or prev i 0 < cap + 385 = before_in cap 385 _ _ _ r.rank r.ring i i_in on in
+    let after_below : get_or next i 0 < cap + 385 = after_in cap 385 _ _ _ r.rank r.ring i i_in on in
+    record {
+      small = r.small;
+      next_len = simp length-set r.next_len;
+      prev_len = simp length-set r.prev_len;
+      homes_len = simp length-set r.homes_len;
+      rank = _;
+      ring = unlinked cap 385 (λ x. get_or next x 0) (λ x. get_or prev x 0) (λ x. get_or homes x 0) r.rank r.ring i i_in before after on before_is after_is
+          (λ x. get_or (set next before after) x 0) (λ x. get_or (set prev after before) x 0) (λ x. get_or (set homes i 0) x 0)
+          (get_or-set_same next before after 0 (omega (arith, r.next_len))) (λ x. get_or-set_other next before x after 0)
+          (get_or-set_same prev after before 0 (omega (arith, r.prev_len))) (λ x. get_or-set_other prev after x before 0)
+          (get_or-set_same homes i 0 0 (omega (arith, r.homes_len))) (λ x. get_or-set_other homes i x 0 0);
+    }
+
+-- what follows the head of list p
+module _ (cap : ℕ) (next prev homes : List ℕ) (r : IsRings cap next prev homes) (p : ℕ) (p_in : p < 385) where
+
+  pub first_stands : get_or homes (get_or next (cap + p) 0) 0 ≡ p + 1
+  first_stands = first_home cap 385 _ _ _ r.rank r.ring p p_in
+
+  pub first_below : get_or next (cap + p) 0 < cap + 385
+  first_below = first_in cap 385 _ _ _ r.rank r.ring p p_in
+
+  pub first_follows : get_or prev (get_or next (cap + p) 0) 0 ≡ cap + p
+  first_follows = first_back cap 385 _ _ _ r.rank r.ring p p_in
+
+  pub last_below : get_or prev (cap + p) 0 < cap + 385
+  last_below = last_in cap 385 _ _ _ r.rank r.ring p p_in
+
+  pub first_none : cap ≤ get_or next (cap + p) 0 → (x : ℕ) → x < cap → get_or homes x 0 ≡ p + 1 → ⊥
+  first_none = none_in cap 385 _ _ _ r.rank r.ring p p_in
+
+-- where an entry's neighbours stand
+module _ (cap : ℕ) (next prev homes : List ℕ) (r : IsRings cap next prev homes) (i : ℕ) (i_in : i < cap) (on : 0 < get_or homes i 0) where
+
+  pub before_below : get_or prev i 0 < cap + 385
+  before_below = before_in cap 385 _ _ _ r.rank r.ring i i_in on
+
+  pub after_below : get_or next i 0 < cap + 385
+  after_below = after_in cap 385 _ _ _ r.rank r.ring i i_in on
+
+-- the entry that follows the head of list p is taken out of it
+pub rings_detach : (cap : ℕ) (next prev homes : List ℕ) (p i after : ℕ) → IsRings cap next prev homes → p < 385 →
+    i ≡ get_or next (cap + p) 0 → i < cap → after ≡ get_or next i 0 →
+    IsRings cap (set next (cap + p) after) (set prev after (cap + p)) (set homes i 0)
+rings_detach cap next prev homes p i after r p_in i_is i_in after_is =
+    let stands : get_or homes i 0 ≡ p + 1 = rw i_is (first_stands cap next prev homes r p p_in) in
+    let follows : get_or prev i 0 ≡ cap + p = rw i_is (first_follows cap next prev homes r p p_in) in
+    rings_unlink cap next prev homes i (cap + p) after r i_in (omega arith) (sym follows) after_is
+
+-- what callers see of a row of which one home was written
+pub home_written : (cap i v : ℕ) (rows old new filled : List Row) (now : List ℕ) → take cap (homes rows) ≡ now → i < length now →
+    filled ≡ new → homes new ≡ set (homes old) i v → old ≡ rows → take cap (homes filled) ≡ set now i v
+home_written cap i v rows old new filled now now_is i_in filled_is new_is old_is =
+    let i_cap : i < min cap (length (homes rows)) = rw (← length-take cap (homes rows), now_is) i_in in
+    rw (filled_is, new_is, old_is, ← now_is) (take-set-lt cap (homes rows) i v (omega arith))
+
+-- the number of entries that callers see
+pub capacity_is : (cap : ℕ) (xs : List ℕ) (now : List ℕ) → cap ≤ length xs → take cap xs ≡ now → length now ≡ cap
+capacity_is cap xs now fits now_is = rw (← now_is) (length-take-le cap xs fits)
+
+-- a row that callers see is the row
+pub seen_home : (cap : ℕ) (xs now : List ℕ) (i : ℕ) → take cap xs ≡ now → i < cap → get_or now i 0 ≡ get_or xs i 0
+seen_home cap xs now i now_is i_in = rw (← now_is) (get_or-take cap xs i 0 i_in)
+
+-- where the head of list p follows itself, callers see that it is empty
+pub empty_seen : (cap : ℕ) (next prev homes now : List ℕ) (p : ℕ) → IsRings cap next prev homes → p < 385 → take cap homes ≡ now →
+    cap ≤ get_or next (cap + p) 0 → (x : ℕ) → x < length now → get_or now x 0 ≡ p + 1 → ⊥
+empty_seen cap next prev homes now p r p_in now_is high x x_in h =
+    let len : length now ≡ cap = capacity_is cap homes now (omega (arith, r.homes_len)) now_is in
+    let x_cap : x < cap = omega arith in
+    first_none cap next prev homes r p p_in high x x_cap (sym (seen_home cap homes now x now_is x_cap) ∙ h)
