@@ -190,7 +190,7 @@ module _ (cap lists : ℕ) (next prev home rank : ℕ → ℕ) (ring : Ring cap 
       omega arith
 
   -- what comes before an entry of the list is an entry, or the head
-  before_entry : (x : ℕ) → x < cap → home x ≡ p + 1 → prev x ≢ cap + p → (prev x < cap) × (home (prev x) ≡ p + 1)
+  pub before_entry : (x : ℕ) → x < cap → home x ≡ p + 1 → prev x ≢ cap + p → (prev x < cap) × (home (prev x) ≡ p + 1)
   before_entry x x_in h d =
       let node : Node (cap + lists) next prev home x = ring.node x (omega arith) (omega arith) in
       let prev_home : home (prev x) ≡ p + 1 = node.prev_home ∙ h in

@@ -3,7 +3,7 @@
 ghost use Rattle.std.specs.Prelude.{◌≡◌, ◌≢◌, ℕ, ◌+◌, ◌-◌, ◌<◌, ◌≤◌, List, length, slice_index, slice_set, replicate, IfOk, MatchOption};
 ghost use Rattle.dq_wheel.specs.Rows.{nexts, prevs, homes};
 ghost use Rattle.dq_wheel.specs.Ring.{IsRings};
-ghost use Rattle.dq_wheel.specs.Lists.{IsEmpty, StandsIn};
+ghost use Rattle.dq_wheel.specs.Lists.{IsEmpty, IsListOf, StandsIn};
 
 use std::alloc::{AllocError, Allocator, Global};
 use std::marker::Model;
@@ -149,6 +149,13 @@ impl<A: Allocator> Rings<A> {
         ensures small { length self.now.homes ≤ 65536 }
     {
         self.capacity
+    }
+
+    /// Each list, walked along its links from its head, has once each index whose home it is, and no other.
+    pub fn law(&self)
+        ensures { (p : ℕ) → p < 385 → IsListOf self.now.next self.now.homes p }
+    {
+        let _ = &self.rows;
     }
 
     /// The list of an index, and one more, or 0.
