@@ -1,12 +1,12 @@
 -- The circular lists as rows of numbers.
 
-use Rattle.std.proofs.Common.{◌≡◌, ◌≢◌, ℕ, ◌+◌, ◌<◌, ◌≤◌, List, length, get_or, set, take, min, refl, sym, arith, ◌∙◌, ap}
+use Rattle.std.proofs.Common.{◌≡◌, ◌≢◌, ℕ, ◌+◌, ◌-◌, ◌<◌, ◌≤◌, List, length, get_or, set, take, replicate, min, refl, sym, arith, ◌∙◌, ap}
 use Rattle.std.proofs.Math.ListN.{length-set}
 use Rattle.std.proofs.lemmas.List.{get_or-set_same, get_or-set_other}
 use Rattle.std.proofs.Math.Seq.{take-set-lt}
-use Rattle.std.proofs.lemmas.List.{length-take-le, get_or-take, length-take}
+use Rattle.std.proofs.lemmas.List.{length-take-le, get_or-take, length-take, length-map, length-replicate, get_or-replicate, ext_get_or}
 use Rattle.dq_wheel.specs.Ring.{Node, Ring, IsRings}
-use Rattle.dq_wheel.specs.Rows.{homes}
+use Rattle.dq_wheel.specs.Rows.{nexts, prevs, homes, AreAlone}
 use Rattle.dq_wheel.specs.declared.rings.Row.{Row}
 use Rattle.dq_wheel.proofs.Links.{linked, unlinked, rank2, first_home, first_in, first_back, none_in, last_home, last_in, before_in, after_in}
 
@@ -123,3 +123,57 @@ empty_seen cap next prev homes now p r p_in now_is high x x_in h =
     let len : length now ≡ cap = capacity_is cap homes now (omega (arith, r.homes_len)) now_is in
     let x_cap : x < cap = omega arith in
     first_none cap next prev homes r p p_in high x x_cap (sym (seen_home cap homes now x now_is x_cap) ∙ h)
+
+-- rows that stand alone are rings of which each is empty
+pub rings_alone : (cap : ℕ) (rows : List Row) → cap ≤ 65536 → length rows ≡ cap + 385 → AreAlone cap rows →
+    IsRings cap (nexts rows) (prevs rows) (homes rows)
+rings_alone cap rows small len alone =
+    let size : length (homes rows) ≡ cap + 385 = length-map rows (λ r. r.home) ∙ len in
+    let home_of : (x : ℕ) → x < cap + 385 → get_or (homes rows) x 0 ≡ x + 1 - cap = λ x x_in. alone.home x (omega arith) in
+    record {
+      small = small;
+      next_len = length-map rows (λ r. r.next) ∙ len;
+      prev_len = length-map rows (λ r. r.prev) ∙ len;
+      homes_len = size;
+      rank = λ _. 0;
+      ring = record {
+        head_home = λ p p_in. omega (arith, home_of (cap + p) (omega arith));
+        home_le = λ x x_in. omega (arith, home_of x (omega arith));
+        node = λ x x_in on.
+            let n : get_or (nexts rows) x 0 ≡ x = alone.next x (omega arith) in
+            let v : get_or (prevs rows) x 0 ≡ x = alone.prev x (omega arith) in
+            record {
+              next_in = omega arith;
+              prev_in = omega arith;
+              next_home = ap (λ y. get_or (homes rows) y 0) n;
+              prev_home = ap (λ y. get_or (homes rows) y 0) v;
+              back = ap (λ y. get_or (prevs rows) y 0) n ∙ v;
+              forth = ap (λ y. get_or (nexts rows) y 0) v ∙ n;
+            };
+        falls = λ x x_in on. let h : 0 < get_or (homes rows) x 0 = on in absurd (omega (arith, home_of x (omega arith)));
+      };
+    }
+
+-- callers see that no index stands in a list
+pub seen_alone : (cap : ℕ) (rows : List Row) → length rows ≡ cap + 385 → AreAlone cap rows → take cap (homes rows) ≡ replicate cap 0
+seen_alone cap rows len alone =
+    let size : length (homes rows) ≡ cap + 385 = length-map rows (λ r. r.home) ∙ len in
+    let seen : length (take cap (homes rows)) ≡ cap = length-take-le cap (homes rows) (omega arith) in
+    ext_get_or 0 (take cap (homes rows)) (replicate cap 0) (seen ∙ sym (length-replicate cap 0))
+        (λ i i_in.
+          let i_cap : i < cap = omega arith in
+          let zero_home : get_or (homes rows) i 0 ≡ 0 = omega (arith, alone.home i (omega arith)) in
+          get_or-take cap (homes rows) i 0 i_cap ∙ (zero_home ∙ sym (get_or-replicate cap i 0 0 i_cap)))
+
+-- what follows the head of list p, by what callers see
+pub seen_first : (cap : ℕ) (next prev homes now_homes now_next : List ℕ) (p i : ℕ) → IsRings cap next prev homes → take cap homes ≡ now_homes →
+    next ≡ now_next → i ≡ get_or now_next (length now_homes + p) 0 → i ≡ get_or next (cap + p) 0
+seen_first cap next prev homes now_homes now_next p i r homes_is next_is i_is =
+    let len : length now_homes ≡ cap = capacity_is cap homes now_homes (omega (arith, r.homes_len)) homes_is in
+    rw (next_is, ← len) i_is
+
+-- an index that callers see is an entry
+pub stands_seen : (cap : ℕ) (next prev homes now : List ℕ) (i : ℕ) → IsRings cap next prev homes → take cap homes ≡ now → i < length now → i < cap
+stands_seen cap next prev homes now i r now_is i_in =
+    let len : length now ≡ cap = capacity_is cap homes now (omega (arith, r.homes_len)) now_is in
+    omega arith

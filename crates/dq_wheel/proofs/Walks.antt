@@ -7,10 +7,10 @@ use Rattle.dq_wheel.specs.Lists.{IsWalk, IsListOf, times}
 use Rattle.dq_wheel.proofs.Links.{same_or_not, nat_le_or_lt, first_home, first_in, head_is, before_entry}
 use Rattle.dq_wheel.proofs.Rows.{capacity_is, seen_home}
 
-times_same : (i y : ℕ) (ys : List ℕ) → y ≡ i → times i (y ∷ ys) ≡ 1 + times i ys
+pub times_same : (i y : ℕ) (ys : List ℕ) → y ≡ i → times i (y ∷ ys) ≡ 1 + times i ys
 times_same i y ys e = grind arith
 
-times_other : (i y : ℕ) (ys : List ℕ) → y ≢ i → times i (y ∷ ys) ≡ times i ys
+pub times_other : (i y : ℕ) (ys : List ℕ) → y ≢ i → times i (y ∷ ys) ≡ times i ys
 times_other i y ys d = grind arith
 
 -- 1 where a home is the one that is asked for
@@ -138,6 +138,16 @@ module _ (cap lists : ℕ) (next prev home rank : ℕ → ℕ) (ring : Ring cap 
       elim (same_or_not (home i) (p + 1)) [
         inl h ↦ met_by_rank walked.0 walked.1 (suc (rank i)) i (omega arith) i_in h ∙ sym (one_at (home i) (p + 1) h)
       | inr d ↦ strange i d (next (cap + p)) walked.0 (first_home cap lists next prev home rank ring p p_in) walked.1 ∙ sym (none_at (home i) (p + 1) d)
+      ]
+
+  pub walked_met : (i : ℕ) → i < cap → home i ≡ p + 1 → times i walked.0 ≡ 1
+  walked_met i i_in h = walked_once i i_in ∙ one_at (home i) (p + 1) h
+
+  pub walked_le : (i : ℕ) → i < cap → times i walked.0 ≤ 1
+  walked_le i i_in =
+      elim (same_or_not (home i) (p + 1)) [
+        inl h ↦ omega (arith, walked_met i i_in h)
+      | inr d ↦ omega (arith, walked_once i i_in ∙ none_at (home i) (p + 1) d)
       ]
 
 pub list_of_rings : (cap : ℕ) (next prev homes now : List ℕ) → IsRings cap next prev homes → take cap homes ≡ now → (p : ℕ) → p < 385 → IsListOf next now p

@@ -1,7 +1,7 @@
 //! Lists of indexes, linked both ways, in a fixed row.
 
-ghost use Rattle.std.specs.Prelude.{◌≡◌, ◌≢◌, ℕ, ◌+◌, ◌-◌, ◌<◌, ◌≤◌, List, length, slice_index, slice_set, replicate, IfOk, MatchOption};
-ghost use Rattle.dq_wheel.specs.Rows.{nexts, prevs, homes};
+ghost use Rattle.std.specs.Prelude.{◌≡◌, ◌⊎◌, ℕ, ◌+◌, ◌<◌, ◌≤◌, length, slice_index, slice_set, replicate, IfOk, MatchOption};
+ghost use Rattle.dq_wheel.specs.Rows.{nexts, prevs, homes, AreAlone};
 ghost use Rattle.dq_wheel.specs.Ring.{IsRings};
 ghost use Rattle.dq_wheel.specs.Lists.{IsEmpty, IsListOf, StandsIn};
 
@@ -142,7 +142,45 @@ fn detach_first(rows: &mut [Row], capacity: usize, list: usize, first: usize)
     set_home(rows, first, 0);
 }
 
+/// The rows of entries and heads that stand alone.
+fn lone_rows<A: Allocator>(alloc: A, capacity: usize) -> Result<Vec<Row, A>, AllocError>
+    requires { capacity ≤ 65536 }
+    ensures { IfOk result (λ v. (length v.items ≡ capacity + 385) × AreAlone capacity v.items) }
+{
+    let count = (capacity + LISTS) as u32;
+    let mut rows = Vec::with_capacity(alloc, capacity + LISTS)?;
+    for at in 0..count {
+        let home = (at as usize + 1).saturating_sub(capacity) as u16;
+        rows.push(Row {
+            next: at,
+            prev: at,
+            home,
+        })?;
+    }
+    Ok(rows)
+}
+
+/// The one of two indexes whose key is less.
+fn lesser(keys: &[u64], one: usize, other: usize) -> usize
+    requires one_in { one < length keys.now }
+    requires other_in { other < length keys.now }
+    ensures either { (result ≡ one) ⊎ (result ≡ other) }
+    ensures one { slice_index keys.now result ≤ slice_index keys.now one }
+    ensures other { slice_index keys.now result ≤ slice_index keys.now other }
+{
+    if keys[other] < keys[one] { other } else { one }
+}
+
 impl<A: Allocator> Rings<A> {
+    /// No index stands in a list.
+    pub fn new(alloc: A, capacity: usize) -> Result<Rings<A>, AllocError>
+        requires { capacity ≤ 65536 }
+        ensures { IfOk result (λ r. r.homes ≡ replicate capacity 0) }
+    {
+        let rows = lone_rows(alloc, capacity)?;
+        Ok(Rings { rows, capacity })
+    }
+
     /// The number of indexes.
     pub fn capacity(&self) -> usize
         ensures value { result ≡ length self.now.homes }
@@ -175,6 +213,30 @@ impl<A: Allocator> Rings<A> {
     {
         let first = row_at(&self.rows, self.capacity + list).next as usize;
         if first < self.capacity { Some(first) } else { None }
+    }
+
+    /// An index of a list whose key is least there.
+    pub fn least_in(&self, list: usize, keys: &[u64]) -> Option<usize>
+        requires list_in { list < 385 }
+        requires same_length { length keys.now ≡ length self.now.homes }
+        ensures { MatchOption result
+            (IsEmpty self.now.homes list)
+            (λ x. StandsIn self.now.homes list x
+                × ((y : ℕ) → StandsIn self.now.homes list y → slice_index keys.now x ≤ slice_index keys.now y)) }
+    {
+        let Some(first) = self.first(list) else {
+            return None;
+        };
+        let mut best = first;
+        let mut at = first;
+        for _turn in 0..self.capacity {
+            if at >= self.capacity {
+                break;
+            }
+            best = lesser(keys, best, at);
+            at = row_at(&self.rows, at).next as usize;
+        }
+        Some(best)
     }
 
     /// Puts a loose index at the end of a list.
