@@ -102,3 +102,75 @@ pub fn soonest_slots_come_first()
     ensures lower { LowerLevelsComeFirst }
     ensures earlier { EarlierTurnsComeFirst }
 {}
+
+#[cfg(test)]
+mod tests {
+    use super::*;
+    use crate::{LAST_TICK, LEVELS, SLOTS};
+
+    // A tick, a later tick, and the level, the slot and the slot's start at which the second stands, seen from the first.
+    const PLACES: [(u64, u64, usize, u64, u64); 13] = [
+        (0, 63, 0, 63, 63),
+        (0, 64, 1, 1, 64),
+        (63, 64, 1, 1, 64),
+        (64, 127, 0, 63, 127),
+        (64, 128, 1, 2, 128),
+        (100, 150, 1, 2, 128),
+        (4095, 4096, 2, 1, 4096),
+        (10, 5000, 2, 1, 4096),
+        (4096, 5000, 1, 14, 4992),
+        (4992, 5000, 0, 8, 5000),
+        (0, 68719476735, 5, 63, 67645734912),
+        (68719476735, 68719476736, 5, 0, 68719476736),
+        (5, 68719476740, 5, 0, 68719476736),
+    ];
+
+    #[test]
+    fn place_table(rt: HostRuntime) {
+        for (tick, filed, level, slot, start) in PLACES {
+            assert!(rt;
+                tick <= filed && filed <= LAST_TICK && level < LEVELS && slot < SLOTS as u64
+            );
+            assert_eq!(rt;
+                level_of(tick, filed),
+                Some(level),
+                "level of {filed} at {tick}"
+            );
+            assert_eq!(rt; digit(filed, level), slot, "slot of {filed} at {tick}");
+            assert_eq!(rt;
+                slot_start(tick, level, slot),
+                start,
+                "start of the slot of {filed} at {tick}"
+            );
+        }
+    }
+
+    #[test]
+    fn equal_ticks_have_no_level(rt: HostRuntime) {
+        assert_eq!(rt; level_of(0, 0), None);
+        assert_eq!(rt; level_of(LAST_TICK, LAST_TICK), None);
+    }
+
+    #[test]
+    fn top_level_is_the_highest(rt: HostRuntime) {
+        assert_eq!(rt; level_of(0, LAST_TICK), Some(5));
+        assert_eq!(rt; digit(LAST_TICK, 5), 63);
+        // 4095 spans lie behind the last tick, so the next with its digit begins 64 spans later.
+        assert_eq!(rt; slot_start(LAST_TICK, 5, 63), 4159 * 1073741824);
+    }
+
+    #[test]
+    fn spans_grow_by_64(rt: HostRuntime) {
+        assert_eq!(rt;
+            [span(0), span(1), span(2), span(3), span(4), span(5)],
+            [1, 64, 4096, 262144, 16777216, 1073741824]
+        );
+    }
+
+    #[test]
+    fn laws_of_places_are_called() {
+        starts_have_digits();
+        places_are_stable();
+        soonest_slots_come_first();
+    }
+}

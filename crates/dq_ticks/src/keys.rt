@@ -137,3 +137,49 @@ impl Debug for Key {
             .finish()
     }
 }
+
+#[cfg(test)]
+mod tests {
+    use super::*;
+    use std::test::Fail;
+
+    #[test]
+    fn readers_give_what_was_given(rt: HostRuntime) {
+        for (shard, index, born, stamp) in [
+            (0, 0, 0, 0),
+            (1, 2, 3, 4),
+            (u32::MAX, 0, u32::MAX, 0),
+            (0, u32::MAX, 0, u32::MAX),
+        ] {
+            let id = EntryId::new(shard, index, born);
+            assert_eq!(rt; (id.shard(), id.index(), id.born()), (shard, index, born));
+            let key = Key::new(id, stamp);
+            assert_eq!(rt; (key.entry(), key.stamp()), (id, stamp));
+        }
+    }
+
+    #[test]
+    fn keys_differ_by_each_part(rt: HostRuntime) {
+        let key = Key::new(EntryId::new(1, 2, 3), 4);
+        assert_eq!(rt; key, Key::new(EntryId::new(1, 2, 3), 4));
+        for other in [
+            Key::new(EntryId::new(9, 2, 3), 4),
+            Key::new(EntryId::new(1, 9, 3), 4),
+            Key::new(EntryId::new(1, 2, 9), 4),
+            Key::new(EntryId::new(1, 2, 3), 9),
+        ] {
+            assert_ne!(rt; key, other);
+        }
+    }
+
+    #[test]
+    fn keys_print_their_readers(rt: HostRuntime) -> Result<(), Fail> {
+        let key = Key::new(EntryId::new(1, 2, 3), 4);
+        let text = format!(in rt.alloc(); "{key:?}")?;
+        assert_eq!(rt;
+            text.as_str(),
+            "Key { entry: EntryId { shard: 1, index: 2, born: 3 }, stamp: 4 }"
+        );
+        Ok(())
+    }
+}

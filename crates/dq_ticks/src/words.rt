@@ -90,3 +90,53 @@ pub fn greater_words_win()
     ensures cancels { CancelsEnd }
     ensures stays { PastWordsStay }
 {}
+
+#[cfg(test)]
+mod tests {
+    use super::*;
+    use crate::{LAST_FIELD, LAST_STAMP};
+
+    // A stamp, a mark, a field, and their word.
+    const WORDS: [(u32, Mark, u64, u64); 8] = [
+        (0, Mark::LiveMark, 0, 0x0000_0000_0000_0000),
+        (1, Mark::LiveMark, 10, 0x0000_1000_0000_000a),
+        (1, Mark::CancelledMark, 0, 0x0000_1400_0000_0000),
+        (1, Mark::ExpiredMark, 10, 0x0000_1800_0000_000a),
+        (1, Mark::RemovedMark, 10, 0x0000_1c00_0000_000a),
+        (2, Mark::LiveMark, 20, 0x0000_2000_0000_0014),
+        (
+            1048575,
+            Mark::RemovedMark,
+            4398046511103,
+            0xffff_ffff_ffff_ffff,
+        ),
+        (1048575, Mark::LiveMark, 0, 0xffff_f000_0000_0000),
+    ];
+
+    #[test]
+    fn packed_vector(rt: HostRuntime) {
+        let parts = Parts {
+            stamp: 1,
+            mark: Mark::LiveMark,
+            field: 10,
+        };
+        assert_eq!(rt; pack(parts), 17592186044426);
+        assert_eq!(rt; unpack(17592186044426), parts);
+    }
+
+    #[test]
+    fn word_table_both_ways(rt: HostRuntime) {
+        for (stamp, mark, field, word) in WORDS {
+            assert!(rt; stamp <= LAST_STAMP && field <= LAST_FIELD);
+            let parts = Parts { stamp, mark, field };
+            assert_eq!(rt; pack(parts), word, "stamp {stamp}, field {field}");
+            assert_eq!(rt; unpack(word), parts, "word {word}");
+        }
+    }
+
+    #[test]
+    fn laws_of_words_are_called() {
+        words_are_ordered();
+        greater_words_win();
+    }
+}
