@@ -1,0 +1,10 @@
+pub mod Advances
+pub mod Gathers
+pub mod Packed
+pub mod Tallies
+pub mod Steps
+pub mod Extends
+pub mod Cancels
+pub mod Writes
+pub mod Returns
+pub mod Starts

@@ -1,0 +1,78 @@
+-- What the lists of all views say of one slot at one stamp.
+use Rattle.std.specs.Prelude.{◌≡◌, ◌⊎◌, ℕ, ◌+◌, ◌≤◌, ◌==◌, ◌&&◌, List, [], ◌∷◌, ◌++◌, Bool, if◌then◌else◌}
+use Rattle.dq_words.specs.declared.views.Call.{Call}
+use Rattle.dq_words.specs.declared.views.Call.TheVariants.{Extend, Cancel}
+use Rattle.dq_words.specs.declared.views.Write.{Write}
+use Rattle.dq_words.specs.declared.views.Write.TheVariants.{Begin, Expired, Renewed, Removed}
+use Rattle.dq_words.specs.declared.views.View.{View}
+
+abbrev pub is_at : ℕ → ℕ → ℕ → ℕ → Bool
+is_at i s j t = (i == j) && (s == t)
+
+-- the list, with x in front where the test holds
+abbrev pub with_if : {A : Type 0} → Bool → A → List A → List A
+with_if b x xs = if b then x ∷ xs else xs
+
+-- the deadlines with which a stamp was given
+abbrev pub bases_at : ℕ → ℕ → List Write → List ℕ
+bases_at i s [] = []
+bases_at i s (Begin j t b ∷ ws) = with_if (is_at i s j t) b (bases_at i s ws)
+bases_at i s (Expired j t d ∷ ws) = bases_at i s ws
+bases_at i s (Renewed j t d b ∷ ws) = with_if (is_at i s j (t + 1)) b (bases_at i s ws)
+bases_at i s (Removed j t d ∷ ws) = bases_at i s ws
+
+-- how the keeper ended a stamp: the mark that the word then had (0 for the next stamp), and the deadline
+abbrev pub ends_at : ℕ → ℕ → List Write → List (ℕ × ℕ)
+ends_at i s [] = []
+ends_at i s (Begin j t b ∷ ws) = ends_at i s ws
+ends_at i s (Expired j t d ∷ ws) = with_if (is_at i s j t) (2, d) (ends_at i s ws)
+ends_at i s (Renewed j t d b ∷ ws) = with_if (is_at i s j t) (0, d) (ends_at i s ws)
+ends_at i s (Removed j t d ∷ ws) = with_if (is_at i s j t) (3, d) (ends_at i s ws)
+
+-- the extends that were accepted at a stamp
+abbrev pub extends_at : ℕ → ℕ → List Call → List ℕ
+extends_at i s [] = []
+extends_at i s (Extend j t w ∷ cs) = with_if (is_at i s j t) w (extends_at i s cs)
+extends_at i s (Cancel j t d ∷ cs) = extends_at i s cs
+
+-- the deadlines that accepted cancels gave up
+abbrev pub cancels_at : ℕ → ℕ → List Call → List ℕ
+cancels_at i s [] = []
+cancels_at i s (Extend j t w ∷ cs) = cancels_at i s cs
+cancels_at i s (Cancel j t d ∷ cs) = with_if (is_at i s j t) d (cancels_at i s cs)
+
+-- the keeper's view is the first
+abbrev pub keeper_writes : List View → List Write
+keeper_writes [] = []
+keeper_writes (v ∷ vs) = v.writes
+
+abbrev pub gathered : {A : Type 0} → (List Call → List A) → List View → List A
+gathered f [] = []
+gathered f (v ∷ vs) = f v.calls ++ gathered f vs
+
+pub record File : Type 0 where
+  pub bases : List ℕ
+  pub ends : List (ℕ × ℕ)
+  pub extends : List ℕ
+  pub cancels : List ℕ
+
+abbrev pub blank : File
+blank = record { bases = []; ends = []; extends = []; cancels = [] }
+
+abbrev pub filed : List ℕ → List (ℕ × ℕ) → List ℕ → List ℕ → File
+filed a b c d = record { bases = a; ends = b; extends = c; cancels = d }
+
+abbrev pub file : ℕ → ℕ → List View → File
+file i s views = filed (bases_at i s (keeper_writes views)) (ends_at i s (keeper_writes views)) (gathered (extends_at i s) views) (gathered (cancels_at i s) views)
+
+abbrev pub Has : {A : Type 0} → List A → A → Type 0
+Has [] x = ⊥
+Has (y ∷ ys) x = (x ≡ y) ⊎ Has ys x
+
+-- d is the base or an accepted extend
+abbrev pub Among : File → ℕ → Type 0
+Among f d = Has f.bases d ⊎ Has f.extends d
+
+-- the deadline in force
+abbrev pub IsDeadline : File → ℕ → Type 0
+IsDeadline f d = Among f d × ((x : ℕ) → Among f x → x ≤ d)

@@ -1,0 +1,106 @@
+-- The rule over the words of one table and the views of all seats.
+use Rattle.dq_ticks.specs.declared.TheConstants.{LAST_TICK}
+use Rattle.dq_ticks.specs.Word.{stamp_unit, word, stamp_of}
+use Rattle.std.specs.Prelude.{◌≡◌, ◌⊎◌, ℕ, zero, suc, ◌+◌, ◌*◌, ◌%◌, ◌<◌, ◌≤◌, List, [], ◌∷◌, length, slice_index, replicate, true, false}
+use mathlib.Core.Option.{some}
+use lib.ListN.{get_elem?}
+use Rattle.atomic_table.specs.Table.{State}
+use Rattle.dq_words.specs.declared.views.View.{View}
+use Rattle.dq_words.specs.Word.{Left, Learned}
+use Rattle.dq_words.specs.Counts.{begins_in, expiries_in, removals_in, total, goes, gone_cancels, own_cancels, lives, below, issued_in, returns_in, given_in, InOrder}
+use Rattle.dq_words.specs.Files.{File, blank, file, keeper_writes, Has, Among, IsDeadline}
+
+-- The word n of a slot, and one stamp s.
+-- The stamp was not given.
+pub record Unborn (n s : ℕ) (f : File) : Type 0 where
+  pub none : f ≡ blank
+  pub below : n < s * stamp_unit
+
+-- It was given, and the word is live at the deadline in force.
+pub record Living (n s : ℕ) (f : File) : Type 0 where
+  pub base : ℕ
+  pub deadline : ℕ
+  pub given : f.bases ≡ base ∷ []
+  pub unended : f.ends ≡ []
+  pub uncancelled : f.cancels ≡ []
+  pub in_force : IsDeadline f deadline
+  pub small : deadline ≤ LAST_TICK
+  pub now : n ≡ word s 0 deadline
+
+-- It was given and cancelled once, at the deadline in force.
+pub record Cancelled (n s : ℕ) (f : File) : Type 0 where
+  pub base : ℕ
+  pub deadline : ℕ
+  pub given : f.bases ≡ base ∷ []
+  pub unended : f.ends ≡ []
+  pub cancelled : f.cancels ≡ deadline ∷ []
+  pub in_force : IsDeadline f deadline
+  pub small : deadline ≤ LAST_TICK
+  pub now : (n ≡ word s 1 0) ⊎ Left n s
+
+-- The keeper ended it once, at the deadline in force.
+pub record Ended (n s : ℕ) (f : File) : Type 0 where
+  pub base : ℕ
+  pub deadline : ℕ
+  pub mark : ℕ
+  pub given : f.bases ≡ base ∷ []
+  pub ended : f.ends ≡ (mark, deadline) ∷ []
+  pub uncancelled : f.cancels ≡ []
+  pub in_force : IsDeadline f deadline
+  pub small : deadline ≤ LAST_TICK
+  pub now : ((n ≡ word s mark deadline) × (1 < mark) × (mark < 4)) ⊎ Left n s
+
+abbrev pub Law : ℕ → ℕ → File → Type 0
+Law n s f = Unborn n s f ⊎ (Living n s f ⊎ (Cancelled n s f ⊎ Ended n s f))
+
+-- the slot has had the word x
+abbrev pub HadAt : ℕ → ℕ → File → Type 0
+HadAt x s f =
+    ((d : ℕ) × (x ≡ word s 0 d) × (d ≤ LAST_TICK) × Among f d)
+    ⊎ (((d : ℕ) × (x ≡ word s 1 0) × Has f.cancels d)
+    ⊎ ((m : ℕ) × (d : ℕ) × (x ≡ word s m d) × (1 < m) × (m < 4) × (d ≤ LAST_TICK) × Has f.ends (m, d)))
+
+abbrev pub Had : ℕ → ℕ → List View → Type 0
+Had x i views = (x ≡ 0) ⊎ ((s : ℕ) × HadAt x s (file i s views))
+
+abbrev pub Role : ℕ → View → Type 0
+Role zero v = (v.keeps ≡ true) × (v.calls ≡ [])
+Role (suc j) v = (v.keeps ≡ false) × (v.writes ≡ [])
+
+pub record Sees (rows : ℕ) (words : List ℕ) (views : List View) (j : ℕ) (v : View) : Type 0 where
+  pub role : Role j v
+  pub row : length v.seen ≡ rows
+  pub below : (i : ℕ) → i < rows → slice_index v.seen i ≤ slice_index words i
+  pub had : (i : ℕ) → i < rows → Had (slice_index v.seen i) i views
+  pub learns : v.keeps ≡ true → (i : ℕ) → i < rows → Learned (slice_index v.seen i) (slice_index words i)
+
+pub record Kept (rows : ℕ) (t : State ℕ View) : Type 0 where
+  pub sized : length t.words ≡ rows + 1
+  pub cells : (i s : ℕ) → i < rows → 0 < s → Law (slice_index t.words i) s (file i s t.views)
+  pub outside : (i s : ℕ) → (rows ≤ i) ⊎ (s ≡ 0) → file i s t.views ≡ blank
+  pub unused : (i : ℕ) → i < rows → slice_index t.words i < stamp_unit → slice_index t.words i ≡ 0
+  pub sees : (j : ℕ) (v : View) → get_elem? t.views j ≡ some v → Sees rows t.words t.views j v
+
+-- The numbers. G callers are gone, and the return word is G + 2048 C.
+pub record Tallied (rows : ℕ) (t : State ℕ View) : Type 0 where
+  pub few : rows ≤ 65536
+  pub wide : (i : ℕ) → i < rows → slice_index t.words i < 18446744073709551616
+  pub issued : length t.views ≡ issued_in t.views + 1
+  pub limit : issued_in t.views ≤ 1024
+  pub returned : slice_index t.words rows ≡ total goes t.views + 2048 * total gone_cancels t.views
+  pub older : returns_in t.views % 2048 ≤ total goes t.views
+  pub same : returns_in t.views % 2048 ≡ total goes t.views → returns_in t.views ≡ slice_index t.words rows
+  pub balance : begins_in (keeper_writes t.views) ≡ ((expiries_in (keeper_writes t.views) + removals_in (keeper_writes t.views)) + total own_cancels t.views) + below lives t.words rows
+  pub ordered : InOrder (keeper_writes t.views)
+  pub given : (i : ℕ) → i < rows → given_in i (keeper_writes t.views) ≡ stamp_of (slice_index t.words i)
+  pub bounded : begins_in (keeper_writes t.views) ≤ below stamp_of t.words rows
+
+pub record Ruled (rows : ℕ) (t : State ℕ View) : Type 0 where
+  pub kept : Kept rows t
+  pub tallied : Tallied rows t
+
+abbrev pub zeros : ℕ → List ℕ
+zeros n = replicate n 0
+
+abbrev pub first_keeper : ℕ → View
+first_keeper rows = record { keeps = true; seen = zeros rows; steps = []; calls = []; gone = false; writes = []; issued = 0; returns = 0 }

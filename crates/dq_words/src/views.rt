@@ -1,0 +1,57 @@
+//! What the seats of a table know. These types are for contracts and proofs: no value of them is made.
+
+use std::collections::LinkedList;
+
+/// An accepted call of a caller.
+pub enum Call {
+    /// Slot, stamp, and the deadline that was asked for.
+    Extend(u64, u64, u64),
+    /// Slot, stamp, and the deadline that was given up.
+    Cancel(u64, u64, u64),
+}
+
+/// A write of the keeper.
+pub enum Write {
+    /// Slot, stamp, and the deadline that it was given with.
+    Begin(u64, u64, u64),
+    /// Slot, stamp, and the deadline at its end.
+    Expired(u64, u64, u64),
+    /// Slot, the stamp that ended, its deadline at that end, and the deadline that the next stamp was given with.
+    Renewed(u64, u64, u64, u64),
+    /// Slot, stamp, and the deadline at its end.
+    Removed(u64, u64, u64),
+}
+
+/// The kinds of atomic step on a table.
+pub enum StepKind {
+    KeeperLoad,
+    BeginStore,
+    SettleExchange,
+    RenewExchange,
+    FinishExchange,
+    CallerLoad,
+    ExtendMax,
+    CancelMax,
+    GiveBackAdd,
+    ReturnLoad,
+}
+
+/// What a seat knows. The lists begin with the newest.
+pub struct View {
+    /// The seat is the keeper's.
+    pub keeps: bool,
+    /// For each slot the word that the seat saw last.
+    pub seen: LinkedList<u64>,
+    /// The steps that the seat made.
+    pub steps: LinkedList<StepKind>,
+    /// A caller's accepted calls.
+    pub calls: LinkedList<Call>,
+    /// A caller that was given back.
+    pub gone: bool,
+    /// The keeper's writes.
+    pub writes: LinkedList<Write>,
+    /// The callers that the keeper issued.
+    pub issued: u64,
+    /// The return word that the keeper saw last.
+    pub returns: u64,
+}
