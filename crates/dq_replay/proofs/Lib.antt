@@ -1,0 +1,9 @@
+-- Lemmas on the meaning of a script.
+mod Digits
+mod Known
+mod Reading
+mod Splits
+mod Places
+mod Steps
+mod Ends
+mod Outcomes

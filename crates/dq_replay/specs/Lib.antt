@@ -1,0 +1,7 @@
+-- The meaning of a script, and what its replay may read, write and answer.
+pub mod Text
+pub mod Words
+pub mod Fault
+pub mod Lines
+pub mod Script
+pub mod Replay

@@ -1,0 +1,160 @@
+-- What a script is answered: a function of all its bytes and the capacity.
+use Rattle.std.specs.Prelude.{◌≡◌, ℕ, ◌+◌, max, Bool, true, false, ◌&&◌, ◌||◌, List, [], ◌∷◌, ◌++◌, length, if◌then◌else◌, nat_lt, nat_le, ◌==◌, Option, Some, None, Result, Ok, Err, bytes_eq, codes, decimal, filter, flat_map}
+use Rattle.std.specs.Cmp.Lexicographic.{slice_cmp}
+use Rattle.std.specs.Ordering.{nat_cmp, is_lt}
+use Rattle.std.specs.List.{list_any}
+use Rattle.dq_ticks.specs.declared.TheConstants.{LAST_TICK}
+use Rattle.dq_replay.specs.declared.fault.FaultKind.{FaultKind}
+use Rattle.dq_replay.specs.declared.fault.FaultKind.TheVariants.{TooManyLines, LineTooLong, UnfinishedLine, BadHeader, UnknownCommand, BadShape, BadName, BadNumber}
+use Rattle.dq_replay.specs.declared.command.Command.{Command}
+use Rattle.dq_replay.specs.declared.command.Command.TheVariants.{Insert, Tick}
+use Rattle.dq_replay.specs.declared.session.Entry.{Entry}
+use Rattle.dq_replay.specs.declared.header.TheConstants.{FIRST_EDITION_LIMIT}
+use Rattle.dq_replay.specs.declared.line.TheConstants.{LINE_LIMIT, LAST_LINE}
+use Rattle.dq_replay.specs.Text.{lines_of, words_of, name_of, number_of}
+
+-- The live names with their deadlines in force, least deadline first and then by the name's bytes;
+-- the greatest tick that was noted; the last tick that the script's edition knows; and the capacity.
+pub record State : Type 0 where
+  pub capacity : ℕ
+  pub limit : ℕ
+  pub live : List Entry
+  pub noted : ℕ
+
+-- before the first line
+abbrev pub start : ℕ → State
+start capacity = record { capacity = capacity; limit = FIRST_EDITION_LIMIT; live = []; noted = 0 }
+
+-- an earlier deadline, or the same one and a lesser name
+abbrev pub comes_before : Entry → Entry → Bool
+comes_before a b = nat_lt a.deadline b.deadline || ((a.deadline == b.deadline) && is_lt (slice_cmp nat_cmp a.name b.name))
+
+-- the list with one more entry at its place
+abbrev pub with_entry : Entry → List Entry → List Entry
+with_entry e [] = e ∷ []
+with_entry e (x ∷ xs) = if comes_before e x then e ∷ x ∷ xs else x ∷ with_entry e xs
+
+abbrev pub is_live : List ℕ → List Entry → Bool
+is_live name live = list_any (λ e. bytes_eq e.name name) live
+
+-- an answer line: its text and its end
+abbrev pub line : List ℕ → List ℕ
+line text = text ++ 10 ∷ []
+
+abbrev pub at_line : List ℕ → ℕ → List ℕ
+at_line name deadline = line (name ++ codes " at " ++ decimal deadline)
+
+abbrev pub expired_line : Entry → List ℕ
+expired_line e = line (e.name ++ codes " expired " ++ decimal e.deadline)
+
+abbrev pub tick_line : ℕ → List ℕ
+tick_line now = line (codes "tick " ++ decimal now)
+
+-- the deadline is the greater of what was asked and what was noted
+abbrev pub insert_in : State → List ℕ → ℕ → State × List ℕ
+insert_in s name when =
+    if is_live name s.live then (s, line (codes "refused name-taken"))
+    else if nat_lt s.limit when then (s, line (codes "refused too-far"))
+    else if nat_le s.capacity (length s.live) then (s, line (codes "refused full"))
+    else (record s { live = with_entry (record { name = name; deadline = max when s.noted }) s.live }, at_line name (max when s.noted))
+
+-- what is due at the tick goes, in order
+abbrev pub tick_to : State → ℕ → State × List ℕ
+tick_to s now = (
+  record s { live = filter (λ e. nat_lt now e.deadline) s.live; noted = now },
+  flat_map expired_line (filter (λ e. nat_le e.deadline now) s.live) ++ tick_line now,
+)
+
+abbrev pub tick_in : State → ℕ → State × List ℕ
+tick_in s to = if nat_lt s.limit to then (s, line (codes "refused tick-too-large")) else tick_to s (max s.noted to)
+
+-- the state and the answer after a command
+abbrev pub step : State → Command → State × List ℕ
+step s (Insert name when) = insert_in s name when
+step s (Tick to) = tick_in s to
+
+-- the command that a name and a number make
+abbrev pub insert_at : Option (List ℕ) → Option ℕ → Result Command FaultKind
+insert_at None when = Err BadName
+insert_at (Some name) None = Err BadNumber
+insert_at (Some name) (Some when) = Ok (Insert name when)
+
+abbrev pub tick_at : Option ℕ → Result Command FaultKind
+tick_at None = Err BadNumber
+tick_at (Some to) = Ok (Tick to)
+
+-- the words behind `insert`
+abbrev pub insert_of : List (List ℕ) → Result Command FaultKind
+insert_of (name ∷ when ∷ []) = insert_at (name_of name) (number_of when)
+insert_of _ = Err BadShape
+
+-- the words behind `tick`
+abbrev pub tick_of : List (List ℕ) → Result Command FaultKind
+tick_of (to ∷ []) = tick_at (number_of to)
+tick_of _ = Err BadShape
+
+-- the command that the words of a line say
+abbrev pub command_of : List (List ℕ) → Result Command FaultKind
+command_of [] = Err UnknownCommand
+command_of (first ∷ rest) =
+    if bytes_eq first (codes "insert") then insert_of rest
+    else if bytes_eq first (codes "tick") then tick_of rest
+    else Err UnknownCommand
+
+-- the last tick of the edition that a first line names
+abbrev pub limit_of : List ℕ → Option ℕ
+limit_of text =
+    if bytes_eq text (codes "delay 1") then Some FIRST_EDITION_LIMIT
+    else if bytes_eq text (codes "delay 2") then Some LAST_TICK
+    else None
+
+-- what the first line does: it has no answer
+abbrev pub header_does : State → Option ℕ → Result (State × List ℕ) FaultKind
+header_does s None = Err BadHeader
+header_does s (Some limit) = Ok (record s { limit = limit }, [])
+
+-- what a later line does
+abbrev pub command_does : State → Result Command FaultKind → Result (State × List ℕ) FaultKind
+command_does s (Ok command) = Ok (step s command)
+command_does s (Err kind) = Err kind
+
+-- what one whole line does: the state and the answer after it, or the first fault that applies
+abbrev pub line_does : ℕ → State → List ℕ → Result (State × List ℕ) FaultKind
+line_does number s text =
+    if nat_lt LAST_LINE number then Err TooManyLines
+    else if nat_lt LINE_LIMIT (length text) then Err LineTooLong
+    else if number == 1 then header_does s (limit_of text)
+    else command_does s (command_of (words_of text))
+
+-- the fault of what stands after the last line's end: none where it is nothing, behind a first line
+abbrev pub rest_fault : ℕ → List ℕ → Option FaultKind
+rest_fault number [] = if number == 1 then Some BadHeader else None
+rest_fault number (b ∷ bs) =
+    if nat_lt LAST_LINE number then Some TooManyLines
+    else if nat_lt LINE_LIMIT (length (b ∷ bs)) then Some LineTooLong
+    else Some UnfinishedLine
+
+-- the answers, and the line and the kind of the fault that ends them, if one does
+pub record Outcome : Type 0 where
+  pub answers : List ℕ
+  pub fault : Option (ℕ × FaultKind)
+
+abbrev pub ends_by : ℕ → Option FaultKind → Outcome
+ends_by number None = record { answers = []; fault = None }
+ends_by number (Some kind) = record { answers = []; fault = Some (number, kind) }
+
+abbrev pub after_answer : List ℕ → Outcome → Outcome
+after_answer answer outcome = record { answers = answer ++ outcome.answers; fault = outcome.fault }
+
+-- the outcome from a line on: its number, the state before it, and the lines from there on
+unfoldable pub outcome_from : ℕ → State → List (List ℕ) → Outcome
+outcome_from number s [] = ends_by number None
+outcome_from number s (rest ∷ []) = ends_by number (rest_fault number rest)
+outcome_from number s (text ∷ next ∷ more) = elim (line_does number s text) [
+  | Ok done ↦ after_answer done.1 (outcome_from (number + 1) done.0 (next ∷ more))
+  | Err kind ↦ ends_by number (Some kind)
+]
+
+-- the outcome of a script
+abbrev pub outcome_of : ℕ → List ℕ → Outcome
+outcome_of capacity bytes = outcome_from 1 (start capacity) (lines_of bytes)

@@ -1,0 +1,35 @@
+-- Lines, words, names and numbers, as lists of bytes.
+use Rattle.std.specs.Prelude.{◌≡◌, ℕ, ◌+◌, ◌-◌, ◌*◌, ◌^◌, Bool, true, false, ◌&&◌, ◌||◌, not, List, [], ◌∷◌, ◌++◌, length, if◌then◌else◌, nat_eq, nat_lt, nat_le, ◌==◌, Option, Some, None, bytes_eq}
+use Rattle.std.specs.Char.{is_ascii_digit}
+use Rattle.std.specs.List.{list_all, slice_split}
+
+-- the whole lines, and at last what stands after the last line's end
+abbrev pub lines_of : List ℕ → List (List ℕ)
+lines_of bytes = slice_split (λ b. b == 10) bytes
+
+-- the words of a line, between single spaces
+abbrev pub words_of : List ℕ → List (List ℕ)
+words_of text = slice_split (λ b. b == 32) text
+
+-- `a` to `z`, `0` to `9`, `_` or `-`
+abbrev pub is_name_byte : ℕ → Bool
+is_name_byte b = (nat_le 97 b && nat_le b 122) || (nat_le 48 b && nat_le b 57) || (b == 95) || (b == 45)
+
+-- 1 to 32 such bytes
+abbrev pub is_name : List ℕ → Bool
+is_name word = nat_le 1 (length word) && nat_le (length word) 32 && list_all is_name_byte word
+
+-- the name that a word is
+abbrev pub name_of : List ℕ → Option (List ℕ)
+name_of word = if is_name word then Some word else None
+
+-- the number below 2 ^ 64 that digits make behind those that made n
+abbrev pub digits_behind : ℕ → List ℕ → Option ℕ
+digits_behind n [] = if nat_lt n (2 ^ 64) then Some n else None
+digits_behind n (b ∷ bs) = if is_ascii_digit b then digits_behind (10 * n + (b - 48)) bs else None
+
+-- the number that a word is: digits, of which the first of several isn't `0`
+abbrev pub number_of : List ℕ → Option ℕ
+number_of [] = None
+number_of (b ∷ []) = digits_behind 0 (b ∷ [])
+number_of (b ∷ c ∷ bs) = if b == 48 then None else digits_behind 0 (b ∷ c ∷ bs)

@@ -1,0 +1,55 @@
+//! The texts of answers, each line with its end.
+ghost use Rattle.std.specs.Prelude.{◌≡◌, ◌++◌, IfOk, string_bytes, codes, decimal, nat_le, filter, flat_map};
+ghost use Rattle.dq_replay.specs.Script.{at_line, expired_line, tick_line, line};
+
+use crate::name::Name;
+use crate::session::Entry;
+use std::alloc::{AllocError, Allocator};
+
+pub fn at_text<A: Allocator>(alloc: A, name: &Name, deadline: u64) -> Result<String<A>, AllocError>
+    ensures { IfOk result (λ text. string_bytes text ≡ at_line name.now deadline) }
+{
+    format!(in alloc; "{name} at {deadline}\n")
+}
+
+/// The answer of a refused command.
+pub fn refusal_text<A: Allocator>(alloc: A, reason: &str) -> Result<String<A>, AllocError>
+    ensures { IfOk result (λ text. string_bytes text ≡ line (codes "refused " ++ reason.now)) }
+{
+    format!(in alloc; "refused {reason}\n")
+}
+
+/// The lines of what is due at a tick, and the line of the tick.
+pub fn tick_text<A: Allocator + Copy>(
+    alloc: A,
+    live: &[Entry],
+    now: u64,
+) -> Result<String<A>, AllocError>
+    ensures { IfOk result (λ text. string_bytes text
+        ≡ flat_map expired_line (filter (λ e. nat_le e.deadline now) live.now) ++ tick_line now) }
+{
+    let mut text = String::new(alloc);
+    for entry in live {
+        if entry.deadline <= now {
+            let expired = expired_text(alloc, entry)?;
+            text.push_str(&expired)?;
+        }
+    }
+    let last = last_text(alloc, now)?;
+    text.push_str(&last)?;
+    Ok(text)
+}
+
+fn expired_text<A: Allocator>(alloc: A, entry: &Entry) -> Result<String<A>, AllocError>
+    ensures { IfOk result (λ text. string_bytes text ≡ expired_line entry.now) }
+{
+    let name = &entry.name;
+    let deadline = entry.deadline;
+    format!(in alloc; "{name} expired {deadline}\n")
+}
+
+fn last_text<A: Allocator>(alloc: A, now: u64) -> Result<String<A>, AllocError>
+    ensures { IfOk result (λ text. string_bytes text ≡ tick_line now) }
+{
+    format!(in alloc; "tick {now}\n")
+}
