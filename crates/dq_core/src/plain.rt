@@ -1,0 +1,178 @@
+//! The slow twin of the queue: a list that each poll searches.
+//!
+//! It answers as a queue that is polled and filled does, and is simple enough to be read at one sitting: the tests hold
+//! the wheel's answers against it. An insert is of constant time, a poll goes once over the list.
+ghost use Rattle.std.specs.Prelude.{◌≡◌, ◌<◌, ◌==◌, length};
+ghost use Rattle.dq_core.specs.Soonest.{IsSoonest};
+
+use crate::errors::CoreError;
+use crate::vec_words::CAPACITY_LIMIT;
+use dq_ticks::LAST_TICK;
+use std::alloc::{Allocator, Global};
+use std::marker::Model;
+
+/// An entry that waits.
+#[derive(Drop)]
+pub struct Pending<T> {
+    /// The tick from which on a poll takes it out.
+    pub deadline: u64,
+    /// The value.
+    pub value: T,
+}
+
+/// What a poll of the plain queue answers.
+#[derive(Drop)]
+pub enum PlainTurn<T> {
+    /// An entry of least deadline, which is reached.
+    PlainOut {
+        /// Its deadline.
+        deadline: u64,
+        /// Its value.
+        value: T,
+    },
+    /// Entries wait, and none of their deadlines is reached.
+    PlainWaiting,
+    /// No entry waits.
+    PlainIdle,
+}
+
+// The index and the deadline of an entry of least deadline.
+fn soonest<T>(entries: &[Pending<T>]) -> (usize, u64)
+    requires { 0 < length entries.now }
+    ensures { IsSoonest entries.now result.0 result.1 }
+{
+    let mut first = 0;
+    let mut deadline = entries[0].deadline;
+    for (index, entry) in entries.iter().enumerate() {
+        if entry.deadline < deadline {
+            first = index;
+            deadline = entry.deadline;
+        }
+    }
+    (first, deadline)
+}
+
+/// The slow twin: a delay queue over a plain list, of one owner.
+#[derive(Drop)]
+pub struct PlainQueue<T, A: Allocator = Global> {
+    capacity: usize,
+    tick: u64,
+    noted: u64,
+    entries: Vec<Pending<T>, A>,
+}
+
+impl<T, A: Allocator> Model for PlainQueue<T, A> {
+    ghost use Rattle.std.specs.Prelude.{◌≤◌, vec_capacity};
+    ghost use Rattle.dq_core.specs.Plain.{Plain, plain, IsPlain};
+
+    ghost Value = { Plain T };
+
+    ghost view = { λ a. plain a.capacity a.tick a.noted a.entries.items };
+
+    ghost invariant = { λ a. IsPlain (plain a.capacity a.tick a.noted a.entries.items) × (a.capacity ≤ vec_capacity a.entries) };
+}
+
+impl<T: Drop, A: Allocator> PlainQueue<T, A> {
+    ghost use Rattle.dq_core.specs.Plain.{IsPlain, PlainMakes, PlainInserts, PlainPolls};
+
+    /// An empty queue at tick 0; `BadConfig` for a capacity of 0 or beyond 65536, `NoMemory` where memory is refused. No
+    /// other call takes memory.
+    pub fn new(alloc: A, capacity: usize) -> Result<PlainQueue<T, A>, CoreError>
+        ensures { PlainMakes capacity result }
+    {
+        if capacity == 0 || capacity > CAPACITY_LIMIT {
+            return Err(CoreError::BadConfig);
+        }
+        let entries = Vec::with_capacity(alloc, capacity)?;
+        Ok(PlainQueue {
+            capacity,
+            tick: 0,
+            noted: 0,
+            entries,
+        })
+    }
+
+    /// The queue is in good order: no deadline is before its tick or beyond the last tick.
+    pub fn law(&self)
+        ensures { IsPlain self.now }
+    {
+        let _ = &self.capacity;
+    }
+
+    /// How many entries may wait at once.
+    pub fn capacity(&self) -> usize
+        ensures { result ≡ self.now.capacity }
+    {
+        self.capacity
+    }
+
+    /// How many entries wait.
+    pub fn len(&self) -> usize
+        ensures { result ≡ length self.now.entries }
+    {
+        self.entries.len()
+    }
+
+    /// Whether no entry waits.
+    pub fn is_empty(&self) -> bool
+        ensures { result ≡ (length self.now.entries == 0) }
+    {
+        self.entries.is_empty()
+    }
+
+    /// The tick up to which the queue has gone: the noted tick after a poll that found nothing due, and the entry's deadline
+    /// after one that took an entry out.
+    pub fn tick(&self) -> u64
+        ensures { result ≡ self.now.tick }
+    {
+        self.tick
+    }
+
+    /// The greatest tick that a poll was given, at first 0.
+    pub fn noted(&self) -> u64
+        ensures { result ≡ self.now.noted }
+    {
+        self.noted
+    }
+
+    /// Puts an entry in and answers its deadline, which is `when`, raised to the tick where it lies before it. It is refused,
+    /// and the value comes back, with `TooFar` for a deadline beyond the last tick, and else with `Full` where no room is
+    /// left.
+    pub fn insert(&mut self, value: T, when: u64) -> Result<u64, (CoreError, T)>
+        ensures { PlainInserts self.old value when result self.new }
+    {
+        if when > LAST_TICK {
+            return Err((CoreError::TooFar { limit: LAST_TICK }, value));
+        }
+        let linked = self.entries.len();
+        if linked == self.capacity {
+            return Err((CoreError::Full { linked, worn: 0 }, value));
+        }
+        let deadline = when.max(self.tick);
+        self.entries.push_reserved(Pending { deadline, value });
+        Ok(deadline)
+    }
+
+    /// Notes a tick, and takes out an entry of least deadline where that deadline isn't after the noted tick. A tick beyond
+    /// the last one is refused with `TickTooLarge`, and isn't noted.
+    pub fn poll(&mut self, tick: u64) -> Result<PlainTurn<T>, CoreError>
+        ensures { PlainPolls self.old tick result self.new }
+    {
+        if tick > LAST_TICK {
+            return Err(CoreError::TickTooLarge { limit: LAST_TICK });
+        }
+        self.noted = self.noted.max(tick);
+        if self.entries.is_empty() {
+            self.tick = self.noted;
+            return Ok(PlainTurn::PlainIdle);
+        }
+        let (first, deadline) = soonest(&self.entries);
+        if deadline > self.noted {
+            self.tick = self.noted;
+            return Ok(PlainTurn::PlainWaiting);
+        }
+        let Pending { deadline, value } = self.entries.remove(first);
+        self.tick = deadline;
+        Ok(PlainTurn::PlainOut { deadline, value })
+    }
+}
