@@ -1,9 +1,9 @@
 -- Digits by shifts, and the level by the highest bit in which two ticks differ.
-use Rattle.std.proofs.Common.{◌≡◌, ◌≢◌, ℕ, zero, suc, ◌+◌, ◌*◌, ◌/◌, ◌%◌, ◌^◌, ◌<◌, ◌≤◌, min, bit_xor, bit_and, refl, sym, ◌∙◌, ap, arith}
+use Rattle.std.proofs.Common.{◌≡◌, ◌≢◌, ℕ, zero, suc, ◌+◌, ◌*◌, ◌/◌, ◌%◌, ◌^◌, ◌<◌, ◌≤◌, min, bit_xor, refl, sym, ◌∙◌, ap, arith}
 use Rattle.std.proofs.Math.Nat.{pow-suc, pow-le-pow_right, div-eq_of_lt}
 use Rattle.std.proofs.lemmas.Nat.{pow-add, pow_pos, le-div, xor_shr, and_le_l, and_le_r}
 use Rattle.std.specs.Int.Bits.{xor_add_and, xor_self}
-use Rattle.dq_ticks.specs.Digits.{digit_of, level}
+use Rattle.dq_ticks.specs.Digits.{level}
 use Rattle.dq_ticks.specs.Units.{tick_limit, top_span}
 use Rattle.dq_ticks.proofs.Levels.{IsHighest, level_by, level_by_highest}
 

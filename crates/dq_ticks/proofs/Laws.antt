@@ -1,17 +1,18 @@
 -- What a wheel uses of levels and starts.
-use Rattle.std.proofs.Common.{◌≡◌, ◌≢◌, ℕ, zero, suc, ◌+◌, ◌-◌, ◌*◌, ◌/◌, ◌%◌, ◌^◌, ◌<◌, ◌≤◌, ◌⊎◌, inl, inr, refl, sym, ◌∙◌, ap, subst, arith, if◌then◌else◌, nat_lt, ◌==◌}
+use Rattle.std.proofs.Common.{◌≡◌, ◌≢◌, ℕ, suc, ◌+◌, ◌-◌, ◌*◌, ◌/◌, ◌%◌, ◌^◌, ◌<◌, ◌≤◌, ◌⊎◌, inl, inr, refl, sym, ◌∙◌, ap, subst, arith, if◌then◌else◌, nat_lt}
 use Rattle.std.proofs.Math.Nat.{pow-suc, add-mul, mul_assoc, mul_comm, div-mul-le_self, lt-div-mul-add, mul-div_cancel}
 use Rattle.std.proofs.lemmas.Nat.{le-div, div_below, mul-le}
 use Rattle.std.proofs.lemmas.Bool.{cases_eq, cases_lt}
 use Rattle.std.proofs.lemmas.Bool.Decides.{nat_tests}
 use Rattle.dq_ticks.specs.Digits.{digit_of, level, start, start_for, turn, IsAhead}
-use Rattle.dq_ticks.specs.Units.{lap, tick_limit, top_span}
-use Rattle.dq_ticks.proofs.Levels.{IsLevel, above_suc, level_by, level_is, level_small, not_lower, power_pos, same_above}
+use Rattle.dq_ticks.specs.Places.{IsNoLater}
+use Rattle.dq_ticks.specs.Units.{lap, top_span}
+use Rattle.dq_ticks.proofs.Levels.{IsLevel, above_suc, level_by, level_is, level_small, power_pos, same_above}
 
 pub digit_below : (t place : ℕ) → digit_of t place < 64
 digit_below t place = omega arith
 
--- ---- t / p * p is t with what is below p cut off
+-- t / p * p is t with what is below p cut off
 div_mono : (e f p : ℕ) → 0 < p → e ≤ f → e / p ≤ f / p
 div_mono e f p pos le = le-div (e / p) f p pos (omega (arith, div-mul-le_self e p))
 
@@ -32,7 +33,6 @@ below_floor n f p pos below = div_below n p (f / p) pos below
 floor_high : (f p : ℕ) → 0 < p → f / p * p / p ≡ f / p
 floor_high f p pos = mul-div_cancel (f / p) pos
 
--- ---- the start of a slot
 pub start_low : (e place k : ℕ) → place < 5 → start e place k ≡ e / 64 ^ (place + 1) * 64 ^ (place + 1) + k * 64 ^ place
 unfolding start
 start_low e place k below = grind (arith, nat_tests)
@@ -45,8 +45,8 @@ pub rejoin : (q r p a : ℕ) → a ≡ q * 64 + r → q * (p * 64) + r * p ≡ a
 rejoin q r p a is =
     ap (λ x. x + r * p) (ap (λ x. q * x) (mul_comm p 64) ∙ sym (mul_assoc q 64 p)) ∙ sym (add-mul (q * 64) r p) ∙ ap (λ x. x * p) (sym is)
 
-ring_floor : (e f : ℕ) → e < f → f < e + 68719476736 → e / 1073741824 ≢ f / 1073741824 →
-    (e / 68719476736 + (if nat_lt (e / 1073741824 % 64) (f / 1073741824 % 64) then 0 else 1)) * 68719476736 + f / 1073741824 % 64 * 1073741824 ≡ f / 1073741824 * 1073741824
+ring_floor : (e f : ℕ) → e < f → f < e + lap → e / top_span ≢ f / top_span →
+    (e / lap + (if nat_lt (e / top_span % 64) (f / top_span % 64) then 0 else 1)) * lap + f / top_span % 64 * top_span ≡ f / top_span * top_span
 ring_floor e f later near apart = grind (arith, nat_tests)
 
 start_floor_at : (e f L : ℕ) → e < f → f < e + lap → IsLevel e f L → start e L (digit_of f L) ≡ f / 64 ^ L * 64 ^ L
@@ -157,7 +157,7 @@ lower_first e f g a b lower =
     let below : f / 64 ^ M < g / 64 ^ M = omega (arith, higher e g b) in
     rw (start_floor_of e g b) (floor_above f g (64 ^ M) (power_pos M) below)
 
--- ---- within a level the slot of the earlier turn comes first
+-- within a level the slot of the earlier turn comes first
 pub turn_low : (e place k : ℕ) → place ≢ 5 → turn e place k ≡ k
 turn_low e place k other = grind (arith, nat_tests)
 
@@ -170,7 +170,7 @@ ring_turn e f later near = omega arith
 ring_order : (e f g : ℕ) → e < f → f ≤ e + 64 → e < g → g ≤ e + 64 → (f % 64 + 63 - e % 64) % 64 < (g % 64 + 63 - e % 64) % 64 → f < g
 ring_order e f g f_later f_near g_later g_near before = omega (arith, ring_turn e f f_later f_near, ring_turn e g g_later g_near)
 
-ring_near : (e f : ℕ) → f < e + 68719476736 → f / 1073741824 ≤ e / 1073741824 + 64
+ring_near : (e f : ℕ) → f < e + lap → f / top_span ≤ e / top_span + 64
 ring_near e f near = omega arith
 
 high_order_low : (e f g L : ℕ) → L < 5 → IsLevel e f L → IsLevel e g L → digit_of f L < digit_of g L → f / 64 ^ L < g / 64 ^ L
@@ -181,7 +181,7 @@ high_order_low e f g L below at_f at_g before =
 
 high_order_top : (e f g : ℕ) → IsAhead e f → IsAhead e g → IsLevel e f 5 → IsLevel e g 5 → turn e 5 (digit_of f 5) < turn e 5 (digit_of g 5) → f / 64 ^ 5 < g / 64 ^ 5
 high_order_top e f g a b at_f at_g before =
-    let p : ℕ = 1073741824 in
+    let p : ℕ = top_span in
     let f_above : e / p < f / p = div_less e f p (omega arith) (omega (arith, a.later)) at_f.differs in
     let g_above : e / p < g / p = div_less e g p (omega arith) (omega (arith, b.later)) at_g.differs in
     ring_order (e / p) (f / p) (g / p) f_above (ring_near e f a.near) g_above (ring_near e g b.near) before
@@ -203,3 +203,41 @@ before_later e f g a b same before =
     let Q : ℕ → Type 0 = λ M. f < g / 64 ^ M * 64 ^ M in
     let below : f / 64 ^ L < g / 64 ^ L = high_order e f g L a b (at_level_of e f a) (subst P (sym same) (at_level_of e g b)) before in
     rw (start_floor_of e g b) (subst Q same (floor_above f g (64 ^ L) (power_pos L) below))
+
+-- slots of one turn are one slot
+same_turn_low : (e L k j : ℕ) → L ≢ 5 → turn e L k ≡ turn e L j → k ≡ j
+same_turn_low e L k j other same = omega (arith, turn_low e L k other, turn_low e L j other)
+
+same_turn_top : (e k j : ℕ) → k < 64 → j < 64 → turn e 5 k ≡ turn e 5 j → k ≡ j
+same_turn_top e k j k_in j_in same = omega arith
+
+same_turn : (e L k j : ℕ) → k < 64 → j < 64 → turn e L k ≡ turn e L j → k ≡ j
+same_turn e L k j k_in j_in same =
+    elim (cases_eq L 5) [
+      | inl top ↦
+          let P : ℕ → Type 0 = λ M. turn e M k ≡ turn e M j → k ≡ j in
+          subst P (sym top) (same_turn_top e k j k_in j_in) same
+      | inr other ↦ same_turn_low e L k j other same
+    ]
+
+same_slot : (e f g : ℕ) → level e f ≡ level e g → digit_of f (level e f) ≡ digit_of g (level e f) → start_for e f ≡ start_for e g
+same_slot e f g same slot =
+    start_for_is e f ∙ ap (λ k. start e (level e f) k) slot ∙ ap (λ L. start e L (digit_of g L)) same ∙ sym (start_for_is e g)
+
+starts_by_turn : (e f g : ℕ) → IsAhead e f → IsAhead e g → level e f ≡ level e g → turn e (level e f) (digit_of f (level e f)) ≤ turn e (level e f) (digit_of g (level e f)) → start_for e f ≤ start_for e g
+starts_by_turn e f g a b same turns =
+    let L : ℕ = level e f in
+    elim (cases_lt (turn e L (digit_of f L)) (turn e L (digit_of g L))) [
+      | inl before ↦ omega (arith, start_le e f a, before_later e f g a b same before)
+      | inr after ↦
+          let slot : digit_of f L ≡ digit_of g L =
+          same_turn e L (digit_of f L) (digit_of g L) (digit_below f L) (digit_below g L) (omega arith) in
+          omega (arith, same_slot e f g same slot)
+    ]
+
+pub soonest_first : (e f g : ℕ) → IsAhead e f → IsAhead e g → IsNoLater e f g → start_for e f ≤ start_for e g
+soonest_first e f g a b no_later =
+    elim no_later [
+      | inl lower ↦ omega (arith, start_le e f a, lower_first e f g a b lower)
+      | inr turns ↦ starts_by_turn e f g a b turns.0 turns.1
+    ]

@@ -1,5 +1,5 @@
 -- Levels by quotients: two ticks differ in what stands from their level up, and agree in what stands above it.
-use Rattle.std.proofs.Common.{◌≡◌, ◌≢◌, ℕ, zero, suc, ◌+◌, ◌-◌, ◌*◌, ◌/◌, ◌%◌, ◌^◌, ◌<◌, ◌≤◌, ◌⊎◌, inl, inr, min, refl, sym, ◌∙◌, ap, subst, arith}
+use Rattle.std.proofs.Common.{◌≡◌, ◌≢◌, ℕ, zero, suc, ◌+◌, ◌-◌, ◌/◌, ◌%◌, ◌^◌, ◌<◌, ◌≤◌, inl, inr, min, refl, sym, ◌∙◌, ap, subst, arith}
 use Rattle.std.proofs.Math.Nat.{pow-suc, div-one, div-div-eq-div-mul, one-le-pow, div-eq_of_lt}
 use Rattle.std.proofs.lemmas.Nat.{pow-add}
 use Rattle.std.proofs.lemmas.Bool.{cases_eq, cases_lt}

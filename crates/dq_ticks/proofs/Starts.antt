@@ -1,8 +1,8 @@
 -- Digits tell ticks apart, and a slot starts at the tick that its digit names.
-use Rattle.std.proofs.Common.{◌≡◌, ◌≢◌, ℕ, zero, suc, ◌+◌, ◌-◌, ◌*◌, ◌/◌, ◌%◌, ◌^◌, ◌<◌, ◌≤◌, ◌⊎◌, inl, inr, refl, sym, ◌∙◌, ap, subst, arith, if◌then◌else◌, nat_lt, ◌==◌}
+use Rattle.std.proofs.Common.{◌≡◌, ◌≢◌, ℕ, zero, suc, ◌+◌, ◌-◌, ◌*◌, ◌/◌, ◌%◌, ◌^◌, ◌<◌, ◌≤◌, inl, inr, refl, sym, ◌∙◌, ap, subst, arith, if◌then◌else◌, nat_lt, ◌==◌}
 use Rattle.std.proofs.Math.Nat.{pow-suc, mul_assoc, mul_comm, mul-div_cancel}
 use Rattle.std.proofs.lemmas.Nat.{pow-add}
-use Rattle.std.proofs.lemmas.Bool.{cases_eq, cases_lt}
+use Rattle.std.proofs.lemmas.Bool.{cases_eq}
 use Rattle.std.proofs.lemmas.Bool.Decides.{nat_tests}
 use Rattle.dq_ticks.specs.Digits.{digit_of, highest_differing, start}
 use Rattle.dq_ticks.specs.Places.{IsRingStart}
@@ -38,7 +38,6 @@ highest_differs (suc n) e f i below apart =
       | inr differ ↦ subst P (sym (highest_here n e f differ)) (omega arith, omega arith, differ)
     ]
 
--- ---- below the top level
 low_digit : (m i d : ℕ) → m * 64 ^ (i + suc d) / 64 ^ i % 64 ≡ 0
 low_digit m i d =
     let parts : m * 64 ^ (i + suc d) ≡ m * 64 ^ d * 64 * 64 ^ i =
@@ -89,7 +88,6 @@ module _ (e place k : ℕ) (below : place < 5) (k_in : k < 64) where
       (λ same. subst P (sym same) digit_here)
       (digit_higher i)
 
--- ---- on the ring
 ring_after : (e k : ℕ) → k < 64 → e < start e 5 k
 ring_after e k k_in = rw start_top (grind (arith, nat_tests))
 

@@ -1,7 +1,6 @@
 -- The order of words, and what the greater of two words is.
-use Rattle.std.specs.Prelude.{◌≡◌, ℕ, ◌+◌, ◌*◌, ◌/◌, ◌%◌, ◌<◌, ◌≤◌, ◌⊎◌, ◌↔◌, max}
-use Rattle.dq_ticks.specs.Word.{field_of, mark_by, mark_number, mark_of, mark_unit, packed, parts_of, stamp_count, stamp_of, stamp_unit, word}
-use Rattle.dq_ticks.specs.declared.words.Mark.{Mark}
+use Rattle.std.specs.Prelude.{◌≡◌, ℕ, ◌<◌, ◌⊎◌, ◌↔◌, max}
+use Rattle.dq_ticks.specs.Word.{mark_number, mark_unit, packed, parts_of, stamp_count}
 use Rattle.dq_ticks.specs.declared.words.Mark.TheVariants.{LiveMark, CancelledMark}
 use Rattle.dq_ticks.specs.declared.words.Parts.{Parts}
 

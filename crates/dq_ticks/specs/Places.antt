@@ -1,5 +1,5 @@
 -- What levels and starts of slots mean, and what a wheel may count on.
-use Rattle.std.specs.Prelude.{◌≡◌, ◌≢◌, ℕ, ◌+◌, ◌-◌, ◌*◌, ◌/◌, ◌%◌, ◌^◌, ◌<◌, ◌≤◌, ◌⊎◌, ◌==◌, nat_lt, if◌then◌else◌}
+use Rattle.std.specs.Prelude.{◌≡◌, ◌≢◌, ℕ, ◌+◌, ◌%◌, ◌<◌, ◌≤◌, ◌⊎◌, ◌==◌, nat_lt, if◌then◌else◌}
 use Rattle.dq_ticks.specs.Digits.{digit_of, highest_differing, level, start, start_for, turn, IsAhead}
 use Rattle.dq_ticks.specs.Units.{lap, tick_limit, top_span}
 
@@ -54,3 +54,15 @@ abbrev pub EarlierTurnsComeFirst : Type 0
 EarlierTurnsComeFirst =
     (e f g : ℕ) → IsAhead e f → IsAhead e g → level e f ≡ level e g →
     turn e (level e f) (digit_of f (level e f)) < turn e (level e f) (digit_of g (level e f)) → f < start_for e g
+
+-- f stands at a lower level than g, or at the same level in a slot whose turn is no later
+abbrev pub IsNoLater : ℕ → ℕ → ℕ → Type 0
+IsNoLater e f g =
+    (level e f < level e g)
+    ⊎ ((level e f ≡ level e g)
+    × (turn e (level e f) (digit_of f (level e f)) ≤ turn e (level e f) (digit_of g (level e f))))
+
+-- the lowest level and, there, the slot that comes soonest has the least start
+abbrev pub SoonestSlotsStartFirst : Type 0
+SoonestSlotsStartFirst =
+    (e f g : ℕ) → IsAhead e f → IsAhead e g → IsNoLater e f g → start_for e f ≤ start_for e g

@@ -1,7 +1,7 @@
 //! Base-64 digits of ticks, and the levels, slots and starts that they name.
 ghost use Rattle.std.specs.Prelude.{◌≡◌, ◌≢◌, ◌+◌, ◌*◌, ◌/◌, ◌%◌, ◌^◌, ◌<◌, ◌≤◌, MatchOption};
 ghost use Rattle.dq_ticks.specs.Digits.{digit_of, level, start};
-ghost use Rattle.dq_ticks.specs.Places.{DigitsTellTicks, EarlierTurnsComeFirst, HighestDiffers, LowerLevelsComeFirst, PlacesAreStable, RingStartsAreLeast, SlotsOpenDownward, SlotsStartAhead, StartsByDigits};
+ghost use Rattle.dq_ticks.specs.Places.{DigitsTellTicks, EarlierTurnsComeFirst, HighestDiffers, LowerLevelsComeFirst, PlacesAreStable, RingStartsAreLeast, SlotsOpenDownward, SlotsStartAhead, SoonestSlotsStartFirst, StartsByDigits};
 ghost use Rattle.dq_ticks.specs.Units.{top_span};
 
 use crate::{LAST_TICK, LEVELS, SLOTS};
@@ -10,6 +10,7 @@ const TOP_SPAN: u64 = 1073741824;
 
 const LAP: u64 = 68719476736;
 
+// A digit is six bits, so a shift serves in place of a division.
 #[tactic(auto, using(crate::proofs::Bits::shifted))]
 fn without_lowest(t: u64, places: usize) -> u64
     requires { places < LEVELS }
@@ -19,6 +20,7 @@ fn without_lowest(t: u64, places: usize) -> u64
 }
 
 /// The base-64 digit of `t` at a place, the lowest place being 0.
+#[inline]
 pub fn digit(t: u64, level: usize) -> u64
     requires { level < LEVELS }
     ensures { result ≡ digit_of t level }
@@ -28,6 +30,7 @@ pub fn digit(t: u64, level: usize) -> u64
 
 /// How many ticks of one millisecond a slot of a level spans.
 #[tactic(auto, using(crate::proofs::Bits::power_shifted, crate::proofs::Bits::power_small))]
+#[inline]
 pub fn span(level: usize) -> u64
     requires { level < LEVELS }
     ensures value { result ≡ 64 ^ level }
@@ -39,11 +42,13 @@ pub fn span(level: usize) -> u64
 
 /// The level at which `when` stands, seen from the tick `now`: the highest place in which their digits differ, or the
 /// top level 5 where that is higher. None where they are equal, and `when` is due.
+#[inline]
 pub fn level_of(now: u64, when: u64) -> Option<usize>
     requires ordered { now ≤ when }
     requires tick { when ≤ LAST_TICK }
     ensures { MatchOption result (now ≡ when) (λ n. (now ≢ when) × (n < LEVELS) × (n ≡ level now when)) }
 {
+    // The highest bit in which they differ lies in the highest digit in which they differ.
     let differing = now ^ when;
     if differing == 0 {
         return None;
@@ -55,6 +60,7 @@ pub fn level_of(now: u64, when: u64) -> Option<usize>
 /// at that level set to `slot` and all lower digits 0. The top level is a ring: there it is the least multiple of
 /// `2^30` after `now` with that digit, so that the slot of `now` itself comes last.
 #[tactic(auto, unfolding(crate::specs::Digits::start))]
+#[inline]
 pub fn slot_start(now: u64, level: usize, slot: u64) -> u64
     requires tick { now ≤ LAST_TICK }
     requires level_in { level < LEVELS }
@@ -101,6 +107,7 @@ pub fn places_are_stable()
 pub fn soonest_slots_come_first()
     ensures lower { LowerLevelsComeFirst }
     ensures earlier { EarlierTurnsComeFirst }
+    ensures soonest { SoonestSlotsStartFirst }
 {}
 
 #[cfg(test)]

@@ -31,6 +31,7 @@ impl Model for EntryId {
 
 impl EntryId {
     /// The entry of that shard and index that was born at that stamp.
+    #[inline]
     pub fn new(shard: u32, index: u32, born: u32) -> EntryId
         ensures { result ≡ record { shard = shard; index = index; born = born } }
     {
@@ -41,6 +42,7 @@ impl EntryId {
     }
 
     /// The shard in which the entry stands.
+    #[inline]
     pub fn shard(&self) -> u32
         ensures { result ≡ self.now.shard }
     {
@@ -48,6 +50,7 @@ impl EntryId {
     }
 
     /// The entry's index in its shard.
+    #[inline]
     pub fn index(&self) -> u32
         ensures { result ≡ self.now.index }
     {
@@ -55,6 +58,7 @@ impl EntryId {
     }
 
     /// The stamp of the entry's birth, which tells it from earlier entries at its index.
+    #[inline]
     pub fn born(&self) -> u32
         ensures { result ≡ self.now.born }
     {
@@ -102,6 +106,7 @@ impl Model for Key {
 
 impl Key {
     /// The key of that entry at that stamp.
+    #[inline]
     pub fn new(entry: EntryId, stamp: u32) -> Key
         ensures { result ≡ record { entry = entry; stamp = stamp } }
     {
@@ -112,6 +117,7 @@ impl Key {
     }
 
     /// The entry that is meant.
+    #[inline]
     pub fn entry(&self) -> EntryId
         ensures { result ≡ self.now.entry }
     {
@@ -122,6 +128,7 @@ impl Key {
     }
 
     /// The stamp at which the entry is meant.
+    #[inline]
     pub fn stamp(&self) -> u32
         ensures { result ≡ self.now.stamp }
     {

@@ -56,6 +56,7 @@ fn mark_at(number: u64) -> Mark
 }
 
 /// The word of its parts: 20 bits of stamp, 2 of mark, 42 of field.
+#[inline]
 pub fn pack(parts: Parts) -> u64
     requires stamp { parts.stamp ≤ LAST_STAMP }
     requires field { parts.field ≤ LAST_FIELD }
@@ -65,6 +66,7 @@ pub fn pack(parts: Parts) -> u64
 }
 
 /// The parts of a word: every `u64` is the word of exactly one triple.
+#[inline]
 pub fn unpack(word: u64) -> Parts
     ensures { result ≡ parts_of word }
 {
