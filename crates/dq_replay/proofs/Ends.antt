@@ -1,7 +1,7 @@
 -- Where the lines of a script end.
-use Rattle.std.proofs.Common.{◌≡◌, ℕ, ◌+◌, ◌<◌, ◌≤◌, Bool, true, false, cond, List, [], ◌∷◌, ◌++◌, length, refl, ap, sym, ◌∙◌, arith, rules, append_assoc}
-use Rattle.std.specs.Prelude.{◌==◌, All}
-use Rattle.std.specs.List.{slice_split, onto_first}
+use Rattle.std.proofs.Common.{◌≡◌, ℕ, Bool, true, false, cond, List, [], ◌∷◌, ◌++◌, refl, append_assoc}
+use Rattle.std.specs.Prelude.{◌==◌}
+use Rattle.std.specs.List.{onto_first}
 use Rattle.std.proofs.lemmas.List.Elements.{All-head, All-tail}
 use Rattle.std.proofs.lemmas.List.Splits.{slice_split_at, slice_split_none}
 use Rattle.dq_replay.specs.Text.{lines_of}

@@ -7,3 +7,5 @@ mod Places
 mod Steps
 mod Ends
 mod Outcomes
+mod LineRuns
+mod Whole

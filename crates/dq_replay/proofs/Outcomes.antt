@@ -1,13 +1,13 @@
 -- What the outcome of a script is, a line at a time.
-use Rattle.std.proofs.Common.{◌≡◌, ℕ, ◌+◌, ◌<◌, ◌≤◌, Bool, true, false, cond, List, [], ◌∷◌, ◌++◌, length, refl, ap, sym, ◌∙◌, arith, rules, append_assoc, length-append}
-use Rattle.std.specs.Prelude.{Option, Some, None, Result, Ok, Err, ◌==◌, nat_lt}
+use Rattle.std.proofs.Common.{◌≡◌, ℕ, ◌+◌, ◌<◌, ◌≤◌, Bool, true, false, List, [], ◌∷◌, ◌++◌, length, refl, ap, ◌∙◌, arith, length-append}
+use Rattle.std.specs.Prelude.{Option, Some, None, Ok, Err, ◌==◌}
 use Rattle.std.proofs.lemmas.Bool.{lt-ltb, le-ltb}
 use Rattle.dq_replay.specs.declared.fault.FaultKind.{FaultKind}
-use Rattle.dq_replay.specs.declared.fault.FaultKind.TheVariants.{TooManyLines, LineTooLong, UnfinishedLine, BadHeader}
+use Rattle.dq_replay.specs.declared.fault.FaultKind.TheVariants.{TooManyLines, LineTooLong, UnfinishedLine}
 use Rattle.dq_replay.specs.declared.line.TheConstants.{LINE_LIMIT, LAST_LINE}
 use Rattle.dq_replay.specs.Text.{lines_of}
 use Rattle.dq_replay.specs.Lines.{HasNoEnd}
-use Rattle.dq_replay.specs.Script.{State, Outcome, outcome_from, after_answer, ends_by, line_does, rest_fault}
+use Rattle.dq_replay.specs.Script.{State, outcome_from, after_answer, ends_by, line_does, rest_fault}
 use Rattle.dq_replay.proofs.Ends.{lines_whole, lines_last, lines_front, some_line}
 
 -- a whole line, and lines behind it

@@ -1,6 +1,6 @@
 -- Where an entry goes among those that are in order.
-use Rattle.std.proofs.Common.{◌≡◌, ℕ, ◌+◌, ◌<◌, ◌≤◌, ◌⊎◌, inl, inr, Bool, true, false, cond, not, List, [], ◌∷◌, ◌++◌, length, take, drop, refl, ap, sym, ◌∙◌, arith, rules, add-one, suc}
-use Rattle.std.specs.Prelude.{Option, Some, None, nat_lt, position, unwrap_or, insert}
+use Rattle.std.proofs.Common.{◌≡◌, ℕ, ◌+◌, ◌≤◌, inl, inr, Bool, true, false, cond, not, List, [], ◌∷◌, length, refl, ap, arith, rules, suc}
+use Rattle.std.specs.Prelude.{position, unwrap_or, insert}
 use Rattle.std.specs.List.{position_or_len, prefix_len}
 use Rattle.std.proofs.lemmas.Bool.{le-ltb, lt-ltb, cases_lt}
 use Rattle.dq_replay.specs.declared.session.Entry.{Entry}

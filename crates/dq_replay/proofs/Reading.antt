@@ -1,12 +1,12 @@
 -- What one more byte makes of the front of a line.
-use Rattle.std.proofs.Common.{◌≡◌, ℕ, ◌+◌, ◌<◌, ◌≤◌, Bool, true, false, List, [], ◌∷◌, ◌++◌, length, arith, rules}
-use Rattle.std.specs.Prelude.{Option, Some, None, ◌==◌, All}
+use Rattle.std.proofs.Common.{◌≡◌, ℕ, ◌+◌, ◌<◌, false, List, [], ◌∷◌, ◌++◌, length, arith}
+use Rattle.std.specs.Prelude.{Option, ◌==◌}
 use Rattle.std.specs.Io.KnownBytes.{Consumes}
 use Rattle.std.proofs.lemmas.Bool.{ne_eqb}
 use Rattle.std.proofs.lemmas.List.{length_push}
 use Rattle.std.proofs.lemmas.List.Elements.{All-push}
 use Rattle.dq_replay.specs.declared.line.TheConstants.{LINE_LIMIT}
-use Rattle.dq_replay.specs.Lines.{HasNoEnd, IsInLine, TakesFront}
+use Rattle.dq_replay.specs.Lines.{HasNoEnd, TakesFront}
 use Rattle.dq_replay.proofs.Known.{consumes_two}
 
 pub no_end_push : (line : List ℕ) (b : ℕ) → HasNoEnd line → (b ≡ 10 → ⊥) → HasNoEnd (line ++ b ∷ [])

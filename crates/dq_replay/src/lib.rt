@@ -8,7 +8,11 @@ mod header;
 mod line;
 mod name;
 mod output;
+mod replay;
 mod session;
+mod status;
 mod texts;
 
 pub use fault::{FaultKind, ReplayFault};
+pub use replay::{CAPACITY_LIMIT, run};
+pub use status::report;

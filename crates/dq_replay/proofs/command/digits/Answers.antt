@@ -1,5 +1,5 @@
 use Rattle.std.proofs.Common.{sym, ◌∙◌, rules}
-use Rattle.dq_replay.proofs.Digits.{digits_stop, digits_more, digits_end}
+use Rattle.dq_replay.proofs.Digits.{digits_stop, digits_end}
 use Rattle.dq_replay.proofs.command.digits.Goals as goal
 
 pub returns-in-None : goal.returns-in-None

@@ -1,4 +1,4 @@
-use Rattle.std.proofs.Common.{◌≡◌, ℕ, ◌+◌, ◌-◌, ◌≤◌, length, take, drop, arith, rules, sym, ◌∙◌}
+use Rattle.std.proofs.Common.{◌+◌, ◌-◌, length, drop, arith, sym}
 use Rattle.std.specs.Prelude.{◌==◌}
 use Rattle.std.proofs.lemmas.List.{length-drop, take_all}
 use Rattle.dq_replay.proofs.Splits.{split_at, split_none}

@@ -1,4 +1,4 @@
-use Rattle.std.proofs.Common.{arith, rules}
+use Rattle.std.proofs.Common.{rules}
 use Rattle.std.proofs.lemmas.Result.{err_from_is_err_and}
 use Rattle.dq_replay.proofs.Reading.{takes_front, takes_too_many}
 use Rattle.dq_replay.proofs.line.next_line.Goals as goal

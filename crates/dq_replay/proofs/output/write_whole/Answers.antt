@@ -1,4 +1,4 @@
-use Rattle.std.proofs.Common.{◌+◌, ◌-◌, ◌≤◌, length, take, drop, arith}
+use Rattle.std.proofs.Common.{◌-◌, ◌≤◌, length, drop, arith}
 use Rattle.std.proofs.lemmas.List.{take_all, length-drop}
 use Rattle.dq_replay.proofs.Known.{appends_more}
 use Rattle.dq_replay.proofs.output.write_whole.Goals as goal

@@ -1,4 +1,4 @@
-use Rattle.std.proofs.Common.{ℕ, ◌-◌, ◌≤◌, take, length}
+use Rattle.std.proofs.Common.{◌-◌, ◌≤◌, take, length}
 use Rattle.std.specs.Io.KnownBytes.{Appends}
 use Rattle.dq_replay.proofs.output.write_whole.Given as goal
 

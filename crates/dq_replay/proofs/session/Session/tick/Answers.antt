@@ -1,4 +1,4 @@
-use Rattle.std.proofs.Common.{rules, refl, ◌∙◌, ap, sym}
+use Rattle.std.proofs.Common.{rules}
 use Rattle.dq_replay.proofs.Steps.{tick_is}
 use Rattle.dq_replay.proofs.session.Session.tick.Goals as goal
 
