@@ -5,3 +5,4 @@ pub mod Wakes
 pub mod Ring
 pub mod Rows
 pub mod Lists
+pub mod Occupied
