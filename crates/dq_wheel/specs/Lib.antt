@@ -6,3 +6,4 @@ pub mod Ring
 pub mod Rows
 pub mod Lists
 pub mod Occupied
+pub mod Homes

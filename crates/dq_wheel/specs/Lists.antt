@@ -8,6 +8,12 @@ pub record RingsState : Type 0 where
   pub homes : List ℕ
   pub next : List ℕ
 
+-- the same with the occupancy words of the lists
+pub record SlotsState : Type 0 where
+  pub homes : List ℕ
+  pub next : List ℕ
+  pub words : List ℕ
+
 -- index x stands in list p
 abbrev pub StandsIn : List ℕ → ℕ → ℕ → Type 0
 StandsIn homes p x = (x < length homes) × (slice_index homes x ≡ p + 1)

@@ -3,4 +3,5 @@
 
 mod occupied;
 mod rings;
+mod slots;
 pub mod wheel;

@@ -1,0 +1,186 @@
+-- A slot that is opened, index by index.
+
+use Rattle.std.proofs.Common.{◌≡◌, ◌≢◌, ℕ, ◌+◌, ◌*◌, ◌<◌, ◌≤◌, List, [], ◌∷◌, length, get_or, set, sum, refl, sym, arith, ◌∙◌, ap, ◌⊎◌, inl, inr, cond, eqb}
+use Rattle.std.specs.List.{sum_by}
+use Rattle.std.proofs.Math.ListN.{length-set}
+use Rattle.std.proofs.lemmas.List.{get_or-set_same, get_or-set_other}
+use Rattle.std.proofs.lemmas.List.Sums.{sum_by-set, sum_by-cons}
+use Rattle.dq_wheel.specs.Lists.{StandsIn, IsEmpty}
+use Rattle.dq_wheel.specs.Occupied.{bit_of, IsFilled, IsOccupied, IsOccupiedBut}
+use Rattle.dq_wheel.specs.Homes.{list_number, rehomed, recounted, CanGo, IsOpened}
+use Rattle.dq_wheel.proofs.Links.{same_or_not, nat_le_or_lt}
+use Rattle.dq_wheel.proofs.Occupancy.{but_one, left_out, bit_linked, due_linked, bit_cleared}
+
+-- 1 where an index stands in list p
+abbrev pub waits : ℕ → ℕ → ℕ
+waits p h = cond (eqb h (p + 1)) 1 0
+
+-- how many stand in list p
+unfoldable pub waiting : ℕ → List ℕ → ℕ
+waiting p homes = sum_by (waits p) homes
+
+waits_there : (p h : ℕ) → h ≡ p + 1 → waits p h ≡ 1
+waits_there p h e = grind arith
+
+waits_elsewhere : (p h : ℕ) → h ≢ p + 1 → waits p h ≡ 0
+waits_elsewhere p h d = grind arith
+
+waits_le : (p h : ℕ) → waits p h ≤ 1
+waits_le p h = elim (same_or_not h (p + 1)) [ inl e ↦ omega (arith, waits_there p h e) | inr d ↦ omega (arith, waits_elsewhere p h d) ]
+
+waiting_le : (p : ℕ) (homes : List ℕ) → waiting p homes ≤ length homes
+unfolding waiting
+waiting_le p [] = omega arith
+waiting_le p (h ∷ homes) = omega (arith, sum_by-cons (waits p) h homes, waits_le p h, waiting_le p homes)
+
+pub rehomed_there : (e p f h : ℕ) → h ≡ p + 1 → rehomed e p f h ≡ list_number e f + 1
+rehomed_there e p f h is = grind arith
+
+pub rehomed_elsewhere : (e p f h : ℕ) → h ≢ p + 1 → rehomed e p f h ≡ h
+rehomed_elsewhere e p f h is = grind arith
+
+pub recounted_due : (e p f h m : ℕ) → h ≡ p + 1 → e ≡ f → recounted e p f h m ≡ m
+recounted_due e p f h m is due = grind arith
+
+pub recounted_moved : (e p f h m : ℕ) → h ≡ p + 1 → e ≢ f → recounted e p f h m ≡ m + 1
+recounted_moved e p f h m is later = grind arith
+
+pub recounted_elsewhere : (e p f h m : ℕ) → h ≢ p + 1 → recounted e p f h m ≡ m
+recounted_elsewhere e p f h m is = grind arith
+
+-- an index waits in the opened list, or was placed again
+abbrev IsTurn : ℕ → ℕ → ℕ → ℕ → ℕ → ℕ → ℕ → Type 0
+IsTurn e p f home moves home2 moves2 =
+    ((home ≡ p + 1) × (home2 ≡ p + 1) × (moves2 ≡ moves))
+    ⊎ ((home2 ≢ p + 1) × (home2 ≡ rehomed e p f home) × (moves2 ≡ recounted e p f home moves))
+
+-- after some turns
+pub record IsOpening (e p : ℕ) (filed homes moves homes2 moves2 words : List ℕ) (made : ℕ) : Type 0 where
+  pub size : length homes2 ≡ length homes
+  pub moves_size : length moves2 ≡ length homes
+  pub each : (i : ℕ) → i < length homes → IsTurn e p (get_or filed i 0) (get_or homes i 0) (get_or moves i 0) (get_or homes2 i 0) (get_or moves2 i 0)
+  pub occupied : IsOccupiedBut p words homes2
+  pub sum : sum moves2 ≡ sum moves + made
+  pub few : made + waiting p homes2 ≤ length homes
+
+pub opening_init : (e p : ℕ) (filed homes moves words : List ℕ) → length moves ≡ length homes → IsOccupied words homes →
+    IsOpening e p filed homes moves homes moves words 0
+opening_init e p filed homes moves words size ok =
+    record {
+      size = refl;
+      moves_size = size;
+      each = λ i i_in.
+          elim (same_or_not (get_or homes i 0) (p + 1)) [
+            inl h ↦ inl (h, h, refl)
+          | inr d ↦ inr (d, sym (rehomed_elsewhere e p _ _ d), sym (recounted_elsewhere e p _ _ _ d))
+          ];
+      occupied = but_one words homes p ok;
+      sum = omega arith;
+      few = omega (arith, waiting_le p homes);
+    }
+
+module _ (e p : ℕ) (filed homes moves homes2 moves2 words : List ℕ) (made : ℕ) (s : IsOpening e p filed homes moves homes2 moves2 words made)
+  (i to : ℕ) (stands : StandsIn homes2 p i) (to_is : to ≡ list_number e (get_or filed i 0)) where
+
+  home_was : get_or homes i 0 ≡ p + 1
+  home_was = elim (s.each i (rw s.size at stands.0)) [ inl w ↦ w.0 | inr w ↦ absurd (w.0 stands.1) ]
+
+  -- it stood in the opened list from the first
+  pub stood : StandsIn homes p i
+  stood = (rw s.size at stands.0, home_was)
+
+  moves_were : get_or moves2 i 0 ≡ get_or moves i 0
+  moves_were = elim (s.each i (rw s.size at stands.0)) [ inl w ↦ w.2 | inr w ↦ absurd (w.0 stands.1) ]
+
+  -- it doesn't come back into the list
+  pub stays_away : ((j : ℕ) → StandsIn homes p j → CanGo e p (get_or filed j 0) (get_or moves j 0)) → to ≢ p
+  stays_away can_go same = (can_go i stood).2 (sym to_is ∙ same)
+
+  module _ (elsewhere : to ≢ p) where
+
+    abbrev pub homes3 : List ℕ
+    homes3 = set (set homes2 i 0) i (to + 1)
+
+    home_now : get_or homes3 i 0 ≡ to + 1
+    home_now = get_or-set_same (set homes2 i 0) i (to + 1) 0 (rw length-set stands.0)
+
+    home_else : (j : ℕ) → j ≢ i → get_or homes3 j 0 ≡ get_or homes2 j 0
+    home_else j d = get_or-set_other (set homes2 i 0) i j (to + 1) 0 d ∙ get_or-set_other homes2 i j 0 0 d
+
+    fewer : waiting p homes3 + 1 ≡ waiting p homes2
+    unfolding waiting
+    fewer =
+        let taken = sum_by-set (waits p) homes2 i 0 0 stands.0 in
+        let put = sum_by-set (waits p) (set homes2 i 0) i (to + 1) 0 (rw length-set stands.0) in
+        let was : waits p (get_or homes2 i 0) ≡ 1 = waits_there p _ stands.1 in
+        let between : waits p (get_or (set homes2 i 0) i 0) ≡ 0 =
+            waits_elsewhere p _ (λ h. let zero_home : get_or (set homes2 i 0) i 0 ≡ 0 = get_or-set_same homes2 i 0 0 stands.0 in omega arith) in
+        let zero_waits : waits p 0 ≡ 0 = waits_elsewhere p 0 (λ h. omega arith) in
+        let now : waits p (to + 1) ≡ 0 = waits_elsewhere p (to + 1) (λ h. elsewhere (omega arith)) in
+        omega arith
+
+    -- one fewer waits
+    pub opening_falls : waiting p homes3 < waiting p homes2
+    opening_falls = omega (arith, fewer)
+
+    module _ (words3 moves3 : List ℕ) (made3 : ℕ) (occupied3 : IsOccupiedBut p words3 homes3) (size3 : length moves3 ≡ length moves2)
+      (moved : get_or moves3 i 0 ≡ recounted e p (get_or filed i 0) (get_or homes i 0) (get_or moves i 0))
+      (unmoved : (j : ℕ) → j ≢ i → get_or moves3 j 0 ≡ get_or moves2 j 0)
+      (sum3 : sum moves3 ≡ sum moves + made3) (few3 : made3 ≤ made + 1)
+     where
+
+      pub opening_more : IsOpening e p filed homes moves homes3 moves3 words3 made3
+      opening_more =
+          record {
+            size = simp length-set s.size;
+            moves_size = size3 ∙ s.moves_size;
+            each = λ j j_in.
+                elim (same_or_not j i) [
+                  inl is ↦ rw is (inr (
+                    (λ h. elsewhere (omega (arith, home_now))),
+                    home_now ∙ (ap (λ n. n + 1) to_is ∙ sym (rehomed_there e p _ _ home_was)),
+                    moved))
+                | inr d ↦ rw (home_else j d, unmoved j d) (s.each j j_in)
+                ];
+            occupied = occupied3;
+            sum = sum3;
+            few = omega (arith, s.few, fewer);
+          }
+
+    -- what stands elsewhere came from elsewhere
+    from_elsewhere : (q : ℕ) → q ≢ p → get_or (set homes2 i 0) i 0 ≢ q + 1
+    from_elsewhere q d h = let zero_home : get_or (set homes2 i 0) i 0 ≡ 0 = get_or-set_same homes2 i 0 0 stands.0 in omega arith
+
+    left : IsOccupiedBut p words (set homes2 i 0)
+    left = left_out (λ q. q ≢ p) words homes2 s.occupied i stands.0 p stands.1 (λ q d. d)
+
+    -- the index is due
+    pub opening_due : e ≡ get_or filed i 0 → 384 ≤ to → IsOpening e p filed homes moves homes3 moves2 words made
+    opening_due due high =
+        opening_more words moves2 made
+            (due_linked (λ q. q ≢ p) words (set homes2 i 0) left i (rw length-set stands.0) to from_elsewhere high)
+            refl (moves_were ∙ sym (recounted_due e p _ _ _ home_was due)) (λ j d. refl) s.sum (omega arith)
+
+    -- it goes to a slot
+    pub opening_moved : (words3 : List ℕ) → e ≢ get_or filed i 0 → bit_of words3 to ≡ 1 →
+        ((q : ℕ) → q ≢ to → bit_of words3 q ≡ bit_of words q) → 
+        IsOpening e p filed homes moves homes3 (set moves2 i (get_or moves2 i 0 + 1)) words3 (made + 1)
+    opening_moved words3 later one others =
+        let i_in : i < length moves2 = rw (s.moves_size, ← s.size) stands.0 in
+        let more = sum_by-set (λ m. m) moves2 i (get_or moves2 i 0 + 1) 0 i_in in
+        opening_more words3 (set moves2 i (get_or moves2 i 0 + 1)) (made + 1)
+            (bit_linked (λ q. q ≢ p) words (set homes2 i 0) left i (rw length-set stands.0) words3 to from_elsewhere one others)
+            (simp length-set refl)
+            (get_or-set_same moves2 i (get_or moves2 i 0 + 1) 0 i_in ∙ (ap (λ m. m + 1) moves_were ∙ sym (recounted_moved e p _ _ _ home_was later)))
+            (λ j d. get_or-set_other moves2 i j (get_or moves2 i 0 + 1) 0 d) (omega (arith, s.sum, more)) (omega arith)
+
+-- no index waits any more
+pub opening_end : (e p : ℕ) (filed homes moves homes2 moves2 words : List ℕ) (made : ℕ) → IsOpening e p filed homes moves homes2 moves2 words made →
+    IsEmpty homes2 p → IsOpened e p filed homes moves homes2 moves2 made
+opening_end e p filed homes moves homes2 moves2 words made s empty =
+    record {
+      size = s.size;
+      placed = λ i i_in. elim (s.each i i_in) [ inl w ↦ absurd (empty i (rw s.size i_in) w.1) | inr w ↦ w.1 ];
+      counted = λ i i_in. elim (s.each i i_in) [ inl w ↦ absurd (empty i (rw s.size i_in) w.1) | inr w ↦ w.2 ];
+      sum = s.sum;
+    }

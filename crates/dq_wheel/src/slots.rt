@@ -1,0 +1,214 @@
+//! The slots of six levels and the due list, with occupancy words.
+
+ghost use Rattle.std.specs.Prelude.{◌≡◌, ◌≢◌, ℕ, ◌+◌, ◌*◌, ◌<◌, ◌≤◌, ◌↔◌, length, slice_index, slice_set, replicate, sum, IfOk, MatchOption};
+ghost use Rattle.std.specs.Int.{bit_at};
+ghost use Rattle.dq_wheel.specs.Lists.{IsEmpty, IsListOf, StandsIn};
+ghost use Rattle.dq_wheel.specs.Occupied.{IsEarlier, IsFilled, IsOccupied};
+ghost use Rattle.dq_wheel.specs.Homes.{list_number, CanGo, IsOpened};
+
+use crate::occupied::{Words, clear_bit, first_list, set_bit};
+use crate::rings::Rings;
+use dq_ticks::{LAST_TICK, LEVELS, SLOTS, digit, level_of};
+use std::alloc::{AllocError, Allocator, Global};
+use std::marker::Model;
+
+/// The list of the due indexes. List `64 * level + slot` is that slot.
+pub const DUE: usize = 384;
+
+/// Which slot each index stands in, if any, with a bit for each slot that isn't empty.
+#[derive(Drop)]
+pub struct Slots<A: Allocator = Global> {
+    rings: Rings<A>,
+    words: Words,
+}
+
+impl<A: Allocator> Model for Slots<A> {
+    ghost use Rattle.dq_wheel.specs.Lists.{SlotsState};
+    ghost use Rattle.dq_wheel.specs.Occupied.{IsOccupied};
+
+    ghost Value = { SlotsState };
+
+    ghost view = { λ a. record { homes = a.rings.homes; next = a.rings.next; words = a.words } };
+
+    ghost invariant = { λ a. IsOccupied a.words a.rings.homes };
+}
+
+/// The number of the list for a tick.
+pub fn list_of(tick: u64, when: u64) -> usize
+    requires ordered { tick ≤ when }
+    requires in_range { when ≤ LAST_TICK }
+    ensures value { result ≡ list_number tick when }
+    ensures small { result < 385 }
+{
+    match level_of(tick, when) {
+        None => DUE,
+        Some(level) => SLOTS * level + digit(when, level) as usize,
+    }
+}
+
+/// Places each index of a list again by the new tick, and gives how many of them went to a slot.
+fn empty_slot<A: Allocator>(
+    rings: &mut Rings<A>,
+    words: &mut Words,
+    list: usize,
+    tick: u64,
+    filed: &[u64],
+    moves: &mut [u8],
+) -> u64
+    requires list_in { list < 384 }
+    requires small { length rings.old.homes ≤ 65536 }
+    requires filed_all { length filed.now ≡ length rings.old.homes }
+    requires moves_all { length moves.old ≡ length rings.old.homes }
+    requires occupied { IsOccupied words.old rings.old.homes }
+    requires can_go { (i : ℕ) → StandsIn rings.old.homes list i → CanGo tick list (slice_index filed.now i) (slice_index moves.old i) }
+    ensures opened { IsOpened tick list filed.now rings.old.homes moves.old rings.new.homes moves.new result }
+    ensures occupied { IsOccupied words.new rings.new.homes }
+{
+    let mut made = 0;
+    while let Some(index) = rings.take_first(list) {
+        let when = filed[index];
+        let to = list_of(tick, when);
+        rings.link(index, to);
+        if to < DUE {
+            set_bit(words, to);
+            moves[index] += 1;
+            made += 1;
+        }
+    }
+    clear_bit(words, list);
+    made
+}
+
+impl<A: Allocator> Slots<A> {
+    /// No index stands in a list.
+    pub fn new(alloc: A, capacity: usize) -> Result<Slots<A>, AllocError>
+        requires { capacity ≤ 65536 }
+        ensures { IfOk result (λ r. r.homes ≡ replicate capacity 0) }
+    {
+        let rings = Rings::new(alloc, capacity)?;
+        Ok(Slots {
+            rings,
+            words: [0; LEVELS],
+        })
+    }
+
+    /// Each list, walked along its links from its head, has once each index whose home it is, and no other; and each
+    /// bit is 1 exactly where its list isn't empty.
+    pub fn law(&self)
+        ensures lists { (p : ℕ) → p < 385 → IsListOf self.now.next self.now.homes p }
+        ensures bits { IsOccupied self.now.words self.now.homes }
+    {
+        self.rings.law();
+    }
+
+    /// The number of indexes.
+    pub fn capacity(&self) -> usize
+        ensures value { result ≡ length self.now.homes }
+        ensures small { length self.now.homes ≤ 65536 }
+    {
+        self.rings.capacity()
+    }
+
+    /// The list of an index, and one more, or 0.
+    pub fn home(&self, index: usize) -> u16
+        requires { index < length self.now.homes }
+        ensures { result ≡ slice_index self.now.homes index }
+    {
+        self.rings.home(index)
+    }
+
+    /// The first index of a list.
+    pub fn first(&self, list: usize) -> Option<usize>
+        requires { list < 385 }
+        ensures { MatchOption result (IsEmpty self.now.homes list) (λ x. StandsIn self.now.homes list x) }
+    {
+        match self.rings.first(list) {
+            Some(first) => Some(first),
+            None => None,
+        }
+    }
+
+    /// An index of a list whose key is least there.
+    pub fn least_in(&self, list: usize, keys: &[u64]) -> Option<usize>
+        requires list_in { list < 385 }
+        requires same_length { length keys.now ≡ length self.now.homes }
+        ensures { MatchOption result
+            (IsEmpty self.now.homes list)
+            (λ x. StandsIn self.now.homes list x
+                × ((y : ℕ) → StandsIn self.now.homes list y → slice_index keys.now x ≤ slice_index keys.now y)) }
+    {
+        self.rings.least_in(list, keys)
+    }
+
+    /// The occupancy word of a level.
+    pub fn word(&self, level: usize) -> u64
+        requires { level < LEVELS }
+        ensures { (k : ℕ) → k < 64 → (bit_at result k ≡ 1) ↔ IsFilled self.now.homes (64 * level + k) }
+    {
+        self.words[level]
+    }
+
+    /// The slot of the lowest level that has one, there the first after the own one.
+    pub fn first_filled(&self, own: usize) -> Option<usize>
+        requires { own < 64 }
+        ensures { MatchOption result
+            ((p : ℕ) → p < 384 → IsEmpty self.now.homes p)
+            (λ q. (q < 384) × IsFilled self.now.homes q
+                × ((p : ℕ) → p < 384 → IsFilled self.now.homes p → IsEarlier own q p)) }
+    {
+        match first_list(&self.words, own) {
+            Some(list) => Some(list),
+            None => None,
+        }
+    }
+
+    /// Puts a loose index at the end of a list.
+    pub fn link(&mut self, index: usize, list: usize)
+        requires index_in { index < length self.old.homes }
+        requires list_in { list < 385 }
+        requires loose { slice_index self.old.homes index ≡ 0 }
+        ensures { self.new.homes ≡ slice_set self.old.homes index (list + 1) }
+    {
+        self.rings.link(index, list);
+        if list < DUE {
+            set_bit(&mut self.words, list);
+        }
+    }
+
+    /// Takes an index out of its list.
+    pub fn unlink(&mut self, index: usize)
+        requires index_in { index < length self.old.homes }
+        requires linked { 0 < slice_index self.old.homes index }
+        ensures { self.new.homes ≡ slice_set self.old.homes index 0 }
+    {
+        let list = self.rings.home(index) as usize - 1;
+        self.rings.unlink(index);
+        if list < DUE {
+            match self.rings.first(list) {
+                Some(_) => {}
+                None => clear_bit(&mut self.words, list),
+            }
+        }
+    }
+
+    /// Takes the first index off the due list.
+    pub fn take_due(&mut self) -> Option<usize>
+        ensures { MatchOption result
+            (IsEmpty self.old.homes DUE × (self.new ≡ self.old))
+            (λ x. StandsIn self.old.homes DUE x × (self.new.homes ≡ slice_set self.old.homes x 0)) }
+    {
+        self.rings.take_first(DUE)
+    }
+
+    /// Opens a slot: each of its indexes is placed again by the new tick. Gives how many of them went to a slot.
+    pub fn open(&mut self, list: usize, tick: u64, filed: &[u64], moves: &mut [u8]) -> u64
+        requires list_in { list < 384 }
+        requires filed_all { length filed.now ≡ length self.old.homes }
+        requires moves_all { length moves.old ≡ length self.old.homes }
+        requires can_go { (i : ℕ) → StandsIn self.old.homes list i → CanGo tick list (slice_index filed.now i) (slice_index moves.old i) }
+        ensures { IsOpened tick list filed.now self.old.homes moves.old self.new.homes moves.new result }
+    {
+        let _ = self.capacity();
+        empty_slot(&mut self.rings, &mut self.words, list, tick, filed, moves)
+    }
+}
