@@ -2,6 +2,8 @@
 #![tactic(auto)]
 
 pub mod errors;
+#[cfg(test)]
+mod model;
 pub mod plain;
 pub mod slots;
 pub mod vec_words;
