@@ -1,0 +1,58 @@
+//! The command line of `delay-replay`.
+
+use clap::error::ErrorKind;
+use clap::{Arg, Command, Error, value_parser};
+use dq_replay::CAPACITY_LIMIT;
+use std::alloc::Global;
+use std::convert::AsStr;
+use std::env;
+use std::io;
+use std::rt::Env;
+
+/// The capacity where none is given.
+const DEFAULT_CAPACITY: usize = 1024;
+
+/// Why no script is replayed.
+#[derive(Drop)]
+pub enum Refusal {
+    /// The words ask for help, or they don't fit the command.
+    Told(Error),
+    /// A word isn't text.
+    NotText,
+    /// An allocation was refused.
+    NoMemory,
+}
+
+/// The capacity that the process's command line asks for.
+pub fn capacity_given<R: Env + AllocGlobal>(rt: &R) -> Result<usize, Refusal> {
+    let words = match env::args(rt) {
+        Ok(words) => words,
+        Err(error) if error.kind() == io::ErrorKind::OutOfMemory => return Err(Refusal::NoMemory),
+        Err(_) => return Err(Refusal::NotText),
+    };
+    let words: Result<Vec<String>, _> = words.collect(rt.alloc());
+    let Ok(words) = words else {
+        return Err(Refusal::NoMemory);
+    };
+    match capacity_of(rt.alloc(), words.as_slice()) {
+        Ok(capacity) => Ok(capacity),
+        Err(error) if error.kind() == ErrorKind::OutOfMemory => Err(Refusal::NoMemory),
+        Err(error) => Err(Refusal::Told(error)),
+    }
+}
+
+/// The capacity that the words of a command line ask for.
+fn capacity_of<S: AsStr>(alloc: Global, words: &[S]) -> Result<usize, Error> {
+    let capacity = Arg::new(alloc, "capacity")
+        .long("capacity")
+        .value_name("N")
+        .help("The most names that may be live, 1 to 65536")
+        .value_parser(value_parser!(usize).range(1..=CAPACITY_LIMIT as i64))
+        .default_value("1024");
+    let command = Command::new(alloc, "delay-replay")
+        .bin_name("delay-replay")?
+        .about("Replays a script of delays from standard input and writes its answers to standard output")
+        .arg(capacity)?;
+    let matches = command.try_get_matches_from(words)?;
+    Ok(matches.get_one::<usize>("capacity").unwrap_or(DEFAULT_CAPACITY))
+}
