@@ -1,5 +1,5 @@
 -- A step on one slot keeps the rule, where it keeps the law of each stamp of that slot.
-use Rattle.std.proofs.Common.{◌≡◌, ◌≢◌, ℕ, zero, suc, ◌+◌, ◌*◌, ◌<◌, ◌≤◌, ◌⊎◌, Bool, true, false, true≢false, List, [], ◌∷◌, length, get_or, set, sym, refl, ap, ◌∙◌, subst, inl, inr, ⊎_elim, length-set, get_or-set_same, get_or-set_other, arith}
+use Rattle.std.proofs.Common.{◌≡◌, ◌≢◌, ℕ, zero, suc, ◌*◌, ◌<◌, ◌≤◌, ◌⊎◌, Bool, true, false, true≢false, List, [], ◌∷◌, length, get_or, set, sym, refl, ap, ◌∙◌, subst, inl, inr, ⊎_elim, length-set, get_or-set_same, get_or-set_other, arith}
 use mathlib.Core.Option.{some}
 use mathlib.Core.Logic.{dite}
 use native.Mathlib.Decide.{ℕ_discrete, dec_le}
@@ -7,9 +7,9 @@ use lib.ListN.{get_elem?}
 use Rattle.atomic_table.specs.Table.{State}
 use Rattle.atomic_table.proofs.Lists.{at_set}
 use Rattle.dq_words.specs.declared.views.View.{View}
-use Rattle.dq_ticks.specs.Word.{stamp_unit, mark_unit, word, stamp_of, mark_of, field_of}
+use Rattle.dq_ticks.specs.Word.{stamp_unit, word, stamp_of}
 use Rattle.dq_words.specs.Word.{Left, Learned}
-use Rattle.dq_words.specs.Files.{File, blank, file, Has, Among, IsDeadline}
+use Rattle.dq_words.specs.Files.{File, file, Has, Among}
 use Rattle.dq_words.specs.Rule.{Unborn, Living, Cancelled, Ended, Law, HadAt, Had, Role, Sees, Kept}
 
 -- two cases of an index

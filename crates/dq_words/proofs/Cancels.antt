@@ -1,18 +1,17 @@
 -- A fetch_max that cancels.
-use Rattle.std.proofs.Common.{◌≡◌, ◌≢◌, ℕ, zero, suc, ◌+◌, ◌*◌, ◌/◌, ◌%◌, ◌<◌, ◌≤◌, ◌⊎◌, max, Bool, true, false, true≢false, List, [], ◌∷◌, get_or, set, sym, refl, ap, ◌∙◌, subst, inl, inr, ⊎_elim, arith}
+use Rattle.std.proofs.Common.{◌≡◌, ◌≢◌, ℕ, ◌<◌, ◌≤◌, ◌⊎◌, max, false, true≢false, List, [], ◌∷◌, get_or, set, sym, refl, ap, ◌∙◌, subst, inl, inr, ⊎_elim, arith}
 use mathlib.Core.Option.{some, none}
 use lib.ListN.{get_elem?}
-use Rattle.atomic_table.specs.Table.{State, Step, step, Act, keeps, Allows}
+use Rattle.atomic_table.specs.Table.{State, step, keeps, Allows}
 use Rattle.dq_words.specs.declared.views.View.{View}
-use Rattle.dq_words.specs.declared.views.Call.{Call}
 use Rattle.dq_words.specs.declared.views.Call.TheVariants.{Cancel}
 use Rattle.dq_words.specs.declared.views.StepKind.TheVariants.{CallerLoad}
-use Rattle.dq_ticks.specs.Word.{stamp_unit, mark_unit, word, stamp_of, mark_of, field_of}
-use Rattle.dq_words.specs.Word.{Left, Learned}
-use Rattle.dq_words.specs.Counts.{cancels_in, lives}
-use Rattle.dq_words.specs.Files.{is_at, with_if, File, file, Has, Among, IsDeadline, extends_at, cancels_at, bases_at, ends_at, gathered, keeper_writes}
+use Rattle.dq_ticks.specs.Word.{word, stamp_of, mark_of, field_of}
+use Rattle.dq_words.specs.Word.{Learned}
+use Rattle.dq_words.specs.Counts.{lives}
+use Rattle.dq_words.specs.Files.{is_at, File, file, Has, Among, extends_at, cancels_at, bases_at, ends_at, gathered, keeper_writes}
 use Rattle.dq_words.specs.Rule.{Living, Cancelled, Law, Kept, Ruled}
-use Rattle.dq_words.specs.Plays.{Sat, cancelling, cancelled, stepping}
+use Rattle.dq_words.specs.Plays.{Sat, cancelling, cancelled}
 use Rattle.dq_words.proofs.Gathers.{at_other_slot, at_other_stamp, if_here, if_other, has_with_if, gathered_same, gathered_one, gathered_grows, writes_same, file_of}
 use Rattle.dq_words.proofs.Advances.{by_index, by_order, Grows, Moves, still, after}
 use Rattle.dq_words.proofs.Tallies.{lives_yes, lives_no, counts_calls, ruled_after, all_cancels}

@@ -1,11 +1,10 @@
 -- What one seat's new view changes of the files.
-use Rattle.std.proofs.Common.{◌≡◌, ◌≢◌, ℕ, zero, suc, ◌+◌, ◌<◌, ◌⊎◌, ◌==◌, ◌&&◌, eqb, Bool, true, false, List, [], ◌∷◌, ◌++◌, length, set, sym, refl, ap, ◌∙◌, subst, inl, inr, ⊎_elim, append-nil, eq-eqb, ne_eqb, arith, if◌then◌else◌}
+use Rattle.std.proofs.Common.{◌≡◌, ◌≢◌, ℕ, zero, suc, ◌<◌, ◌⊎◌, ◌&&◌, eqb, Bool, true, false, List, [], ◌∷◌, ◌++◌, length, set, sym, refl, ap, ◌∙◌, subst, inl, inr, ⊎_elim, eq-eqb, ne_eqb, arith}
 use mathlib.Core.Option.{some, some-injective, some-ne-none}
 use lib.ListN.{get_elem?}
 use Rattle.dq_words.specs.declared.views.View.{View}
 use Rattle.dq_words.specs.declared.views.Call.{Call}
-use Rattle.dq_words.specs.declared.views.Write.{Write}
-use Rattle.dq_words.specs.Files.{is_at, with_if, bases_at, ends_at, extends_at, cancels_at, keeper_writes, gathered, File, filed, file, Has}
+use Rattle.dq_words.specs.Files.{is_at, with_if, bases_at, ends_at, extends_at, cancels_at, keeper_writes, gathered, filed, file, Has}
 
 pub at_here : (i s : ℕ) → is_at i s i s ≡ true
 at_here i s = rw (eq-eqb i i refl, eq-eqb s s refl)

@@ -1,6 +1,6 @@
 -- Laws of packed words.
-use Rattle.std.proofs.Common.{◌≡◌, ℕ, ◌+◌, ◌*◌, ◌/◌, ◌%◌, ◌<◌, ◌≤◌, ◌⊎◌, max, arith}
-use Rattle.dq_ticks.specs.Word.{stamp_unit, mark_unit, word, stamp_of, mark_of, field_of}
+use Rattle.std.proofs.Common.{◌≡◌, ℕ, ◌<◌, ◌⊎◌, max, arith}
+use Rattle.dq_ticks.specs.Word.{mark_unit, word, stamp_of, mark_of, field_of}
 
 -- a word is that of its parts
 pub word_parts : (n : ℕ) → n ≡ word (stamp_of n) (mark_of n) (field_of n)

@@ -1,16 +1,16 @@
 -- The steps on the return word keep the rule.
-use Rattle.std.proofs.Common.{◌≡◌, ◌≢◌, ℕ, zero, suc, ◌+◌, ◌*◌, ◌/◌, ◌%◌, ◌^◌, ◌<◌, ◌≤◌, ◌⊎◌, if◌then◌else◌, Bool, true, false, List, [], ◌∷◌, length, get_or, set, sym, refl, ap, ◌∙◌, subst, inl, inr, ⊎_elim, length-set, get_or-set_same, get_or-set_other, le_refl, arith}
+use Rattle.std.proofs.Common.{◌≡◌, ◌≢◌, ℕ, zero, suc, ◌+◌, ◌*◌, ◌/◌, ◌%◌, ◌^◌, ◌<◌, ◌≤◌, if◌then◌else◌, Bool, true, false, List, [], ◌∷◌, length, get_or, set, sym, refl, ap, ◌∙◌, subst, inl, inr, ⊎_elim, length-set, get_or-set_same, get_or-set_other, le_refl, arith}
 use mathlib.Core.Option.{some, none, some-injective, some-ne-none}
 use lib.ListN.{get_elem?}
-use Rattle.atomic_table.specs.Table.{State, Step, step, Act, keeps, Allows}
+use Rattle.atomic_table.specs.Table.{State, step, keeps, Allows}
 use Rattle.atomic_table.proofs.Lists.{at_set}
 use Rattle.dq_words.specs.declared.views.View.{View}
-use Rattle.dq_ticks.specs.Word.{stamp_unit, stamp_of}
+use Rattle.dq_ticks.specs.Word.{stamp_of}
 use Rattle.dq_words.specs.Word.{Learned}
-use Rattle.dq_words.specs.Counts.{most_begins, begins_in, expiries_in, removals_in, cancels_in, total, goes, gone_cancels, own_cancels, lives, below, issued_in, returns_in, given_in, InOrder}
+use Rattle.dq_words.specs.Counts.{most_begins, begins_in, expiries_in, removals_in, cancels_in, total, goes, gone_cancels, own_cancels, lives, issued_in, returns_in, given_in, InOrder}
 use Rattle.dq_words.specs.Files.{File, file, keeper_writes}
 use Rattle.dq_words.specs.Rule.{Law, HadAt, Had, Role, Sees, Kept, Tallied, Ruled}
-use Rattle.dq_words.specs.Plays.{Sat, leaving, hearing, gave, heard, Audits}
+use Rattle.dq_words.specs.Plays.{Sat, leaving, hearing, gave, heard}
 use Rattle.dq_words.proofs.Gathers.{file_same, writes_same, writes_own}
 use Rattle.dq_words.proofs.Advances.{role_first, role_after, after}
 use Rattle.dq_words.proofs.Tallies.{total_set, total_le, below_other, below_bound, issued_same, returns_same, goes_none, gone_none}

@@ -1,15 +1,15 @@
 -- The table at the start, and a new caller.
-use Rattle.std.proofs.Common.{◌≡◌, ◌≢◌, ℕ, zero, suc, ◌+◌, ◌*◌, ◌/◌, ◌%◌, ◌<◌, ◌≤◌, ◌⊎◌, Bool, true, false, true≢false, List, [], ◌∷◌, ◌++◌, length, get_or, set, replicate, sym, refl, ap, ◌∙◌, subst, inl, inr, ⊎_elim, length-append, length-set, zero-le, arith}
+use Rattle.std.proofs.Common.{◌≡◌, ◌≢◌, ℕ, zero, suc, ◌+◌, ◌%◌, ◌<◌, ◌≤◌, true, true≢false, List, [], ◌∷◌, ◌++◌, length, get_or, set, replicate, sym, refl, ap, ◌∙◌, subst, inl, inr, ⊎_elim, length-append, length-set, zero-le, arith}
 use Rattle.std.proofs.lemmas.List.{length-replicate}
-use mathlib.Core.Option.{some, none, some-injective, some-ne-none}
+use mathlib.Core.Option.{some, some-injective, some-ne-none}
 use lib.ListN.{get_elem?}
 use Rattle.atomic_table.specs.Table.{State, opening, Splits}
 use Rattle.atomic_table.proofs.Lists.{at_set, at_snoc}
 use Rattle.dq_words.specs.declared.views.View.{View}
-use Rattle.dq_ticks.specs.Word.{stamp_unit, stamp_of}
+use Rattle.dq_ticks.specs.Word.{stamp_of}
 use Rattle.dq_words.specs.Word.{Learned}
-use Rattle.dq_words.specs.Counts.{begins_in, expiries_in, removals_in, cancels_in, total, goes, gone_cancels, own_cancels, lives, below, issued_in, returns_in, given_in, InOrder}
-use Rattle.dq_words.specs.Files.{File, blank, file, keeper_writes, bases_at, ends_at, extends_at, cancels_at}
+use Rattle.dq_words.specs.Counts.{begins_in, expiries_in, removals_in, total, goes, gone_cancels, own_cancels, lives, below, issued_in, returns_in, given_in, InOrder}
+use Rattle.dq_words.specs.Files.{File, file, keeper_writes, bases_at, ends_at, extends_at, cancels_at}
 use Rattle.dq_words.specs.Rule.{Law, HadAt, Had, Role, Sees, Kept, Tallied, Ruled, zeros, first_keeper}
 use Rattle.dq_words.specs.Plays.{issuing, newcomer}
 use Rattle.dq_words.proofs.Gathers.{writes_same, writes_new, gathered_same, gathered_new, file_of}

@@ -1,18 +1,18 @@
 -- Loads keep the rule.
-use Rattle.std.proofs.Common.{◌≡◌, ◌≢◌, ℕ, zero, suc, ◌+◌, ◌*◌, ◌/◌, ◌%◌, ◌<◌, ◌≤◌, ◌⊎◌, Bool, true, false, List, [], ◌∷◌, get_or, set, sym, refl, ap, ◌∙◌, subst, inl, inr, ⊎_elim, le_refl, arith}
+use Rattle.std.proofs.Common.{◌≡◌, ◌≢◌, ℕ, ◌<◌, ◌≤◌, true, false, List, [], get_or, set, sym, refl, ap, subst, inr, ⊎_elim, le_refl, arith}
 use mathlib.Core.Option.{some, none}
 use lib.ListN.{get_elem?}
-use Rattle.atomic_table.specs.Table.{State, Step, step, Act, keeps, Valid, stepped, carried_after, Allows}
+use Rattle.atomic_table.specs.Table.{State, step, Act, keeps, Valid, stepped, carried_after, Allows}
 use Rattle.dq_words.specs.declared.views.View.{View}
 use Rattle.dq_words.specs.declared.views.StepKind.{StepKind}
 use Rattle.dq_words.specs.declared.views.StepKind.TheVariants.{KeeperLoad, CallerLoad}
-use Rattle.dq_ticks.specs.Word.{stamp_unit, mark_unit, word, stamp_of, mark_of, field_of}
-use Rattle.dq_words.specs.Word.{Left, Learned}
+use Rattle.dq_ticks.specs.Word.{word, stamp_of, mark_of, field_of}
+use Rattle.dq_words.specs.Word.{Left}
 use Rattle.dq_words.specs.Files.{File, blank, file, Has, extends_at, cancels_at, gathered}
-use Rattle.dq_words.specs.Rule.{Unborn, Living, Cancelled, Ended, Law, Kept, Sees, Ruled}
+use Rattle.dq_words.specs.Rule.{Unborn, Living, Cancelled, Ended, Law, Kept, Ruled}
 use Rattle.dq_words.specs.Plays.{Fair, stepping, Sat, looked, learned}
 use Rattle.dq_words.proofs.Gathers.{file_same, gathered_own, gathered_nil}
-use Rattle.dq_words.proofs.Advances.{Moves, Grows, grows_same, after, by_order}
+use Rattle.dq_words.proofs.Advances.{grows_same, after, by_order}
 use Rattle.dq_words.proofs.Tallies.{counts_calls, ruled_after}
 
 -- the law of a stamp, by the mark of the word

@@ -1,20 +1,20 @@
 -- The keeper's writes keep the rule.
-use Rattle.std.proofs.Common.{◌≡◌, ◌≢◌, ℕ, zero, suc, ◌+◌, ◌*◌, ◌/◌, ◌%◌, ◌<◌, ◌≤◌, ◌⊎◌, ◌==◌, eqb, if◌then◌else◌, Bool, true, false, true≢false, List, [], ◌∷◌, get_or, set, sym, refl, ap, ◌∙◌, subst, inl, inr, ⊎_elim, arith}
+use Rattle.std.proofs.Common.{◌≡◌, ◌≢◌, ℕ, ◌+◌, ◌<◌, ◌≤◌, ◌⊎◌, eqb, true, false, true≢false, List, [], ◌∷◌, get_or, set, sym, refl, ap, ◌∙◌, subst, inl, inr, ⊎_elim, arith}
 use mathlib.Core.Option.{some, none, some-ne-none}
 use prog.Atomic.{either}
 use lib.ListN.{get_elem?}
-use Rattle.atomic_table.specs.Table.{State, Step, step, Act, keeps, Allows}
+use Rattle.atomic_table.specs.Table.{State, step, keeps, Allows}
 use Rattle.atomic_table.proofs.Lists.{exchanged}
 use Rattle.dq_words.specs.declared.views.View.{View}
 use Rattle.dq_words.specs.declared.views.Write.{Write}
 use Rattle.dq_words.specs.declared.views.Write.TheVariants.{Begin, Expired, Renewed, Removed}
 use Rattle.dq_words.specs.declared.views.StepKind.TheVariants.{KeeperLoad}
-use Rattle.dq_ticks.specs.Word.{stamp_unit, mark_unit, word, stamp_of, mark_of, field_of}
+use Rattle.dq_ticks.specs.Word.{stamp_unit, word, stamp_of, mark_of, field_of}
 use Rattle.dq_words.specs.Word.{Left, Learned}
-use Rattle.dq_words.specs.Counts.{begins_in, expiries_in, removals_in, lives, given_in, InOrder}
+use Rattle.dq_words.specs.Counts.{lives}
 use Rattle.dq_words.specs.Files.{is_at, with_if, File, filed, blank, file, Has, Among, IsDeadline, bases_at, ends_at, extends_at, cancels_at, gathered, keeper_writes}
-use Rattle.dq_words.specs.Rule.{Unborn, Living, Cancelled, Ended, Law, Role, Kept, Ruled}
-use Rattle.dq_words.specs.Plays.{Sat, stepping, beginning, expiring, renewing, removing, began, swapped}
+use Rattle.dq_words.specs.Rule.{Unborn, Living, Cancelled, Ended, Law, Kept, Ruled}
+use Rattle.dq_words.specs.Plays.{Sat, beginning, expiring, renewing, removing, began, swapped}
 use Rattle.dq_words.proofs.Gathers.{at_other_slot, at_other_stamp, if_here, if_other, has_with_if, gathered_same, writes_own, file_of}
 use Rattle.dq_words.proofs.Advances.{by_index, Grows, Moves, still, role_first, after}
 use Rattle.dq_words.proofs.Tallies.{lives_yes, lives_no, lives_none, counts_writes, one_here, none_other, ruled_after}

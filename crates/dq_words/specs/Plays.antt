@@ -1,5 +1,4 @@
 -- What each step tells.
-use Rattle.dq_ticks.specs.declared.TheConstants.{LAST_TICK}
 use Rattle.std.specs.Prelude.{◌≡◌, ◌≢◌, ◌⊎◌, ℕ, ◌+◌, ◌/◌, ◌%◌, ◌<◌, ◌≤◌, max, List, [], ◌∷◌, length, slice_index, slice_set, true, false}
 use Rattle.atomic_table.specs.Table.{State, Me, Step}
 use mathlib.Core.Option.{some}

@@ -1,0 +1,190 @@
+-- Packed words and their parts.
+use Rattle.std.proofs.Common.{◌≡◌, ◌≢◌, ℕ, zero, suc, ◌<◌, ◌≤◌, true, List, [], ◌∷◌, length, get_or, set, replicate, sym, refl, ap, ◌∙◌, subst, inl, inr, ⊎_elim, get_or-set_same, set-set, arith}
+use Rattle.std.proofs.lemmas.List.{length-replicate}
+use Rattle.dq_ticks.specs.declared.words.Parts.{Parts}
+use Rattle.dq_ticks.specs.declared.words.Mark.{Mark}
+use Rattle.dq_ticks.specs.declared.words.Mark.TheVariants.{LiveMark, CancelledMark}
+use Rattle.dq_ticks.specs.Word.{word, stamp_of, mark_of, field_of, mark_number, mark_by, packed, parts_of}
+use Rattle.dq_core.specs.declared.words.Settled.TheVariants.{SettledExpired, Later, SettledCancelled}
+use Rattle.dq_core.specs.Words.{live, cancelled, expired, removed, never, word_at, AreFresh, IsOver, IsInForce, IsSettled, Learned as Learns}
+use Rattle.dq_words.specs.declared.views.View.{View}
+use Rattle.dq_words.specs.Keeping.{counts_of, IsFree, IsOpen, Shows}
+use Rattle.dq_words.specs.Rule.{zeros, first_keeper}
+use Rattle.dq_words.specs.Word.{Learned, parts_row}
+use Rattle.dq_words.proofs.Keepings.{Grown, learned_on, open_on, open_live, open_shut}
+
+blanks : (n : ℕ) → parts_row (zeros n) ≡ replicate n never
+blanks zero = refl
+blanks (suc n) = ap (λ (xs : List Parts). never ∷ xs) (blanks n)
+
+fresh_row : (n : ℕ) → parts_row (zeros n) ≡ replicate (length (parts_row (zeros n))) never
+fresh_row n = blanks n ∙ ap (λ k. replicate k never) (sym (ap length (blanks n) ∙ length-replicate n never))
+
+pub fresh_view : (n : ℕ) (v : View) → v ≡ first_keeper n → AreFresh (parts_row v.seen) (counts_of v.writes)
+fresh_view n v is = let P : View → Type 0 = λ u. AreFresh (parts_row u.seen) (counts_of u.writes) in subst P (sym is) (fresh_row n, refl)
+
+mark_number_by : (m : ℕ) → m < 4 → mark_number (mark_by m) ≡ m
+mark_number_by zero h = refl
+mark_number_by (suc zero) h = refl
+mark_number_by (suc (suc zero)) h = refl
+mark_number_by (suc (suc (suc zero))) h = refl
+mark_number_by (suc (suc (suc (suc m)))) h = absurd (omega arith)
+
+parts_by : (s m d n : ℕ) → n ≡ word s m d → m < 4 → d ≤ 4398046511103 → parts_of n ≡ record { stamp = s; mark = mark_by m; field = d }
+parts_by s m d n is hm hd =
+    let a : stamp_of n ≡ s = omega arith in
+    let b : mark_of n ≡ m = omega arith in
+    let c : field_of n ≡ d = omega arith in
+    λ q. record { stamp = a q; mark = mark_by (b q); field = c q }
+
+pub packed_parts : (n : ℕ) → packed (parts_of n) ≡ n
+packed_parts n = let m = mark_number_by (mark_of n) (omega arith) in let a : packed (parts_of n) ≡ word (stamp_of n) (mark_of n) (field_of n) = ap (λ k. word (stamp_of n) k (field_of n)) m in omega arith
+
+pub live_is : (s d n : ℕ) → n ≡ word s 0 d → d ≤ 4398046511103 → parts_of n ≡ live s d
+live_is s d n is small = parts_by s 0 d n is (omega arith) small
+
+pub cancelled_is : (s n : ℕ) → n ≡ word s 1 0 → parts_of n ≡ cancelled s
+cancelled_is s n is = parts_by s 1 0 n is (omega arith) (omega arith)
+
+pub expired_is : (s d n : ℕ) → n ≡ word s 2 d → d ≤ 4398046511103 → parts_of n ≡ expired s d
+expired_is s d n is small = parts_by s 2 d n is (omega arith) small
+
+pub removed_is : (s d n : ℕ) → n ≡ word s 3 d → d ≤ 4398046511103 → parts_of n ≡ removed s d
+removed_is s d n is small = parts_by s 3 d n is (omega arith) small
+
+pub learned_parts : (x n : ℕ) → Learned x n → Learns true (parts_of x) (parts_of n)
+learned_parts x n h = ⊎_elim (λ e. inl (ap parts_of e))
+    (λ (l : Grown x n). let a = l.2 in let b = l.4 in
+    let m : mark_of x ≡ 0 = omega arith in
+    inr (
+      refl,
+      ap mark_by m,
+      ⊎_elim
+          (λ (e : (e : ℕ) × (l.1 ≤ e) × (e ≤ 4398046511103) × (n ≡ word l.0 0 e)). let c = e.1 in let d = e.2 in let f = e.3 in
+          inl (live_is (stamp_of x) (field_of n) n (omega arith) (omega arith), omega arith, omega arith))
+          (λ (e : n ≡ word l.0 1 0). inr (cancelled_is (stamp_of x) n (omega arith)))
+          l.5,
+    )) h
+
+mark_is : (n : ℕ) (m : Mark) → mark_by (mark_of n) ≡ m → mark_of n ≡ mark_number m
+mark_is n m e = sym (mark_number_by (mark_of n) (omega arith)) ∙ ap mark_number e
+
+-- what a linked entry's known word is, packed
+pub in_force_open : (s f n : ℕ) → IsInForce s f (parts_of n) → IsOpen n s × (mark_of n ≡ 0 → f ≤ field_of n)
+in_force_open s f n h = ⊎_elim
+    (λ (l : (parts_of n ≡ live s (field_of n)) × (f ≤ field_of n) × (field_of n ≤ 4398046511103)).
+    let a : stamp_of n ≡ s = ap (λ (p : Parts). p.stamp) l.0 in
+    let b : mark_of n ≡ 0 = mark_is n LiveMark (ap (λ (p : Parts). p.mark) l.0) in
+    ((h.0, inr (omega arith)), λ _. l.1))
+    (λ (e : parts_of n ≡ cancelled s).
+    let a : stamp_of n ≡ s = ap (λ (p : Parts). p.stamp) e in
+    let b : mark_of n ≡ 1 = mark_is n CancelledMark (ap (λ (p : Parts). p.mark) e) in
+    let c : field_of n ≡ 0 = ap (λ (p : Parts). p.field) e in
+    ((h.0, inl (omega arith)), λ m. absurd (omega arith)))
+    h.1
+
+-- what a word with nothing linked is, packed
+pub over_free : (n : ℕ) → IsOver (parts_of n) → IsFree n
+over_free n h = ⊎_elim
+    (λ (e : parts_of n ≡ never).
+    let a : stamp_of n ≡ 0 = ap (λ (p : Parts). p.stamp) e in
+    let b : mark_of n ≡ 0 = mark_is n LiveMark (ap (λ (p : Parts). p.mark) e) in
+    let c : field_of n ≡ 0 = ap (λ (p : Parts). p.field) e in
+    inl (omega arith))
+    (λ ne. inr (λ m. ne (ap mark_by m))) h
+
+pub row_at : (xs : List ℕ) (i : ℕ) → word_at (parts_row xs) i ≡ parts_of (get_or xs i 0)
+row_at [] i = refl
+row_at (x ∷ xs) zero = refl
+row_at (x ∷ xs) (suc i) = row_at xs i
+
+set_parts : (xs : List ℕ) (i n : ℕ) → parts_row (set xs i n) ≡ set (parts_row xs) i (parts_of n)
+set_parts [] i n = refl
+set_parts (x ∷ xs) zero n = refl
+set_parts (x ∷ xs) (suc i) n = ap (λ (ps : List Parts). parts_of x ∷ ps) (set_parts xs i n)
+
+length_parts : (xs : List ℕ) → length (parts_row xs) ≡ length xs
+length_parts [] = refl
+length_parts (x ∷ xs) = ap suc (length_parts xs)
+
+pub row_set : (xs ys : List ℕ) (i n : ℕ) (p : Parts) → ys ≡ set xs i n → parts_of n ≡ p → parts_row ys ≡ set (parts_row xs) i p
+row_set xs ys i n p is e = ap parts_row is ∙ set_parts xs i n ∙ ap (set (parts_row xs) i) e
+
+pub row_inside : (xs : List ℕ) (i : ℕ) → i < length (parts_row xs) → i < length xs
+row_inside xs i h = let e = length_parts xs in omega arith
+
+pub row_here : (xs ys : List ℕ) (i n : ℕ) (p : Parts) → i < length (parts_row xs) → ys ≡ set xs i n → parts_of n ≡ p → word_at (parts_row ys) i ≡ p
+row_here xs ys i n p inside is e = row_at ys i ∙ ap parts_of (ap (λ (zs : List ℕ). get_or zs i 0) is ∙ get_or-set_same xs i n 0 (row_inside xs i inside)) ∙ e
+
+pub row_known : (xs ys : List ℕ) (i n : ℕ) → i < length (parts_row xs) → ys ≡ set xs i n → parts_row ys ≡ set (parts_row xs) i (word_at (parts_row ys) i)
+row_known xs ys i n inside is = row_set xs ys i n (word_at (parts_row ys) i) is (sym (row_here xs ys i n (parts_of n) inside is refl))
+
+pub learned_at : (xs : List ℕ) (i n : ℕ) (p : Parts) → Learned (get_or xs i 0) n → parts_of n ≡ p → Learns true (word_at (parts_row xs) i) p
+learned_at xs i n p h e = let P : Parts × Parts → Type 0 = λ x. Learns true x.0 x.1 in subst P (λ q. (sym (row_at xs i) q, e q)) (learned_parts (get_or xs i 0) n h)
+
+pub open_at : (xs : List ℕ) (i s f : ℕ) → IsInForce s f (word_at (parts_row xs) i) → IsOpen (get_or xs i 0) s × (mark_of (get_or xs i 0) ≡ 0 → f ≤ field_of (get_or xs i 0))
+open_at xs i s f h = in_force_open s f (get_or xs i 0) (let P : Parts → Type 0 = λ p. IsInForce s f p in subst P (row_at xs i) h)
+
+pub free_at : (xs : List ℕ) (i : ℕ) → IsOver (word_at (parts_row xs) i) → IsFree (get_or xs i 0)
+free_at xs i h = over_free (get_or xs i 0) (let P : Parts → Type 0 = λ p. IsOver p in subst P (row_at xs i) h)
+
+pub stamp_at : (xs : List ℕ) (i : ℕ) → (word_at (parts_row xs) i).stamp ≡ stamp_of (get_or xs i 0)
+stamp_at xs i = ap (λ (p : Parts). p.stamp) (row_at xs i)
+
+-- a word shown twice
+pub over_shown : (xs zs ys : List ℕ) (i old new : ℕ) → zs ≡ set xs i old → ys ≡ set zs i new → ys ≡ set xs i new
+over_shown xs zs ys i old new a b = b ∙ ap (λ (us : List ℕ). set us i new) a ∙ set-set xs i old new
+
+-- what a try that changed the shown word tells
+pub changes : (xs zs ys : List ℕ) (i s old new : ℕ) (p : Parts) → i < length (parts_row xs) → Shows xs zs i old → IsOpen old s → mark_of old ≡ 0 → ys ≡ set zs i new → parts_of new ≡ p → (d : ℕ) → d ≡ field_of old → Learns true (word_at (parts_row xs) i) (live s d) × (word_at (parts_row ys) i ≡ p)
+changes xs zs ys i s old new p inside shown is_open m is e d at =
+    let l = open_live old s is_open m in
+    let small : field_of old ≤ 4398046511103 = omega arith in
+    (learned_at xs i old (live s d) shown.0 (live_is s d old (l ∙ ap (λ k. word s 0 k) (sym at)) (omega arith)), row_here xs ys i new p inside (over_shown xs zs ys i old new shown.1 is) e)
+
+-- what a shown word that isn't live tells
+pub unchanged : (xs zs : List ℕ) (i s old : ℕ) → i < length (parts_row xs) → Shows xs zs i old → IsOpen old s → mark_of old ≢ 0 → Learns true (word_at (parts_row xs) i) (cancelled s) × (word_at (parts_row zs) i ≡ cancelled s)
+unchanged xs zs i s old inside shown is_open m =
+    let e = cancelled_is s old (open_shut old s is_open m) in
+    (learned_at xs i old (cancelled s) shown.0 e, row_here xs zs i old (cancelled s) inside shown.1 e)
+
+module _ (xs ys : List ℕ) (i s at n : ℕ) (inside : i < length (parts_row xs)) (asked : IsInForce s at (word_at (parts_row xs) i)) (small : at ≤ 4398046511103) (learned : Learned (get_or xs i 0) n) where
+  known : IsOpen (get_or xs i 0) s × (mark_of (get_or xs i 0) ≡ 0 → at ≤ field_of (get_or xs i 0))
+  known = open_at xs i s at asked
+
+  pub settles_hit : n ≡ word s 0 at → (m : ℕ) → m ≡ word s 2 at → ys ≡ set xs i m → IsSettled true s at (word_at (parts_row xs) i) SettledExpired (word_at (parts_row ys) i)
+  settles_hit hit m is shown =
+      let x : ℕ = get_or xs i 0 in
+      let was : x ≡ word s 0 at = ⊎_elim (λ (e : n ≡ x). sym e ∙ hit)
+      (λ (l : Grown x n). let a = l.2 in let b = l.4 in let mx : mark_of x ≡ 0 = omega arith in let f = known.1 mx in ⊎_elim
+      (λ (e : (e : ℕ) × (l.1 ≤ e) × (e ≤ 4398046511103) × (n ≡ word l.0 0 e)). let c = e.1 in let d = e.2 in let g = e.3 in omega arith)
+      (λ (e : n ≡ word l.0 1 0). absurd (omega arith)) l.5) learned in
+      (row_at xs i ∙ live_is s at x was small, row_here xs ys i m (expired s at) inside shown (expired_is s at m is small))
+
+  pub settles_later : n ≢ word s 0 at → mark_of n ≡ 0 → ys ≡ set xs i n → (d : ℕ) → d ≡ field_of n → IsSettled true s at (word_at (parts_row xs) i) (Later d) (word_at (parts_row ys) i)
+  settles_later miss m shown d is =
+      let x : ℕ = get_or xs i 0 in
+      let now = open_live n s (open_on x n s known.0 learned) m in
+      let later : at < field_of n = ⊎_elim
+      (λ (e : n ≡ x). let P : ℕ → Type 0 = λ y. mark_of y ≡ 0 in let f = known.1 (subst P e m) in let g : field_of n ≡ field_of x = ap field_of e in
+      let ne : at ≢ field_of n = (λ (same : at ≡ field_of n). miss (now ∙ ap (λ k. word s 0 k) (sym same))) in omega arith)
+      (λ (l : Grown x n). let a = l.2 in let b = l.4 in let mx : mark_of x ≡ 0 = omega arith in let f = known.1 mx in ⊎_elim
+      (λ (e : (e : ℕ) × (l.1 ≤ e) × (e ≤ 4398046511103) × (n ≡ word l.0 0 e)). let c = e.1 in let g = e.2 in let h = e.3 in
+      let ne : at ≢ field_of n = (λ (same : at ≡ field_of n). miss (now ∙ ap (λ k. word s 0 k) (sym same))) in omega arith)
+      (λ (e : n ≡ word l.0 1 0). absurd (omega arith)) l.5) learned in
+      let shows = row_here xs ys i n (live s d) inside shown (live_is s d n (now ∙ ap (λ k. word s 0 k) (sym is)) (omega arith)) in
+      let P : Parts → Type 0 = λ p. Learns true (word_at (parts_row xs) i) p in
+      (omega arith, shows, subst P (sym (row_here xs ys i n (parts_of n) inside shown refl)) (learned_at xs i n (parts_of n) learned refl))
+
+  pub settles_cancelled : mark_of n ≢ 0 → ys ≡ set xs i n → IsSettled true s at (word_at (parts_row xs) i) SettledCancelled (word_at (parts_row ys) i)
+  settles_cancelled m shown =
+      let now = cancelled_is s n (open_shut n s (open_on (get_or xs i 0) n s known.0 learned) m) in
+      let P : Parts → Type 0 = λ p. Learns true (word_at (parts_row xs) i) p in
+      (row_here xs ys i n (cancelled s) inside shown now, subst P (sym (row_here xs ys i n (parts_of n) inside shown refl)) (learned_at xs i n (parts_of n) learned refl))
+
+-- a word shown once more
+pub shown_again : (xs zs ys : List ℕ) (i old n : ℕ) → i < length (parts_row xs) → Shows xs zs i old → Learned (get_or zs i 0) n → ys ≡ set zs i n → Shows xs ys i n
+shown_again xs zs ys i old n inside shown learned is =
+    let here : get_or zs i 0 ≡ old = ap (λ (us : List ℕ). get_or us i 0) shown.1 ∙ get_or-set_same xs i old 0 (row_inside xs i inside) in
+    let P : ℕ → Type 0 = λ k. Learned k n in
+    (learned_on (get_or xs i 0) old n shown.0 (subst P here learned), over_shown xs zs ys i old n shown.1 is)

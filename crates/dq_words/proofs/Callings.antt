@@ -1,0 +1,136 @@
+-- What a caller's load and step together tell.
+use Rattle.std.proofs.Common.{◌≡◌, ◌≢◌, ◌⊎◌, ℕ, ◌<◌, ◌≤◌, max, List, ◌∷◌, length, get_or, set, sym, ap, ◌∙◌, subst, inr, ⊎_elim, Ok, Err, get_or-set_same, set-set, arith}
+use Rattle.dq_ticks.specs.Keys.{KeyName}
+use Rattle.dq_ticks.specs.Word.{word, stamp_of, mark_of, field_of}
+use Rattle.dq_core.specs.declared.words.CallError.{CallError}
+use Rattle.dq_core.specs.declared.words.CallError.TheVariants.{TooFar, Unknown, Stale, Ended}
+use Rattle.dq_words.specs.declared.views.View.{View}
+use Rattle.dq_words.specs.declared.views.Call.{Call}
+use Rattle.dq_words.specs.declared.views.Call.TheVariants.{Extend, Cancel}
+use Rattle.dq_words.specs.declared.views.StepKind.{StepKind}
+use Rattle.dq_words.specs.declared.views.StepKind.TheVariants.{CallerLoad, ExtendMax, CancelMax}
+use Rattle.dq_words.specs.Counts.{most_begins, cancels_in}
+use Rattle.dq_words.specs.Plays.{Fair, Looks, Extends, Cancels, stepping, extending, cancelling}
+use Rattle.dq_words.specs.Calls.{Reads, seen_at, IsForged, Refuses, IsRefused, IsExtend, IsCancel}
+
+-- the view v after a call that saw n
+abbrev seeing : View → ℕ → ℕ → List StepKind → List Call → View
+seeing v i n steps calls = record v { seen = set v.seen i n; steps = steps; calls = calls }
+
+seen_now : (v w : View) (i n : ℕ) (steps : List StepKind) (calls : List Call) → i < length v.seen → w ≡ seeing v i n steps calls → seen_at w i ≡ n
+seen_now v w i n steps calls inside is = ap (λ (u : View). get_or u.seen i 0) is ∙ get_or-set_same v.seen i n 0 inside
+
+reads_by : (v w : View) (i n : ℕ) (steps : List StepKind) (calls : List Call) → i < length v.seen → w ≡ seeing v i n steps calls → length v.steps < length steps → get_or v.seen i 0 ≤ n → Reads v w i
+reads_by v w i n steps calls inside is more low =
+    let here = seen_now v w i n steps calls inside is in
+    let s : w.steps ≡ steps = ap (λ (u : View). u.steps) is in
+    let c : w.calls ≡ calls = ap (λ (u : View). u.calls) is in
+    record {
+      inside = inside;
+      counted = let l : length w.steps ≡ length steps = ap length s in omega arith;
+      rises = omega arith;
+      only = is ∙ (λ q. record v { seen = set v.seen i (sym here q); steps = sym s q; calls = sym c q });
+    }
+
+-- a second step of a call sees in place of the first
+seen_twice : (v : View) (i m n : ℕ) (steps : List StepKind) (calls : List Call) → seeing (seeing v i m (CallerLoad ∷ v.steps) v.calls) i n steps calls ≡ seeing v i n steps calls
+seen_twice v i m n steps calls = λ q. record v { seen = set-set v.seen i m n q; steps = steps; calls = calls }
+
+not_forged : (v : View) (k : KeyName) → k.entry.index < length v.seen → 0 < k.stamp → ¬ IsForged v k
+not_forged v k inside pos h = ⊎_elim (λ (far : length v.seen ≤ k.entry.index). omega arith) (λ (z : k.stamp ≡ 0). omega arith) h
+
+-- a refusal shows that the step missed
+missed_by : (n s : ℕ) (e : CallError) → Refuses n s e → stamp_of n ≡ s → mark_of n ≡ 0 → ⊥
+missed_by n s (TooFar limit) h a b = h
+missed_by n s Unknown h a b = omega arith
+missed_by n s (Stale seen) h a b = let x = h.0 in let y = h.1 in omega arith
+missed_by n s (Ended how) h a b = h.1 b
+
+module _ (v u w : View) (k : KeyName) (m n : ℕ) (inside : k.entry.index < length v.seen) (pos : 0 < k.stamp) (loaded : Looks v u k.entry.index m) where
+  abbrev i : ℕ
+  i = k.entry.index
+
+  seen_between : get_or u.seen i 0 ≡ m
+  seen_between = ap (λ (x : View). get_or x.seen i 0) loaded.0 ∙ get_or-set_same v.seen i m 0 inside
+
+  refused_after : (e : CallError) → w ≡ stepping u i n CallerLoad → get_or u.seen i 0 ≤ n → Fair u.calls i n → Refuses n k.stamp e → IsRefused v k e w
+  refused_after e is low fair refuses =
+      let whole : w ≡ seeing v i n (CallerLoad ∷ CallerLoad ∷ v.steps) v.calls = is ∙ ap (λ (x : View). stepping x i n CallerLoad) loaded.0 ∙ seen_twice v i m n (CallerLoad ∷ CallerLoad ∷ v.steps) v.calls in
+      let here = seen_now v w i n (CallerLoad ∷ CallerLoad ∷ v.steps) v.calls inside whole in
+      let calls : w.calls ≡ v.calls = ap (λ (x : View). x.calls) whole in
+      let mid : u.calls ≡ v.calls = ap (λ (x : View). x.calls) loaded.0 in
+      let a = seen_between in let b = loaded.1 in
+      let P : ℕ → Type 0 = λ x. Refuses x k.stamp e in
+      let Q : List Call × ℕ → Type 0 = λ x. Fair x.0 i x.1 in
+      inr (
+        not_forged v k inside pos,
+        reads_by v w i n (CallerLoad ∷ CallerLoad ∷ v.steps) v.calls inside whole (omega arith) (omega arith),
+        subst P (sym here) refuses,
+        subst Q (λ q. ((mid ∙ sym calls) q, sym here q)) fair,
+        calls,
+      )
+
+  pub refuses_extend : (when new : ℕ) (e : CallError) → when ≤ 4398046511103 → new ≡ word k.stamp 0 when → Extends u w i new n → Refuses n k.stamp e → IsExtend v k when (Err e) w
+  refuses_extend when new e small is steps refuses = by e (refused steps.1) refuses where
+    at : stamp_of new ≡ k.stamp
+    at = omega arith
+
+    refused : (((stamp_of n ≡ stamp_of new) × (mark_of n ≡ 0) × (w ≡ extending u i new (max n new))) ⊎ ((stamp_of n ≡ stamp_of new → mark_of n ≢ 0) × (w ≡ stepping u i n CallerLoad) × Fair u.calls i n)) → IsRefused v k e w
+    refused way = ⊎_elim
+        (λ (hit : (stamp_of n ≡ stamp_of new) × (mark_of n ≡ 0) × (w ≡ extending u i new (max n new))). absurd (missed_by n k.stamp e refuses (hit.0 ∙ at) hit.1))
+        (λ (miss : (stamp_of n ≡ stamp_of new → mark_of n ≢ 0) × (w ≡ stepping u i n CallerLoad) × Fair u.calls i n). refused_after e miss.1 steps.0 miss.2 refuses) way
+
+    by : (e : CallError) → IsRefused v k e w → Refuses n k.stamp e → IsExtend v k when (Err e) w
+    by (TooFar limit) r h = absurd h
+    by Unknown r h = (small, r)
+    by (Stale seen) r h = (small, r)
+    by (Ended how) r h = (small, r)
+
+  pub refuses_cancel : (new : ℕ) (e : CallError) → new ≡ word k.stamp 1 0 → Cancels u w i new n → Refuses n k.stamp e → IsCancel v k (Err e) w
+  refuses_cancel new e is steps refuses =
+      let at : stamp_of new ≡ k.stamp = omega arith in ⊎_elim
+      (λ (hit : (stamp_of n ≡ stamp_of new) × (mark_of n ≡ 0) × (w ≡ cancelling u i new (field_of n) new) × (cancels_in w.calls ≤ most_begins)). absurd (missed_by n k.stamp e refuses (hit.0 ∙ at) hit.1))
+      (λ (miss : (stamp_of n ≡ stamp_of new → mark_of n ≢ 0) × (w ≡ stepping u i n CallerLoad) × Fair u.calls i n). refused_after e miss.1 steps.0 miss.2 refuses) steps.1
+
+  pub accepts_extend : (when new d : ℕ) → when ≤ 4398046511103 → new ≡ word k.stamp 0 when → Extends u w i new n → stamp_of n ≡ k.stamp → mark_of n ≡ 0 → d ≡ max (field_of n) when → IsExtend v k when (Ok d) w
+  accepts_extend when new d small is steps same live best =
+      let at : stamp_of new ≡ k.stamp = omega arith in let asked : field_of new ≡ when = omega arith in ⊎_elim
+      (λ (hit : (stamp_of n ≡ stamp_of new) × (mark_of n ≡ 0) × (w ≡ extending u i new (max n new))).
+      let x : ℕ = max n new in
+      let made : List StepKind = ExtendMax ∷ CallerLoad ∷ v.steps in
+      let mine : List Call = Extend i k.stamp when ∷ v.calls in
+      let whole : w ≡ seeing v i x made mine = hit.2 ∙ ap (λ (y : View). extending y i new x) loaded.0
+      ∙ (λ q. seeing (seeing v i m (CallerLoad ∷ v.steps) v.calls) i x made (Extend i (at q) (asked q) ∷ v.calls))
+      ∙ seen_twice v i m x made mine in
+      let here = seen_now v w i x made mine inside whole in
+      let a = seen_between in let b = loaded.1 in let c = steps.0 in (
+        small,
+        pos,
+        reads_by v w i x made mine inside whole (omega arith) (omega arith),
+        ap (λ (y : View). y.steps) whole,
+        here ∙ omega arith,
+        omega arith,
+        omega arith,
+        ap (λ (y : View). y.calls) whole,
+      ))
+      (λ (miss : (stamp_of n ≡ stamp_of new → mark_of n ≢ 0) × (w ≡ stepping u i n CallerLoad) × Fair u.calls i n). absurd (miss.0 (same ∙ sym at) live)) steps.1
+
+  pub accepts_cancel : (new d : ℕ) → new ≡ word k.stamp 1 0 → Cancels u w i new n → stamp_of n ≡ k.stamp → mark_of n ≡ 0 → d ≡ field_of n → IsCancel v k (Ok d) w
+  accepts_cancel new d is steps same live best =
+      let at : stamp_of new ≡ k.stamp = omega arith in ⊎_elim
+      (λ (hit : (stamp_of n ≡ stamp_of new) × (mark_of n ≡ 0) × (w ≡ cancelling u i new (field_of n) new) × (cancels_in w.calls ≤ most_begins)).
+      let made : List StepKind = CancelMax ∷ CallerLoad ∷ v.steps in
+      let mine : List Call = Cancel i k.stamp d ∷ v.calls in
+      let whole : w ≡ seeing v i new made mine = hit.2 ∙ ap (λ (y : View). cancelling y i new (field_of n) new) loaded.0
+      ∙ (λ q. seeing (seeing v i m (CallerLoad ∷ v.steps) v.calls) i new made (Cancel i (at q) (sym best q) ∷ v.calls))
+      ∙ seen_twice v i m new made mine in
+      let here = seen_now v w i new made mine inside whole in
+      let a = seen_between in let b = loaded.1 in let c = steps.0 in (
+        pos,
+        reads_by v w i new made mine inside whole (omega arith) (omega arith),
+        ap (λ (y : View). y.steps) whole,
+        here ∙ is,
+        omega arith,
+        ap (λ (y : View). y.calls) whole,
+      ))
+      (λ (miss : (stamp_of n ≡ stamp_of new → mark_of n ≢ 0) × (w ≡ stepping u i n CallerLoad) × Fair u.calls i n). absurd (miss.0 (same ∙ sym at) live)) steps.1

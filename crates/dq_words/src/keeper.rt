@@ -1,0 +1,307 @@
+//! The one seat that begins and ends entries.
+ghost use Rattle.std.specs.Prelude.{◌≡◌, ◌≢◌, ◌⊎◌, ◌+◌, ◌<◌, ◌≤◌, length, true, false, slice_index, slice_set, IfOk, IfErr};
+ghost use Rattle.std.specs.Arc.{arc_value};
+ghost use Rattle.dq_ticks.specs.Word.{stamp_of, mark_of, field_of, packed};
+ghost use Rattle.dq_words.specs.Desks.{IsMade, Issues, Tells, Returns, Accounts};
+ghost use Rattle.dq_words.specs.Keeping.{IsFree, IsKeeper, counts_of};
+ghost use Rattle.dq_words.specs.Plays.{stepping, beginning, expiring, renewing, removing, Hears, Swaps};
+ghost use Rattle.dq_words.specs.Word.{Learned, parts_row};
+ghost use Rattle.dq_core.specs.Words.{word_at, Learned as Learns};
+ghost use Rattle.dq_words.specs.declared.views.StepKind.TheVariants.{KeeperLoad};
+
+use crate::caller::Caller;
+use crate::parts::{expired, field, live, mark, removed};
+use crate::plays::{Expire, Hear, Issue, Learn, Remove, Renew, Start};
+use crate::rule::{Board, Place, WordsRule};
+use atomic_table::Table;
+use dq_core::{Desk, Settled, Words};
+use dq_ticks::{Parts, unpack};
+use std::alloc::{AllocError, Allocator, Global};
+use std::marker::Model;
+use std::sync::Arc;
+use thiserror::Error;
+
+/// The most callers that a keeper issues, given back or not.
+pub const HANDLE_LIMIT: u64 = 1024;
+
+/// The most slots of a keeper.
+pub const CAPACITY_LIMIT: usize = 65536;
+
+/// Why a keeper or a caller is not made.
+#[derive(Clone, Copy, Debug, PartialEq, Eq, Error)]
+pub enum WordsError {
+    /// The capacity is 0 or beyond 65536.
+    #[error("the capacity is out of its range")]
+    BadConfig,
+    /// Memory was refused.
+    #[error("out of memory")]
+    NoMemory,
+    /// The keeper has issued as many callers as it may.
+    #[error("no more than {limit} handles are issued")]
+    TooManyHandles {
+        /// How many it may issue.
+        limit: u64,
+    },
+}
+
+/// Begins and ends the entries of a row of words, and issues the callers that extend and cancel them. To a contract it is
+/// what it knows: the words that it saw, its own writes, and how many callers it issued.
+#[derive(Drop)]
+pub struct Keeper<A: Allocator = Global> {
+    board: Arc<Board<A>, A>,
+    place: Place,
+    rows: usize,
+    issued: u64,
+}
+
+impl<A: Allocator> Model for Keeper<A> {
+    ghost use Rattle.std.specs.Prelude.{◌≡◌, ◌+◌, length};
+    ghost use Rattle.std.specs.Arc.{arc_value};
+    ghost use Rattle.dq_words.specs.declared.views.View.{View};
+    ghost use Rattle.dq_words.specs.Keeping.{IsKeeper};
+
+    ghost Value = { View };
+
+    ghost view = { λ k. k.place.me.0 };
+
+    ghost invariant = { λ k. (k.place.table_id ≡ (arc_value k.board).shared.table_id) × ((arc_value k.board).shared.key ≡ k.rows) × ((arc_value k.board).shared.table_id.words ≡ k.rows + 1) × (length k.place.me.0.seen ≡ k.rows) × (k.issued ≡ k.place.me.0.issued) × IsKeeper k.place.me.0 };
+}
+
+impl From<AllocError> for WordsError {
+    ghost use Rattle.std.specs.Prelude.{◌≡◌};
+    ghost use Rattle.dq_words.specs.declared.keeper.WordsError.TheVariants.{NoMemory};
+
+    ghost from_gives = { λ _ e. e ≡ NoMemory };
+
+    fn from(_e: AllocError) -> WordsError {
+        WordsError::NoMemory
+    }
+}
+
+impl<A: Allocator + Clone> Keeper<A> {
+    /// A keeper of that many slots which were never used. Refused as BadConfig for a capacity of 0 or beyond 65536, and as
+    /// NoMemory.
+    pub fn new(alloc: A, capacity: usize) -> Result<Keeper<A>, WordsError>
+        ensures { IsMade capacity result }
+    {
+        if capacity == 0 || capacity > CAPACITY_LIMIT {
+            return Err(WordsError::BadConfig);
+        }
+        let heap = alloc.clone()?;
+        let words = vec![in &heap; 0u64; capacity + 1]?;
+        let (table, place) = Table::of_words(alloc, words.as_slice(), &capacity)?;
+        drop(words);
+        match Arc::new(heap, table) {
+            Ok(board) => Ok(Keeper {
+                board,
+                place,
+                rows: capacity,
+                issued: 0,
+            }),
+            Err(_) => Err(WordsError::NoMemory),
+        }
+    }
+}
+
+impl<A: Allocator> Keeper<A> {
+    /// What is known of every keeper: it issued no more than [`HANDLE_LIMIT`] callers, and began no more entries than the
+    /// stamps that it saw.
+    pub fn law(&self)
+        ensures { IsKeeper self.now }
+    {
+        let _ = &self.issued;
+    }
+
+    pub(crate) fn load(&mut self, index: usize) -> u64
+        requires { index < length self.old.seen }
+        ensures { Learned (slice_index self.old.seen index) result × (self.new ≡ stepping self.old index result KeeperLoad) }
+    {
+        let found = self.board.shared.load::<Learn>(&mut self.place, index);
+        found
+    }
+
+    pub(crate) fn store(&mut self, index: usize, new: u64)
+        requires inside { index < length self.old.seen }
+        requires free { IsFree (slice_index self.old.seen index) }
+        requires next { (stamp_of new ≡ stamp_of (slice_index self.old.seen index) + 1) × (mark_of new ≡ 0) }
+        ensures { self.new ≡ beginning self.old index new }
+    {
+        self.board
+            .shared
+            .store::<Start>(&mut self.place, index, new);
+    }
+
+    pub(crate) fn try_expire(&mut self, index: usize, old: u64, new: u64) -> u64
+        requires inside { index < length self.old.seen }
+        requires old { (0 < stamp_of old) × (mark_of old ≡ 0) }
+        requires new { (stamp_of new ≡ stamp_of old) × (mark_of new ≡ 2) × (field_of new ≡ field_of old) }
+        ensures { Swaps expiring self.old self.new index old new result }
+    {
+        let found = self
+            .board
+            .shared
+            .compare_exchange::<Expire>(&mut self.place, index, old, new);
+        found
+    }
+
+    pub(crate) fn try_renew(&mut self, index: usize, old: u64, new: u64) -> u64
+        requires inside { index < length self.old.seen }
+        requires old { (0 < stamp_of old) × (mark_of old ≡ 0) }
+        requires new { (stamp_of new ≡ stamp_of old + 1) × (mark_of new ≡ 0) }
+        ensures { Swaps renewing self.old self.new index old new result }
+    {
+        let found = self
+            .board
+            .shared
+            .compare_exchange::<Renew>(&mut self.place, index, old, new);
+        found
+    }
+
+    pub(crate) fn try_remove(&mut self, index: usize, old: u64, new: u64) -> u64
+        requires inside { index < length self.old.seen }
+        requires old { (0 < stamp_of old) × (mark_of old ≡ 0) }
+        requires new { (stamp_of new ≡ stamp_of old) × (mark_of new ≡ 3) × (field_of new ≡ field_of old) }
+        ensures { Swaps removing self.old self.new index old new result }
+    {
+        let found = self
+            .board
+            .shared
+            .compare_exchange::<Remove>(&mut self.place, index, old, new);
+        found
+    }
+
+    /// One caller more, which may go to any thread. Refused as TooManyHandles where [`HANDLE_LIMIT`] callers were issued,
+    /// given back or not, and as NoMemory where the table can't be shared once more.
+    pub fn issue(&mut self) -> Result<Caller<A>, WordsError>
+        ensures { Issues self.old result self.new }
+    {
+        if self.issued >= HANDLE_LIMIT {
+            return Err(WordsError::TooManyHandles {
+                limit: HANDLE_LIMIT,
+            });
+        }
+        let board = Arc::try_clone(&self.board)?;
+        let place = self.board.shared.split_seat::<Issue>(&mut self.place);
+        self.issued += 1;
+        Ok(Caller::over(board, place, self.rows))
+    }
+
+    // The load of the return word.
+    fn hear(&mut self) -> u64
+        ensures { Hears self.old self.new result }
+    {
+        let found = self.board.shared.load::<Hear>(&mut self.place, self.rows);
+        found
+    }
+
+    /// The callers that were issued and are not given back, by one load. A caller that was dropped is out for good.
+    pub fn out(&mut self) -> u64
+        ensures { Tells self.old result self.new }
+    {
+        let gone = self.hear() % 2048;
+        self.issued - gone
+    }
+
+    /// The accepted cancels of all callers, where none is out, and else the number that is out, by one load.
+    pub fn returned(&mut self) -> Result<u64, u64>
+        ensures told { Returns self.old result self.new }
+        ensures accounts { IfOk result (λ c. Accounts self.new c) }
+    {
+        let word = self.hear();
+        let out = self.issued - word % 2048;
+        if out == 0 { Ok(word / 2048) } else { Err(out) }
+    }
+}
+
+impl<A: Allocator> Words for Keeper<A> {
+    ghost known = { λ k. parts_row k.seen };
+
+    ghost counts = { λ k. counts_of k.writes };
+
+    ghost shared = { true };
+
+    fn rows(&self) -> usize {
+        self.rows
+    }
+
+    fn begin(&mut self, index: usize, stamp: u32, when: u64) {
+        self.store(index, live(stamp, when));
+    }
+
+    fn look(&mut self, index: usize) -> Parts
+        requires { index < length (parts_row self.old.seen) }
+        ensures learned { Learns true (word_at (parts_row self.old.seen) index) result }
+        ensures known { parts_row self.new.seen ≡ slice_set (parts_row self.old.seen) index result }
+        ensures counts { counts_of self.new.writes ≡ counts_of self.old.writes }
+        ensures step { self.new ≡ stepping self.old index (packed result) KeeperLoad }
+    {
+        let found = self.load(index);
+        unpack(found)
+    }
+
+    // The expiry is decided by one try: a word that isn't live at exactly `at` is live at a later deadline or cancelled.
+    fn settle(&mut self, index: usize, stamp: u32, at: u64) -> Settled {
+        let old = live(stamp, at);
+        let found = self.try_expire(index, old, expired(stamp, at));
+        if found == old {
+            Settled::SettledExpired
+        } else if mark(found) == 0 {
+            Settled::Later(field(found))
+        } else {
+            Settled::SettledCancelled
+        }
+    }
+
+    // Each try that fails shows a greater word.
+    fn renew(&mut self, index: usize, stamp: u32, when: u64) -> Option<u64> {
+        let new = live(stamp + 1, when);
+        let mut old = self.load(index);
+        while mark(old) == 0 {
+            let found = self.try_renew(index, old, new);
+            if found == old {
+                return Some(field(old));
+            }
+            old = found;
+        }
+        None
+    }
+
+    fn finish(&mut self, index: usize, stamp: u32) -> Option<u64> {
+        let mut old = self.load(index);
+        while mark(old) == 0 {
+            let deadline = field(old);
+            let found = self.try_remove(index, old, removed(stamp, deadline));
+            if found == old {
+                return Some(deadline);
+            }
+            old = found;
+        }
+        None
+    }
+}
+
+impl<A: Allocator> Desk for Keeper<A> {
+    type Caller = Caller<A>;
+
+    type Fault = WordsError;
+
+    ghost issues = { Issues };
+
+    ghost tells = { Tells };
+
+    ghost returns = { Returns };
+
+    ghost audited = { Accounts };
+
+    fn issue(&mut self) -> Result<Caller<A>, WordsError> {
+        Keeper::issue(self)
+    }
+
+    fn out(&mut self) -> u64 {
+        Keeper::out(self)
+    }
+
+    fn returned(&mut self) -> Result<u64, u64> {
+        Keeper::returned(self)
+    }
+}
