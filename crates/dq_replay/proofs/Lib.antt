@@ -9,3 +9,4 @@ mod Ends
 mod Outcomes
 mod LineRuns
 mod Whole
+pub mod Orders

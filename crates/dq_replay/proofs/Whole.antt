@@ -15,7 +15,7 @@ use Rattle.dq_replay.proofs.Known.{appends_none, appends_two, consumes_none, con
 use Rattle.dq_replay.proofs.Outcomes.{too_many}
 use Rattle.dq_replay.proofs.LineRuns.{answers_none, ends_faulty, ends_nothing, nothing_in_line}
 
-after_two : (a b : List ℕ) (o : Outcome) → after_answer a (after_answer b o) ≡ after_answer (a ++ b) o
+pub after_two : (a b : List ℕ) (o : Outcome) → after_answer a (after_answer b o) ≡ after_answer (a ++ b) o
 after_two a b o = ap (λ answers. let new : Outcome = record { answers = answers; fault = o.fault } in new) (sym (append_assoc a b o.answers))
 
 -- lines and then lines

@@ -4,4 +4,5 @@ pub mod Words
 pub mod Fault
 pub mod Lines
 pub mod Script
+pub mod Order
 pub mod Replay

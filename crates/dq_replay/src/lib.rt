@@ -5,14 +5,18 @@
 mod command;
 mod fault;
 mod header;
+mod laws;
 mod line;
 mod name;
 mod output;
 mod replay;
 mod session;
 mod status;
+#[cfg(test)]
+mod tests;
 mod texts;
 
 pub use fault::{FaultKind, ReplayFault};
+pub use laws::live_names_are_in_order;
 pub use replay::{CAPACITY_LIMIT, run};
 pub use status::report;
