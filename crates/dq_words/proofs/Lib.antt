@@ -1,8 +1,10 @@
 pub mod Accounts
 pub mod Advances
+pub mod Births
 pub mod Bridge
 pub mod Callings
 pub mod Cancels
+pub mod Ends
 pub mod Extends
 pub mod Gathers
 pub mod Keepings

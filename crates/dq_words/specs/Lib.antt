@@ -1,6 +1,7 @@
 pub mod Calls
 pub mod Counts
 pub mod Desks
+pub mod Endings
 pub mod Files
 pub mod Keeping
 pub mod Plays

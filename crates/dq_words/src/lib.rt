@@ -6,6 +6,7 @@
 #![tactic(auto)]
 
 pub mod caller;
+pub mod endings;
 pub mod keeper;
 mod parts;
 mod plays;
