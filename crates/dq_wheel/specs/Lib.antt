@@ -2,8 +2,10 @@ pub mod State
 pub mod Places
 pub mod Moves
 pub mod Wakes
+pub mod Filed
 pub mod Ring
 pub mod Rows
 pub mod Lists
 pub mod Occupied
 pub mod Homes
+pub mod Lawful

@@ -5,3 +5,5 @@ mod occupied;
 mod rings;
 mod slots;
 pub mod wheel;
+
+pub use wheel::{CAPACITY_LIMIT, Place, Wheel, WheelError};

@@ -1,5 +1,27 @@
 //! The wheel.
 
+ghost use Rattle.std.specs.Prelude.{◌≡◌, ◌≢◌, ◌⊎◌, ℕ, ◌+◌, ◌<◌, ◌≤◌, ◌↔◌, length, slice_index, IfSome, MatchBool, MatchOption, MatchResult};
+ghost use Rattle.std.specs.Int.{bit_at};
+ghost use Rattle.dq_ticks.specs.Units.{lap};
+ghost use Rattle.dq_wheel.specs.State.{filed_at, fresh_filing, linked, unlinked};
+ghost use Rattle.dq_wheel.specs.Places.{place_for, IsSlotFilled};
+ghost use Rattle.dq_wheel.specs.Moves.{passed};
+ghost use Rattle.dq_wheel.specs.Wakes.{wake_for, IsNextWake};
+ghost use Rattle.dq_wheel.specs.Filed.{filed_by};
+ghost use Rattle.dq_wheel.specs.Lawful.{place_of_home, IsLawfulWheel, IsWithin};
+
+use crate::slots::{DUE, Slots, list_of};
+use dq_ticks::{LAST_TICK, LEVELS, SLOTS, digit, slot_start};
+use std::alloc::{AllocError, Allocator, Global};
+use std::marker::Model;
+use thiserror::Error;
+
+/// The most indexes that a wheel may have.
+pub const CAPACITY_LIMIT: usize = 65536;
+
+/// Stands for the tick of an index that is loose.
+const NOT_FILED: u64 = u64::MAX;
+
 /// Where an index stands.
 #[derive(Clone, Copy, Debug, PartialEq, Eq)]
 pub enum Place {
@@ -14,4 +36,200 @@ pub enum Place {
         /// The slot, from 0 to 63.
         slot: usize,
     },
+}
+
+/// Why a wheel isn't made.
+#[derive(Clone, Copy, Debug, PartialEq, Eq, Error)]
+pub enum WheelError {
+    /// The capacity is 0 or above 65536.
+    #[error("bad capacity")]
+    BadConfig,
+    /// An allocation was refused.
+    #[error("out of memory")]
+    NoMemory,
+}
+
+impl From<AllocError> for WheelError {
+    ghost use Rattle.std.specs.Prelude.{◌≡◌};
+    ghost use Rattle.dq_wheel.specs.declared.wheel.WheelError.TheVariants.{NoMemory};
+
+    ghost from_gives = { λ _ e. e ≡ NoMemory };
+
+    fn from(_error: AllocError) -> WheelError {
+        WheelError::NoMemory
+    }
+}
+
+/// A hierarchical timing wheel over the indexes below its capacity.
+#[derive(Drop)]
+pub struct Wheel<A: Allocator = Global> {
+    tick: u64,
+    filed: Vec<u64, A>,
+    moves: Vec<u8, A>,
+    moved: u64,
+    slots: Slots<A>,
+}
+
+impl<A: Allocator> Model for Wheel<A> {
+    ghost use Rattle.dq_wheel.specs.State.{Filing, WheelState};
+    ghost use Rattle.dq_wheel.specs.Filed.{deadlines};
+    ghost use Rattle.dq_wheel.specs.Lawful.{IsLawful};
+
+    ghost Value = { WheelState };
+
+    ghost view = { λ w. record {
+        filing = record { tick = w.tick; filed = deadlines w.filed.items; moves = w.moves.items; moved = w.moved };
+        next = w.slots.next;
+        words = w.slots.words;
+    } };
+
+    ghost invariant = { λ w. IsLawful w.tick (deadlines w.filed.items) w.moves.items w.slots.homes };
+}
+
+/// What the number says that is kept for an index.
+fn filed_of(word: u64) -> Option<u64>
+    ensures { result ≡ filed_by word }
+{
+    if word == NOT_FILED { None } else { Some(word) }
+}
+
+/// The place that a home stands for.
+fn place_of(home: u16) -> Place
+    requires { home ≤ 385 }
+    ensures { result ≡ place_of_home home }
+{
+    if home == 0 {
+        return Place::Loose;
+    }
+    let list = home as usize - 1;
+    if list == DUE {
+        Place::Due
+    } else {
+        Place::InSlot {
+            level: list / SLOTS,
+            slot: list % SLOTS,
+        }
+    }
+}
+
+impl<A: Allocator + Clone> Wheel<A> {
+    /// A wheel at tick 0 with nothing linked.
+    pub fn new(alloc: A, capacity: usize) -> Result<Wheel<A>, WheelError>
+        ensures { MatchResult result
+            (λ w. (0 < capacity) × (capacity ≤ CAPACITY_LIMIT) × (w.filing ≡ fresh_filing capacity))
+            (λ e. (e ≡ WheelError.BadConfig) ↔ ((capacity ≡ 0) ⊎ (CAPACITY_LIMIT < capacity))) }
+    {
+        if capacity == 0 || capacity > CAPACITY_LIMIT {
+            return Err(WheelError::BadConfig);
+        }
+        let filed = vec![in alloc.clone()?; NOT_FILED; capacity]?;
+        let moves = vec![in alloc.clone()?; 0; capacity]?;
+        let slots = Slots::new(alloc, capacity)?;
+        Ok(Wheel {
+            tick: 0,
+            filed,
+            moves,
+            moved: 0,
+            slots,
+        })
+    }
+}
+
+impl<A: Allocator> Wheel<A> {
+    /// The number of indexes.
+    pub fn capacity(&self) -> usize
+        ensures value { result ≡ length self.now.filing.filed }
+        ensures large { 0 < result }
+        ensures small { result ≤ CAPACITY_LIMIT }
+    {
+        self.slots.capacity()
+    }
+
+    /// The tick.
+    pub fn tick(&self) -> u64
+        ensures value { result ≡ self.now.filing.tick }
+        ensures in_range { result ≤ LAST_TICK }
+    {
+        self.tick
+    }
+
+    /// The tick at which an index is filed, if it is linked.
+    pub fn filed(&self, index: usize) -> Option<u64>
+        requires { index < length self.now.filing.filed }
+        ensures value { result ≡ filed_at self.now.filing.filed index }
+        ensures within { IfSome result (λ f. IsWithin self.now.filing.tick f) }
+    {
+        filed_of(self.filed[index])
+    }
+
+    /// The place of an index.
+    pub fn place(&self, index: usize) -> Place
+        requires { index < length self.now.filing.filed }
+        ensures { result ≡ place_for self.now.filing.tick (filed_at self.now.filing.filed index) }
+    {
+        place_of(self.slots.home(index))
+    }
+
+    /// The occupancy word of a level: bit k is 1 exactly where its slot k isn't empty.
+    pub fn occupancy(&self, level: usize) -> u64
+        requires { level < LEVELS }
+        ensures { (k : ℕ) → k < 64 → (bit_at result k ≡ 1) ↔ IsSlotFilled self.now.filing.tick self.now.filing.filed level k }
+    {
+        self.slots.word(level)
+    }
+
+    /// How often an index went from a slot to a slot of a lower level since it was linked.
+    pub fn moves(&self, index: usize) -> u8
+        requires { index < length self.now.filing.filed }
+        ensures { result ≡ slice_index self.now.filing.moves index }
+    {
+        self.moves[index]
+    }
+
+    /// How often any index did so since the wheel was made, or the greatest `u64`.
+    pub fn moved(&self) -> u64
+        ensures { result ≡ self.now.filing.moved }
+    {
+        self.moved
+    }
+
+    /// Files a loose index at a tick.
+    pub fn link(&mut self, index: usize, filed: u64)
+        requires index_in { index < length self.old.filing.filed }
+        requires loose { filed_at self.old.filing.filed index ≡ None }
+        requires not_before { self.old.filing.tick ≤ filed }
+        requires in_range { filed ≤ LAST_TICK }
+        requires near { filed < self.old.filing.tick + lap }
+        ensures { self.new.filing ≡ linked self.old.filing index filed }
+    {
+        self.slots.link(index, list_of(self.tick, filed));
+        self.filed[index] = filed;
+        self.moves[index] = 0;
+    }
+
+    /// Takes a linked index out.
+    pub fn unlink(&mut self, index: usize)
+        requires index_in { index < length self.old.filing.filed }
+        requires linked { filed_at self.old.filing.filed index ≢ None }
+        ensures { self.new.filing ≡ unlinked self.old.filing index }
+    {
+        self.slots.unlink(index);
+        self.filed[index] = NOT_FILED;
+        self.moves[index] = 0;
+    }
+
+    /// Takes one index off the due list.
+    pub fn pop_due(&mut self) -> Option<usize>
+        ensures { MatchOption result
+            ((self.new ≡ self.old) × ((i : ℕ) → filed_at self.old.filing.filed i ≢ Some self.old.filing.tick))
+            (λ i. (i < length self.old.filing.filed) × (filed_at self.old.filing.filed i ≡ Some self.old.filing.tick)
+                × (self.new.filing ≡ unlinked self.old.filing i)) }
+    {
+        let Some(index) = self.slots.take_due() else {
+            return None;
+        };
+        self.filed[index] = NOT_FILED;
+        self.moves[index] = 0;
+        Some(index)
+    }
 }
