@@ -6,3 +6,4 @@ pub mod Bits
 pub mod Occupancy
 pub mod Numbers
 pub mod Opening
+pub mod Lawful

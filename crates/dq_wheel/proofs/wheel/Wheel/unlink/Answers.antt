@@ -1,0 +1,12 @@
+use Rattle.std.proofs.Common.{ap}
+use Rattle.dq_wheel.proofs.Lawful.{lawful_unlinked, seen_unlinked, seen_in}
+use Rattle.dq_wheel.proofs.wheel.Wheel.unlink.Goals as goal
+
+pub invariant_of-self : goal.invariant_of-self
+invariant_of-self g c =
+    let seen = ap (λ w. w.filing) c.self.view_is in
+    rw c.unlink.ensures
+        (lawful_unlinked _ _ _ _ _ _ c.self.invariant seen _ (seen_in _ _ _ _ _ _ c.self.invariant seen _ c.requires.index_in))
+
+pub returns : goal.returns
+returns g c = seen_unlinked _ _ _ _ _ (ap (λ w. w.filing) c.self.view_is) _
