@@ -7,3 +7,4 @@ pub mod Occupancy
 pub mod Numbers
 pub mod Opening
 pub mod Lawful
+pub mod Wakes
