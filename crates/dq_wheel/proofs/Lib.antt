@@ -8,3 +8,4 @@ pub mod Numbers
 pub mod Opening
 pub mod Lawful
 pub mod Wakes
+pub mod Passing

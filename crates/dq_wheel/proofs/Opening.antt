@@ -180,6 +180,7 @@ pub opening_end : (e p : ℕ) (filed homes moves homes2 moves2 words : List ℕ)
 opening_end e p filed homes moves homes2 moves2 words made s empty =
     record {
       size = s.size;
+      moves_size = s.moves_size;
       placed = λ i i_in. elim (s.each i i_in) [ inl w ↦ absurd (empty i (rw s.size i_in) w.1) | inr w ↦ w.1 ];
       counted = λ i i_in. elim (s.each i i_in) [ inl w ↦ absurd (empty i (rw s.size i_in) w.1) | inr w ↦ w.2 ];
       sum = s.sum;

@@ -23,6 +23,7 @@ CanGo e p f moves = (e ≤ f) × (f < tick_limit) × (list_number e f ≢ p) × 
 -- list p was opened at tick e: each of its indexes is placed again, no other is, and the moves that were made are counted
 pub record IsOpened (e p : ℕ) (filed homes moves homes2 moves2 : List ℕ) (made : ℕ) : Type 0 where
   pub size : length homes2 ≡ length homes
+  pub moves_size : length moves2 ≡ length homes
   pub placed : (i : ℕ) → i < length homes → slice_index homes2 i ≡ rehomed e p (slice_index filed i) (slice_index homes i)
   pub counted : (i : ℕ) → i < length homes → slice_index moves2 i ≡ recounted e p (slice_index filed i) (slice_index homes i) (slice_index moves i)
   pub sum : sum moves2 ≡ sum moves + made

@@ -1,0 +1,144 @@
+-- The wheel's way to another tick.
+
+use Rattle.std.proofs.Common.{◌≡◌, ◌≢◌, ℕ, zero, suc, ◌+◌, ◌*◌, ◌/◌, ◌%◌, ◌<◌, ◌≤◌, List, [], ◌∷◌, length, get_or, sum, min, refl, sym, arith, ◌∙◌, ap, ◌⊎◌, inl, inr, Option, None, Some}
+use Rattle.std.specs.List.{sum_by}
+use Rattle.std.proofs.lemmas.List.{length-map, get_or-map, ext_get_or}
+use Rattle.std.proofs.lemmas.List.Sums.{sum_by-cons}
+use Rattle.dq_ticks.specs.Digits.{digit_of, level, start, start_for, IsAhead}
+use Rattle.dq_ticks.specs.Units.{lap, tick_limit}
+use Rattle.dq_ticks.proofs.Laws.{start_le, start_above, start_opens, digit_below}
+use Rattle.dq_ticks.proofs.Levels.{level_small, level_same}
+use Rattle.dq_wheel.specs.State.{Filing, filed_at}
+use Rattle.dq_wheel.specs.Moves.{moves_down, counted, passed}
+use Rattle.dq_wheel.specs.Filed.{filed_by, deadlines}
+use Rattle.dq_wheel.specs.Lists.{StandsIn, IsEmpty}
+use Rattle.dq_wheel.specs.Occupied.{IsFilled, IsEarlier}
+use Rattle.dq_wheel.specs.Homes.{list_number, rehomed, recounted, CanGo, IsOpened}
+use Rattle.dq_wheel.specs.Lawful.{IsAt, IsHome, IsLawful}
+use Rattle.dq_wheel.proofs.Links.{same_or_not, nat_le_or_lt}
+use Rattle.dq_wheel.proofs.Numbers.{number_same, number_other, number_low}
+use Rattle.dq_wheel.proofs.Opening.{rehomed_there, rehomed_elsewhere, recounted_due, recounted_moved, recounted_elsewhere}
+use Rattle.dq_wheel.proofs.Lawful.{filing_of}
+use Rattle.dq_wheel.proofs.Wakes.{ahead, some_at, home_stable, still_there, start_here, start_later, opens_after, opens_in_range}
+
+-- the counts of a row
+counted_size : (e n : ℕ) (filed : List (Option ℕ)) (moves : List ℕ) → length moves ≡ length filed → length (counted e n filed moves) ≡ length filed
+counted_size e n [] moves size = refl
+counted_size e n (o ∷ filed) [] size = absurd (omega arith)
+counted_size e n (o ∷ filed) (m ∷ moves) size = ap (λ k. suc k) (counted_size e n filed moves (omega arith))
+
+counted_at : (e n : ℕ) (filed : List (Option ℕ)) (moves : List ℕ) → length moves ≡ length filed → (i : ℕ) → i < length filed →
+    get_or (counted e n filed moves) i 0 ≡ get_or moves i 0 + moves_down e n (filed_at filed i)
+counted_at e n [] moves size i i_in = absurd (omega arith)
+counted_at e n (o ∷ filed) [] size i i_in = absurd (omega arith)
+counted_at e n (o ∷ filed) (m ∷ moves) size zero i_in = refl
+counted_at e n (o ∷ filed) (m ∷ moves) size (suc i) i_in = counted_at e n filed moves (omega arith) i (omega arith)
+
+sum_cons : (x : ℕ) (xs : List ℕ) → sum (x ∷ xs) ≡ x + sum xs
+sum_cons x xs = sum_by-cons (λ y. y) x xs
+
+counted_sum : (e n : ℕ) (filed : List (Option ℕ)) (moves : List ℕ) → length moves ≡ length filed →
+    sum (counted e n filed moves) ≡ sum moves + sum_by (moves_down e n) filed
+counted_sum e n [] [] size = refl
+counted_sum e n [] (m ∷ moves) size = absurd (omega arith)
+counted_sum e n (o ∷ filed) [] size = absurd (omega arith)
+counted_sum e n (o ∷ filed) (m ∷ moves) size =
+    let rest : sum (counted e n filed moves) ≡ sum moves + sum_by (moves_down e n) filed = counted_sum e n filed moves (omega arith) in
+    let here : sum (counted e n (o ∷ filed) (m ∷ moves)) ≡ m + moves_down e n o + sum (counted e n filed moves) =
+        sum_cons (m + moves_down e n o) (counted e n filed moves) in
+    let before : sum (m ∷ moves) ≡ m + sum moves = sum_cons m moves in
+    let made : sum_by (moves_down e n) (o ∷ filed) ≡ moves_down e n o + sum_by (moves_down e n) filed = sum_by-cons (moves_down e n) o filed in
+    omega arith
+
+-- a row that has each count is the counted row
+pub counted_row : (e n : ℕ) (filed : List (Option ℕ)) (moves moves2 : List ℕ) → length moves ≡ length filed → length moves2 ≡ length filed →
+    ((i : ℕ) → i < length filed → get_or moves2 i 0 ≡ get_or moves i 0 + moves_down e n (filed_at filed i)) → moves2 ≡ counted e n filed moves
+counted_row e n filed moves moves2 size size2 each =
+    ext_get_or 0 moves2 (counted e n filed moves) (size2 ∙ sym (counted_size e n filed moves size))
+        (λ i i_in. let i_low : i < length filed = omega arith in each i i_low ∙ sym (counted_at e n filed moves size i i_low))
+
+-- the word that is kept of a filed tick
+filed_word : (word f : ℕ) → filed_by word ≡ Some f → word ≡ f
+filed_word word f is =
+    elim (same_or_not word 18446744073709551615) [
+      inl e ↦ let none : filed_by word ≡ None = grind arith in absurd (cc)
+    | inr d ↦ let some : filed_by word ≡ Some word = grind arith in cc
+    ]
+
+pub word_of : (words : List ℕ) (i f : ℕ) → i < length words → filed_at (deadlines words) i ≡ Some f → get_or words i 0 ≡ f
+word_of words i f i_in is = filed_word (get_or words i 0) f (sym (get_or-map filed_by words i 0 None i_in) ∙ is)
+
+no_move : (e n f : ℕ) → n ≡ f → moves_down e n (Some f) ≡ 0
+no_move e n f due = grind arith
+
+one_move : (e n f : ℕ) → e ≢ f → n ≢ f → level n f < level e f → moves_down e n (Some f) ≡ 1
+one_move e n f before after lower = grind arith
+
+-- one index of the opened slot
+module _ (e w f h m list : ℕ) (at : IsAt e f h m) (later : e < f) (here : start_for e f ≡ w) (stands : h ≡ list + 1) where
+
+  ahead_now : IsAhead e f
+  ahead_now = ahead e f h m at later
+
+  opens_by : w ≤ f
+  opens_by = omega (arith, start_le e f ahead_now)
+
+  opened_after : e < w
+  opened_after = omega (arith, start_above e f ahead_now)
+
+  -- where it isn't due, its level falls
+  falls : w ≢ f → level w f < level e f
+  falls other = elim (start_opens e f ahead_now) [ inl due ↦ absurd (other (omega arith)) | inr lower ↦ rw here at lower ]
+
+  list_is : list ≡ 64 * level e f + digit_of f (level e f)
+  list_is = omega (arith, at.number, number_other e f (λ s. omega arith))
+
+  pub goes : CanGo w list f m
+  goes =
+      let few : m + level e f ≤ 5 = at.few in
+      let high : list < 384 = omega (arith, at.number, number_low e f (λ s. omega arith)) in
+      (opens_by, at.in_range,
+       λ same. elim (same_or_not w f) [
+          inl due ↦ let number : list_number w f ≡ 384 = number_same w f due in omega arith
+        | inr other ↦
+            let lower : level w f < level e f = falls other in
+            let number : list_number w f ≡ 64 * level w f + digit_of f (level w f) = number_other w f other in
+            omega (arith, list_is, digit_below f (level w f), digit_below f (level e f))
+        ],
+       omega arith)
+
+  pub opened_home : IsAt w f (rehomed w list f h) (recounted w list f h m)
+  opened_home =
+      let few : m + level e f ≤ 5 = at.few in
+      let near : f < e + lap = at.near in
+      let after : e < w = opened_after in
+      record {
+        later = opens_by;
+        in_range = at.in_range;
+        near = omega arith;
+        number = rehomed_there w list f h stands;
+        few =
+          elim (same_or_not w f) [
+            inl due ↦
+              let count : recounted w list f h m ≡ m = recounted_due w list f h m stands due in
+              let flat : level w f ≡ 0 = ap (λ t. level t f) due ∙ level_same f in
+              omega arith
+          | inr other ↦
+              let count : recounted w list f h m ≡ m + 1 = recounted_moved w list f h m stands other in
+              let lower : level w f < level e f = falls other in
+              omega arith
+          ];
+      }
+
+  pub opened_count : recounted w list f h m ≡ m + moves_down e w (Some f)
+  opened_count =
+      elim (same_or_not w f) [
+        inl due ↦
+          let count : recounted w list f h m ≡ m = recounted_due w list f h m stands due in
+          let none : moves_down e w (Some f) ≡ 0 = no_move e w f due in
+          omega arith
+      | inr other ↦
+          let count : recounted w list f h m ≡ m + 1 = recounted_moved w list f h m stands other in
+          let one : moves_down e w (Some f) ≡ 1 = one_move e w f (λ s. omega arith) other (falls other) in
+          omega arith
+      ]
