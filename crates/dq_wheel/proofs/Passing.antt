@@ -142,3 +142,115 @@ module _ (e w f h m list : ℕ) (at : IsAt e f h m) (later : e < f) (here : star
           let one : moves_down e w (Some f) ≡ 1 = one_move e w f (λ s. omega arith) other (falls other) in
           omega arith
       ]
+
+-- the wheel goes to the start of the first slot and opens it
+module _ (e : ℕ) (words moves homes : List ℕ) (ok : IsLawful e (deadlines words) moves homes) (list : ℕ) (list_in : list < 384)
+  (filled : IsFilled homes list) (first : (p : ℕ) → p < 384 → IsFilled homes p → IsEarlier (digit_of e 5) list p)
+  (later : (i f : ℕ) → filed_at (deadlines words) i ≡ Some f → e < f) where
+
+  abbrev opening : ℕ
+  opening = start e (list / 64) (list % 64)
+
+  word_in : (i : ℕ) → i < length homes → i < length words
+  word_in i i_in = rw (← length-map words filed_by, ok.filed_size) i_in
+
+  -- what stands in the opened list
+  standing : (i : ℕ) → i < length homes → get_or homes i 0 ≡ list + 1 →
+      (f : ℕ) × (filed_at (deadlines words) i ≡ Some f) × IsAt e f (get_or homes i 0) (get_or moves i 0)
+  standing i i_in stands = some_at e (filed_at (deadlines words) i) (get_or homes i 0) (get_or moves i 0) (ok.home i i_in) (omega arith)
+
+  opens_at : (i f : ℕ) → filed_at (deadlines words) i ≡ Some f → get_or homes i 0 ≡ list + 1 → start_for e f ≡ opening
+  opens_at = start_here e (deadlines words) moves homes ok list list_in filled first later
+
+  pub can_go : (i : ℕ) → StandsIn homes list i → CanGo opening list (get_or words i 0) (get_or moves i 0)
+  can_go i stands =
+      let s = standing i stands.0 stands.1 in
+      rw (word_of words i s.0 (word_in i stands.0) s.1)
+          (goes e opening s.0 (get_or homes i 0) (get_or moves i 0) list s.2 (later i s.0 s.1) (opens_at i s.0 s.1 stands.1) stands.1)
+
+  stays : (i f : ℕ) → get_or homes i 0 ≢ list + 1 → filed_at (deadlines words) i ≡ Some f → (e < f) × (opening < start_for e f)
+  stays i f elsewhere is = (later i f is, start_later e (deadlines words) moves homes ok list list_in filled first later i f is elsewhere)
+
+  after : e ≤ opening
+  after = omega (arith, opens_after e (deadlines words) moves homes ok list list_in filled first later)
+
+  module _ (homes2 moves2 : List ℕ) (made : ℕ) (o : IsOpened opening list words homes moves homes2 moves2 made) where
+
+    home_opened : (i : ℕ) → i < length homes → IsHome opening (filed_at (deadlines words) i) (get_or homes2 i 0) (get_or moves2 i 0)
+    home_opened i i_in =
+        elim (same_or_not (get_or homes i 0) (list + 1)) [
+          inl stands ↦
+            let s = standing i i_in stands in
+            rw (o.placed i i_in, o.counted i i_in, s.1, word_of words i s.0 (word_in i i_in) s.1)
+                (opened_home e opening s.0 (get_or homes i 0) (get_or moves i 0) list s.2 (later i s.0 s.1) (opens_at i s.0 s.1 stands) stands)
+        | inr elsewhere ↦
+            rw (o.placed i i_in ∙ rehomed_elsewhere opening list _ _ elsewhere, o.counted i i_in ∙ recounted_elsewhere opening list _ _ _ elsewhere)
+                (home_stable e opening (filed_at (deadlines words) i) (get_or homes i 0) (get_or moves i 0) after (ok.home i i_in)
+                    (λ f. stays i f elsewhere))
+        ]
+
+    pub lawful_opened : IsLawful opening (deadlines words) moves2 homes2
+    lawful_opened =
+        record {
+          large = rw o.size ok.large;
+          small = rw o.size ok.small;
+          filed_size = ok.filed_size ∙ sym o.size;
+          moves_size = o.moves_size ∙ sym o.size;
+          in_range = opens_in_range e (deadlines words) moves homes ok list list_in filled first later;
+          home = λ i i_in. home_opened i (rw o.size at i_in);
+        }
+
+    moves_opened : (i : ℕ) → i < length homes → get_or moves2 i 0 ≡ get_or moves i 0 + moves_down e opening (filed_at (deadlines words) i)
+    moves_opened i i_in =
+        elim (same_or_not (get_or homes i 0) (list + 1)) [
+          inl stands ↦
+            let s = standing i i_in stands in
+            rw (o.counted i i_in, s.1, word_of words i s.0 (word_in i i_in) s.1)
+                (opened_count e opening s.0 (get_or homes i 0) (get_or moves i 0) list s.2 (later i s.0 s.1) (opens_at i s.0 s.1 stands) stands)
+        | inr elsewhere ↦
+            let none : moves_down e opening (filed_at (deadlines words) i) ≡ 0 =
+                still_there e opening (filed_at (deadlines words) i) _ _ after (ok.home i i_in) (λ f. stays i f elsewhere) in
+            let same : get_or moves2 i 0 ≡ get_or moves i 0 = o.counted i i_in ∙ recounted_elsewhere opening list _ _ _ elsewhere in
+            omega arith
+        ]
+
+    row_opened : moves2 ≡ counted e opening (deadlines words) moves
+    row_opened =
+        counted_row e opening (deadlines words) moves moves2 (ok.moves_size ∙ sym ok.filed_size) (o.moves_size ∙ sym ok.filed_size)
+            (λ i i_in. moves_opened i (rw ok.filed_size at i_in))
+
+    made_is : made ≡ sum_by (moves_down e opening) (deadlines words)
+    made_is =
+        let all : sum moves2 ≡ sum moves + sum_by (moves_down e opening) (deadlines words) =
+            ap sum row_opened ∙ counted_sum e opening (deadlines words) moves (ok.moves_size ∙ sym ok.filed_size) in
+        let opened : sum moves2 ≡ sum moves + made = o.sum in
+        omega arith
+
+    pub seen_opened : (moved : ℕ) (now : Filing) → filing_of e (deadlines words) moves moved ≡ now →
+        filing_of opening (deadlines words) moves2 (min (moved + made) 18446744073709551615) ≡ passed now opening
+    seen_opened moved now now_is =
+        rw (← now_is, row_opened, made_is) refl
+
+-- the wheel goes to a tick before all that wakes
+module _ (e : ℕ) (filed : List (Option ℕ)) (moves homes : List ℕ) (ok : IsLawful e filed moves homes) (n : ℕ) (after : e ≤ n)
+  (early : (i f : ℕ) → filed_at filed i ≡ Some f → (e < f) × (n < start_for e f)) where
+
+  still_at : (i : ℕ) → i < length filed → moves_down e n (filed_at filed i) ≡ 0
+  still_at i i_in = still_there e n (filed_at filed i) _ _ after (ok.home i (rw ok.filed_size at i_in)) (early i)
+
+  still_row : moves ≡ counted e n filed moves
+  still_row =
+      counted_row e n filed moves moves (ok.moves_size ∙ sym ok.filed_size) (ok.moves_size ∙ sym ok.filed_size)
+          (λ i i_in. omega (arith, still_at i i_in))
+
+  none_made : sum_by (moves_down e n) filed ≡ 0
+  none_made =
+      let all : sum (counted e n filed moves) ≡ sum moves + sum_by (moves_down e n) filed =
+          counted_sum e n filed moves (ok.moves_size ∙ sym ok.filed_size) in
+      let same : sum moves ≡ sum (counted e n filed moves) = ap sum still_row in
+      omega arith
+
+  pub seen_stayed : (moved : ℕ) (now : Filing) → moved ≤ 18446744073709551615 → filing_of e filed moves moved ≡ now → filing_of n filed moves moved ≡ passed now n
+  seen_stayed moved now small now_is =
+      let count : min (moved + sum_by (moves_down e n) filed) 18446744073709551615 ≡ moved = omega (arith, none_made) in
+      rw (← now_is, count, ← still_row) refl

@@ -23,5 +23,5 @@ passed w n =
       tick = n;
       filed = w.filed;
       moves = counted w.tick n w.filed w.moves;
-      moved = min 18446744073709551615 (w.moved + sum_by (moves_down w.tick n) w.filed);
+      moved = min (w.moved + sum_by (moves_down w.tick n) w.filed) 18446744073709551615;
     }

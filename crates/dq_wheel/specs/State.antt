@@ -1,6 +1,6 @@
 -- What a caller sees of a wheel.
 
-use Rattle.std.specs.Prelude.{ℕ, List, Option, None, Some, replicate, slice_index_or, slice_set}
+use Rattle.std.specs.Prelude.{◌≡◌, ◌<◌, ◌≤◌, length, ℕ, List, Option, None, Some, replicate, slice_index_or, slice_set}
 
 -- the wheel's tick, where each index is filed, how often each index moved since it was linked, and the moves made in all
 pub record Filing : Type 0 where
@@ -31,3 +31,8 @@ linked w i when = record w { filed = slice_set w.filed i (Some when); moves = sl
 -- index i is filed nowhere
 abbrev pub unlinked : Filing → ℕ → Filing
 unlinked w i = record w { filed = slice_set w.filed i None; moves = slice_set w.moves i 0 }
+
+-- index i is filed, and no index before it
+abbrev pub IsLeast : List (Option ℕ) → ℕ → Type 0
+IsLeast filed i =
+    (f : ℕ) × (i < length filed) × (filed_at filed i ≡ Some f) × ((j g : ℕ) → filed_at filed j ≡ Some g → f ≤ g)

@@ -3,7 +3,7 @@
 ghost use Rattle.std.specs.Prelude.{◌≡◌, ◌≢◌, ◌⊎◌, ℕ, ◌+◌, ◌<◌, ◌≤◌, ◌↔◌, length, slice_index, IfSome, MatchBool, MatchOption, MatchResult};
 ghost use Rattle.std.specs.Int.{bit_at};
 ghost use Rattle.dq_ticks.specs.Units.{lap};
-ghost use Rattle.dq_wheel.specs.State.{filed_at, fresh_filing, linked, unlinked};
+ghost use Rattle.dq_wheel.specs.State.{filed_at, IsLeast, fresh_filing, linked, unlinked};
 ghost use Rattle.dq_wheel.specs.Places.{place_for, IsSlotFilled};
 ghost use Rattle.dq_wheel.specs.Moves.{passed};
 ghost use Rattle.dq_wheel.specs.Wakes.{wake_for, IsNextWake};
@@ -136,6 +136,15 @@ impl<A: Allocator + Clone> Wheel<A> {
 }
 
 impl<A: Allocator> Wheel<A> {
+    /// Each list, walked along the wheel's own links from its head, has each index once whose place it is, and no
+    /// other; each occupancy bit is 1 exactly where its list isn't empty; each filed tick is in reach; and no index has
+    /// moved more often than it came down.
+    pub fn law(&self)
+        ensures { IsLawfulWheel self.now }
+    {
+        self.slots.law();
+    }
+
     /// The number of indexes.
     pub fn capacity(&self) -> usize
         ensures value { result ≡ length self.now.filing.filed }
@@ -193,6 +202,37 @@ impl<A: Allocator> Wheel<A> {
         self.moved
     }
 
+    /// The tick at which something has to be done next: the wheel's own where an index is due, else the start of the
+    /// first slot that isn't empty.
+    pub fn next_wake(&self) -> Option<u64>
+        ensures { MatchOption result
+            ((i f : ℕ) → filed_at self.now.filing.filed i ≢ Some f)
+            (λ w. IsNextWake self.now.filing.tick self.now.filing.filed w) }
+    {
+        match self.slots.first(DUE) {
+            Some(_) => Some(self.tick),
+            None => match self.slots.first_filled(digit(self.tick, LEVELS - 1) as usize) {
+                Some(list) => Some(slot_start(self.tick, list / SLOTS, (list % SLOTS) as u64)),
+                None => None,
+            },
+        }
+    }
+
+    /// A linked index that is filed least.
+    pub fn least(&self) -> Option<usize>
+        ensures { MatchOption result
+            ((i f : ℕ) → filed_at self.now.filing.filed i ≢ Some f)
+            (λ i. IsLeast self.now.filing.filed i) }
+    {
+        if let Some(index) = self.slots.first(DUE) {
+            return Some(index);
+        }
+        let Some(list) = self.slots.first_filled(digit(self.tick, LEVELS - 1) as usize) else {
+            return None;
+        };
+        self.slots.least_in(list, &self.filed)
+    }
+
     /// Files a loose index at a tick.
     pub fn link(&mut self, index: usize, filed: u64)
         requires index_in { index < length self.old.filing.filed }
@@ -231,5 +271,32 @@ impl<A: Allocator> Wheel<A> {
         self.filed[index] = NOT_FILED;
         self.moves[index] = 0;
         Some(index)
+    }
+
+    /// Goes to the next wake, but not past the limit. Where a slot starts there it is opened.
+    pub fn advance(&mut self, limit: u64) -> bool
+        requires none_due { (i : ℕ) → filed_at self.old.filing.filed i ≢ Some self.old.filing.tick }
+        requires not_before { self.old.filing.tick ≤ limit }
+        requires in_range { limit ≤ LAST_TICK }
+        ensures { MatchBool result
+            ((w : ℕ) × IsNextWake self.old.filing.tick self.old.filing.filed w × (w ≤ limit)
+                × (self.new.filing ≡ passed self.old.filing w))
+            (((i f : ℕ) → filed_at self.old.filing.filed i ≡ Some f → limit < wake_for self.old.filing.tick f)
+                × (self.new.filing ≡ passed self.old.filing limit)) }
+    {
+        let own = digit(self.tick, LEVELS - 1) as usize;
+        let Some(list) = self.slots.first_filled(own) else {
+            self.tick = limit;
+            return false;
+        };
+        let start = slot_start(self.tick, list / SLOTS, (list % SLOTS) as u64);
+        if limit < start {
+            self.tick = limit;
+            return false;
+        }
+        self.tick = start;
+        let made = self.slots.open(list, start, &self.filed, &mut self.moves);
+        self.moved = self.moved.saturating_add(made);
+        true
     }
 }
