@@ -9,3 +9,4 @@ pub mod Opening
 pub mod Lawful
 pub mod Wakes
 pub mod Passing
+pub mod Places

@@ -15,6 +15,7 @@ use Rattle.dq_wheel.specs.Homes.{list_number, rehomed, recounted, CanGo, IsOpene
 use Rattle.dq_wheel.specs.Lawful.{IsAt, IsHome, IsLawful}
 use Rattle.dq_wheel.proofs.Links.{same_or_not, nat_le_or_lt}
 use Rattle.dq_wheel.proofs.Numbers.{number_same, number_other, number_low, due_where_high}
+use Rattle.dq_wheel.proofs.Lawful.{home_due}
 use Rattle.dq_wheel.proofs.Opening.{rehomed_there, rehomed_elsewhere, recounted_due, recounted_moved, recounted_elsewhere}
 
 pub wake_same : (e f : ℕ) → e ≡ f → wake_for e f ≡ e
@@ -129,6 +130,10 @@ module _ (e : ℕ) (filed : List (Option ℕ)) (moves homes : List ℕ) (ok : Is
         inl past ↦ let none : filed_at filed i ≡ None = get_or_past filed i None (rw ok.filed_size past) in absurd (cc)
       | inr i_in ↦ (i_in, at_some e (filed_at filed i) _ _ f (ok.home i i_in) is)
       ]
+
+  -- what stands on the due list is filed at the tick
+  pub due_stands : (i : ℕ) → StandsIn homes 384 i → filed_at filed i ≡ Some e
+  due_stands i stands = home_due e (filed_at filed i) _ _ (ok.home i stands.0) stands.1
 
   -- nothing is due where no index stands on the due list
   pub none_due : IsEmpty homes 384 → (i f : ℕ) → filed_at filed i ≡ Some f → e < f
