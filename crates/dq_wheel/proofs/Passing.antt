@@ -1,6 +1,6 @@
 -- The wheel's way to another tick.
 
-use Rattle.std.proofs.Common.{◌≡◌, ◌≢◌, ℕ, zero, suc, ◌+◌, ◌*◌, ◌/◌, ◌%◌, ◌<◌, ◌≤◌, List, [], ◌∷◌, length, get_or, sum, min, refl, sym, arith, ◌∙◌, ap, ◌⊎◌, inl, inr, Option, None, Some}
+use Rattle.std.proofs.Common.{◌≡◌, ◌≢◌, ℕ, zero, suc, ◌+◌, ◌*◌, ◌/◌, ◌%◌, ◌<◌, ◌≤◌, List, [], ◌∷◌, length, get_or, sum, min, refl, sym, arith, ◌∙◌, ap, ◌⊎◌, inl, inr, Option, None, Some, MatchOption}
 use Rattle.std.specs.List.{sum_by}
 use Rattle.std.proofs.lemmas.List.{length-map, get_or-map, ext_get_or}
 use Rattle.std.proofs.lemmas.List.Sums.{sum_by-cons}
@@ -8,8 +8,9 @@ use Rattle.dq_ticks.specs.Digits.{digit_of, level, start, start_for, IsAhead}
 use Rattle.dq_ticks.specs.Units.{lap, tick_limit}
 use Rattle.dq_ticks.proofs.Laws.{start_le, start_above, start_opens, digit_below}
 use Rattle.dq_ticks.proofs.Levels.{level_small, level_same}
-use Rattle.dq_wheel.specs.State.{Filing, filed_at}
+use Rattle.dq_wheel.specs.State.{Filing, filed_at, IsLeast}
 use Rattle.dq_wheel.specs.Moves.{moves_down, counted, passed}
+use Rattle.dq_wheel.specs.Wakes.{wake_for, IsNextWake}
 use Rattle.dq_wheel.specs.Filed.{filed_by, deadlines}
 use Rattle.dq_wheel.specs.Lists.{StandsIn, IsEmpty}
 use Rattle.dq_wheel.specs.Occupied.{IsFilled, IsEarlier}
@@ -19,7 +20,7 @@ use Rattle.dq_wheel.proofs.Links.{same_or_not, nat_le_or_lt}
 use Rattle.dq_wheel.proofs.Numbers.{number_same, number_other, number_low}
 use Rattle.dq_wheel.proofs.Opening.{rehomed_there, rehomed_elsewhere, recounted_due, recounted_moved, recounted_elsewhere}
 use Rattle.dq_wheel.proofs.Lawful.{filing_of}
-use Rattle.dq_wheel.proofs.Wakes.{ahead, some_at, home_stable, still_there, start_here, start_later, opens_after, opens_in_range}
+use Rattle.dq_wheel.proofs.Wakes.{ahead, some_at, home_stable, still_there, start_here, start_later, opens_after, opens_in_range, later_all, wake_other, lawful_stable, next_wake, due_stands, due_least, least_all, none_filed}
 
 -- the counts of a row
 counted_size : (e n : ℕ) (filed : List (Option ℕ)) (moves : List ℕ) → length moves ≡ length filed → length (counted e n filed moves) ≡ length filed
@@ -254,3 +255,74 @@ module _ (e : ℕ) (filed : List (Option ℕ)) (moves homes : List ℕ) (ok : Is
   seen_stayed moved now small now_is =
       let count : min (moved + sum_by (moves_down e n) filed) 18446744073709551615 ≡ moved = omega (arith, none_made) in
       rw (← now_is, count, ← still_row) refl
+
+-- the same as callers see it
+module _ (e : ℕ) (words moves homes : List ℕ) (ok : IsLawful e (deadlines words) moves homes) (moved : ℕ) (now : Filing)
+  (now_is : filing_of e (deadlines words) moves moved ≡ now) where
+
+  tick_is : e ≡ now.tick
+  tick_is = ap (λ w. w.tick) now_is
+
+  filed_is : deadlines words ≡ now.filed
+  filed_is = ap (λ w. w.filed) now_is
+
+  pub seen_later : ((i : ℕ) → filed_at now.filed i ≢ Some now.tick) → (i f : ℕ) → filed_at (deadlines words) i ≡ Some f → e < f
+  seen_later none = later_all e (deadlines words) moves homes ok (rw (tick_is, filed_is) none)
+
+  -- nothing wakes by then
+  pub seen_passed : (n : ℕ) → now.tick ≤ n → moved ≤ 18446744073709551615 →
+      ((i f : ℕ) → filed_at (deadlines words) i ≡ Some f → (e < f) × (n < start_for e f)) →
+      ((i f : ℕ) → filed_at now.filed i ≡ Some f → n < wake_for now.tick f) × (filing_of n (deadlines words) moves moved ≡ passed now n)
+  seen_passed n after small early =
+      (λ i f is.
+          let is_kept : filed_at (deadlines words) i ≡ Some f = rw filed_is is in
+          let when = early i f is_kept in
+          let later : e < f = when.0 in
+          rw (← tick_is, wake_other e f (λ s. omega arith)) when.1,
+       seen_stayed e (deadlines words) moves homes ok n (rw tick_is after) early moved now small now_is)
+
+  pub still_lawful : (n : ℕ) → now.tick ≤ n → n < tick_limit →
+      ((i f : ℕ) → filed_at (deadlines words) i ≡ Some f → (e < f) × (n < start_for e f)) → IsLawful n (deadlines words) moves homes
+  still_lawful n after in_range early = lawful_stable e (deadlines words) moves homes ok n (rw tick_is after) in_range early
+
+  -- the first slot starts by then
+  pub seen_opening : (list : ℕ) → list < 384 → (filled : IsFilled homes list) →
+      ((p : ℕ) → p < 384 → IsFilled homes p → IsEarlier (digit_of e 5) list p) →
+      ((i f : ℕ) → filed_at (deadlines words) i ≡ Some f → e < f) →
+      (homes2 moves2 : List ℕ) (made limit : ℕ) → IsOpened (start e (list / 64) (list % 64)) list words homes moves homes2 moves2 made →
+      start e (list / 64) (list % 64) ≤ limit →
+      (w : ℕ) × IsNextWake now.tick now.filed w × (w ≤ limit)
+      × (filing_of (start e (list / 64) (list % 64)) (deadlines words) moves2 (min (moved + made) 18446744073709551615) ≡ passed now w)
+  seen_opening list list_in filled first later homes2 moves2 made limit o reached =
+      (start e (list / 64) (list % 64),
+       rw (← tick_is, ← filed_is) (next_wake e (deadlines words) moves homes ok list list_in filled first later),
+       reached,
+       seen_opened e words moves homes ok list list_in filled first later homes2 moves2 made o moved now now_is)
+
+  -- what is filed least
+  pub seen_least_due : (i : ℕ) → StandsIn homes 384 i → IsLeast now.filed i
+  seen_least_due i stands =
+      let is : filed_at (deadlines words) i ≡ Some e = due_stands e (deadlines words) moves homes ok i stands in
+      rw (← filed_is) (e, rw ok.filed_size stands.0, is, due_least e (deadlines words) moves homes ok i is)
+
+  pub seen_least : (list : ℕ) → list < 384 → (filled : IsFilled homes list) →
+      ((p : ℕ) → p < 384 → IsFilled homes p → IsEarlier (digit_of e 5) list p) →
+      ((i f : ℕ) → filed_at (deadlines words) i ≡ Some f → e < f) → (o : Option ℕ) →
+      MatchOption o (IsEmpty homes list) (λ x. StandsIn homes list x × ((y : ℕ) → StandsIn homes list y → get_or words x 0 ≤ get_or words y 0)) →
+      MatchOption o ((i f : ℕ) → filed_at now.filed i ≢ Some f) (λ i. IsLeast now.filed i)
+  seen_least list list_in filled first later None empty = absurd (empty filled.0 filled.1.0 filled.1.1)
+  seen_least list list_in filled first later (Some x) found =
+      let in_words : (y : ℕ) → y < length homes → y < length words = λ y y_in. rw (← length-map words filed_by, ok.filed_size) y_in in
+      let s = some_at e (filed_at (deadlines words) x) (get_or homes x 0) (get_or moves x 0) (ok.home x found.0.0) (omega (arith, found.0.1)) in
+      let word : get_or words x 0 ≡ s.0 = word_of words x s.0 (in_words x found.0.0) s.1 in
+      rw (← filed_is)
+          (s.0, rw ok.filed_size found.0.0, s.1,
+           least_all e (deadlines words) moves homes ok list list_in filled first later x found.0 s.0 s.1
+              (λ j g stands there.
+                let le : get_or words x 0 ≤ get_or words j 0 = found.1 j stands in
+                let other : get_or words j 0 ≡ g = word_of words j g (in_words j stands.0) there in
+                omega arith))
+
+  pub seen_none : ((p : ℕ) → p < 384 → IsEmpty homes p) → ((i f : ℕ) → filed_at (deadlines words) i ≡ Some f → e < f) →
+      (i f : ℕ) → filed_at now.filed i ≡ Some f → ⊥
+  seen_none empty later = rw (← filed_is) (none_filed e (deadlines words) moves homes ok empty later)

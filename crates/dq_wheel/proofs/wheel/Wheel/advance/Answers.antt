@@ -1,0 +1,62 @@
+use Rattle.std.proofs.Common.{ap, arith}
+use Rattle.std.proofs.lemmas.List.{with_items_is}
+use Rattle.dq_wheel.proofs.Wakes.{all_later, none_filed}
+use Rattle.dq_wheel.proofs.Passing.{seen_later, seen_passed, seen_opening, still_lawful, can_go, lawful_opened}
+use Rattle.dq_wheel.proofs.wheel.Wheel.advance.Goals as goal
+
+pub invariant_of-self : goal.invariant_of-self
+invariant_of-self g c =
+    let seen = ap (λ w. w.filing) c.self.view_is in
+    let later = seen_later _ _ _ _ c.self.invariant _ _ seen c.requires.none_due in
+    still_lawful _ _ _ _ c.self.invariant _ _ seen _ c.requires.not_before (omega (arith, c.requires.in_range))
+        (λ i f is. absurd (none_filed _ _ _ _ c.self.invariant c.in_default.ensures later i f is))
+
+pub returns-in_default : goal.returns-in_default
+returns-in_default g c =
+    let seen = ap (λ w. w.filing) c.self.view_is in
+    let later = seen_later _ _ _ _ c.self.invariant _ _ seen c.requires.none_due in
+    seen_passed _ _ _ _ c.self.invariant _ _ seen _ c.requires.not_before (omega arith)
+        (λ i f is. absurd (none_filed _ _ _ _ c.self.invariant c.in_default.ensures later i f is))
+
+pub invariant_of-self-then-limit-start : goal.invariant_of-self-then-limit-start
+invariant_of-self-then-limit-start g c =
+    let seen = ap (λ w. w.filing) c.self.view_is in
+    let later = seen_later _ _ _ _ c.self.invariant _ _ seen c.requires.none_due in
+    let first = rw c.digit-own.ensures at c.in-Some.ensures in
+    still_lawful _ _ _ _ c.self.invariant _ _ seen _ c.requires.not_before (omega (arith, c.requires.in_range))
+        (all_later _ _ _ _ c.self.invariant _ first.0 first.1 first.2 later _ (rw c.slot_start-start.ensures at c.if-limit-start.true))
+
+pub returns-then-limit-start : goal.returns-then-limit-start
+returns-then-limit-start g c =
+    let seen = ap (λ w. w.filing) c.self.view_is in
+    let later = seen_later _ _ _ _ c.self.invariant _ _ seen c.requires.none_due in
+    let first = rw c.digit-own.ensures at c.in-Some.ensures in
+    seen_passed _ _ _ _ c.self.invariant _ _ seen _ c.requires.not_before (omega arith)
+        (all_later _ _ _ _ c.self.invariant _ first.0 first.1 first.2 later _ (rw c.slot_start-start.ensures at c.if-limit-start.true))
+
+pub open-made-requires-clause-can_go : goal.open-made-requires-clause-can_go
+open-made-requires-clause-can_go g c =
+    let seen = ap (λ w. w.filing) c.self.view_is in
+    let later = seen_later _ _ _ _ c.self.invariant _ _ seen c.requires.none_due in
+    let first = rw c.digit-own.ensures at c.in-Some.ensures in
+    rw (c.slot_start-start.ensures, c.deref.ensures.value, c.deref_mut.ensures.value)
+        (can_go _ _ _ _ c.self.invariant _ first.0 first.1 first.2 later)
+
+pub invariant_of-self-2 : goal.invariant_of-self-2
+invariant_of-self-2 g c =
+    let seen = ap (λ w. w.filing) c.self.view_is in
+    let later = seen_later _ _ _ _ c.self.invariant _ _ seen c.requires.none_due in
+    let first = rw c.digit-own.ensures at c.in-Some.ensures in
+    let opened = rw (c.slot_start-start.ensures, c.deref.ensures.value, c.deref_mut.ensures.value) at c.open-made.ensures in
+    rw (with_items_is c.self.inside.moves c.open-made.new.moves (omega arith), c.slot_start-start.ensures)
+        (lawful_opened _ _ _ _ c.self.invariant _ first.0 first.1 first.2 later _ _ _ opened)
+
+pub returns : goal.returns
+returns g c =
+    let seen = ap (λ w. w.filing) c.self.view_is in
+    let later = seen_later _ _ _ _ c.self.invariant _ _ seen c.requires.none_due in
+    let first = rw c.digit-own.ensures at c.in-Some.ensures in
+    let opened = rw (c.slot_start-start.ensures, c.deref.ensures.value, c.deref_mut.ensures.value) at c.open-made.ensures in
+    rw (with_items_is c.self.inside.moves c.open-made.new.moves (omega arith), c.slot_start-start.ensures, c.saturating_add-self-inside.ensures)
+        (seen_opening _ _ _ _ c.self.invariant _ _ seen _ first.0 first.1 first.2 later _ _ _ _ opened
+            (rw c.slot_start-start.ensures at c.if-limit-start.false))
