@@ -1,13 +1,13 @@
 -- Bits of occupancy words.
 
-use Rattle.std.proofs.Common.{◌≡◌, ◌≢◌, ℕ, zero, suc, ◌+◌, ◌-◌, ◌*◌, ◌/◌, ◌%◌, ◌^◌, ◌<◌, ◌≤◌, List, [], ◌∷◌, length, get_or, set, refl, sym, arith, ◌∙◌, ap, ◌⊎◌, inl, inr, Option, None, Some, MatchOption, bit_and, bit_or}
-use Rattle.std.specs.Int.{bit_at, bit_not}
+use Rattle.std.proofs.Common.{◌≡◌, ◌≢◌, ℕ, ◌+◌, ◌-◌, ◌*◌, ◌/◌, ◌%◌, ◌^◌, ◌<◌, ◌≤◌, List, length, get_or, set, refl, sym, arith, ◌∙◌, ap, inl, inr, Option, None, Some, MatchOption, bit_and, bit_or}
+use Rattle.std.specs.Int.{bit_at}
 use Rattle.std.specs.Int.Width.{w64}
-use Rattle.std.proofs.lemmas.Nat.Bits.{bit_at_set_same, bit_at_set_other, bit_at_clear_same, bit_at_clear_other, bit_at-trailing_zeros, bit_at-zero, bit_at-lt}
+use Rattle.std.proofs.lemmas.Nat.Bits.{bit_at_set_same, bit_at_set_other, bit_at_clear_same, bit_at_clear_other, bit_at-zero}
 use Rattle.std.proofs.lemmas.List.{get_or-set_same, get_or-set_other}
 use Rattle.std.proofs.Math.Nat.{div-div-eq-div-mul, pow-le-pow_right, div-eq_of_lt}
 use Rattle.std.proofs.lemmas.Nat.{pow-add}
-use Rattle.dq_wheel.specs.Occupied.{bit_of, IsEarlier, turned}
+use Rattle.dq_wheel.specs.Occupied.{bit_of}
 use Rattle.dq_wheel.proofs.Links.{same_or_not, nat_le_or_lt}
 
 -- a written word is read
@@ -34,11 +34,11 @@ bit_is_set words p p_in = written words p p _ p_in refl ∙ bit_at_set_same w64 
 pub bit_stays_set : (words : List ℕ) (p q : ℕ) → p / 64 < length words → q ≢ p → bit_of (with_bit words p) q ≡ bit_of words q
 bit_stays_set words p q p_in d =
     elim (same_or_not (q / 64) (p / 64)) [
-      inl e ↦
-        written words p q _ p_in e
-        ∙ (bit_at_set_other w64 (get_or words (p / 64) 0) (p % 64) (omega arith) (q % 64) (apart p q d e)
-        ∙ ap (λ n. bit_at (get_or words n 0) (q % 64)) (sym e))
-    | inr e ↦ elsewhere words p q _ e
+      | inl e ↦
+          written words p q _ p_in e
+          ∙ (bit_at_set_other w64 (get_or words (p / 64) 0) (p % 64) (omega arith) (q % 64) (apart p q d e)
+          ∙ ap (λ n. bit_at (get_or words n 0) (q % 64)) (sym e))
+      | inr e ↦ elsewhere words p q _ e
     ]
 
 pub bit_is_cleared : (words : List ℕ) (p : ℕ) → p / 64 < length words → bit_of (without_bit words p) p ≡ 0
@@ -47,16 +47,15 @@ bit_is_cleared words p p_in = written words p p _ p_in refl ∙ bit_at_clear_sam
 pub bit_stays_cleared : (words : List ℕ) (p q : ℕ) → p / 64 < length words → q ≢ p → bit_of (without_bit words p) q ≡ bit_of words q
 bit_stays_cleared words p q p_in d =
     elim (same_or_not (q / 64) (p / 64)) [
-      inl e ↦
-        written words p q _ p_in e
-        ∙ (bit_at_clear_other w64 (get_or words (p / 64) 0) (p % 64) (omega arith) (q % 64) (omega arith) (apart p q d e)
-        ∙ ap (λ n. bit_at (get_or words n 0) (q % 64)) (sym e))
-    | inr e ↦ elsewhere words p q _ e
+      | inl e ↦
+          written words p q _ p_in e
+          ∙ (bit_at_clear_other w64 (get_or words (p / 64) 0) (p % 64) (omega arith) (q % 64) (omega arith) (apart p q d e)
+          ∙ ap (λ n. bit_at (get_or words n 0) (q % 64)) (sym e))
+      | inr e ↦ elsewhere words p q _ e
     ]
 
 -- the circle: the bits behind the own one, and then the others
 module _ (word own : ℕ) (fits : word < 18446744073709551616) (own_in : own < 64) where
-
   shifted : (i : ℕ) → bit_at (word / 2 ^ own / 2) i ≡ bit_at word (own + 1 + i)
   shifted i = ap (λ n. n % 2) (
       ap (λ n. n / 2 ^ i) (div-div-eq-div-mul word (2 ^ own) 2)
@@ -74,27 +73,30 @@ module _ (word own : ℕ) (fits : word < 18446744073709551616) (own_in : own < 6
   after_found k one below =
       let found : bit_at word (own + 1 + k) ≡ 1 = sym (shifted k) ∙ one in
       let inside : own + 1 + k < 64 =
-          elim (nat_le_or_lt 64 (own + 1 + k)) [ inl high ↦ let zero_bit : bit_at word (own + 1 + k) ≡ 0 = high_zero (own + 1 + k) high in absurd (omega arith) | inr low ↦ low ] in
-      (inside, found, λ i i_in i_one.
-          elim (nat_le_or_lt i own) [
-            inl low ↦ omega arith
-          | inr high ↦
-              elim (nat_le_or_lt (own + 1 + k) i) [
-                inl far ↦ omega arith
-              | inr near ↦
-                  let j : own + 1 + (i - own - 1) ≡ i = omega arith in
-                  let unset : bit_at (word / 2 ^ own / 2) (i - own - 1) ≡ 0 = below (i - own - 1) (omega arith) in
-                  let same : bit_at word (own + 1 + (i - own - 1)) ≡ 0 = sym (shifted (i - own - 1)) ∙ unset in
-                  let none : bit_at word i ≡ 0 = rw j at same in
-                  absurd (omega arith)
-              ]
-          ])
+      elim (nat_le_or_lt 64 (own + 1 + k)) [ inl high ↦ let zero_bit : bit_at word (own + 1 + k) ≡ 0 = high_zero (own + 1 + k) high in absurd (omega arith) | inr low ↦ low ] in (
+        inside,
+        found,
+        λ i i_in i_one.
+            elim (nat_le_or_lt i own) [
+              | inl low ↦ omega arith
+              | inr high ↦
+                  elim (nat_le_or_lt (own + 1 + k) i) [
+                    | inl far ↦ omega arith
+                    | inr near ↦
+                        let j : own + 1 + (i - own - 1) ≡ i = omega arith in
+                        let unset : bit_at (word / 2 ^ own / 2) (i - own - 1) ≡ 0 = below (i - own - 1) (omega arith) in
+                        let same : bit_at word (own + 1 + (i - own - 1)) ≡ 0 = sym (shifted (i - own - 1)) ∙ unset in
+                        let none : bit_at word i ≡ 0 = rw j at same in
+                        absurd (omega arith)
+                  ]
+            ],
+      )
 
   pub after_none : word / 2 ^ own / 2 ≡ 0 → (i : ℕ) → own < i → bit_at word i ≡ 0
   after_none zero_word i high =
       let j : own + 1 + (i - own - 1) ≡ i = omega arith in
       let unset : bit_at word (own + 1 + (i - own - 1)) ≡ 0 =
-          sym (shifted (i - own - 1)) ∙ (ap (λ n. bit_at n (i - own - 1)) zero_word ∙ bit_at-zero (i - own - 1)) in
+      sym (shifted (i - own - 1)) ∙ (ap (λ n. bit_at n (i - own - 1)) zero_word ∙ bit_at-zero (i - own - 1)) in
       rw j at unset
 
   pub around : (k : ℕ) → k < 64 → bit_at word k ≡ 1 → ((i : ℕ) → i < k → bit_at word i ≡ 0) → ((i : ℕ) → own < i → bit_at word i ≡ 0) →

@@ -1,15 +1,14 @@
 -- What a wheel keeps of its rows, through a link and an unlink.
 
-use Rattle.std.proofs.Common.{◌≡◌, ◌≢◌, ℕ, ◌+◌, ◌<◌, ◌≤◌, List, length, get_or, set, replicate, map, refl, sym, arith, ◌∙◌, ap, ◌⊎◌, inl, inr, Option, None, Some, IfSome}
+use Rattle.std.proofs.Common.{◌≡◌, ℕ, ◌+◌, ◌<◌, ◌≤◌, List, length, get_or, set, replicate, refl, sym, arith, ◌∙◌, ap, inl, inr, Option, None, Some, IfSome}
 use Rattle.std.proofs.Math.ListN.{length-set}
 use Rattle.std.proofs.lemmas.List.{get_or-set_same, get_or-set_other, map-set, length-map, length-replicate, get_or-replicate, get_or-map, ext_get_or}
-use Rattle.dq_ticks.specs.Digits.{level}
 use Rattle.dq_ticks.specs.Units.{lap, tick_limit}
 use Rattle.dq_ticks.proofs.Levels.{level_small}
 use Rattle.dq_wheel.specs.State.{Filing, filed_at, linked, unlinked, fresh_filing}
 use Rattle.dq_wheel.specs.Filed.{filed_by, deadlines}
 use Rattle.dq_wheel.specs.Homes.{list_number}
-use Rattle.dq_wheel.specs.Lawful.{IsAt, IsHome, IsLawful, IsWithin}
+use Rattle.dq_wheel.specs.Lawful.{IsHome, IsLawful, IsWithin}
 use Rattle.dq_wheel.proofs.Links.{same_or_not}
 use Rattle.dq_wheel.proofs.Numbers.{due_where_high}
 
@@ -32,10 +31,10 @@ lawful_set tick filed moves homes ok i i_in o h m is_home =
       home = λ j j_in.
           let j_low : j < length homes = rw length-set at j_in in
           elim (same_or_not j i) [
-            inl e ↦
-              rw (e, get_or-set_same filed i o None (rw ok.filed_size i_in), get_or-set_same homes i h 0 i_in, get_or-set_same moves i m 0 (rw ok.moves_size i_in)) is_home
-          | inr d ↦
-              rw (get_or-set_other filed i j o None d, get_or-set_other homes i j h 0 d, get_or-set_other moves i j m 0 d) (ok.home j j_low)
+            | inl e ↦
+                rw (e, get_or-set_same filed i o None (rw ok.filed_size i_in), get_or-set_same homes i h 0 i_in, get_or-set_same moves i m 0 (rw ok.moves_size i_in)) is_home
+            | inr d ↦
+                rw (get_or-set_other filed i j o None d, get_or-set_other homes i j h 0 d, get_or-set_other moves i j m 0 d) (ok.home j j_low)
           ];
     }
 
@@ -56,8 +55,7 @@ home_due e (Some f) h m home high = ap Some (sym (due_where_high e f (list_numbe
 
 -- a wheel's rows, and what callers see of them
 module _ (tick moved : ℕ) (words moves homes : List ℕ) (now : Filing) (ok : IsLawful tick (deadlines words) moves homes)
-  (now_is : filing_of tick (deadlines words) moves moved ≡ now) where
-
+    (now_is : filing_of tick (deadlines words) moves moved ≡ now) where
   tick_is : tick ≡ now.tick
   tick_is = ap (λ w. w.tick) now_is
 
@@ -71,20 +69,21 @@ module _ (tick moved : ℕ) (words moves homes : List ℕ) (now : Filing) (ok : 
       IsLawful tick (deadlines (set words i f)) (set moves i 0) (set homes i (list_number tick f + 1))
   lawful_linked i f i_in later in_range near =
       rw (map-set filed_by words i f, filed_some f in_range)
-          (lawful_set tick (deadlines words) moves homes ok i (seen_in i i_in) (Some f) _ 0
-              (linked_home tick f (rw tick_is later) in_range (rw tick_is near)))
+      (lawful_set tick (deadlines words) moves homes ok i (seen_in i i_in) (Some f) _ 0
+      (linked_home tick f (rw tick_is later) in_range (rw tick_is near)))
 
   pub lawful_unlinked : (i : ℕ) → i < length homes →
       IsLawful tick (deadlines (set words i 18446744073709551615)) (set moves i 0) (set homes i 0)
   lawful_unlinked i i_in =
       rw (map-set filed_by words i 18446744073709551615)
-          (lawful_set tick (deadlines words) moves homes ok i i_in None 0 0 (refl, refl))
+      (lawful_set tick (deadlines words) moves homes ok i i_in None 0 0 (refl, refl))
 
   -- what stands on the due list is filed at the tick
   pub seen_due : (i : ℕ) → i < length homes → get_or homes i 0 ≡ 385 → (i < length now.filed) × (filed_at now.filed i ≡ Some now.tick)
-  seen_due i i_in h =
-      (rw (← filed_is, ok.filed_size) i_in,
-       rw (← filed_is, ← tick_is) (home_due tick (filed_at (deadlines words) i) (get_or homes i 0) (get_or moves i 0) (ok.home i i_in) h))
+  seen_due i i_in h = (
+    rw (← filed_is, ok.filed_size) i_in,
+    rw (← filed_is, ← tick_is) (home_due tick (filed_at (deadlines words) i) (get_or homes i 0) (get_or moves i 0) (ok.home i i_in) h),
+  )
 
   pub seen_within : (i : ℕ) → i < length now.filed → IfSome (filed_at now.filed i) (λ f. IsWithin now.tick f)
   seen_within i i_in =
@@ -105,11 +104,11 @@ seen_unlinked tick moved words moves now now_is i =
 loose_rows : (n : ℕ) → deadlines (replicate n 18446744073709551615) ≡ replicate n None
 loose_rows n =
     let size : length (deadlines (replicate n 18446744073709551615)) ≡ n =
-        length-map (replicate n 18446744073709551615) filed_by ∙ length-replicate {A = ℕ} n 18446744073709551615 in
+    length-map (replicate n 18446744073709551615) filed_by ∙ length-replicate {A = ℕ} n 18446744073709551615 in
     ext_get_or None (deadlines (replicate n 18446744073709551615)) (replicate n None) (size ∙ sym (length-replicate n None)) (λ i i_in.
-        let i_low : i < n = rw size at i_in in
-        get_or-map filed_by (replicate n 18446744073709551615) i 0 None (rw (length-replicate {A = ℕ} n 18446744073709551615) i_low)
-        ∙ (ap filed_by (get_or-replicate {A = ℕ} n i 18446744073709551615 0 i_low) ∙ sym (get_or-replicate {A = Option ℕ} n i None None i_low)))
+    let i_low : i < n = rw size at i_in in
+    get_or-map filed_by (replicate n 18446744073709551615) i 0 None (rw (length-replicate {A = ℕ} n 18446744073709551615) i_low)
+    ∙ (ap filed_by (get_or-replicate {A = ℕ} n i 18446744073709551615 0 i_low) ∙ sym (get_or-replicate {A = Option ℕ} n i None None i_low)))
 
 pub lawful_fresh : (n : ℕ) (words moves homes : List ℕ) → 0 < n → n ≤ 65536 → words ≡ replicate n 18446744073709551615 → moves ≡ replicate n 0 →
     homes ≡ replicate n 0 → IsLawful 0 (deadlines words) moves homes

@@ -1,10 +1,10 @@
 -- The least of a list, as one walks it.
 
-use Rattle.std.proofs.Common.{◌≡◌, ◌≢◌, ℕ, zero, suc, ◌+◌, ◌<◌, ◌≤◌, List, [], ◌∷◌, length, get_or, take, refl, sym, arith, ◌∙◌, ap, ◌⊎◌, inl, inr}
-use Rattle.dq_wheel.specs.Ring.{Node, Ring, IsRings}
+use Rattle.std.proofs.Common.{◌≡◌, ℕ, zero, suc, ◌+◌, ◌<◌, ◌≤◌, List, [], ◌∷◌, length, get_or, take, refl, sym, arith, ◌∙◌, ap, ◌⊎◌, inl, inr}
+use Rattle.dq_wheel.specs.Ring.{Node, IsRings}
 use Rattle.dq_wheel.specs.Lists.{IsWalk, StandsIn, times}
-use Rattle.dq_wheel.proofs.Links.{same_or_not, nat_le_or_lt}
-use Rattle.dq_wheel.proofs.Rows.{first_stands, first_below, after_below, capacity_is, seen_home}
+use Rattle.dq_wheel.proofs.Links.{same_or_not}
+use Rattle.dq_wheel.proofs.Rows.{first_stands, capacity_is, seen_home}
 use Rattle.dq_wheel.proofs.Walks.{times_same, times_other, walked, walked_le, walked_met}
 
 -- how many of the numbers below n stand in xs, each as often as it does
@@ -30,14 +30,14 @@ unfolding total
 total_below zero y ys lt = absurd (omega arith)
 total_below (suc n) y ys lt =
     elim (same_or_not y n) [
-      inl e ↦
-        let here : times n (y ∷ ys) ≡ 1 + times n ys = times_same n y ys e in
-        let below : total n (y ∷ ys) ≡ total n ys = total_above n y ys (omega arith) in
-        omega arith
-    | inr d ↦
-        let here : times n (y ∷ ys) ≡ times n ys = times_other n y ys d in
-        let below : total n (y ∷ ys) ≡ 1 + total n ys = total_below n y ys (omega arith) in
-        omega arith
+      | inl e ↦
+          let here : times n (y ∷ ys) ≡ 1 + times n ys = times_same n y ys e in
+          let below : total n (y ∷ ys) ≡ total n ys = total_above n y ys (omega arith) in
+          omega arith
+      | inr d ↦
+          let here : times n (y ∷ ys) ≡ times n ys = times_other n y ys d in
+          let below : total n (y ∷ ys) ≡ 1 + total n ys = total_below n y ys (omega arith) in
+          omega arith
     ]
 
 total_le : (n : ℕ) (xs : List ℕ) → ((i : ℕ) → i < n → times i xs ≤ 1) → total n xs ≤ n
@@ -80,7 +80,6 @@ pub record IsLeastSoFar (cap : ℕ) (next homes keys : List ℕ) (p turn at best
   pub least : (i : ℕ) → i < cap → get_or homes i 0 ≡ p + 1 → times i rest ≡ 0 → get_or keys best 0 ≤ get_or keys i 0
 
 module _ (cap : ℕ) (next prev homes : List ℕ) (r : IsRings cap next prev homes) (keys : List ℕ) (p : ℕ) (p_in : p < 385) where
-
   pub least_init : (first : ℕ) → first ≡ get_or next (cap + p) 0 → first < cap → IsLeastSoFar cap next homes keys p 0 first first
   least_init first first_is first_in =
       let w = walked cap 385 _ _ _ r.rank r.ring p p_in in
@@ -93,9 +92,9 @@ module _ (cap : ℕ) (next prev homes : List ℕ) (r : IsRings cap next prev hom
         rest = w.0;
         walk = rw first_is w.1;
         fuel =
-          let len : length w.0 ≡ total cap w.0 = length_total cap (cap + p) _ _ w.0 w.1 in
-          let le : total cap w.0 ≤ cap = total_le cap w.0 (λ i i_in. walked_le cap 385 _ _ _ r.rank r.ring p p_in i i_in) in
-          omega arith;
+            let len : length w.0 ≡ total cap w.0 = length_total cap (cap + p) _ _ w.0 w.1 in
+            let le : total cap w.0 ≤ cap = total_le cap w.0 (λ i i_in. walked_le cap 385 _ _ _ r.rank r.ring p p_in i i_in) in
+            omega arith;
         least = λ i i_in h none.
             let met : times i w.0 ≡ 1 = walked_met cap 385 _ _ _ r.rank r.ring p p_in i i_in h in
             absurd (omega arith);
@@ -121,11 +120,11 @@ module _ (cap : ℕ) (next prev homes : List ℕ) (r : IsRings cap next prev hom
         fuel = omega arith;
         least = λ i i_in h none.
             elim (same_or_not at i) [
-              inl e ↦ rw (← e) at_le
-            | inr d ↦
-                let before : times i s.rest ≡ 0 = ap (times i) step.1 ∙ (times_other i at step.0 d ∙ none) in
-                let le : get_or keys best 0 ≤ get_or keys i 0 = s.least i i_in h before in
-                omega arith
+              | inl e ↦ rw (← e) at_le
+              | inr d ↦
+                  let before : times i s.rest ≡ 0 = ap (times i) step.1 ∙ (times_other i at step.0 d ∙ none) in
+                  let le : get_or keys best 0 ≤ get_or keys i 0 = s.least i i_in h before in
+                  omega arith
             ];
       }
 
@@ -133,10 +132,10 @@ module _ (cap : ℕ) (next prev homes : List ℕ) (r : IsRings cap next prev hom
       (i : ℕ) → i < cap → get_or homes i 0 ≡ p + 1 → get_or keys best 0 ≤ get_or keys i 0
   least_end turn at best s over i i_in h =
       let done : s.rest ≡ [] =
-          elim over [
-            inl high ↦ walk_end cap (cap + p) _ at s.rest high s.walk
-          | inr spent ↦ let fuel : length s.rest + turn ≤ cap = s.fuel in no_length s.rest (omega arith)
-          ] in
+      elim over [
+        | inl high ↦ walk_end cap (cap + p) _ at s.rest high s.walk
+        | inr spent ↦ let fuel : length s.rest + turn ≤ cap = s.fuel in no_length s.rest (omega arith)
+      ] in
       s.least i i_in h (ap (times i) done)
 
   -- the end, as callers see it
@@ -145,8 +144,9 @@ module _ (cap : ℕ) (next prev homes : List ℕ) (r : IsRings cap next prev hom
       StandsIn now p best × ((y : ℕ) → StandsIn now p y → get_or keys best 0 ≤ get_or keys y 0)
   least_seen now now_is turn at best s over =
       let len : length now ≡ cap = capacity_is cap homes now (omega (arith, r.homes_len)) now_is in
-      let inside : best < cap = s.best_in in
-      ((omega arith, seen_home cap homes now best now_is inside ∙ s.best_home),
-       λ y y_stands.
-          let y_in : y < cap = rw len at y_stands.0 in
-          least_end turn at best s over y y_in (sym (seen_home cap homes now y now_is y_in) ∙ y_stands.1))
+      let inside : best < cap = s.best_in in (
+        (omega arith, seen_home cap homes now best now_is inside ∙ s.best_home),
+        λ y y_stands.
+            let y_in : y < cap = rw len at y_stands.0 in
+            least_end turn at best s over y y_in (sym (seen_home cap homes now y now_is y_in) ∙ y_stands.1),
+      )

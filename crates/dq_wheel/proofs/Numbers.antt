@@ -1,6 +1,6 @@
 -- Lists by number against ticks.
 
-use Rattle.std.proofs.Common.{◌≡◌, ◌≢◌, ℕ, ◌+◌, ◌*◌, ◌<◌, ◌≤◌, refl, sym, arith, ◌∙◌, ◌⊎◌, inl, inr}
+use Rattle.std.proofs.Common.{◌≡◌, ◌≢◌, ℕ, ◌+◌, ◌*◌, ◌<◌, ◌≤◌, arith, inl, inr}
 use Rattle.dq_ticks.specs.Digits.{digit_of, level}
 use Rattle.dq_ticks.proofs.Laws.{digit_below}
 use Rattle.dq_ticks.proofs.Levels.{level_small}
@@ -20,8 +20,8 @@ number_low e f other = omega (arith, number_other e f other, level_small e f, di
 pub due_where_high : (e f to : ℕ) → to ≡ list_number e f → 384 ≤ to → e ≡ f
 due_where_high e f to to_is high =
     elim (same_or_not e f) [
-      inl same ↦ same
-    | inr other ↦ let low : list_number e f < 384 = number_low e f other in absurd (omega arith)
+      | inl same ↦ same
+      | inr other ↦ let low : list_number e f < 384 = number_low e f other in absurd (omega arith)
     ]
 
 -- and a slot what is filed later

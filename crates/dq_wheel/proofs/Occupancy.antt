@@ -1,12 +1,12 @@
 -- Occupancy words through a link and an unlink.
 
-use Rattle.std.proofs.Common.{◌≡◌, ◌≢◌, ℕ, ◌+◌, ◌*◌, ◌/◌, ◌%◌, ◌<◌, ◌≤◌, ◌↔◌, List, length, get_or, set, refl, sym, arith, ◌∙◌, ap, ◌⊎◌, inl, inr}
+use Rattle.std.proofs.Common.{◌≡◌, ◌≢◌, ℕ, ◌+◌, ◌*◌, ◌/◌, ◌%◌, ◌<◌, ◌≤◌, ◌↔◌, List, length, get_or, set, refl, sym, arith, ◌∙◌, inl, inr}
 use Rattle.std.specs.Int.{bit_at}
 use Rattle.std.proofs.Math.ListN.{length-set}
 use Rattle.std.proofs.lemmas.List.{get_or-set_same, get_or-set_other}
-use Rattle.dq_wheel.specs.Lists.{StandsIn, IsEmpty}
+use Rattle.dq_wheel.specs.Lists.{IsEmpty}
 use Rattle.dq_wheel.specs.Occupied.{bit_of, IsFilled, IsOccupiedAt, IsOccupied, IsOccupiedBut, IsEarlier}
-use Rattle.dq_wheel.proofs.Links.{same_or_not, nat_le_or_lt}
+use Rattle.dq_wheel.proofs.Links.{same_or_not}
 
 -- an index that goes to list p fills it
 filled_there : (homes : List ℕ) (i p : ℕ) → i < length homes → IsFilled (set homes i (p + 1)) p
@@ -17,21 +17,20 @@ filled_before : (homes : List ℕ) (i v q : ℕ) → v ≢ q + 1 → i < length 
 filled_before homes i v q d i_in (x, stands) =
     let x_in : x < length homes = rw length-set at stands.0 in
     elim (same_or_not x i) [
-      inl e ↦
-        let at_i : get_or (set homes i v) i 0 ≡ q + 1 = rw e at stands.1 in
-        absurd (d (sym (get_or-set_same homes i v 0 i_in) ∙ at_i))
-    | inr e ↦ (x, (x_in, sym (get_or-set_other homes i x v 0 e) ∙ stands.1))
+      | inl e ↦
+          let at_i : get_or (set homes i v) i 0 ≡ q + 1 = rw e at stands.1 in
+          absurd (d (sym (get_or-set_same homes i v 0 i_in) ∙ at_i))
+      | inr e ↦ (x, (x_in, sym (get_or-set_other homes i x v 0 e) ∙ stands.1))
     ]
 
 filled_after : (homes : List ℕ) (i v q : ℕ) → get_or homes i 0 ≢ q + 1 → IsFilled homes q → IsFilled (set homes i v) q
 filled_after homes i v q d (x, stands) =
     elim (same_or_not x i) [
-      inl e ↦ let at_i : get_or homes i 0 ≡ q + 1 = rw e at stands.1 in absurd (d at_i)
-    | inr e ↦ (x, (rw length-set stands.0, get_or-set_other homes i x v 0 e ∙ stands.1))
+      | inl e ↦ let at_i : get_or homes i 0 ≡ q + 1 = rw e at stands.1 in absurd (d at_i)
+      | inr e ↦ (x, (rw length-set stands.0, get_or-set_other homes i x v 0 e ∙ stands.1))
     ]
 
 module _ (Where : ℕ → Type 0) (words homes : List ℕ) (ok : IsOccupiedAt Where words homes) (i : ℕ) (i_in : i < length homes) where
-
   -- an index goes to list p, and its bit is set; it came from no list that meets the test
   pub bit_linked : (after : List ℕ) (p : ℕ) → ((q : ℕ) → Where q → get_or homes i 0 ≢ q + 1) → bit_of after p ≡ 1 →
       ((q : ℕ) → q ≢ p → bit_of after q ≡ bit_of words q) → IsOccupiedAt Where after (set homes i (p + 1))
@@ -39,13 +38,13 @@ module _ (Where : ℕ → Type 0) (words homes : List ℕ) (ok : IsOccupiedAt Wh
       record {
         filled = λ q q_in w bit.
             elim (same_or_not q p) [
-              inl e ↦ rw e (filled_there homes i p i_in)
-            | inr d ↦ filled_after homes i (p + 1) q (from q w) (ok.filled q q_in w (sym (others q d) ∙ bit))
+              | inl e ↦ rw e (filled_there homes i p i_in)
+              | inr d ↦ filled_after homes i (p + 1) q (from q w) (ok.filled q q_in w (sym (others q d) ∙ bit))
             ];
         shown = λ q q_in w full.
             elim (same_or_not q p) [
-              inl e ↦ rw e one
-            | inr d ↦ others q d ∙ ok.shown q q_in w (filled_before homes i (p + 1) q (λ e. d (omega arith)) i_in full)
+              | inl e ↦ rw e one
+              | inr d ↦ others q d ∙ ok.shown q q_in w (filled_before homes i (p + 1) q (λ e. d (omega arith)) i_in full)
             ];
       }
 
@@ -72,13 +71,13 @@ bit_cleared words homes after p ok empty none others =
     record {
       filled = λ q q_in w bit.
           elim (same_or_not q p) [
-            inl e ↦ let one : bit_of after p ≡ 1 = rw e at bit in absurd (omega arith)
-          | inr d ↦ ok.filled q q_in d (sym (others q d) ∙ bit)
+            | inl e ↦ let one : bit_of after p ≡ 1 = rw e at bit in absurd (omega arith)
+            | inr d ↦ ok.filled q q_in d (sym (others q d) ∙ bit)
           ];
       shown = λ q q_in w full.
           elim (same_or_not q p) [
-            inl e ↦ let stands : IsFilled homes p = rw e at full in absurd (empty stands.0 stands.1.0 stands.1.1)
-          | inr d ↦ others q d ∙ ok.shown q q_in d full
+            | inl e ↦ let stands : IsFilled homes p = rw e at full in absurd (empty stands.0 stands.1.0 stands.1.1)
+            | inr d ↦ others q d ∙ ok.shown q q_in d full
           ];
     }
 
@@ -96,7 +95,6 @@ occupied_at words homes ok L k L_in k_in =
     (λ bit. ok.filled (64 * L + k) (omega arith) tt (same ∙ bit), λ full. sym same ∙ ok.shown (64 * L + k) (omega arith) tt full)
 
 module _ (words homes : List ℕ) (ok : IsOccupied words homes) where
-
   -- what the first bit says of the lists
   pub first_filled : (own q : ℕ) → (q < 384) × (bit_of words q ≡ 1) × ((p : ℕ) → p < 384 → bit_of words p ≡ 1 → IsEarlier own q p) →
       (q < 384) × IsFilled homes q × ((p : ℕ) → p < 384 → IsFilled homes p → IsEarlier own q p)

@@ -1,15 +1,15 @@
 -- A slot that is opened, index by index.
 
-use Rattle.std.proofs.Common.{◌≡◌, ◌≢◌, ℕ, ◌+◌, ◌*◌, ◌<◌, ◌≤◌, List, [], ◌∷◌, length, get_or, set, sum, refl, sym, arith, ◌∙◌, ap, ◌⊎◌, inl, inr, cond, eqb}
+use Rattle.std.proofs.Common.{◌≡◌, ◌≢◌, ℕ, ◌+◌, ◌<◌, ◌≤◌, List, [], ◌∷◌, length, get_or, set, sum, refl, sym, arith, ◌∙◌, ap, ◌⊎◌, inl, inr, cond, eqb}
 use Rattle.std.specs.List.{sum_by}
 use Rattle.std.proofs.Math.ListN.{length-set}
 use Rattle.std.proofs.lemmas.List.{get_or-set_same, get_or-set_other}
 use Rattle.std.proofs.lemmas.List.Sums.{sum_by-set, sum_by-cons}
 use Rattle.dq_wheel.specs.Lists.{StandsIn, IsEmpty}
-use Rattle.dq_wheel.specs.Occupied.{bit_of, IsFilled, IsOccupied, IsOccupiedBut}
+use Rattle.dq_wheel.specs.Occupied.{bit_of, IsOccupied, IsOccupiedBut}
 use Rattle.dq_wheel.specs.Homes.{list_number, rehomed, recounted, CanGo, IsOpened}
-use Rattle.dq_wheel.proofs.Links.{same_or_not, nat_le_or_lt}
-use Rattle.dq_wheel.proofs.Occupancy.{but_one, left_out, bit_linked, due_linked, bit_cleared}
+use Rattle.dq_wheel.proofs.Links.{same_or_not}
+use Rattle.dq_wheel.proofs.Occupancy.{but_one, left_out, bit_linked, due_linked}
 
 -- 1 where an index stands in list p
 abbrev pub waits : ℕ → ℕ → ℕ
@@ -71,8 +71,8 @@ opening_init e p filed homes moves words size ok =
       moves_size = size;
       each = λ i i_in.
           elim (same_or_not (get_or homes i 0) (p + 1)) [
-            inl h ↦ inl (h, h, refl)
-          | inr d ↦ inr (d, sym (rehomed_elsewhere e p _ _ d), sym (recounted_elsewhere e p _ _ _ d))
+            | inl h ↦ inl (h, h, refl)
+            | inr d ↦ inr (d, sym (rehomed_elsewhere e p _ _ d), sym (recounted_elsewhere e p _ _ _ d))
           ];
       occupied = but_one words homes p ok;
       sum = omega arith;
@@ -80,8 +80,7 @@ opening_init e p filed homes moves words size ok =
     }
 
 module _ (e p : ℕ) (filed homes moves homes2 moves2 words : List ℕ) (made : ℕ) (s : IsOpening e p filed homes moves homes2 moves2 words made)
-  (i to : ℕ) (stands : StandsIn homes2 p i) (to_is : to ≡ list_number e (get_or filed i 0)) where
-
+    (i to : ℕ) (stands : StandsIn homes2 p i) (to_is : to ≡ list_number e (get_or filed i 0)) where
   home_was : get_or homes i 0 ≡ p + 1
   home_was = elim (s.each i (rw s.size at stands.0)) [ inl w ↦ w.0 | inr w ↦ absurd (w.0 stands.1) ]
 
@@ -97,7 +96,6 @@ module _ (e p : ℕ) (filed homes moves homes2 moves2 words : List ℕ) (made : 
   stays_away can_go same = (can_go i stood).2 (sym to_is ∙ same)
 
   module _ (elsewhere : to ≢ p) where
-
     abbrev pub homes3 : List ℕ
     homes3 = set (set homes2 i 0) i (to + 1)
 
@@ -114,7 +112,7 @@ module _ (e p : ℕ) (filed homes moves homes2 moves2 words : List ℕ) (made : 
         let put = sum_by-set (waits p) (set homes2 i 0) i (to + 1) 0 (rw length-set stands.0) in
         let was : waits p (get_or homes2 i 0) ≡ 1 = waits_there p _ stands.1 in
         let between : waits p (get_or (set homes2 i 0) i 0) ≡ 0 =
-            waits_elsewhere p _ (λ h. let zero_home : get_or (set homes2 i 0) i 0 ≡ 0 = get_or-set_same homes2 i 0 0 stands.0 in omega arith) in
+        waits_elsewhere p _ (λ h. let zero_home : get_or (set homes2 i 0) i 0 ≡ 0 = get_or-set_same homes2 i 0 0 stands.0 in omega arith) in
         let zero_waits : waits p 0 ≡ 0 = waits_elsewhere p 0 (λ h. omega arith) in
         let now : waits p (to + 1) ≡ 0 = waits_elsewhere p (to + 1) (λ h. elsewhere (omega arith)) in
         omega arith
@@ -124,28 +122,28 @@ module _ (e p : ℕ) (filed homes moves homes2 moves2 words : List ℕ) (made : 
     opening_falls = omega (arith, fewer)
 
     module _ (words3 moves3 : List ℕ) (made3 : ℕ) (occupied3 : IsOccupiedBut p words3 homes3) (size3 : length moves3 ≡ length moves2)
-      (moved : get_or moves3 i 0 ≡ recounted e p (get_or filed i 0) (get_or homes i 0) (get_or moves i 0))
-      (unmoved : (j : ℕ) → j ≢ i → get_or moves3 j 0 ≡ get_or moves2 j 0)
-      (sum3 : sum moves3 ≡ sum moves + made3) (few3 : made3 ≤ made + 1)
-     where
-
-      pub opening_more : IsOpening e p filed homes moves homes3 moves3 words3 made3
-      opening_more =
-          record {
-            size = simp length-set s.size;
-            moves_size = size3 ∙ s.moves_size;
-            each = λ j j_in.
-                elim (same_or_not j i) [
-                  inl is ↦ rw is (inr (
-                    (λ h. elsewhere (omega (arith, home_now))),
-                    home_now ∙ (ap (λ n. n + 1) to_is ∙ sym (rehomed_there e p _ _ home_was)),
-                    moved))
-                | inr d ↦ rw (home_else j d, unmoved j d) (s.each j j_in)
-                ];
-            occupied = occupied3;
-            sum = sum3;
-            few = omega (arith, s.few, fewer);
-          }
+        (moved : get_or moves3 i 0 ≡ recounted e p (get_or filed i 0) (get_or homes i 0) (get_or moves i 0))
+        (unmoved : (j : ℕ) → j ≢ i → get_or moves3 j 0 ≡ get_or moves2 j 0)
+        (sum3 : sum moves3 ≡ sum moves + made3) (few3 : made3 ≤ made + 1)
+      where
+        pub opening_more : IsOpening e p filed homes moves homes3 moves3 words3 made3
+        opening_more =
+            record {
+              size = simp length-set s.size;
+              moves_size = size3 ∙ s.moves_size;
+              each = λ j j_in.
+                  elim (same_or_not j i) [
+                    | inl is ↦ rw is (inr (
+                      (λ h. elsewhere (omega (arith, home_now))),
+                      home_now ∙ (ap (λ n. n + 1) to_is ∙ sym (rehomed_there e p _ _ home_was)),
+                      moved,
+                    ))
+                    | inr d ↦ rw (home_else j d, unmoved j d) (s.each j j_in)
+                  ];
+              occupied = occupied3;
+              sum = sum3;
+              few = omega (arith, s.few, fewer);
+            }
 
     -- what stands elsewhere came from elsewhere
     from_elsewhere : (q : ℕ) → q ≢ p → get_or (set homes2 i 0) i 0 ≢ q + 1
@@ -158,21 +156,21 @@ module _ (e p : ℕ) (filed homes moves homes2 moves2 words : List ℕ) (made : 
     pub opening_due : e ≡ get_or filed i 0 → 384 ≤ to → IsOpening e p filed homes moves homes3 moves2 words made
     opening_due due high =
         opening_more words moves2 made
-            (due_linked (λ q. q ≢ p) words (set homes2 i 0) left i (rw length-set stands.0) to from_elsewhere high)
-            refl (moves_were ∙ sym (recounted_due e p _ _ _ home_was due)) (λ j d. refl) s.sum (omega arith)
+        (due_linked (λ q. q ≢ p) words (set homes2 i 0) left i (rw length-set stands.0) to from_elsewhere high)
+        refl (moves_were ∙ sym (recounted_due e p _ _ _ home_was due)) (λ j d. refl) s.sum (omega arith)
 
     -- it goes to a slot
     pub opening_moved : (words3 : List ℕ) → e ≢ get_or filed i 0 → bit_of words3 to ≡ 1 →
-        ((q : ℕ) → q ≢ to → bit_of words3 q ≡ bit_of words q) → 
+        ((q : ℕ) → q ≢ to → bit_of words3 q ≡ bit_of words q) →
         IsOpening e p filed homes moves homes3 (set moves2 i (get_or moves2 i 0 + 1)) words3 (made + 1)
     opening_moved words3 later one others =
         let i_in : i < length moves2 = rw (s.moves_size, ← s.size) stands.0 in
         let more = sum_by-set (λ m. m) moves2 i (get_or moves2 i 0 + 1) 0 i_in in
         opening_more words3 (set moves2 i (get_or moves2 i 0 + 1)) (made + 1)
-            (bit_linked (λ q. q ≢ p) words (set homes2 i 0) left i (rw length-set stands.0) words3 to from_elsewhere one others)
-            (simp length-set refl)
-            (get_or-set_same moves2 i (get_or moves2 i 0 + 1) 0 i_in ∙ (ap (λ m. m + 1) moves_were ∙ sym (recounted_moved e p _ _ _ home_was later)))
-            (λ j d. get_or-set_other moves2 i j (get_or moves2 i 0 + 1) 0 d) (omega (arith, s.sum, more)) (omega arith)
+        (bit_linked (λ q. q ≢ p) words (set homes2 i 0) left i (rw length-set stands.0) words3 to from_elsewhere one others)
+        (simp length-set refl)
+        (get_or-set_same moves2 i (get_or moves2 i 0 + 1) 0 i_in ∙ (ap (λ m. m + 1) moves_were ∙ sym (recounted_moved e p _ _ _ home_was later)))
+        (λ j d. get_or-set_other moves2 i j (get_or moves2 i 0 + 1) 0 d) (omega (arith, s.sum, more)) (omega arith)
 
 -- no index waits any more
 pub opening_end : (e p : ℕ) (filed homes moves homes2 moves2 words : List ℕ) (made : ℕ) → IsOpening e p filed homes moves homes2 moves2 words made →

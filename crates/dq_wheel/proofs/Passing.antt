@@ -1,13 +1,13 @@
 -- The wheel's way to another tick.
 
-use Rattle.std.proofs.Common.{◌≡◌, ◌≢◌, ℕ, zero, suc, ◌+◌, ◌*◌, ◌/◌, ◌%◌, ◌<◌, ◌≤◌, List, [], ◌∷◌, length, get_or, sum, min, refl, sym, arith, ◌∙◌, ap, ◌⊎◌, inl, inr, Option, None, Some, MatchOption}
+use Rattle.std.proofs.Common.{◌≡◌, ◌≢◌, ℕ, zero, suc, ◌+◌, ◌*◌, ◌/◌, ◌%◌, ◌<◌, ◌≤◌, List, [], ◌∷◌, length, get_or, sum, min, refl, sym, arith, ◌∙◌, ap, inl, inr, Option, None, Some, MatchOption}
 use Rattle.std.specs.List.{sum_by}
 use Rattle.std.proofs.lemmas.List.{length-map, get_or-map, ext_get_or}
 use Rattle.std.proofs.lemmas.List.Sums.{sum_by-cons}
 use Rattle.dq_ticks.specs.Digits.{digit_of, level, start, start_for, IsAhead}
 use Rattle.dq_ticks.specs.Units.{lap, tick_limit}
 use Rattle.dq_ticks.proofs.Laws.{start_le, start_above, start_opens, digit_below}
-use Rattle.dq_ticks.proofs.Levels.{level_small, level_same}
+use Rattle.dq_ticks.proofs.Levels.{level_same}
 use Rattle.dq_wheel.specs.State.{Filing, filed_at, IsLeast}
 use Rattle.dq_wheel.specs.Moves.{moves_down, counted, passed}
 use Rattle.dq_wheel.specs.Wakes.{wake_for, IsNextWake}
@@ -16,7 +16,7 @@ use Rattle.dq_wheel.specs.Lists.{StandsIn, IsEmpty}
 use Rattle.dq_wheel.specs.Occupied.{IsFilled, IsEarlier}
 use Rattle.dq_wheel.specs.Homes.{list_number, rehomed, recounted, CanGo, IsOpened}
 use Rattle.dq_wheel.specs.Lawful.{IsAt, IsHome, IsLawful}
-use Rattle.dq_wheel.proofs.Links.{same_or_not, nat_le_or_lt}
+use Rattle.dq_wheel.proofs.Links.{same_or_not}
 use Rattle.dq_wheel.proofs.Numbers.{number_same, number_other, number_low}
 use Rattle.dq_wheel.proofs.Opening.{rehomed_there, rehomed_elsewhere, recounted_due, recounted_moved, recounted_elsewhere}
 use Rattle.dq_wheel.proofs.Lawful.{filing_of}
@@ -46,7 +46,7 @@ counted_sum e n (o ∷ filed) [] size = absurd (omega arith)
 counted_sum e n (o ∷ filed) (m ∷ moves) size =
     let rest : sum (counted e n filed moves) ≡ sum moves + sum_by (moves_down e n) filed = counted_sum e n filed moves (omega arith) in
     let here : sum (counted e n (o ∷ filed) (m ∷ moves)) ≡ m + moves_down e n o + sum (counted e n filed moves) =
-        sum_cons (m + moves_down e n o) (counted e n filed moves) in
+    sum_cons (m + moves_down e n o) (counted e n filed moves) in
     let before : sum (m ∷ moves) ≡ m + sum moves = sum_cons m moves in
     let made : sum_by (moves_down e n) (o ∷ filed) ≡ moves_down e n o + sum_by (moves_down e n) filed = sum_by-cons (moves_down e n) o filed in
     omega arith
@@ -56,14 +56,14 @@ pub counted_row : (e n : ℕ) (filed : List (Option ℕ)) (moves moves2 : List �
     ((i : ℕ) → i < length filed → get_or moves2 i 0 ≡ get_or moves i 0 + moves_down e n (filed_at filed i)) → moves2 ≡ counted e n filed moves
 counted_row e n filed moves moves2 size size2 each =
     ext_get_or 0 moves2 (counted e n filed moves) (size2 ∙ sym (counted_size e n filed moves size))
-        (λ i i_in. let i_low : i < length filed = omega arith in each i i_low ∙ sym (counted_at e n filed moves size i i_low))
+    (λ i i_in. let i_low : i < length filed = omega arith in each i i_low ∙ sym (counted_at e n filed moves size i i_low))
 
 -- the word that is kept of a filed tick
 filed_word : (word f : ℕ) → filed_by word ≡ Some f → word ≡ f
 filed_word word f is =
     elim (same_or_not word 18446744073709551615) [
-      inl e ↦ let none : filed_by word ≡ None = grind arith in absurd (cc)
-    | inr d ↦ let some : filed_by word ≡ Some word = grind arith in cc
+      | inl e ↦ let none : filed_by word ≡ None = grind arith in absurd (cc)
+      | inr d ↦ let some : filed_by word ≡ Some word = grind arith in cc
     ]
 
 pub word_of : (words : List ℕ) (i f : ℕ) → i < length words → filed_at (deadlines words) i ≡ Some f → get_or words i 0 ≡ f
@@ -77,7 +77,6 @@ one_move e n f before after lower = grind arith
 
 -- one index of the opened slot
 module _ (e w f h m list : ℕ) (at : IsAt e f h m) (later : e < f) (here : start_for e f ≡ w) (stands : h ≡ list + 1) where
-
   ahead_now : IsAhead e f
   ahead_now = ahead e f h m at later
 
@@ -97,16 +96,18 @@ module _ (e w f h m list : ℕ) (at : IsAt e f h m) (later : e < f) (here : star
   pub goes : CanGo w list f m
   goes =
       let few : m + level e f ≤ 5 = at.few in
-      let high : list < 384 = omega (arith, at.number, number_low e f (λ s. omega arith)) in
-      (opens_by, at.in_range,
-       λ same. elim (same_or_not w f) [
-          inl due ↦ let number : list_number w f ≡ 384 = number_same w f due in omega arith
-        | inr other ↦
-            let lower : level w f < level e f = falls other in
-            let number : list_number w f ≡ 64 * level w f + digit_of f (level w f) = number_other w f other in
-            omega (arith, list_is, digit_below f (level w f), digit_below f (level e f))
+      let high : list < 384 = omega (arith, at.number, number_low e f (λ s. omega arith)) in (
+        opens_by,
+        at.in_range,
+        λ same. elim (same_or_not w f) [
+          | inl due ↦ let number : list_number w f ≡ 384 = number_same w f due in omega arith
+          | inr other ↦
+              let lower : level w f < level e f = falls other in
+              let number : list_number w f ≡ 64 * level w f + digit_of f (level w f) = number_other w f other in
+              omega (arith, list_is, digit_below f (level w f), digit_below f (level e f))
         ],
-       omega arith)
+        omega arith,
+      )
 
   pub opened_home : IsAt w f (rehomed w list f h) (recounted w list f h m)
   opened_home =
@@ -119,36 +120,35 @@ module _ (e w f h m list : ℕ) (at : IsAt e f h m) (later : e < f) (here : star
         near = omega arith;
         number = rehomed_there w list f h stands;
         few =
-          elim (same_or_not w f) [
-            inl due ↦
-              let count : recounted w list f h m ≡ m = recounted_due w list f h m stands due in
-              let flat : level w f ≡ 0 = ap (λ t. level t f) due ∙ level_same f in
-              omega arith
-          | inr other ↦
-              let count : recounted w list f h m ≡ m + 1 = recounted_moved w list f h m stands other in
-              let lower : level w f < level e f = falls other in
-              omega arith
-          ];
+            elim (same_or_not w f) [
+              | inl due ↦
+                  let count : recounted w list f h m ≡ m = recounted_due w list f h m stands due in
+                  let flat : level w f ≡ 0 = ap (λ t. level t f) due ∙ level_same f in
+                  omega arith
+              | inr other ↦
+                  let count : recounted w list f h m ≡ m + 1 = recounted_moved w list f h m stands other in
+                  let lower : level w f < level e f = falls other in
+                  omega arith
+            ];
       }
 
   pub opened_count : recounted w list f h m ≡ m + moves_down e w (Some f)
   opened_count =
       elim (same_or_not w f) [
-        inl due ↦
-          let count : recounted w list f h m ≡ m = recounted_due w list f h m stands due in
-          let none : moves_down e w (Some f) ≡ 0 = no_move e w f due in
-          omega arith
-      | inr other ↦
-          let count : recounted w list f h m ≡ m + 1 = recounted_moved w list f h m stands other in
-          let one : moves_down e w (Some f) ≡ 1 = one_move e w f (λ s. omega arith) other (falls other) in
-          omega arith
+        | inl due ↦
+            let count : recounted w list f h m ≡ m = recounted_due w list f h m stands due in
+            let none : moves_down e w (Some f) ≡ 0 = no_move e w f due in
+            omega arith
+        | inr other ↦
+            let count : recounted w list f h m ≡ m + 1 = recounted_moved w list f h m stands other in
+            let one : moves_down e w (Some f) ≡ 1 = one_move e w f (λ s. omega arith) other (falls other) in
+            omega arith
       ]
 
 -- the wheel goes to the start of the first slot and opens it
 module _ (e : ℕ) (words moves homes : List ℕ) (ok : IsLawful e (deadlines words) moves homes) (list : ℕ) (list_in : list < 384)
-  (filled : IsFilled homes list) (first : (p : ℕ) → p < 384 → IsFilled homes p → IsEarlier (digit_of e 5) list p)
-  (later : (i f : ℕ) → filed_at (deadlines words) i ≡ Some f → e < f) where
-
+    (filled : IsFilled homes list) (first : (p : ℕ) → p < 384 → IsFilled homes p → IsEarlier (digit_of e 5) list p)
+    (later : (i f : ℕ) → filed_at (deadlines words) i ≡ Some f → e < f) where
   abbrev opening : ℕ
   opening = start e (list / 64) (list % 64)
 
@@ -167,7 +167,7 @@ module _ (e : ℕ) (words moves homes : List ℕ) (ok : IsLawful e (deadlines wo
   can_go i stands =
       let s = standing i stands.0 stands.1 in
       rw (word_of words i s.0 (word_in i stands.0) s.1)
-          (goes e opening s.0 (get_or homes i 0) (get_or moves i 0) list s.2 (later i s.0 s.1) (opens_at i s.0 s.1 stands.1) stands.1)
+      (goes e opening s.0 (get_or homes i 0) (get_or moves i 0) list s.2 (later i s.0 s.1) (opens_at i s.0 s.1 stands.1) stands.1)
 
   stays : (i f : ℕ) → get_or homes i 0 ≢ list + 1 → filed_at (deadlines words) i ≡ Some f → (e < f) × (opening < start_for e f)
   stays i f elsewhere is = (later i f is, start_later e (deadlines words) moves homes ok list list_in filled first later i f is elsewhere)
@@ -176,18 +176,17 @@ module _ (e : ℕ) (words moves homes : List ℕ) (ok : IsLawful e (deadlines wo
   after = omega (arith, opens_after e (deadlines words) moves homes ok list list_in filled first later)
 
   module _ (homes2 moves2 : List ℕ) (made : ℕ) (o : IsOpened opening list words homes moves homes2 moves2 made) where
-
     home_opened : (i : ℕ) → i < length homes → IsHome opening (filed_at (deadlines words) i) (get_or homes2 i 0) (get_or moves2 i 0)
     home_opened i i_in =
         elim (same_or_not (get_or homes i 0) (list + 1)) [
-          inl stands ↦
-            let s = standing i i_in stands in
-            rw (o.placed i i_in, o.counted i i_in, s.1, word_of words i s.0 (word_in i i_in) s.1)
-                (opened_home e opening s.0 (get_or homes i 0) (get_or moves i 0) list s.2 (later i s.0 s.1) (opens_at i s.0 s.1 stands) stands)
-        | inr elsewhere ↦
-            rw (o.placed i i_in ∙ rehomed_elsewhere opening list _ _ elsewhere, o.counted i i_in ∙ recounted_elsewhere opening list _ _ _ elsewhere)
-                (home_stable e opening (filed_at (deadlines words) i) (get_or homes i 0) (get_or moves i 0) after (ok.home i i_in)
-                    (λ f. stays i f elsewhere))
+          | inl stands ↦
+              let s = standing i i_in stands in
+              rw (o.placed i i_in, o.counted i i_in, s.1, word_of words i s.0 (word_in i i_in) s.1)
+              (opened_home e opening s.0 (get_or homes i 0) (get_or moves i 0) list s.2 (later i s.0 s.1) (opens_at i s.0 s.1 stands) stands)
+          | inr elsewhere ↦
+              rw (o.placed i i_in ∙ rehomed_elsewhere opening list _ _ elsewhere, o.counted i i_in ∙ recounted_elsewhere opening list _ _ _ elsewhere)
+              (home_stable e opening (filed_at (deadlines words) i) (get_or homes i 0) (get_or moves i 0) after (ok.home i i_in)
+              (λ f. stays i f elsewhere))
         ]
 
     pub lawful_opened : IsLawful opening (deadlines words) moves2 homes2
@@ -204,26 +203,26 @@ module _ (e : ℕ) (words moves homes : List ℕ) (ok : IsLawful e (deadlines wo
     moves_opened : (i : ℕ) → i < length homes → get_or moves2 i 0 ≡ get_or moves i 0 + moves_down e opening (filed_at (deadlines words) i)
     moves_opened i i_in =
         elim (same_or_not (get_or homes i 0) (list + 1)) [
-          inl stands ↦
-            let s = standing i i_in stands in
-            rw (o.counted i i_in, s.1, word_of words i s.0 (word_in i i_in) s.1)
-                (opened_count e opening s.0 (get_or homes i 0) (get_or moves i 0) list s.2 (later i s.0 s.1) (opens_at i s.0 s.1 stands) stands)
-        | inr elsewhere ↦
-            let none : moves_down e opening (filed_at (deadlines words) i) ≡ 0 =
-                still_there e opening (filed_at (deadlines words) i) _ _ after (ok.home i i_in) (λ f. stays i f elsewhere) in
-            let same : get_or moves2 i 0 ≡ get_or moves i 0 = o.counted i i_in ∙ recounted_elsewhere opening list _ _ _ elsewhere in
-            omega arith
+          | inl stands ↦
+              let s = standing i i_in stands in
+              rw (o.counted i i_in, s.1, word_of words i s.0 (word_in i i_in) s.1)
+              (opened_count e opening s.0 (get_or homes i 0) (get_or moves i 0) list s.2 (later i s.0 s.1) (opens_at i s.0 s.1 stands) stands)
+          | inr elsewhere ↦
+              let none : moves_down e opening (filed_at (deadlines words) i) ≡ 0 =
+              still_there e opening (filed_at (deadlines words) i) _ _ after (ok.home i i_in) (λ f. stays i f elsewhere) in
+              let same : get_or moves2 i 0 ≡ get_or moves i 0 = o.counted i i_in ∙ recounted_elsewhere opening list _ _ _ elsewhere in
+              omega arith
         ]
 
     row_opened : moves2 ≡ counted e opening (deadlines words) moves
     row_opened =
         counted_row e opening (deadlines words) moves moves2 (ok.moves_size ∙ sym ok.filed_size) (o.moves_size ∙ sym ok.filed_size)
-            (λ i i_in. moves_opened i (rw ok.filed_size at i_in))
+        (λ i i_in. moves_opened i (rw ok.filed_size at i_in))
 
     made_is : made ≡ sum_by (moves_down e opening) (deadlines words)
     made_is =
         let all : sum moves2 ≡ sum moves + sum_by (moves_down e opening) (deadlines words) =
-            ap sum row_opened ∙ counted_sum e opening (deadlines words) moves (ok.moves_size ∙ sym ok.filed_size) in
+        ap sum row_opened ∙ counted_sum e opening (deadlines words) moves (ok.moves_size ∙ sym ok.filed_size) in
         let opened : sum moves2 ≡ sum moves + made = o.sum in
         omega arith
 
@@ -234,20 +233,19 @@ module _ (e : ℕ) (words moves homes : List ℕ) (ok : IsLawful e (deadlines wo
 
 -- the wheel goes to a tick before all that wakes
 module _ (e : ℕ) (filed : List (Option ℕ)) (moves homes : List ℕ) (ok : IsLawful e filed moves homes) (n : ℕ) (after : e ≤ n)
-  (early : (i f : ℕ) → filed_at filed i ≡ Some f → (e < f) × (n < start_for e f)) where
-
+    (early : (i f : ℕ) → filed_at filed i ≡ Some f → (e < f) × (n < start_for e f)) where
   still_at : (i : ℕ) → i < length filed → moves_down e n (filed_at filed i) ≡ 0
   still_at i i_in = still_there e n (filed_at filed i) _ _ after (ok.home i (rw ok.filed_size at i_in)) (early i)
 
   still_row : moves ≡ counted e n filed moves
   still_row =
       counted_row e n filed moves moves (ok.moves_size ∙ sym ok.filed_size) (ok.moves_size ∙ sym ok.filed_size)
-          (λ i i_in. omega (arith, still_at i i_in))
+      (λ i i_in. omega (arith, still_at i i_in))
 
   none_made : sum_by (moves_down e n) filed ≡ 0
   none_made =
       let all : sum (counted e n filed moves) ≡ sum moves + sum_by (moves_down e n) filed =
-          counted_sum e n filed moves (ok.moves_size ∙ sym ok.filed_size) in
+      counted_sum e n filed moves (ok.moves_size ∙ sym ok.filed_size) in
       let same : sum moves ≡ sum (counted e n filed moves) = ap sum still_row in
       omega arith
 
@@ -258,8 +256,7 @@ module _ (e : ℕ) (filed : List (Option ℕ)) (moves homes : List ℕ) (ok : Is
 
 -- the same as callers see it
 module _ (e : ℕ) (words moves homes : List ℕ) (ok : IsLawful e (deadlines words) moves homes) (moved : ℕ) (now : Filing)
-  (now_is : filing_of e (deadlines words) moves moved ≡ now) where
-
+    (now_is : filing_of e (deadlines words) moves moved ≡ now) where
   tick_is : e ≡ now.tick
   tick_is = ap (λ w. w.tick) now_is
 
@@ -273,13 +270,14 @@ module _ (e : ℕ) (words moves homes : List ℕ) (ok : IsLawful e (deadlines wo
   pub seen_passed : (n : ℕ) → now.tick ≤ n → moved ≤ 18446744073709551615 →
       ((i f : ℕ) → filed_at (deadlines words) i ≡ Some f → (e < f) × (n < start_for e f)) →
       ((i f : ℕ) → filed_at now.filed i ≡ Some f → n < wake_for now.tick f) × (filing_of n (deadlines words) moves moved ≡ passed now n)
-  seen_passed n after small early =
-      (λ i f is.
-          let is_kept : filed_at (deadlines words) i ≡ Some f = rw filed_is is in
-          let when = early i f is_kept in
-          let later : e < f = when.0 in
-          rw (← tick_is, wake_other e f (λ s. omega arith)) when.1,
-       seen_stayed e (deadlines words) moves homes ok n (rw tick_is after) early moved now small now_is)
+  seen_passed n after small early = (
+    λ i f is.
+        let is_kept : filed_at (deadlines words) i ≡ Some f = rw filed_is is in
+        let when = early i f is_kept in
+        let later : e < f = when.0 in
+        rw (← tick_is, wake_other e f (λ s. omega arith)) when.1,
+    seen_stayed e (deadlines words) moves homes ok n (rw tick_is after) early moved now small now_is,
+  )
 
   pub still_lawful : (n : ℕ) → now.tick ≤ n → n < tick_limit →
       ((i f : ℕ) → filed_at (deadlines words) i ≡ Some f → (e < f) × (n < start_for e f)) → IsLawful n (deadlines words) moves homes
@@ -293,11 +291,12 @@ module _ (e : ℕ) (words moves homes : List ℕ) (ok : IsLawful e (deadlines wo
       start e (list / 64) (list % 64) ≤ limit →
       (w : ℕ) × IsNextWake now.tick now.filed w × (w ≤ limit)
       × (filing_of (start e (list / 64) (list % 64)) (deadlines words) moves2 (min (moved + made) 18446744073709551615) ≡ passed now w)
-  seen_opening list list_in filled first later homes2 moves2 made limit o reached =
-      (start e (list / 64) (list % 64),
-       rw (← tick_is, ← filed_is) (next_wake e (deadlines words) moves homes ok list list_in filled first later),
-       reached,
-       seen_opened e words moves homes ok list list_in filled first later homes2 moves2 made o moved now now_is)
+  seen_opening list list_in filled first later homes2 moves2 made limit o reached = (
+    start e (list / 64) (list % 64),
+    rw (← tick_is, ← filed_is) (next_wake e (deadlines words) moves homes ok list list_in filled first later),
+    reached,
+    seen_opened e words moves homes ok list list_in filled first later homes2 moves2 made o moved now now_is,
+  )
 
   -- what is filed least
   pub seen_least_due : (i : ℕ) → StandsIn homes 384 i → IsLeast now.filed i
@@ -315,13 +314,16 @@ module _ (e : ℕ) (words moves homes : List ℕ) (ok : IsLawful e (deadlines wo
       let in_words : (y : ℕ) → y < length homes → y < length words = λ y y_in. rw (← length-map words filed_by, ok.filed_size) y_in in
       let s = some_at e (filed_at (deadlines words) x) (get_or homes x 0) (get_or moves x 0) (ok.home x found.0.0) (omega (arith, found.0.1)) in
       let word : get_or words x 0 ≡ s.0 = word_of words x s.0 (in_words x found.0.0) s.1 in
-      rw (← filed_is)
-          (s.0, rw ok.filed_size found.0.0, s.1,
-           least_all e (deadlines words) moves homes ok list list_in filled first later x found.0 s.0 s.1
-              (λ j g stands there.
-                let le : get_or words x 0 ≤ get_or words j 0 = found.1 j stands in
-                let other : get_or words j 0 ≡ g = word_of words j g (in_words j stands.0) there in
-                omega arith))
+      rw (← filed_is) (
+        s.0,
+        rw ok.filed_size found.0.0,
+        s.1,
+        least_all e (deadlines words) moves homes ok list list_in filled first later x found.0 s.0 s.1
+            (λ j g stands there.
+            let le : get_or words x 0 ≤ get_or words j 0 = found.1 j stands in
+            let other : get_or words j 0 ≡ g = word_of words j g (in_words j stands.0) there in
+            omega arith),
+      )
 
   pub seen_none : ((p : ℕ) → p < 384 → IsEmpty homes p) → ((i f : ℕ) → filed_at (deadlines words) i ≡ Some f → e < f) →
       (i f : ℕ) → filed_at now.filed i ≡ Some f → ⊥

@@ -1,14 +1,14 @@
 -- The circular lists as rows of numbers.
 
-use Rattle.std.proofs.Common.{◌≡◌, ◌≢◌, ℕ, ◌+◌, ◌-◌, ◌<◌, ◌≤◌, List, length, get_or, set, take, replicate, min, refl, sym, arith, ◌∙◌, ap}
+use Rattle.std.proofs.Common.{◌≡◌, ◌≢◌, ℕ, ◌+◌, ◌-◌, ◌<◌, ◌≤◌, List, length, get_or, set, take, replicate, min, sym, arith, ◌∙◌, ap}
 use Rattle.std.proofs.Math.ListN.{length-set}
 use Rattle.std.proofs.lemmas.List.{get_or-set_same, get_or-set_other}
 use Rattle.std.proofs.Math.Seq.{take-set-lt}
 use Rattle.std.proofs.lemmas.List.{length-take-le, get_or-take, length-take, length-map, length-replicate, get_or-replicate, ext_get_or}
-use Rattle.dq_wheel.specs.Ring.{Node, Ring, IsRings}
+use Rattle.dq_wheel.specs.Ring.{IsRings}
 use Rattle.dq_wheel.specs.Rows.{nexts, prevs, homes, AreAlone}
 use Rattle.dq_wheel.specs.declared.rings.Row.{Row}
-use Rattle.dq_wheel.proofs.Links.{linked, unlinked, rank2, first_home, first_in, first_back, none_in, last_home, last_in, before_in, after_in}
+use Rattle.dq_wheel.proofs.Links.{linked, unlinked, first_home, first_in, first_back, none_in, last_home, last_in, before_in, after_in}
 
 -- a row with two numbers written
 set_first : (xs : List ℕ) (i j v w : ℕ) → i < length xs → i ≢ j → get_or (set (set xs i v) j w) i 0 ≡ v
@@ -67,7 +67,6 @@ rings_unlink cap next prev homes i before after r i_in on before_is after_is =
 
 -- what follows the head of list p
 module _ (cap : ℕ) (next prev homes : List ℕ) (r : IsRings cap next prev homes) (p : ℕ) (p_in : p < 385) where
-
   pub first_stands : get_or homes (get_or next (cap + p) 0) 0 ≡ p + 1
   first_stands = first_home cap 385 _ _ _ r.rank r.ring p p_in
 
@@ -85,7 +84,6 @@ module _ (cap : ℕ) (next prev homes : List ℕ) (r : IsRings cap next prev hom
 
 -- where an entry's neighbours stand
 module _ (cap : ℕ) (next prev homes : List ℕ) (r : IsRings cap next prev homes) (i : ℕ) (i_in : i < cap) (on : 0 < get_or homes i 0) where
-
   pub before_below : get_or prev i 0 < cap + 385
   before_below = before_in cap 385 _ _ _ r.rank r.ring i i_in on
 
@@ -160,10 +158,10 @@ seen_alone cap rows len alone =
     let size : length (homes rows) ≡ cap + 385 = length-map rows (λ r. r.home) ∙ len in
     let seen : length (take cap (homes rows)) ≡ cap = length-take-le cap (homes rows) (omega arith) in
     ext_get_or 0 (take cap (homes rows)) (replicate cap 0) (seen ∙ sym (length-replicate cap 0))
-        (λ i i_in.
-          let i_cap : i < cap = omega arith in
-          let zero_home : get_or (homes rows) i 0 ≡ 0 = omega (arith, alone.home i (omega arith)) in
-          get_or-take cap (homes rows) i 0 i_cap ∙ (zero_home ∙ sym (get_or-replicate cap i 0 0 i_cap)))
+    (λ i i_in.
+    let i_cap : i < cap = omega arith in
+    let zero_home : get_or (homes rows) i 0 ≡ 0 = omega (arith, alone.home i (omega arith)) in
+    get_or-take cap (homes rows) i 0 i_cap ∙ (zero_home ∙ sym (get_or-replicate cap i 0 0 i_cap)))
 
 -- what follows the head of list p, by what callers see
 pub seen_first : (cap : ℕ) (next prev homes now_homes now_next : List ℕ) (p i : ℕ) → IsRings cap next prev homes → take cap homes ≡ now_homes →

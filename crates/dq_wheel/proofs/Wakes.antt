@@ -1,22 +1,20 @@
 -- The first slot starts first, and a tick before a slot's start leaves it as it is.
 
-use Rattle.std.proofs.Common.{◌≡◌, ◌≢◌, ℕ, ◌+◌, ◌-◌, ◌*◌, ◌/◌, ◌%◌, ◌<◌, ◌≤◌, List, length, get_or, refl, sym, arith, ◌∙◌, ap, ◌⊎◌, inl, inr, Option, None, Some}
+use Rattle.std.proofs.Common.{◌≡◌, ◌≢◌, ℕ, ◌+◌, ◌-◌, ◌*◌, ◌/◌, ◌%◌, ◌<◌, ◌≤◌, List, length, get_or, refl, sym, arith, ◌∙◌, ap, inl, inr, Option, None, Some}
 use Rattle.std.proofs.lemmas.List.{get_or_past}
 use Rattle.dq_ticks.specs.Digits.{digit_of, level, start, start_for, turn, IsAhead}
 use Rattle.dq_ticks.specs.Units.{lap, tick_limit}
-use Rattle.dq_ticks.proofs.Laws.{start_le, start_above, level_stable, start_opens, lower_first, before_later, turn_low, turn_top, digit_below}
-use Rattle.dq_ticks.proofs.Levels.{level_small, level_same}
+use Rattle.dq_ticks.proofs.Laws.{start_le, start_above, level_stable, lower_first, before_later, turn_low, turn_top, digit_below}
 use Rattle.dq_wheel.specs.State.{filed_at}
 use Rattle.dq_wheel.specs.Moves.{moves_down}
 use Rattle.dq_wheel.specs.Wakes.{wake_for, IsNextWake}
 use Rattle.dq_wheel.specs.Lists.{StandsIn, IsEmpty}
-use Rattle.dq_wheel.specs.Occupied.{IsFilled, IsEarlier, turned}
-use Rattle.dq_wheel.specs.Homes.{list_number, rehomed, recounted, CanGo, IsOpened}
-use Rattle.dq_wheel.specs.Lawful.{IsAt, IsHome, IsLawful}
+use Rattle.dq_wheel.specs.Occupied.{IsFilled, IsEarlier}
+use Rattle.dq_wheel.specs.Homes.{list_number}
+use Rattle.dq_wheel.specs.Lawful.{IsAt, IsHome, IsLawful, IsWithin}
 use Rattle.dq_wheel.proofs.Links.{same_or_not, nat_le_or_lt}
-use Rattle.dq_wheel.proofs.Numbers.{number_same, number_other, number_low, due_where_high}
+use Rattle.dq_wheel.proofs.Numbers.{number_same, number_other, number_low}
 use Rattle.dq_wheel.proofs.Lawful.{home_due}
-use Rattle.dq_wheel.proofs.Opening.{rehomed_there, rehomed_elsewhere, recounted_due, recounted_moved, recounted_elsewhere}
 
 pub wake_same : (e f : ℕ) → e ≡ f → wake_for e f ≡ e
 wake_same e f same = grind arith
@@ -79,15 +77,15 @@ apart_turns own j k own_in j_in k_in d le = omega arith
 turn_less : (e place j k : ℕ) → j < 64 → k < 64 → j ≢ k → turn e place j ≤ turn e place k → turn e place j < turn e place k
 turn_less e place j k j_in k_in d le =
     elim (same_or_not place 5) [
-      inl top ↦
-        let of_j : turn e place j ≡ (j + 63 - digit_of e 5) % 64 = turn_top e place j top in
-        let of_k : turn e place k ≡ (k + 63 - digit_of e 5) % 64 = turn_top e place k top in
-        let less = apart_turns (digit_of e 5) j k (digit_below e 5) j_in k_in d (omega arith) in
-        omega (arith, less)
-    | inr low ↦
-        let of_j : turn e place j ≡ j = turn_low e place j low in
-        let of_k : turn e place k ≡ k = turn_low e place k low in
-        omega arith
+      | inl top ↦
+          let of_j : turn e place j ≡ (j + 63 - digit_of e 5) % 64 = turn_top e place j top in
+          let of_k : turn e place k ≡ (k + 63 - digit_of e 5) % 64 = turn_top e place k top in
+          let less = apart_turns (digit_of e 5) j k (digit_below e 5) j_in k_in d (omega arith) in
+          omega (arith, less)
+      | inr low ↦
+          let of_j : turn e place j ≡ j = turn_low e place j low in
+          let of_k : turn e place k ≡ k = turn_low e place k low in
+          omega arith
     ]
 
 -- the list of a slot tells its level and its digit
@@ -110,26 +108,31 @@ earlier_first e f g p q of_f of_g p_is q_is apart earlier =
     let p_digit : p % 64 ≡ digit_of f (level e f) = list_digit e f p e_f p_is in
     let q_digit : q % 64 ≡ digit_of g (level e g) = list_digit e g q e_g q_is in
     elim earlier [
-      inl lower ↦ lower_first e f g of_f of_g (omega arith)
-    | inr same ↦
-        let levels : level e f ≡ level e g = omega (arith, same.0) in
-        let turns : turn e (p / 64) (p % 64) ≤ turn e (p / 64) (q % 64) = rw (← same.0) at same.1 in
-        let less : turn e (p / 64) (p % 64) < turn e (p / 64) (q % 64) =
-            turn_less e (p / 64) (p % 64) (q % 64) (omega arith) (omega arith) (λ s. apart (omega (arith, same.0))) turns in
-        let here : turn e (level e f) (digit_of f (level e f)) < turn e (level e f) (q % 64) = rw (p_level, p_digit) at less in
-        let there : turn e (level e f) (digit_of f (level e f)) < turn e (level e f) (digit_of g (level e f)) =
-            rw (q_digit, ← levels) at here in
-        before_later e f g of_f of_g levels there
+      | inl lower ↦ lower_first e f g of_f of_g (omega arith)
+      | inr same ↦
+          let levels : level e f ≡ level e g = omega (arith, same.0) in
+          let turns : turn e (p / 64) (p % 64) ≤ turn e (p / 64) (q % 64) = rw (← same.0) at same.1 in
+          let less : turn e (p / 64) (p % 64) < turn e (p / 64) (q % 64) =
+          turn_less e (p / 64) (p % 64) (q % 64) (omega arith) (omega arith) (λ s. apart (omega (arith, same.0))) turns in
+          let here : turn e (level e f) (digit_of f (level e f)) < turn e (level e f) (q % 64) = rw (p_level, p_digit) at less in
+          let there : turn e (level e f) (digit_of f (level e f)) < turn e (level e f) (digit_of g (level e f)) =
+          rw (q_digit, ← levels) at here in
+          before_later e f g of_f of_g levels there
     ]
 
 module _ (e : ℕ) (filed : List (Option ℕ)) (moves homes : List ℕ) (ok : IsLawful e filed moves homes) where
-
   pub filed_home : (i f : ℕ) → filed_at filed i ≡ Some f → (i < length homes) × IsAt e f (get_or homes i 0) (get_or moves i 0)
   filed_home i f is =
       elim (nat_le_or_lt (length homes) i) [
-        inl past ↦ let none : filed_at filed i ≡ None = get_or_past filed i None (rw ok.filed_size past) in absurd (cc)
-      | inr i_in ↦ (i_in, at_some e (filed_at filed i) _ _ f (ok.home i i_in) is)
+        | inl past ↦ let none : filed_at filed i ≡ None = get_or_past filed i None (rw ok.filed_size past) in absurd (cc)
+        | inr i_in ↦ (i_in, at_some e (filed_at filed i) _ _ f (ok.home i i_in) is)
       ]
+
+  -- what is filed is in reach
+  pub in_reach : (i f : ℕ) → filed_at filed i ≡ Some f → IsWithin e f
+  in_reach i f is =
+      let at = (filed_home i f is).1 in
+      record { later = at.later; in_range = at.in_range; near = at.near }
 
   -- what stands on the due list is filed at the tick
   pub due_stands : (i : ℕ) → StandsIn homes 384 i → filed_at filed i ≡ Some e
@@ -142,11 +145,11 @@ module _ (e : ℕ) (filed : List (Option ℕ)) (moves homes : List ℕ) (ok : Is
       let at : IsAt e f (get_or homes i 0) (get_or moves i 0) = home.1 in
       let later : e ≤ f = at.later in
       elim (same_or_not e f) [
-        inl same ↦
-          let number : get_or homes i 0 ≡ list_number e f + 1 = at.number in
-          let due : list_number e f ≡ 384 = number_same e f same in
-          absurd (empty i home.0 (omega arith))
-      | inr other ↦ omega arith
+        | inl same ↦
+            let number : get_or homes i 0 ≡ list_number e f + 1 = at.number in
+            let due : list_number e f ≡ 384 = number_same e f same in
+            absurd (empty i home.0 (omega arith))
+        | inr other ↦ omega arith
       ]
 
   -- or where no index is filed at the tick
@@ -175,8 +178,8 @@ module _ (e : ℕ) (filed : List (Option ℕ)) (moves homes : List ℕ) (ok : Is
             let at : IsAt e g (get_or homes j 0) (get_or moves j 0) = (filed_home j g there).1 in
             let later : e ≤ g = at.later in
             elim (same_or_not e g) [
-              inl same ↦ omega (arith, wake_same e g same)
-            | inr other ↦ omega (arith, wake_other e g other, start_above e g (ahead e g _ _ at (omega arith)))
+              | inl same ↦ omega (arith, wake_same e g same)
+              | inr other ↦ omega (arith, wake_other e g other, start_above e g (ahead e g _ _ at (omega arith)))
             ];
       }
 
@@ -198,8 +201,7 @@ module _ (e : ℕ) (filed : List (Option ℕ)) (moves homes : List ℕ) (ok : Is
 
   -- the first slot that is filled
   module _ (list : ℕ) (list_in : list < 384) (filled : IsFilled homes list)
-    (first : (p : ℕ) → p < 384 → IsFilled homes p → IsEarlier (digit_of e 5) list p) (later : (i f : ℕ) → filed_at filed i ≡ Some f → e < f) where
-
+      (first : (p : ℕ) → p < 384 → IsFilled homes p → IsEarlier (digit_of e 5) list p) (later : (i f : ℕ) → filed_at filed i ≡ Some f → e < f) where
     abbrev pub opens : ℕ
     opens = start e (list / 64) (list % 64)
 
@@ -227,8 +229,8 @@ module _ (e : ℕ) (filed : List (Option ℕ)) (moves homes : List ℕ) (ok : Is
         let after : e < g = later j g there in
         let home = filed_home j g there in
         earlier_first e f g list (list_number e g) (ahead_of i f is) (ahead_of j g there) (omega (arith, number_of i f is)) refl
-            (λ s. elsewhere (omega (arith, number_of j g there)))
-            (first (list_number e g) (number_low e g (λ s. omega arith)) (j, (home.0, number_of j g there)))
+        (λ s. elsewhere (omega (arith, number_of j g there)))
+        (first (list_number e g) (number_low e g (λ s. omega arith)) (j, (home.0, number_of j g there)))
 
     -- the others start later
     pub start_later : (j g : ℕ) → filed_at filed j ≡ Some g → get_or homes j 0 ≢ list + 1 → opens < start_for e g
@@ -242,8 +244,8 @@ module _ (e : ℕ) (filed : List (Option ℕ)) (moves homes : List ℕ) (ok : Is
     starts_from : (i f : ℕ) → filed_at filed i ≡ Some f → opens ≤ start_for e f
     starts_from i f is =
         elim (same_or_not (get_or homes i 0) (list + 1)) [
-          inl stands ↦ omega (arith, start_here i f is stands)
-        | inr elsewhere ↦ omega (arith, start_later i f is elsewhere)
+          | inl stands ↦ omega (arith, start_here i f is stands)
+          | inr elsewhere ↦ omega (arith, start_later i f is elsewhere)
         ]
 
     pub opens_after : e < opens
@@ -282,9 +284,9 @@ module _ (e : ℕ) (filed : List (Option ℕ)) (moves homes : List ℕ) (ok : Is
         ((j g : ℕ) → StandsIn homes list j → filed_at filed j ≡ Some g → f ≤ g) → (j g : ℕ) → filed_at filed j ≡ Some g → f ≤ g
     least_all i stands f is least j g there =
         elim (same_or_not (get_or homes j 0) (list + 1)) [
-          inl same ↦ least j g ((filed_home j g there).0, same) there
-        | inr elsewhere ↦
-            let before : f < start_for e g = first_before i f is stands.1 j g there elsewhere in
-            let le : start_for e g ≤ g = start_le e g (ahead_of j g there) in
-            omega arith
+          | inl same ↦ least j g ((filed_home j g there).0, same) there
+          | inr elsewhere ↦
+              let before : f < start_for e g = first_before i f is stands.1 j g there elsewhere in
+              let le : start_for e g ≤ g = start_le e g (ahead_of j g there) in
+              omega arith
         ]

@@ -1,7 +1,6 @@
 -- The walk along a list.
 
-use Rattle.std.proofs.Common.{◌≡◌, ◌≢◌, ℕ, zero, suc, ◌+◌, ◌<◌, ◌≤◌, List, [], ◌∷◌, length, get_or, take, refl, sym, arith, ◌∙◌, ap, ◌⊎◌, inl, inr, cond, eqb, max}
-use Rattle.std.proofs.lemmas.List.{length-take-le}
+use Rattle.std.proofs.Common.{◌≡◌, ◌≢◌, ℕ, zero, suc, ◌+◌, ◌<◌, ◌≤◌, List, [], ◌∷◌, length, take, refl, sym, arith, ◌∙◌, ap, inl, inr, cond, eqb}
 use Rattle.dq_wheel.specs.Ring.{Node, Ring, IsRings}
 use Rattle.dq_wheel.specs.Lists.{IsWalk, IsListOf, times}
 use Rattle.dq_wheel.proofs.Links.{same_or_not, nat_le_or_lt, first_home, first_in, head_is, before_entry}
@@ -27,12 +26,12 @@ none_at h q d = grind arith
 rank_bound : (rank : ℕ → ℕ) (n : ℕ) → (b : ℕ) × ((x : ℕ) → x < n → rank x ≤ b)
 rank_bound rank zero = (0, λ x x_in. omega arith)
 rank_bound rank (suc n) =
-    let below = rank_bound rank n in
-    (below.0 + rank n,
-     λ x x_in. elim (same_or_not x n) [ inl e ↦ rw e (omega arith) | inr d ↦ omega (arith, below.1 x (omega arith)) ])
+    let below = rank_bound rank n in (
+      below.0 + rank n,
+      λ x x_in. elim (same_or_not x n) [ inl e ↦ rw e (omega arith) | inr d ↦ omega (arith, below.1 x (omega arith)) ],
+    )
 
 module _ (cap lists : ℕ) (next prev home rank : ℕ → ℕ) (ring : Ring cap lists next prev home rank) (p : ℕ) (p_in : p < lists) where
-
   node_of : (x : ℕ) → x < cap + lists → home x ≡ p + 1 → Node (cap + lists) next prev home x
   node_of x x_in h = ring.node x x_in (omega arith)
 
@@ -52,17 +51,17 @@ module _ (cap lists : ℕ) (next prev home rank : ℕ → ℕ) (ring : Ring cap 
       (x < cap → b < rank x + fuel) → (xs : List ℕ) × IsWalk cap next (cap + p) x xs
   walk_from b bound zero x x_in h more =
       elim (nat_le_or_lt cap x) [
-        inl high ↦ ([], head_is cap lists next prev home rank ring p p_in x high x_in h)
-      | inr low ↦ let le : rank x ≤ b = bound x low in let lt : b < rank x + 0 = more low in absurd (omega arith)
+        | inl high ↦ ([], head_is cap lists next prev home rank ring p p_in x high x_in h)
+        | inr low ↦ let le : rank x ≤ b = bound x low in let lt : b < rank x + 0 = more low in absurd (omega arith)
       ]
   walk_from b bound (suc fuel) x x_in h more =
       elim (nat_le_or_lt cap x) [
-        inl high ↦ ([], head_is cap lists next prev home rank ring p p_in x high x_in h)
-      | inr low ↦
-          let lt : b < rank x + suc fuel = more low in
-          let rest = walk_from b bound fuel (next x) (after_below x low h) (after_home x low h)
-              (λ after_in. let r : rank x < rank (next x) = rises x low h after_in in omega arith) in
-          (x ∷ rest.0, (refl, low, rest.1))
+        | inl high ↦ ([], head_is cap lists next prev home rank ring p p_in x high x_in h)
+        | inr low ↦
+            let lt : b < rank x + suc fuel = more low in
+            let rest = walk_from b bound fuel (next x) (after_below x low h) (after_home x low h)
+            (λ after_in. let r : rank x < rank (next x) = rises x low h after_in in omega arith) in
+            (x ∷ rest.0, (refl, low, rest.1))
       ]
 
   -- what stands elsewhere isn't met
@@ -88,7 +87,7 @@ module _ (cap lists : ℕ) (next prev home rank : ℕ → ℕ) (ring : Ring cap 
       let y_home : home y ≡ p + 1 = rw w.0 at h in
       let y_is : y ≡ i = sym w.0 ∙ e in
       let rest : times i ys ≡ 0 = passed i (next y) ys (after_home y w.1 y_home)
-          (λ after_in. let r : rank y < rank (next y) = rises y w.1 y_home after_in in let same : rank y ≡ rank i = ap rank y_is in omega arith) w.2 in
+      (λ after_in. let r : rank y < rank (next y) = rises y w.1 y_home after_in in let same : rank y ≡ rank i = ap rank y_is in omega arith) w.2 in
       times_same i y ys y_is ∙ ap (λ n. 1 + n) rest
 
   -- what follows an entry that is met is met
@@ -99,16 +98,16 @@ module _ (cap lists : ℕ) (next prev home rank : ℕ → ℕ) (ring : Ring cap 
       let y_home : home y ≡ p + 1 = rw w.0 at h in
       let rest_home : home (next y) ≡ p + 1 = after_home y w.1 y_home in
       elim (same_or_not y u) [
-        inl e ↦
-          let not_i : y ≢ i = λ f. let same : rank u ≡ rank i = ap rank (sym e ∙ f) in omega arith in
-          times_other i y ys not_i ∙ front i (next y) ys rest_home (ap next e ∙ link) i_in w.2
-      | inr d ↦
-          let met_later : times u ys ≡ 1 = sym (times_other u y ys d) ∙ met in
-          let not_i : y ≢ i = λ f.
-              let none : times u ys ≡ 0 = passed u (next y) ys rest_home
-                  (λ after_in. let r : rank y < rank (next y) = rises y w.1 y_home after_in in let same : rank y ≡ rank i = ap rank f in omega arith) w.2 in
-              omega arith in
-          times_other i y ys not_i ∙ follows u i (next y) ys rest_home link i_in lt w.2 met_later
+        | inl e ↦
+            let not_i : y ≢ i = λ f. let same : rank u ≡ rank i = ap rank (sym e ∙ f) in omega arith in
+            times_other i y ys not_i ∙ front i (next y) ys rest_home (ap next e ∙ link) i_in w.2
+        | inr d ↦
+            let met_later : times u ys ≡ 1 = sym (times_other u y ys d) ∙ met in
+            let not_i : y ≢ i = λ f.
+            let none : times u ys ≡ 0 = passed u (next y) ys rest_home
+            (λ after_in. let r : rank y < rank (next y) = rises y w.1 y_home after_in in let same : rank y ≡ rank i = ap rank f in omega arith) w.2 in
+            omega arith in
+            times_other i y ys not_i ∙ follows u i (next y) ys rest_home link i_in lt w.2 met_later
       ]
 
   -- each entry of the list is met once
@@ -120,10 +119,10 @@ module _ (cap lists : ℕ) (next prev home rank : ℕ → ℕ) (ring : Ring cap 
       let forth : next (prev i) ≡ i = node.forth in
       let falls : rank (prev i) < rank i = ring.falls i i_in (omega arith) in
       elim (same_or_not (prev i) (cap + p)) [
-        inl e ↦ let at_head : next (cap + p) ≡ i = rw e at forth in front i (next (cap + p)) xs start_home at_head i_in w
-      | inr d ↦
-          let b = before_entry cap lists next prev home rank ring p p_in i i_in h d in
-          follows (prev i) i (next (cap + p)) xs start_home forth i_in falls w (met_by_rank xs w r (prev i) (omega arith) b.0 b.1)
+        | inl e ↦ let at_head : next (cap + p) ≡ i = rw e at forth in front i (next (cap + p)) xs start_home at_head i_in w
+        | inr d ↦
+            let b = before_entry cap lists next prev home rank ring p p_in i i_in h d in
+            follows (prev i) i (next (cap + p)) xs start_home forth i_in falls w (met_by_rank xs w r (prev i) (omega arith) b.0 b.1)
       ]
 
   -- the list that one walks from the head
@@ -131,13 +130,13 @@ module _ (cap lists : ℕ) (next prev home rank : ℕ → ℕ) (ring : Ring cap 
   walked =
       let b = rank_bound rank cap in
       walk_from b.0 b.1 (suc b.0) (next (cap + p)) (first_in cap lists next prev home rank ring p p_in)
-          (first_home cap lists next prev home rank ring p p_in) (λ _. omega arith)
+      (first_home cap lists next prev home rank ring p p_in) (λ _. omega arith)
 
   pub walked_once : (i : ℕ) → i < cap → times i walked.0 ≡ cond (eqb (home i) (p + 1)) 1 0
   walked_once i i_in =
       elim (same_or_not (home i) (p + 1)) [
-        inl h ↦ met_by_rank walked.0 walked.1 (suc (rank i)) i (omega arith) i_in h ∙ sym (one_at (home i) (p + 1) h)
-      | inr d ↦ strange i d (next (cap + p)) walked.0 (first_home cap lists next prev home rank ring p p_in) walked.1 ∙ sym (none_at (home i) (p + 1) d)
+        | inl h ↦ met_by_rank walked.0 walked.1 (suc (rank i)) i (omega arith) i_in h ∙ sym (one_at (home i) (p + 1) h)
+        | inr d ↦ strange i d (next (cap + p)) walked.0 (first_home cap lists next prev home rank ring p p_in) walked.1 ∙ sym (none_at (home i) (p + 1) d)
       ]
 
   pub walked_met : (i : ℕ) → i < cap → home i ≡ p + 1 → times i walked.0 ≡ 1
@@ -146,8 +145,8 @@ module _ (cap lists : ℕ) (next prev home rank : ℕ → ℕ) (ring : Ring cap 
   pub walked_le : (i : ℕ) → i < cap → times i walked.0 ≤ 1
   walked_le i i_in =
       elim (same_or_not (home i) (p + 1)) [
-        inl h ↦ omega (arith, walked_met i i_in h)
-      | inr d ↦ omega (arith, walked_once i i_in ∙ none_at (home i) (p + 1) d)
+        | inl h ↦ omega (arith, walked_met i i_in h)
+        | inr d ↦ omega (arith, walked_once i i_in ∙ none_at (home i) (p + 1) d)
       ]
 
 pub list_of_rings : (cap : ℕ) (next prev homes now : List ℕ) → IsRings cap next prev homes → take cap homes ≡ now → (p : ℕ) → p < 385 → IsListOf next now p

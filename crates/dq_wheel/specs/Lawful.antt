@@ -4,7 +4,7 @@
 use Rattle.std.specs.Prelude.{◌≡◌, ◌≢◌, ℕ, ◌+◌, ◌-◌, ◌/◌, ◌%◌, ◌<◌, ◌≤◌, ◌↔◌, ◌==◌, if◌then◌else◌, List, [], length, slice_index, Option, None, Some}
 use Rattle.dq_ticks.specs.Digits.{level}
 use Rattle.dq_ticks.specs.Units.{lap, tick_limit}
-use Rattle.dq_wheel.specs.State.{filed_at, Filing, WheelState}
+use Rattle.dq_wheel.specs.State.{filed_at, WheelState}
 use Rattle.dq_wheel.specs.Places.{place_for, MovesFit}
 use Rattle.dq_wheel.specs.Lists.{IsWalk, times}
 use Rattle.dq_wheel.specs.Occupied.{bit_of}

@@ -46,7 +46,7 @@ fn first_after(word: u64, own: usize) -> Option<usize>
     ensures { MatchOption result
         (word ≡ 0)
         (λ k. (k < 64) × (bit_at word k ≡ 1)
-            × ((i : ℕ) → i < 64 → bit_at word i ≡ 1 → (k + 63 - own) % 64 ≤ (i + 63 - own) % 64)) }
+        × ((i : ℕ) → i < 64 → bit_at word i ≡ 1 → (k + 63 - own) % 64 ≤ (i + 63 - own) % 64)) }
 {
     match lowest_bit((word >> own) >> 1) {
         Some(ahead) => Some(own + 1 + ahead),

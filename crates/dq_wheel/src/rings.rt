@@ -103,11 +103,15 @@ fn append(rows: &mut [Row], capacity: usize, index: usize, list: usize)
 {
     let head = capacity + list;
     let last = row_at(rows, head).prev;
-    set_row(rows, index, Row {
-        next: head as u32,
-        prev: last,
-        home: list as u16 + 1,
-    });
+    set_row(
+        rows,
+        index,
+        Row {
+            next: head as u32,
+            prev: last,
+            home: list as u16 + 1,
+        },
+    );
     set_next(rows, last as usize, index as u32);
     set_prev(rows, head, index as u32);
 }
@@ -212,7 +216,11 @@ impl<A: Allocator> Rings<A> {
             (λ x. StandsIn self.now.homes list x × (x ≡ slice_index self.now.next (length self.now.homes + list))) }
     {
         let first = row_at(&self.rows, self.capacity + list).next as usize;
-        if first < self.capacity { Some(first) } else { None }
+        if first < self.capacity {
+            Some(first)
+        } else {
+            None
+        }
     }
 
     /// An index of a list whose key is least there.
@@ -222,7 +230,7 @@ impl<A: Allocator> Rings<A> {
         ensures { MatchOption result
             (IsEmpty self.now.homes list)
             (λ x. StandsIn self.now.homes list x
-                × ((y : ℕ) → StandsIn self.now.homes list y → slice_index keys.now x ≤ slice_index keys.now y)) }
+            × ((y : ℕ) → StandsIn self.now.homes list y → slice_index keys.now x ≤ slice_index keys.now y)) }
     {
         let Some(first) = self.first(list) else {
             return None;

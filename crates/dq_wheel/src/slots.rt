@@ -135,7 +135,7 @@ impl<A: Allocator> Slots<A> {
         ensures { MatchOption result
             (IsEmpty self.now.homes list)
             (λ x. StandsIn self.now.homes list x
-                × ((y : ℕ) → StandsIn self.now.homes list y → slice_index keys.now x ≤ slice_index keys.now y)) }
+            × ((y : ℕ) → StandsIn self.now.homes list y → slice_index keys.now x ≤ slice_index keys.now y)) }
     {
         self.rings.least_in(list, keys)
     }
@@ -154,7 +154,7 @@ impl<A: Allocator> Slots<A> {
         ensures { MatchOption result
             ((p : ℕ) → p < 384 → IsEmpty self.now.homes p)
             (λ q. (q < 384) × IsFilled self.now.homes q
-                × ((p : ℕ) → p < 384 → IsFilled self.now.homes p → IsEarlier own q p)) }
+            × ((p : ℕ) → p < 384 → IsFilled self.now.homes p → IsEarlier own q p)) }
     {
         match first_list(&self.words, own) {
             Some(list) => Some(list),

@@ -78,9 +78,9 @@ impl<A: Allocator> Model for Wheel<A> {
     ghost Value = { WheelState };
 
     ghost view = { λ w. record {
-        filing = record { tick = w.tick; filed = deadlines w.filed.items; moves = w.moves.items; moved = w.moved };
-        next = w.slots.next;
-        words = w.slots.words;
+      filing = record { tick = w.tick; filed = deadlines w.filed.items; moves = w.moves.items; moved = w.moved };
+      next = w.slots.next;
+      words = w.slots.words;
     } };
 
     ghost invariant = { λ w. IsLawful w.tick (deadlines w.filed.items) w.moves.items w.slots.homes };
@@ -205,13 +205,18 @@ impl<A: Allocator> Wheel<A> {
     /// The tick at which something has to be done next: the wheel's own where an index is due, else the start of the
     /// first slot that isn't empty.
     pub fn next_wake(&self) -> Option<u64>
-        ensures { MatchOption result
+        ensures exact { MatchOption result
             ((i f : ℕ) → filed_at self.now.filing.filed i ≢ Some f)
             (λ w. IsNextWake self.now.filing.tick self.now.filing.filed w) }
+        ensures after { ((i : ℕ) → filed_at self.now.filing.filed i ≢ Some self.now.filing.tick) →
+            IfSome result (λ w. self.now.filing.tick < w) }
     {
         match self.slots.first(DUE) {
             Some(_) => Some(self.tick),
-            None => match self.slots.first_filled(digit(self.tick, LEVELS - 1) as usize) {
+            None => match self
+                .slots
+                .first_filled(digit(self.tick, LEVELS - 1) as usize)
+            {
                 Some(list) => Some(slot_start(self.tick, list / SLOTS, (list % SLOTS) as u64)),
                 None => None,
             },
@@ -227,7 +232,10 @@ impl<A: Allocator> Wheel<A> {
         if let Some(index) = self.slots.first(DUE) {
             return Some(index);
         }
-        let Some(list) = self.slots.first_filled(digit(self.tick, LEVELS - 1) as usize) else {
+        let Some(list) = self
+            .slots
+            .first_filled(digit(self.tick, LEVELS - 1) as usize)
+        else {
             return None;
         };
         self.slots.least_in(list, &self.filed)
@@ -263,7 +271,7 @@ impl<A: Allocator> Wheel<A> {
         ensures { MatchOption result
             ((self.new ≡ self.old) × ((i : ℕ) → filed_at self.old.filing.filed i ≢ Some self.old.filing.tick))
             (λ i. (i < length self.old.filing.filed) × (filed_at self.old.filing.filed i ≡ Some self.old.filing.tick)
-                × (self.new.filing ≡ unlinked self.old.filing i)) }
+            × (self.new.filing ≡ unlinked self.old.filing i)) }
     {
         let Some(index) = self.slots.take_due() else {
             return None;
@@ -278,11 +286,13 @@ impl<A: Allocator> Wheel<A> {
         requires none_due { (i : ℕ) → filed_at self.old.filing.filed i ≢ Some self.old.filing.tick }
         requires not_before { self.old.filing.tick ≤ limit }
         requires in_range { limit ≤ LAST_TICK }
-        ensures { MatchBool result
+        ensures exact { MatchBool result
             ((w : ℕ) × IsNextWake self.old.filing.tick self.old.filing.filed w × (w ≤ limit)
-                × (self.new.filing ≡ passed self.old.filing w))
+            × (self.new.filing ≡ passed self.old.filing w))
             (((i f : ℕ) → filed_at self.old.filing.filed i ≡ Some f → limit < wake_for self.old.filing.tick f)
-                × (self.new.filing ≡ passed self.old.filing limit)) }
+            × (self.new.filing ≡ passed self.old.filing limit)) }
+        ensures in_reach { (i f : ℕ) → filed_at self.new.filing.filed i ≡ Some f → IsWithin self.new.filing.tick f }
+        ensures rises { self.old.filing.tick < limit → self.old.filing.tick < self.new.filing.tick }
     {
         let own = digit(self.tick, LEVELS - 1) as usize;
         let Some(list) = self.slots.first_filled(own) else {

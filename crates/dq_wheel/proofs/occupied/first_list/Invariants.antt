@@ -1,4 +1,4 @@
-use Rattle.std.proofs.Common.{◌≡◌, ◌≢◌, ℕ, ◌*◌, ◌<◌}
+use Rattle.std.proofs.Common.{◌≢◌, ℕ, ◌*◌, ◌<◌}
 use Rattle.dq_wheel.specs.Occupied.{bit_of}
 use Rattle.dq_wheel.proofs.occupied.first_list.Given as goal
 

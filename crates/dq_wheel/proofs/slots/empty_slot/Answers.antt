@@ -1,4 +1,4 @@
-use Rattle.std.proofs.Common.{◌≡◌, ◌≢◌, ◌<◌, ◌+◌, ap, arith, get_or, length}
+use Rattle.std.proofs.Common.{ap}
 use Rattle.dq_wheel.proofs.Numbers.{due_where_high, later_where_low}
 use Rattle.dq_wheel.proofs.Occupancy.{bit_cleared}
 use Rattle.dq_wheel.proofs.Opening.{opening_init, stays_away, opening_due, opening_moved, opening_end, opening_falls}
@@ -13,8 +13,8 @@ loop-index-preserved g c =
     let stands = c.in-Some.ensures.0 in
     let to_is = c.list_of-to.ensures.value in
     rw (c.link.ensures, c.in-Some.ensures.1)
-        (opening_due _ _ _ _ _ _ _ _ _ turn _ _ stands to_is (stays_away _ _ _ _ _ _ _ _ _ turn _ _ stands to_is c.requires.can_go)
-            (due_where_high _ _ _ to_is c.if-to-lt-DUE.false) c.if-to-lt-DUE.false)
+    (opening_due _ _ _ _ _ _ _ _ _ turn _ _ stands to_is (stays_away _ _ _ _ _ _ _ _ _ turn _ _ stands to_is c.requires.can_go)
+    (due_where_high _ _ _ to_is c.if-to-lt-DUE.false) c.if-to-lt-DUE.false)
 
 pub loop-index-preserved-then-to-lt-DUE : goal.loop-index-preserved-then-to-lt-DUE
 loop-index-preserved-then-to-lt-DUE g c =
@@ -22,8 +22,8 @@ loop-index-preserved-then-to-lt-DUE g c =
     let stands = c.in-Some.ensures.0 in
     let to_is = c.list_of-to.ensures.value in
     rw (c.link.ensures, c.in-Some.ensures.1)
-        (opening_moved _ _ _ _ _ _ _ _ _ turn _ _ stands to_is (stays_away _ _ _ _ _ _ _ _ _ turn _ _ stands to_is c.requires.can_go)
-            _ (later_where_low _ _ _ to_is c.if-to-lt-DUE.true) c.set_bit.ensures.set c.set_bit.ensures.others)
+    (opening_moved _ _ _ _ _ _ _ _ _ turn _ _ stands to_is (stays_away _ _ _ _ _ _ _ _ _ turn _ _ stands to_is c.requires.can_go)
+    _ (later_where_low _ _ _ to_is c.if-to-lt-DUE.true) c.set_bit.ensures.set c.set_bit.ensures.others)
 
 pub loop-index-smaller : goal.loop-index-smaller
 loop-index-smaller g c =
@@ -31,7 +31,7 @@ loop-index-smaller g c =
     let stands = c.in-Some.ensures.0 in
     let to_is = c.list_of-to.ensures.value in
     rw (c.link.ensures, c.in-Some.ensures.1)
-        (opening_falls _ _ _ _ _ _ _ _ _ turn _ _ stands to_is (stays_away _ _ _ _ _ _ _ _ _ turn _ _ stands to_is c.requires.can_go))
+    (opening_falls _ _ _ _ _ _ _ _ _ turn _ _ stands to_is (stays_away _ _ _ _ _ _ _ _ _ turn _ _ stands to_is c.requires.can_go))
 
 pub loop-index-smaller-then-to-lt-DUE : goal.loop-index-smaller-then-to-lt-DUE
 loop-index-smaller-then-to-lt-DUE g c =
@@ -39,7 +39,7 @@ loop-index-smaller-then-to-lt-DUE g c =
     let stands = c.in-Some.ensures.0 in
     let to_is = c.list_of-to.ensures.value in
     rw (c.link.ensures, c.in-Some.ensures.1)
-        (opening_falls _ _ _ _ _ _ _ _ _ turn _ _ stands to_is (stays_away _ _ _ _ _ _ _ _ _ turn _ _ stands to_is c.requires.can_go))
+    (opening_falls _ _ _ _ _ _ _ _ _ turn _ _ stands to_is (stays_away _ _ _ _ _ _ _ _ _ turn _ _ stands to_is c.requires.can_go))
 
 pub returns-clause-opened : goal.returns-clause-opened
 returns-clause-opened g c =
@@ -48,4 +48,4 @@ returns-clause-opened g c =
 pub returns-clause-occupied : goal.returns-clause-occupied
 returns-clause-occupied g c =
     rw (ap (λ w. w.homes) c.in_default.ensures.1)
-        (bit_cleared _ _ _ _ c.loop-index.invariant.occupied c.in_default.ensures.0 c.clear_bit.ensures.cleared c.clear_bit.ensures.others)
+    (bit_cleared _ _ _ _ c.loop-index.invariant.occupied c.in_default.ensures.0 c.clear_bit.ensures.cleared c.clear_bit.ensures.others)

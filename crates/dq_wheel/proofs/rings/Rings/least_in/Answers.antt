@@ -1,19 +1,19 @@
-use Rattle.std.proofs.Common.{◌≡◌, ◌≤◌, length, ap, arith, inl, inr}
-use Rattle.dq_wheel.proofs.Rows.{seen_first, capacity_is, stands_seen}
-use Rattle.dq_wheel.proofs.Least.{least_init, least_more, least_end, least_seen}
+use Rattle.std.proofs.Common.{ap, inl}
+use Rattle.dq_wheel.proofs.Rows.{seen_first, stands_seen}
+use Rattle.dq_wheel.proofs.Least.{least_init, least_more, least_seen}
 use Rattle.dq_wheel.proofs.rings.Rings.least_in.Goals as goal
 
 pub loop-turn-init : goal.loop-turn-init
 loop-turn-init g c =
     least_init _ _ _ _ c.self.invariant _ _ c.requires.list_in _
-        (seen_first _ _ _ _ _ _ _ _ c.self.invariant (ap (λ w. w.homes) c.self.view_is) (ap (λ w. w.next) c.self.view_is) c.in-Some.ensures.1)
-        (stands_seen _ _ _ _ _ _ c.self.invariant (ap (λ w. w.homes) c.self.view_is) c.in-Some.ensures.0.0)
+    (seen_first _ _ _ _ _ _ _ _ c.self.invariant (ap (λ w. w.homes) c.self.view_is) (ap (λ w. w.next) c.self.view_is) c.in-Some.ensures.1)
+    (stands_seen _ _ _ _ _ _ c.self.invariant (ap (λ w. w.homes) c.self.view_is) c.in-Some.ensures.0.0)
 
 pub loop-turn-preserved : goal.loop-turn-preserved
 loop-turn-preserved g c =
     rw (c.row_at-at.ensures.next, c.deref.ensures.value)
-        (least_more _ _ _ _ c.self.invariant _ _ c.requires.list_in _ _ _ _ c.loop-turn.invariant c.if-at-self.false
-            c.lesser-best.ensures.either c.lesser-best.ensures.one c.lesser-best.ensures.other)
+    (least_more _ _ _ _ c.self.invariant _ _ c.requires.list_in _ _ _ _ c.loop-turn.invariant c.if-at-self.false
+    c.lesser-best.ensures.either c.lesser-best.ensures.one c.lesser-best.ensures.other)
 
 pub returns-then-at-self : goal.returns-then-at-self
 returns-then-at-self g c =

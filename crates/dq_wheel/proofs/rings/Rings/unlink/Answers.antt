@@ -6,5 +6,5 @@ use Rattle.dq_wheel.proofs.rings.Rings.unlink.Goals as goal
 pub returns : goal.returns
 returns g c =
     home_written _ _ _ _ _ _ _ _ (ap (λ w. w.homes) c.self.view_is) c.requires.index_in
-        (with_items_is c.self.inside.rows c.detach.new.rows (omega arith))
-        c.detach.ensures.home c.deref_mut.ensures.value
+    (with_items_is c.self.inside.rows c.detach.new.rows (omega arith))
+    c.detach.ensures.home c.deref_mut.ensures.value

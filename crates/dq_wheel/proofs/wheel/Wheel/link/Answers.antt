@@ -5,8 +5,8 @@ use Rattle.dq_wheel.proofs.wheel.Wheel.link.Goals as goal
 pub invariant_of-self : goal.invariant_of-self
 invariant_of-self g c =
     rw (c.link.ensures, c.list_of.ensures.value)
-        (lawful_linked _ _ _ _ _ _ c.self.invariant (ap (λ w. w.filing) c.self.view_is) _ _
-            c.requires.index_in c.requires.not_before (omega (arith, c.requires.in_range)) c.requires.near)
+    (lawful_linked _ _ _ _ _ _ c.self.invariant (ap (λ w. w.filing) c.self.view_is) _ _
+    c.requires.index_in c.requires.not_before (omega (arith, c.requires.in_range)) c.requires.near)
 
 pub returns : goal.returns
 returns g c = seen_linked _ _ _ _ _ (ap (λ w. w.filing) c.self.view_is) _ _ (omega (arith, c.requires.in_range))

@@ -5,7 +5,7 @@ use Rattle.dq_wheel.proofs.wheel.Wheel.pop_due.Goals as goal
 pub invariant_of-self-2 : goal.invariant_of-self-2
 invariant_of-self-2 g c =
     rw c.in-Some.ensures.1
-        (lawful_unlinked _ _ _ _ _ _ c.self.invariant (ap (λ w. w.filing) c.self.view_is) _ c.in-Some.ensures.0.0)
+    (lawful_unlinked _ _ _ _ _ _ c.self.invariant (ap (λ w. w.filing) c.self.view_is) _ c.in-Some.ensures.0.0)
 
 pub returns : goal.returns
 returns g c =

@@ -6,7 +6,7 @@ pub invariant_of-self : goal.invariant_of-self
 invariant_of-self g c =
     let seen = ap (λ w. w.filing) c.self.view_is in
     rw c.unlink.ensures
-        (lawful_unlinked _ _ _ _ _ _ c.self.invariant seen _ (seen_in _ _ _ _ _ _ c.self.invariant seen _ c.requires.index_in))
+    (lawful_unlinked _ _ _ _ _ _ c.self.invariant seen _ (seen_in _ _ _ _ _ _ c.self.invariant seen _ c.requires.index_in))
 
 pub returns : goal.returns
 returns g c = seen_unlinked _ _ _ _ _ (ap (λ w. w.filing) c.self.view_is) _
