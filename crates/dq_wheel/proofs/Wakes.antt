@@ -11,7 +11,7 @@ use Rattle.dq_wheel.specs.Wakes.{wake_for, IsNextWake}
 use Rattle.dq_wheel.specs.Lists.{StandsIn, IsEmpty}
 use Rattle.dq_wheel.specs.Occupied.{IsFilled, IsEarlier}
 use Rattle.dq_wheel.specs.Homes.{list_number}
-use Rattle.dq_wheel.specs.Lawful.{IsAt, IsHome, IsLawful, IsWithin}
+use Rattle.dq_wheel.specs.Lawful.{IsAt, IsHome, IsLawful, IsWithin, WakesAreAhead}
 use Rattle.dq_wheel.proofs.Links.{same_or_not, nat_le_or_lt}
 use Rattle.dq_wheel.proofs.Numbers.{number_same, number_other, number_low}
 use Rattle.dq_wheel.proofs.Lawful.{home_due}
@@ -133,6 +133,9 @@ module _ (e : ℕ) (filed : List (Option ℕ)) (moves homes : List ℕ) (ok : Is
   in_reach i f is =
       let at = (filed_home i f is).1 in
       record { later = at.later; in_range = at.in_range; near = at.near }
+
+  pub none_before : (i f : ℕ) → filed_at filed i ≡ Some f → e ≤ f
+  none_before i f is = (filed_home i f is).1.later
 
   -- what stands on the due list is filed at the tick
   pub due_stands : (i : ℕ) → StandsIn homes 384 i → filed_at filed i ≡ Some e
@@ -290,3 +293,15 @@ module _ (e : ℕ) (filed : List (Option ℕ)) (moves homes : List ℕ) (ok : Is
               let le : start_for e g ≤ g = start_le e g (ahead_of j g there) in
               omega arith
         ]
+
+-- where nothing is due, what wakes next wakes after the tick
+pub wakes_ahead : WakesAreAhead
+wakes_ahead e filed w within none next =
+    let i = next.some.0 in
+    let f = next.some.1 in
+    let is : filed_at filed i ≡ Some f = next.some.2 in
+    let reach : IsWithin e f = within i f is in
+    let not_due : e ≢ f = λ same. none i (is ∙ ap Some (sym same)) in
+    let le : e ≤ f = reach.later in
+    let above : e < start_for e f = start_above e f (record { later = omega arith; near = reach.near; in_range = reach.in_range }) in
+    omega (arith, next.some.3, wake_other e f not_due)

@@ -6,6 +6,7 @@ use Rattle.dq_ticks.specs.Digits.{level}
 use Rattle.dq_ticks.specs.Units.{lap, tick_limit}
 use Rattle.dq_wheel.specs.State.{filed_at, WheelState}
 use Rattle.dq_wheel.specs.Places.{place_for, MovesFit}
+use Rattle.dq_wheel.specs.Wakes.{IsNextWake}
 use Rattle.dq_wheel.specs.Lists.{IsWalk, times}
 use Rattle.dq_wheel.specs.Occupied.{bit_of}
 use Rattle.dq_wheel.specs.Homes.{list_number}
@@ -68,3 +69,9 @@ pub record IsLawful (tick : ℕ) (filed : List (Option ℕ)) (moves homes : List
   pub moves_size : length moves ≡ length homes
   pub in_range : tick < tick_limit
   pub home : (i : ℕ) → i < length homes → IsHome tick (filed_at filed i) (slice_index homes i) (slice_index moves i)
+
+-- where nothing is due, what wakes next wakes after the tick
+abbrev pub WakesAreAhead : Type 0
+WakesAreAhead =
+    (e : ℕ) (filed : List (Option ℕ)) (w : ℕ) →
+    ((i f : ℕ) → filed_at filed i ≡ Some f → IsWithin e f) → ((i : ℕ) → filed_at filed i ≢ Some e) → IsNextWake e filed w → e < w

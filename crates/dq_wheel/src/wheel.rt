@@ -8,7 +8,7 @@ ghost use Rattle.dq_wheel.specs.Places.{place_for, IsSlotFilled};
 ghost use Rattle.dq_wheel.specs.Moves.{passed};
 ghost use Rattle.dq_wheel.specs.Wakes.{wake_for, IsNextWake};
 ghost use Rattle.dq_wheel.specs.Filed.{filed_by};
-ghost use Rattle.dq_wheel.specs.Lawful.{place_of_home, IsLawfulWheel, IsWithin};
+ghost use Rattle.dq_wheel.specs.Lawful.{place_of_home, IsLawfulWheel, IsWithin, WakesAreAhead};
 
 use crate::slots::{DUE, Slots, list_of};
 use dq_ticks::{LAST_TICK, LEVELS, SLOTS, digit, slot_start};
@@ -205,11 +205,9 @@ impl<A: Allocator> Wheel<A> {
     /// The tick at which something has to be done next: the wheel's own where an index is due, else the start of the
     /// first slot that isn't empty.
     pub fn next_wake(&self) -> Option<u64>
-        ensures exact { MatchOption result
+        ensures { MatchOption result
             ((i f : ℕ) → filed_at self.now.filing.filed i ≢ Some f)
             (λ w. IsNextWake self.now.filing.tick self.now.filing.filed w) }
-        ensures after { ((i : ℕ) → filed_at self.now.filing.filed i ≢ Some self.now.filing.tick) →
-            IfSome result (λ w. self.now.filing.tick < w) }
     {
         match self.slots.first(DUE) {
             Some(_) => Some(self.tick),
@@ -286,13 +284,15 @@ impl<A: Allocator> Wheel<A> {
         requires none_due { (i : ℕ) → filed_at self.old.filing.filed i ≢ Some self.old.filing.tick }
         requires not_before { self.old.filing.tick ≤ limit }
         requires in_range { limit ≤ LAST_TICK }
-        ensures exact { MatchBool result
+        ensures way { MatchBool result
             ((w : ℕ) × IsNextWake self.old.filing.tick self.old.filing.filed w × (w ≤ limit)
             × (self.new.filing ≡ passed self.old.filing w))
             (((i f : ℕ) → filed_at self.old.filing.filed i ≡ Some f → limit < wake_for self.old.filing.tick f)
             × (self.new.filing ≡ passed self.old.filing limit)) }
-        ensures in_reach { (i f : ℕ) → filed_at self.new.filing.filed i ≡ Some f → IsWithin self.new.filing.tick f }
-        ensures rises { self.old.filing.tick < limit → self.old.filing.tick < self.new.filing.tick }
+        ensures filed { self.new.filing.filed ≡ self.old.filing.filed }
+        ensures within { self.new.filing.tick ≤ limit }
+        ensures none_before { (i f : ℕ) → filed_at self.new.filing.filed i ≡ Some f → self.new.filing.tick ≤ f }
+        ensures onward { self.old.filing.tick < limit → self.old.filing.tick < self.new.filing.tick }
     {
         let own = digit(self.tick, LEVELS - 1) as usize;
         let Some(list) = self.slots.first_filled(own) else {
@@ -310,3 +310,8 @@ impl<A: Allocator> Wheel<A> {
         true
     }
 }
+
+/// Where nothing is due and each filed tick is in reach, the next wake is after the tick.
+pub fn wakes_are_ahead()
+    ensures { WakesAreAhead }
+{}

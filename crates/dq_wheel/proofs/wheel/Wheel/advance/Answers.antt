@@ -1,6 +1,6 @@
 use Rattle.std.proofs.Common.{ap, arith}
 use Rattle.std.proofs.lemmas.List.{with_items_is}
-use Rattle.dq_wheel.proofs.Wakes.{all_later, in_reach, none_filed, opens_after}
+use Rattle.dq_wheel.proofs.Wakes.{all_later, none_before, none_filed, opens_after}
 use Rattle.dq_wheel.proofs.Passing.{seen_later, seen_passed, seen_opening, still_lawful, can_go, lawful_opened}
 use Rattle.dq_wheel.proofs.wheel.Wheel.advance.Goals as goal
 
@@ -11,8 +11,8 @@ invariant_of-self g c =
     still_lawful _ _ _ _ c.self.invariant _ _ seen _ c.requires.not_before (omega (arith, c.requires.in_range))
     (λ i f is. absurd (none_filed _ _ _ _ c.self.invariant c.in_default.ensures later i f is))
 
-pub returns-in_default-clause-exact : goal.returns-in_default-clause-exact
-returns-in_default-clause-exact g c =
+pub returns-in_default-clause-way : goal.returns-in_default-clause-way
+returns-in_default-clause-way g c =
     let seen = ap (λ w. w.filing) c.self.view_is in
     let later = seen_later _ _ _ _ c.self.invariant _ _ seen c.requires.none_due in
     seen_passed _ _ _ _ c.self.invariant _ _ seen _ c.requires.not_before (omega arith)
@@ -26,8 +26,8 @@ invariant_of-self-then-limit-start g c =
     still_lawful _ _ _ _ c.self.invariant _ _ seen _ c.requires.not_before (omega (arith, c.requires.in_range))
     (all_later _ _ _ _ c.self.invariant _ first.0 first.1 first.2 later _ (rw c.slot_start-start.ensures at c.if-limit-start.true))
 
-pub returns-then-limit-start-clause-exact : goal.returns-then-limit-start-clause-exact
-returns-then-limit-start-clause-exact g c =
+pub returns-then-limit-start-clause-way : goal.returns-then-limit-start-clause-way
+returns-then-limit-start-clause-way g c =
     let seen = ap (λ w. w.filing) c.self.view_is in
     let later = seen_later _ _ _ _ c.self.invariant _ _ seen c.requires.none_due in
     let first = rw c.digit-own.ensures at c.in-Some.ensures in
@@ -51,8 +51,8 @@ invariant_of-self-2 g c =
     rw (with_items_is c.self.inside.moves c.open-made.new.moves (omega arith), c.slot_start-start.ensures)
     (lawful_opened _ _ _ _ c.self.invariant _ first.0 first.1 first.2 later _ _ _ opened)
 
-pub returns-clause-exact : goal.returns-clause-exact
-returns-clause-exact g c =
+pub returns-clause-way : goal.returns-clause-way
+returns-clause-way g c =
     let seen = ap (λ w. w.filing) c.self.view_is in
     let later = seen_later _ _ _ _ c.self.invariant _ _ seen c.requires.none_due in
     let first = rw c.digit-own.ensures at c.in-Some.ensures in
@@ -61,31 +61,31 @@ returns-clause-exact g c =
     (seen_opening _ _ _ _ c.self.invariant _ _ seen _ first.0 first.1 first.2 later _ _ _ _ opened
     (rw c.slot_start-start.ensures at c.if-limit-start.false))
 
-pub returns-in_default-clause-in_reach : goal.returns-in_default-clause-in_reach
-returns-in_default-clause-in_reach g c =
+pub returns-in_default-clause-none_before : goal.returns-in_default-clause-none_before
+returns-in_default-clause-none_before g c =
     let seen = ap (λ w. w.filing) c.self.view_is in
     let later = seen_later _ _ _ _ c.self.invariant _ _ seen c.requires.none_due in
-    in_reach _ _ _ _ (still_lawful _ _ _ _ c.self.invariant _ _ seen _ c.requires.not_before (omega (arith, c.requires.in_range))
+    none_before _ _ _ _ (still_lawful _ _ _ _ c.self.invariant _ _ seen _ c.requires.not_before (omega (arith, c.requires.in_range))
     (λ i f is. absurd (none_filed _ _ _ _ c.self.invariant c.in_default.ensures later i f is)))
 
-pub returns-then-limit-start-clause-in_reach : goal.returns-then-limit-start-clause-in_reach
-returns-then-limit-start-clause-in_reach g c =
+pub returns-then-limit-start-clause-none_before : goal.returns-then-limit-start-clause-none_before
+returns-then-limit-start-clause-none_before g c =
     let seen = ap (λ w. w.filing) c.self.view_is in
     let later = seen_later _ _ _ _ c.self.invariant _ _ seen c.requires.none_due in
     let first = rw c.digit-own.ensures at c.in-Some.ensures in
-    in_reach _ _ _ _ (still_lawful _ _ _ _ c.self.invariant _ _ seen _ c.requires.not_before (omega (arith, c.requires.in_range))
+    none_before _ _ _ _ (still_lawful _ _ _ _ c.self.invariant _ _ seen _ c.requires.not_before (omega (arith, c.requires.in_range))
     (all_later _ _ _ _ c.self.invariant _ first.0 first.1 first.2 later _ (rw c.slot_start-start.ensures at c.if-limit-start.true)))
 
-pub returns-clause-in_reach : goal.returns-clause-in_reach
-returns-clause-in_reach g c =
+pub returns-clause-none_before : goal.returns-clause-none_before
+returns-clause-none_before g c =
     let seen = ap (λ w. w.filing) c.self.view_is in
     let later = seen_later _ _ _ _ c.self.invariant _ _ seen c.requires.none_due in
     let first = rw c.digit-own.ensures at c.in-Some.ensures in
     let opened = rw (c.slot_start-start.ensures, c.deref.ensures.value, c.deref_mut.ensures.value) at c.open-made.ensures in
-    rw c.slot_start-start.ensures (in_reach _ _ _ _ (lawful_opened _ _ _ _ c.self.invariant _ first.0 first.1 first.2 later _ _ _ opened))
+    rw c.slot_start-start.ensures (none_before _ _ _ _ (lawful_opened _ _ _ _ c.self.invariant _ first.0 first.1 first.2 later _ _ _ opened))
 
-pub returns-clause-rises : goal.returns-clause-rises
-returns-clause-rises g c below =
+pub returns-clause-onward : goal.returns-clause-onward
+returns-clause-onward g c below =
     let seen = ap (λ w. w.filing) c.self.view_is in
     let later = seen_later _ _ _ _ c.self.invariant _ _ seen c.requires.none_due in
     let first = rw c.digit-own.ensures at c.in-Some.ensures in
