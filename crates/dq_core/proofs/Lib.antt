@@ -1,5 +1,11 @@
 mod Cells
+pub mod Finds
+pub mod Inserts
+pub mod Law
 pub mod Searches
 pub mod Shelves
+pub mod Slotwise
+pub mod Steps
 pub mod Turns
+pub mod Ways
 pub mod WordRow

@@ -1,4 +1,7 @@
+pub mod Calls
 pub mod Cells
+pub mod Core
+pub mod Machine
 pub mod Plain
 pub mod Shelved
 pub mod Slots

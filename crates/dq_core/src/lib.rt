@@ -4,13 +4,17 @@
 pub mod errors;
 #[cfg(test)]
 mod model;
+mod outcomes;
 pub mod plain;
+pub mod queue;
 pub mod slots;
 pub mod vec_words;
 pub mod words;
 
 pub use errors::{CoreConfig, CoreError};
+pub use outcomes::{Expired, Removed, Tally, Turn};
 pub use plain::{Pending, PlainQueue, PlainTurn};
+pub use queue::DelayCore;
 pub use slots::{Held, Slots};
 pub use vec_words::VecWords;
 pub use words::{CallError, Desk, Look, Settled, Words};

@@ -1,0 +1,92 @@
+-- A queue as its owner sees it, the machine that it is, and the shard law.
+use Rattle.std.specs.Prelude.{◌≡◌, ℕ, ◌+◌, ◌<◌, ◌≤◌, min, List, [], ◌∷◌, Option, Some, None, length}
+use Rattle.std.specs.List.{count_by, sum_by}
+use Rattle.dq_ticks.specs.declared.words.Parts.{Parts}
+use Rattle.dq_ticks.specs.declared.words.Mark.{Mark}
+use Rattle.dq_ticks.specs.declared.words.Mark.TheVariants.{LiveMark, CancelledMark, ExpiredMark, RemovedMark}
+use Rattle.dq_ticks.specs.declared.TheConstants.{LAST_TICK, LAST_STAMP}
+use Rattle.dq_ticks.specs.Units.{lap}
+use Rattle.dq_wheel.specs.State.{Filing, WheelState, filed_at}
+use Rattle.dq_core.specs.declared.slots.Held.{Held}
+use Rattle.dq_core.specs.Words.{Counts, word_at, IsOver, IsInForce}
+use Rattle.dq_core.specs.Slots.{Row, Shelf, row_at, is_held}
+use Rattle.dq_core.specs.Machine.{Entry, Slot, Machine}
+
+-- a queue: its number, the greatest accepted tick, the wheel, the slots, and of its words what is known, the keeper's
+-- own writes, and the words themselves
+pub record Core (T W : Type 0) : Type 0 where
+  pub shard : ℕ
+  pub noted : ℕ
+  pub wheel : WheelState
+  pub shelf : Shelf T
+  pub known : List Parts
+  pub counts : Counts
+  pub words : W
+
+-- the deadline in force of a word, none where it isn't live
+abbrev pub due_by : Mark → ℕ → Option ℕ
+due_by LiveMark d = Some d
+due_by CancelledMark d = None
+due_by ExpiredMark d = None
+due_by RemovedMark d = None
+
+abbrev pub entry_of : {T : Type 0} → Option (Held T) → Parts → Option (Entry T)
+entry_of None w = None
+entry_of (Some h) w = Some (record { born = h.born; value = h.value; due = due_by w.mark w.field })
+
+abbrev pub slot_of : {T : Type 0} → Row T → Parts → Slot T
+slot_of r w = record { stamp = r.stamp; entry = entry_of r.held w }
+
+abbrev pub slots_of : {T : Type 0} → List (Row T) → List Parts → List (Slot T)
+slots_of [] ws = []
+slots_of (r ∷ rs) [] = []
+slots_of (r ∷ rs) (w ∷ ws) = slot_of r w ∷ slots_of rs ws
+
+-- the machine by the known words
+abbrev pub machine_of : {T : Type 0} → ℕ → ℕ → List (Row T) → List Parts → Machine T
+machine_of tick noted rows known = record { tick = tick; noted = noted; slots = slots_of rows known }
+
+abbrev pub machine : {T W : Type 0} → Core T W → Machine T
+machine c = machine_of c.wheel.filing.tick c.noted c.shelf.rows c.known
+
+-- the furthest from its tick that a wheel files
+abbrev pub reach : ℕ
+reach = 68719476735
+
+-- where a deadline in force is filed at a tick: there, or as far ahead as the wheel reaches
+abbrev pub filing_for : ℕ → ℕ → ℕ
+filing_for tick d = min d (tick + reach)
+
+-- what is held, what is known and what is filed at one slot
+abbrev pub IsPlaced : {T : Type 0} → ℕ → ℕ → ℕ → Option (Held T) → Parts → Option ℕ → Type 0
+IsPlaced tick noted stamp None w None = IsOver w × (w.mark ≡ ExpiredMark → w.field ≤ noted)
+IsPlaced tick noted stamp (Some h) w (Some f) = IsInForce stamp f w × (tick ≤ f) × (f < tick + lap) × (h.born ≤ stamp)
+IsPlaced tick noted stamp None w (Some f) = ⊥
+IsPlaced tick noted stamp (Some h) w None = ⊥
+
+-- one slot: its known word has its stamp, and is in force where an entry is held, which is then filed no later than its
+-- deadline in force
+pub record IsSlot {T : Type 0} (tick noted last : ℕ) (r : Row T) (w : Parts) (f : Option ℕ) : Type 0 where
+  pub stamp : w.stamp ≡ r.stamp
+  pub bound : r.stamp ≤ last
+  pub placed : IsPlaced tick noted r.stamp r.held w f
+
+abbrev pub AreSlots : {T : Type 0} → ℕ → ℕ → ℕ → List (Row T) → List Parts → List (Option ℕ) → Type 0
+AreSlots tick noted last rows known filed = (i : ℕ) → i < length rows → IsSlot tick noted last (row_at rows i) (word_at known i) (filed_at filed i)
+
+-- the shard law
+pub record IsLawful {T : Type 0} (noted : ℕ) (wheel : Filing) (shelf : Shelf T) (known : List Parts) (counts : Counts) : Type 0 where
+  pub as_filed : length wheel.filed ≡ length shelf.rows
+  pub as_known : length known ≡ length shelf.rows
+  pub capacity : length shelf.rows ≤ 65536
+  pub last_bound : shelf.last_stamp ≤ LAST_STAMP
+  pub tick : wheel.tick ≤ noted
+  pub noted_bound : noted ≤ LAST_TICK
+  pub slots : AreSlots wheel.tick noted shelf.last_stamp shelf.rows known wheel.filed
+  -- no more entries were begun than stamps were given
+  pub stamps : counts.begins ≤ sum_by (λ r. r.stamp) shelf.rows
+  -- each that was begun is linked, or ended as expired, as removed or as cancelled
+  pub balance : counts.expiries + counts.removals + count_by is_held shelf.rows ≤ counts.begins
+
+abbrev pub IsLawfulCore : {T W : Type 0} → Core T W → Type 0
+IsLawfulCore c = IsLawful c.noted c.wheel.filing c.shelf c.known c.counts

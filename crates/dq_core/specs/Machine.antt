@@ -1,0 +1,129 @@
+-- The queue machine: a table of entries by slots, the wheel's tick and the noted tick, and its events.
+use Rattle.std.specs.Prelude.{◌≡◌, ℕ, ◌+◌, ◌<◌, ◌≤◌, max, nat_le, Bool, true, false, List, [], ◌∷◌, Option, Some, None, slice_index_or, slice_set, length, filter}
+use Rattle.std.specs.List.{AllByRecursion}
+
+-- an entry of the table: its birth stamp, its value, and its deadline in force, none where it is cancelled
+pub record Entry (T : Type 0) : Type 0 where
+  pub born : ℕ
+  pub value : T
+  pub due : Option ℕ
+
+-- a slot: its present stamp, and the entry that is linked there
+pub record Slot (T : Type 0) : Type 0 where
+  pub stamp : ℕ
+  pub entry : Option (Entry T)
+
+-- the table by slots, the wheel's tick and the noted tick
+pub record Machine (T : Type 0) : Type 0 where
+  pub tick : ℕ
+  pub noted : ℕ
+  pub slots : List (Slot T)
+
+pub data Event (T : Type 0) : Type 0 where
+  Note : (tick : ℕ) → Event T
+  Pass : (tick : ℕ) → Event T
+  Insert : (slot : ℕ) → (value : T) → (when : ℕ) → Event T
+  Reset : (slot born when : ℕ) → Event T
+  Extend : (slot stamp when : ℕ) → Event T
+  Cancel : (slot stamp : ℕ) → Event T
+  Remove : (slot born : ℕ) → Event T
+  Reap : (slot born : ℕ) → Event T
+  Expire : (slot born at : ℕ) → Event T
+
+abbrev pub slot_at : {T : Type 0} → Machine T → ℕ → Slot T
+slot_at m i = slice_index_or m.slots i (record { stamp = 0; entry = None })
+
+-- the machine with that stamp and entry at slot i
+abbrev pub put : {T : Type 0} → Machine T → ℕ → ℕ → Option (Entry T) → Machine T
+put m i s e = record { tick = m.tick; noted = m.noted; slots = slice_set m.slots i (record { stamp = s; entry = e }) }
+
+-- the entry e is linked at slot i
+abbrev pub Has : {T : Type 0} → Machine T → ℕ → Entry T → Type 0
+Has m i e = (i < length m.slots) × ((slot_at m i).entry ≡ Some e)
+
+-- no live entry has a deadline in force before t
+abbrev pub NoneLiveBefore : {T : Type 0} → Machine T → ℕ → Type 0
+NoneLiveBefore {T} m t = (i : ℕ) (e : Entry T) (d : ℕ) → (slot_at m i).entry ≡ Some e → e.due ≡ Some d → t ≤ d
+
+-- nothing is linked
+abbrev pub NoneLinked : {T : Type 0} → Machine T → Type 0
+NoneLinked m = (i : ℕ) → (slot_at m i).entry ≡ None
+
+abbrev pub is_due_by : ℕ → Option ℕ → Bool
+is_due_by t None = false
+is_due_by t (Some d) = nat_le d t
+
+abbrev pub is_due_entry : {T : Type 0} → ℕ → Option (Entry T) → Bool
+is_due_entry t None = false
+is_due_entry t (Some e) = is_due_by t e.due
+
+-- the due filter: the slots with a live entry whose deadline in force is at most t
+abbrev pub due : {T : Type 0} → Machine T → ℕ → List (Slot T)
+due m t = filter (λ s. is_due_entry t s.entry) m.slots
+
+abbrev pub with_due : {T : Type 0} → Entry T → Option ℕ → Option (Entry T)
+with_due e d = Some (record { born = e.born; value = e.value; due = d })
+
+-- one event of the machine whose stamps end at last
+abbrev pub Step : {T : Type 0} → ℕ → Machine T → Event T → Machine T → Type 0
+Step last m (Note t) n = n ≡ record { tick = m.tick; noted = max m.noted t; slots = m.slots }
+Step last m (Pass t) n = (m.tick ≤ t) × (t ≤ m.noted) × NoneLiveBefore m t × (n ≡ record { tick = t; noted = m.noted; slots = m.slots })
+Step last m (Insert i v when) n =
+    (i < length m.slots) × ((slot_at m i).entry ≡ None) × ((slot_at m i).stamp < last) × (n ≡ put m i ((slot_at m i).stamp + 1) (Some (record { born = (slot_at m i).stamp + 1; value = v; due = Some (max when m.tick) })))
+Step {T} last m (Reset i b when) n =
+    (e : Entry T) × (d : ℕ) × Has m i e × (e.born ≡ b) × (e.due ≡ Some d) × ((slot_at m i).stamp < last) × (n ≡ put m i ((slot_at m i).stamp + 1) (with_due e (Some (max when m.tick))))
+Step {T} last m (Extend i s when) n =
+    (e : Entry T) × (d : ℕ) × Has m i e × ((slot_at m i).stamp ≡ s) × (e.due ≡ Some d) × (n ≡ put m i s (with_due e (Some (max when d))))
+Step {T} last m (Cancel i s) n =
+    (e : Entry T) × (d : ℕ) × Has m i e × ((slot_at m i).stamp ≡ s) × (e.due ≡ Some d) × (n ≡ put m i s (with_due e None))
+Step {T} last m (Remove i b) n =
+    (e : Entry T) × (d : ℕ) × Has m i e × (e.born ≡ b) × (e.due ≡ Some d) × (n ≡ put m i (slot_at m i).stamp None)
+Step {T} last m (Reap i b) n = (e : Entry T) × Has m i e × (e.born ≡ b) × (e.due ≡ None) × (n ≡ put m i (slot_at m i).stamp None)
+Step {T} last m (Expire i b at) n =
+    (e : Entry T) × Has m i e × (e.born ≡ b) × (e.due ≡ Some at) × (at ≡ m.tick) × (at ≤ m.noted) × NoneLiveBefore m at × (n ≡ put m i (slot_at m i).stamp None)
+
+-- a list of events, one after the other
+abbrev pub Run : {T : Type 0} → ℕ → Machine T → List (Event T) → Machine T → Type 0
+Run last m [] n = n ≡ m
+Run {T} last m (e ∷ es) n = (k : Machine T) × Step last m e k × Run last k es n
+
+-- what may come between a call's own events: steps of callers, where there are any
+abbrev pub IsCallers : {T : Type 0} → Bool → Event T → Type 0
+IsCallers shared (Extend i s when) = shared ≡ true
+IsCallers shared (Cancel i s) = shared ≡ true
+IsCallers shared e = ⊥
+
+-- the events of a poll on its way: it reaps, it passes to another tick, and callers' steps come between
+abbrev pub IsOnTheWay : {T : Type 0} → Bool → Event T → Type 0
+IsOnTheWay shared (Reap i b) = Unit {0}
+IsOnTheWay shared (Pass t) = Unit {0}
+IsOnTheWay shared e = IsCallers shared e
+
+-- the events of a sweep: it reaps, and callers' steps come between
+abbrev pub IsReaping : {T : Type 0} → Bool → Event T → Type 0
+IsReaping shared (Reap i b) = Unit {0}
+IsReaping shared e = IsCallers shared e
+
+-- the events of a clear: it removes and reaps, and callers' steps come between
+abbrev pub IsClearing : {T : Type 0} → Bool → Event T → Type 0
+IsClearing shared (Reap i b) = Unit {0}
+IsClearing shared (Remove i b) = Unit {0}
+IsClearing shared e = IsCallers shared e
+
+-- how many of the events are removals
+abbrev pub removes : {T : Type 0} → List (Event T) → ℕ
+removes [] = 0
+removes ((Remove i b) ∷ es) = removes es + 1
+removes (e ∷ es) = removes es
+
+-- a run of events of one kind
+abbrev pub RunOf : {T : Type 0} → (Event T → Type 0) → ℕ → Machine T → Machine T → Type 0
+RunOf {T} P last m n = (es : List (Event T)) × AllByRecursion P es × Run last m es n
+
+-- callers' steps alone, as far as the keeper learns of them
+abbrev pub Callers : {T : Type 0} → Bool → ℕ → Machine T → Machine T → Type 0
+Callers shared last m n = RunOf (IsCallers shared) last m n
+
+-- over words that nobody shares no step of a caller comes between
+abbrev pub OwnEventsAlone : Type 0 → Type 0
+OwnEventsAlone T = (last : ℕ) (m n : Machine T) → Callers false last m n → n ≡ m

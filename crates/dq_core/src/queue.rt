@@ -1,0 +1,356 @@
+//! The queue of one owner: a wheel of filed indexes, a row of slots and a row of words.
+//!
+//! Each entry has a slot, and its deadline in force stands in the slot's word, where callers may extend it without the
+//! owner. The wheel files the index no later than that deadline; where an entry comes due there and its word has a later
+//! deadline, it is filed again.
+
+ghost use Rattle.std.specs.Prelude.{◌≡◌, ◌≢◌, ℕ, ◌+◌, ◌<◌, ◌≤◌, max, length, ◌↔◌, IfOk, IfErr, IfSome, IfNone, MatchOption, Some, None, List, [], ◌∷◌, Ok, Err, IsTrue, replicate};
+ghost use Rattle.std.specs.List.{count_by};
+ghost use Rattle.dq_core.specs.Core.{filing_for as file_at};
+ghost use Rattle.dq_core.specs.Slots.{unused, is_held, is_worn};
+ghost use Rattle.dq_core.specs.Words.{AreFresh};
+ghost use Rattle.dq_core.specs.Calls.{IsConfig};
+ghost use Rattle.dq_wheel.specs.State.{fresh_filing};
+
+use crate::errors::{CoreConfig, CoreError};
+use crate::outcomes::{Expired, Progress, Removed, Tally, Turn};
+use crate::slots::Slots;
+use crate::words::{Settled, Words};
+use dq_ticks::{EntryId, Key, LAST_STAMP, LAST_TICK, Mark};
+use dq_wheel::Wheel;
+use std::alloc::{AllocError, Allocator, Global};
+use std::marker::Model;
+
+/// A queue of one owner.
+#[derive(Drop)]
+pub struct DelayCore<T, W: Words, A: Allocator = Global> {
+    pub(crate) shard: u32,
+    pub(crate) noted: u64,
+    pub(crate) wheel: Wheel<A>,
+    pub(crate) slots: Slots<T, A>,
+    pub(crate) words: W,
+    pub(crate) inserted: u64,
+    pub(crate) expired: u64,
+    pub(crate) removed: u64,
+}
+
+impl<T, W: Words, A: Allocator> Model for DelayCore<T, W, A> {
+    ghost use Rattle.std.specs.Prelude.{◌≡◌};
+    ghost use Rattle.dq_core.specs.Core.{Core, IsLawful};
+
+    ghost Value = { Core T W };
+
+    ghost view = { λ a. record { shard = a.shard; noted = a.noted; wheel = a.wheel; shelf = a.slots; known = W.known a.words; counts = W.counts a.words; words = a.words } };
+
+    ghost invariant = { λ a. IsLawful a.noted a.wheel.filing a.slots (W.known a.words) (W.counts a.words) × (W.counts a.words ≡ record { begins = a.inserted; expiries = a.expired; removals = a.removed }) };
+}
+
+/// The greatest number of slots.
+const CAPACITY_LIMIT: usize = 65536;
+
+/// Whether the numbers of a configuration are in their ranges, and the words are as many as its slots.
+fn is_config(config: &CoreConfig, rows: usize) -> bool
+    ensures { IsTrue result ↔ IsConfig config.now.capacity config.now.last_stamp rows }
+{
+    0 < config.capacity
+        && config.capacity <= CAPACITY_LIMIT
+        && 0 < config.last_stamp
+        && config.last_stamp <= LAST_STAMP
+        && rows == config.capacity
+}
+
+/// The rows that a queue takes memory for: its wheel and its slots.
+fn rows<T: Drop, A: Allocator + Clone>(
+    alloc: A,
+    capacity: usize,
+    last: u32,
+) -> Result<(Wheel<A>, Slots<T, A>), AllocError>
+    requires some { 0 < capacity }
+    requires few { capacity ≤ 65536 }
+    requires used { 0 < last }
+    requires bound { last ≤ LAST_STAMP }
+    ensures { IfOk result (λ r. (r.0.filing ≡ fresh_filing capacity) × (r.1 ≡ record { last_stamp = last; rows = replicate capacity unused })) }
+{
+    let other = alloc.clone()?;
+    let slots = Slots::new(other, capacity, last)?;
+    match Wheel::new(alloc, capacity) {
+        Ok(wheel) => Ok((wheel, slots)),
+        Err(_) => Err(AllocError),
+    }
+}
+
+/// The furthest from its tick that a wheel files.
+const REACH: u64 = 68719476735;
+
+/// Where a deadline is filed at a tick.
+fn filing_for(tick: u64, deadline: u64) -> u64
+    requires tick { tick ≤ LAST_TICK }
+    requires deadline { deadline ≤ LAST_TICK }
+    ensures { result ≡ file_at tick deadline }
+{
+    deadline.min(tick + REACH)
+}
+
+impl<T: Drop, W: Words + Drop, A: Allocator + Clone> DelayCore<T, W, A> {
+    ghost use Rattle.dq_core.specs.Calls.{IsMade};
+
+    /// A queue over fresh words, with nothing linked; the words come back where it is refused.
+    pub fn new(alloc: A, config: CoreConfig, words: W) -> Result<DelayCore<T, W, A>, (CoreError, W)>
+        requires { AreFresh (W.known words) (W.counts words) }
+        ensures { IsMade config words (W.known words) (W.counts words) result }
+    {
+        if !is_config(&config, words.rows()) {
+            return Err((CoreError::BadConfig, words));
+        }
+        match rows(alloc, config.capacity, config.last_stamp) {
+            Ok((wheel, slots)) => Ok(DelayCore {
+                shard: config.shard,
+                noted: 0,
+                wheel,
+                slots,
+                words,
+                inserted: 0,
+                expired: 0,
+                removed: 0,
+            }),
+            Err(AllocError) => Err((CoreError::NoMemory, words)),
+        }
+    }
+}
+
+impl<T: Drop, W: Words, A: Allocator> DelayCore<T, W, A> {
+    ghost use Rattle.dq_wheel.specs.Lawful.{IsLawfulWheel};
+    ghost use Rattle.dq_core.specs.Core.{Core, machine, IsLawfulCore};
+    ghost use Rattle.dq_core.specs.Calls.{SameCore, Inserts, IsProgress, noting, Polls, TellsWake, IsFind, TellsDeadline, Removes, Resets};
+
+    /// The shard law, and what the wheel's own law says of this queue's wheel.
+    pub fn law(&self)
+        ensures shard { IsLawfulCore self.now }
+        ensures wheel { IsLawfulWheel self.now.wheel }
+    {
+        self.wheel.law();
+    }
+
+    /// The greatest accepted tick.
+    pub fn noted(&self) -> u64
+        ensures { result ≡ self.now.noted }
+    {
+        self.noted
+    }
+
+    /// The wheel's tick.
+    pub fn tick(&self) -> u64
+        ensures { result ≡ self.now.wheel.filing.tick }
+    {
+        self.wheel.tick()
+    }
+
+    /// Puts an entry in.
+    pub fn insert(&mut self, value: T, when: u64) -> Result<Key, (CoreError, T)>
+        ensures same { SameCore self.old self.new }
+        ensures inserts { Inserts self.old value when result self.new }
+    {
+        if when > LAST_TICK {
+            return Err((CoreError::TooFar { limit: LAST_TICK }, value));
+        }
+        match self.slots.fill(value) {
+            Ok(index) => {
+                let stamp = self.slots.stamp(index);
+                let tick = self.wheel.tick();
+                let base = when.max(tick);
+                self.words.begin(index, stamp, base);
+                self.wheel.link(index, filing_for(tick, base));
+                self.inserted += 1;
+                let entry = EntryId::new(self.shard, index as u32, stamp);
+                Ok(Key::new(entry, stamp))
+            }
+            Err(value) => {
+                let full = CoreError::Full {
+                    linked: self.slots.linked(),
+                    worn: self.slots.worn(),
+                };
+                Err((full, value))
+            }
+        }
+    }
+
+    /// One step of a poll: settles an index that is due, or goes on to a later tick.
+    fn step(&mut self) -> Progress<T>
+        ensures same { SameCore self.old self.new }
+        ensures noted { self.new.noted ≡ self.old.noted }
+        ensures progress { IsProgress W.shared self.old result self.new }
+    {
+        let tick = self.wheel.tick();
+        let Some(index) = self.wheel.pop_due() else {
+            if tick < self.noted {
+                self.wheel.advance(self.noted);
+                return Progress::Went;
+            }
+            return Progress::Rests;
+        };
+        let stamp = self.slots.stamp(index);
+        match self.words.settle(index, stamp, tick) {
+            Settled::SettledExpired => {
+                let held = self.slots.vacate(index);
+                self.expired += 1;
+                let entry = EntryId::new(self.shard, index as u32, held.born);
+                Progress::Gave(Expired {
+                    key: Key::new(entry, stamp),
+                    deadline: tick,
+                    noted: self.noted,
+                    value: held.value,
+                })
+            }
+            Settled::Later(deadline) => {
+                self.wheel.link(index, filing_for(tick, deadline));
+                Progress::Went
+            }
+            Settled::SettledCancelled => {
+                self.slots.vacate(index);
+                Progress::Went
+            }
+        }
+    }
+
+    /// The next wake: the tick at which the queue has something to do, none where nothing is linked.
+    pub fn next_wake(&self) -> Option<u64>
+        ensures { TellsWake self.now result }
+    {
+        self.wheel.next_wake()
+    }
+
+    /// Notes a tick.
+    fn note(&mut self, tick: u64)
+        requires { tick ≤ LAST_TICK }
+        ensures { self.new ≡ noting self.old tick }
+    {
+        self.noted = self.noted.max(tick);
+    }
+
+    /// Takes out an entry whose deadline is reached, or says when to come again.
+    pub fn poll(&mut self, tick: u64) -> Result<Turn<T>, CoreError>
+        ensures same { SameCore self.old self.new }
+        ensures polls { Polls W.shared self.old tick result self.new }
+    {
+        if tick > LAST_TICK {
+            return Err(CoreError::TickTooLarge { limit: LAST_TICK });
+        }
+        self.note(tick);
+        'steps: loop {
+            match self.step() {
+                Progress::Gave(expired) => return Ok(Turn::Out(expired)),
+                Progress::Went => {}
+                Progress::Rests => break 'steps,
+            }
+        }
+        match self.next_wake() {
+            Some(next) => Ok(Turn::Waiting { next }),
+            None => Ok(Turn::Idle),
+        }
+    }
+
+    /// The number of linked entries.
+    pub fn len(&self) -> usize
+        ensures { result ≡ count_by is_held self.now.shelf.rows }
+    {
+        self.slots.linked()
+    }
+
+    /// Whether nothing is linked.
+    pub fn is_empty(&self) -> bool
+        ensures { IsTrue result ↔ (count_by is_held self.now.shelf.rows ≡ 0) }
+    {
+        self.slots.linked() == 0
+    }
+
+    /// The number of slots.
+    pub fn capacity(&self) -> usize
+        ensures { result ≡ length self.now.shelf.rows }
+    {
+        self.slots.capacity()
+    }
+
+    /// Where an entry is held, none where it is missing.
+    pub(crate) fn find(&self, entry: &EntryId) -> Option<usize>
+        ensures { IsFind self.now entry.now result }
+    {
+        if entry.shard() != self.shard {
+            return None;
+        }
+        let index = entry.index() as usize;
+        if index >= self.slots.capacity() {
+            return None;
+        }
+        let Some(born) = self.slots.born(index) else {
+            return None;
+        };
+        if born != entry.born() {
+            return None;
+        }
+        Some(index)
+    }
+
+    /// The deadline in force of an entry.
+    pub fn deadline(&mut self, entry: &EntryId) -> Result<u64, CoreError>
+        ensures same { SameCore self.old self.new }
+        ensures tells { TellsDeadline W.shared self.old entry.now result self.new }
+    {
+        let Some(index) = self.find(entry) else {
+            return Err(CoreError::Missing);
+        };
+        let word = self.words.look(index);
+        let Mark::CancelledMark = word.mark else {
+            return Ok(word.field);
+        };
+        Err(CoreError::WasCancelled)
+    }
+
+    /// Takes a live entry out.
+    pub fn remove(&mut self, entry: &EntryId) -> Result<Removed<T>, CoreError>
+        ensures same { SameCore self.old self.new }
+        ensures removes { Removes W.shared self.old entry.now result self.new }
+    {
+        let Some(index) = self.find(entry) else {
+            return Err(CoreError::Missing);
+        };
+        let stamp = self.slots.stamp(index);
+        let Some(deadline) = self.words.finish(index, stamp) else {
+            return Err(CoreError::WasCancelled);
+        };
+        self.wheel.unlink(index);
+        let held = self.slots.vacate(index);
+        self.removed += 1;
+        Ok(Removed {
+            key: Key::new(*entry, stamp),
+            deadline,
+            value: held.value,
+        })
+    }
+
+    /// Gives a live entry another deadline, and the slot's next stamp.
+    pub fn reset(&mut self, entry: &EntryId, when: u64) -> Result<Key, CoreError>
+        ensures same { SameCore self.old self.new }
+        ensures resets { Resets W.shared self.old entry.now when result self.new }
+    {
+        if when > LAST_TICK {
+            return Err(CoreError::TooFar { limit: LAST_TICK });
+        }
+        let Some(index) = self.find(entry) else {
+            return Err(CoreError::Missing);
+        };
+        let stamp = self.slots.stamp(index);
+        if stamp == self.slots.last() {
+            self.deadline(entry)?;
+            return Err(CoreError::Worn);
+        }
+        let tick = self.wheel.tick();
+        let base = when.max(tick);
+        let Some(_) = self.words.renew(index, stamp, base) else {
+            return Err(CoreError::WasCancelled);
+        };
+        self.wheel.unlink(index);
+        self.wheel.link(index, filing_for(tick, base));
+        self.slots.raise(index);
+        Ok(Key::new(*entry, stamp + 1))
+    }
+}
