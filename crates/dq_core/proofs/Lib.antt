@@ -1,7 +1,9 @@
 mod Cells
+pub mod Clearing
 pub mod Finds
 pub mod Inserts
 pub mod Law
+pub mod Leaving
 pub mod Searches
 pub mod Shelves
 pub mod Slotwise

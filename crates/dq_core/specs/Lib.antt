@@ -6,5 +6,6 @@ pub mod Plain
 pub mod Shelved
 pub mod Slots
 pub mod Soonest
+pub mod Sweeps
 pub mod WordRows
 pub mod Words

@@ -8,6 +8,7 @@ mod outcomes;
 pub mod plain;
 pub mod queue;
 pub mod slots;
+mod sweeps;
 pub mod vec_words;
 pub mod words;
 

@@ -1,0 +1,23 @@
+use Rattle.std.proofs.Common.{arith}
+use Rattle.dq_core.proofs.Clearing.{clear_on, clear_ends}
+use Rattle.dq_core.proofs.queue.DelayCore.clear.Goals.{then-clear_at, else-clear_at}
+use Rattle.dq_core.proofs.queue.DelayCore.clear.Goals as goal
+
+pub loop-index-preserved : goal.loop-index-preserved
+loop-index-preserved g c =
+    let to = c.loop-index.invariant.1 in
+    let few = to.few in
+    elim c.if-clear_at.branch [
+      | then-clear_at w ↦
+          let up = w.removed-is in
+          (c.loop-index.invariant.0, clear_on g.W.Words.shared c.args.self.now c.loop-index.self c.clear_at.new.self c.loop-index.index c.loop-index.removed c.if-clear_at.removed c.clear_at.result to c.clear_at.ensures.same c.clear_at.ensures.emptied (rw w.if-clear_at.true up) (omega (arith, up, few)))
+      | else-clear_at w ↦
+          let up = w.removed-is in
+          (c.loop-index.invariant.0, clear_on g.W.Words.shared c.args.self.now c.loop-index.self c.clear_at.new.self c.loop-index.index c.loop-index.removed c.if-clear_at.removed c.clear_at.result to c.clear_at.ensures.same c.clear_at.ensures.emptied (rw w.if-clear_at.false (omega (arith, up))) (omega (arith, up, few)))
+    ]
+
+pub returns-clause-clears : goal.returns-clause-clears
+returns-clause-clears g c =
+    let past = c.loop-index-test.false in
+    let size = c.loop-index.invariant.0 in
+    clear_ends g.W.Words.shared c.args.self.now c.loop-index.self c.loop-index.index c.loop-index.removed c.loop-index.invariant.1 (omega (arith, past, size))

@@ -1,0 +1,6 @@
+use Rattle.std.proofs.Common.{◌≡◌, length}
+use Rattle.dq_core.proofs.Clearing.{IsOnClear}
+use Rattle.dq_core.proofs.queue.DelayCore.clear.Given as goal
+
+abbrev pub invariant-loop-index : goal.invariant-loop-index
+invariant-loop-index g l = (l.index-end ≡ length l.fn.self.shelf.rows) × IsOnClear g.W.Words.shared l.fn.self l.index l.removed l.self
