@@ -1,3 +1,5 @@
+pub mod Asks
+pub mod ByKey
 mod Cells
 pub mod Clearing
 pub mod Finds

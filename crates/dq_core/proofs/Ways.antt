@@ -137,7 +137,7 @@ module _ {T : Type 0} (shared : Bool) (last tick noted : ℕ) (rows : List (Row 
   pub with_word : (v : Parts) → machine_of tick noted rows (set known i v) ≡ put (machine_of tick noted rows known) i (row_at rows i).stamp (Some (record { born = h.born; value = h.value; due = due_by v.mark v.field }))
   with_word v = ap (λ s. let m : Machine T = record { tick = tick; noted = noted; slots = s } in m) (slots_set_known rows known i v ∙ ap (λ s. set (slots_of rows known) i s) (held_slot v))
 
-  live_due : (word_at known i).mark ≡ LiveMark → due_by (word_at known i).mark (word_at known i).field ≡ Some (word_at known i).field
+  pub live_due : (word_at known i).mark ≡ LiveMark → due_by (word_at known i).mark (word_at known i).field ≡ Some (word_at known i).field
   live_due e = ap (λ m. due_by m (word_at known i).field) e
 
   pub learned_way : (v : Parts) → Learned shared (word_at known i) v → Callers shared last (machine_of tick noted rows known) (machine_of tick noted rows (set known i v))

@@ -1,8 +1,10 @@
 pub mod Calls
 pub mod Cells
 pub mod Core
+pub mod KeyCalls
 pub mod Machine
 pub mod Plain
+pub mod Readers
 pub mod Shelved
 pub mod Slots
 pub mod Soonest

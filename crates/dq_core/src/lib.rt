@@ -1,12 +1,15 @@
 //! One owner's delay queue over a row of words.
 #![tactic(auto)]
 
+mod desk;
 pub mod errors;
+mod key_calls;
 #[cfg(test)]
 mod model;
 mod outcomes;
 pub mod plain;
 pub mod queue;
+mod readers;
 pub mod slots;
 mod sweeps;
 pub mod vec_words;

@@ -1,0 +1,42 @@
+-- What the readers of a queue tell.
+use Rattle.std.specs.Prelude.{◌≡◌, ℕ, ◌+◌, Option, Some, None}
+use Rattle.std.specs.List.{count_by}
+use Rattle.dq_wheel.specs.State.{filed_at, IsLeast}
+use Rattle.dq_wheel.specs.Places.{place_for}
+use Rattle.dq_wheel.specs.declared.wheel.Place.{Place}
+use Rattle.dq_ticks.specs.declared.keys.Key.{Key}
+use Rattle.dq_ticks.specs.declared.keys.EntryId.{EntryId}
+use Rattle.dq_core.specs.declared.outcomes.Tally.{Tally}
+use Rattle.dq_core.specs.Slots.{is_held}
+use Rattle.dq_core.specs.Machine.{slot_at, NoneLinked}
+use Rattle.dq_core.specs.Core.{Core, machine}
+use Rattle.dq_core.specs.Calls.{IsLinked, IsMissing}
+
+-- the keeper's own writes, the linked entries and the wheel's moves; each entry that was inserted is linked, or has ended
+-- as expired, as removed or as cancelled
+pub record IsTally {T W : Type 0} (c : Core T W) (t : Tally) : Type 0 where
+  pub begins : c.counts.begins ≡ t.inserted
+  pub expiries : c.counts.expiries ≡ t.expired
+  pub removals : c.counts.removals ≡ t.removed
+  pub linked : t.linked ≡ count_by is_held c.shelf.rows
+  pub sum : t.inserted ≡ t.expired + t.removed + t.cancelled + t.linked
+  pub moves : t.moves ≡ c.wheel.filing.moved
+
+-- a linked entry that is filed least, with its key of the present stamp; none exactly where nothing is linked
+abbrev pub TellsLeast : {T W : Type 0} → Core T W → Option Key → Type 0
+TellsLeast c None = NoneLinked (machine c)
+TellsLeast c (Some k) = IsLinked c k.entry × ((slot_at (machine c) k.entry.index).stamp ≡ k.stamp) × IsLeast c.wheel.filing.filed k.entry.index
+
+-- the place of a linked entry
+abbrev pub TellsPlace : {T W : Type 0} → Core T W → EntryId → Option Place → Type 0
+TellsPlace c id None = IsMissing c id
+TellsPlace c id (Some place) = IsLinked c id × (place ≡ place_for c.wheel.filing.tick (filed_at c.wheel.filing.filed id.index))
+
+-- where a linked entry is filed
+abbrev pub TellsFiled : {T W : Type 0} → Core T W → EntryId → Option ℕ → Type 0
+TellsFiled c id None = IsMissing c id
+TellsFiled c id (Some filed) = IsLinked c id × (filed_at c.wheel.filing.filed id.index ≡ Some filed)
+
+-- a queue with other words that are known alike
+abbrev pub with_words : {T W : Type 0} → Core T W → W → Core T W
+with_words c w = record { shard = c.shard; noted = c.noted; wheel = c.wheel; shelf = c.shelf; known = c.known; counts = c.counts; words = w }

@@ -1,0 +1,37 @@
+//! The callers of a queue's words.
+
+ghost use Rattle.std.specs.Prelude.{◌≡◌, ◌+◌, ◌≤◌, IfOk};
+
+use crate::queue::DelayCore;
+use crate::words::Desk;
+use std::alloc::Allocator;
+
+impl<T: Drop, W: Desk, A: Allocator> DelayCore<T, W, A> {
+    ghost use Rattle.dq_core.specs.Readers.{with_words};
+
+    /// Issues a caller of the words.
+    pub fn issue(&mut self) -> Result<W::Caller, W::Fault>
+        ensures issued { W.issues self.old.words result self.new.words }
+        ensures same { self.new ≡ with_words self.old self.new.words }
+    {
+        self.words.issue()
+    }
+
+    /// The issued callers that are not given back.
+    pub fn out(&mut self) -> u64
+        ensures told { W.tells self.old.words result self.new.words }
+        ensures same { self.new ≡ with_words self.old self.new.words }
+    {
+        self.words.out()
+    }
+
+    /// The accepted cancels of all callers, where none is out; else the number of callers that are out.
+    pub fn returned(&mut self) -> Result<u64, u64>
+        ensures returned { W.returns self.old.words result self.new.words }
+        ensures same { self.new ≡ with_words self.old self.new.words }
+        ensures counts { self.new.counts ≡ W.counts self.new.words }
+        ensures audit { IfOk result (λ c. W.audited self.new.words c × (self.new.counts.expiries + self.new.counts.removals + c ≤ self.new.counts.begins)) }
+    {
+        self.words.returned()
+    }
+}

@@ -1,0 +1,53 @@
+//! The calls by key of a queue over plain words. Over shared words a caller makes them without the queue.
+
+use crate::queue::DelayCore;
+use crate::vec_words::VecWords;
+use crate::words::{CallError, Look};
+use dq_ticks::{Key, LAST_TICK};
+use std::alloc::Allocator;
+
+impl<T: Drop, A: Allocator> DelayCore<T, VecWords<A>, A> {
+    ghost use Rattle.dq_core.specs.Calls.{SameCore};
+    ghost use Rattle.dq_core.specs.Machine.{OwnEventsAlone};
+    ghost use Rattle.dq_core.specs.KeyCalls.{Extends, Cancels, Shows};
+
+    /// Over plain words no step of a caller comes between: each call is a run of its own events alone.
+    pub fn own_events_alone(&self)
+        ensures { OwnEventsAlone T }
+    {}
+
+    /// Raises the deadline in force of a live entry, and answers the deadline that is then in force.
+    pub fn extend(&mut self, key: &Key, when: u64) -> Result<u64, CallError>
+        ensures same { SameCore self.old self.new }
+        ensures extends { Extends self.old key.now when result self.new }
+    {
+        if when > LAST_TICK {
+            return Err(CallError::TooFar { limit: LAST_TICK });
+        }
+        if key.entry().shard() != self.shard {
+            return Err(CallError::Unknown);
+        }
+        self.words.extend(key, when)
+    }
+
+    /// Cancels a live entry, which stays linked until it is reaped, and answers the deadline that it gives up.
+    pub fn cancel(&mut self, key: &Key) -> Result<u64, CallError>
+        ensures same { SameCore self.old self.new }
+        ensures cancels { Cancels self.old key.now result self.new }
+    {
+        if key.entry().shard() != self.shard {
+            return Err(CallError::Unknown);
+        }
+        self.words.cancel(key)
+    }
+
+    /// What the word that a key names shows.
+    pub fn look(&self, key: &Key) -> Result<Look, CallError>
+        ensures { Shows self.now key.now result }
+    {
+        if key.entry().shard() != self.shard {
+            return Err(CallError::Unknown);
+        }
+        self.words.look_key(key)
+    }
+}

@@ -1,0 +1,70 @@
+//! What a queue tells of itself and of its entries.
+
+ghost use Rattle.std.specs.Prelude.{◌≡◌, ℕ};
+ghost use Rattle.std.specs.List.{count_by};
+ghost use Rattle.dq_core.specs.Slots.{is_worn};
+
+use crate::outcomes::Tally;
+use crate::queue::DelayCore;
+use crate::words::Words;
+use dq_ticks::{EntryId, Key};
+use dq_wheel::Place;
+use std::alloc::Allocator;
+
+impl<T: Drop, W: Words, A: Allocator> DelayCore<T, W, A> {
+    ghost use Rattle.dq_core.specs.Readers.{IsTally, TellsLeast, TellsPlace, TellsFiled};
+
+    /// The number of worn slots, which hold nothing and have no stamp left.
+    pub fn worn(&self) -> usize
+        ensures { result ≡ count_by (is_worn self.now.shelf.last_stamp) self.now.shelf.rows }
+    {
+        self.slots.worn()
+    }
+
+    /// How many entries came and went.
+    pub fn tally(&self) -> Tally
+        ensures { IsTally self.now result }
+    {
+        let linked = self.slots.linked() as u64;
+        Tally {
+            inserted: self.inserted,
+            expired: self.expired,
+            removed: self.removed,
+            cancelled: self.inserted - self.expired - self.removed - linked,
+            linked,
+            moves: self.wheel.moved(),
+        }
+    }
+
+    /// A linked entry that is filed least, possibly a cancelled one; none where nothing is linked.
+    pub fn peek(&self) -> Option<Key>
+        ensures { TellsLeast self.now result }
+    {
+        let Some(index) = self.wheel.least() else {
+            return None;
+        };
+        let born = self.slots.born(index).unwrap();
+        let entry = EntryId::new(self.shard, index as u32, born);
+        Some(Key::new(entry, self.slots.stamp(index)))
+    }
+
+    /// Where an entry's index stands in the wheel; none where the entry is missing.
+    pub fn place(&self, entry: &EntryId) -> Option<Place>
+        ensures { TellsPlace self.now entry.now result }
+    {
+        let Some(index) = self.find(entry) else {
+            return None;
+        };
+        Some(self.wheel.place(index))
+    }
+
+    /// The tick by which an entry is filed; none where the entry is missing.
+    pub fn filed(&self, entry: &EntryId) -> Option<u64>
+        ensures { TellsFiled self.now entry.now result }
+    {
+        let Some(index) = self.find(entry) else {
+            return None;
+        };
+        self.wheel.filed(index)
+    }
+}
