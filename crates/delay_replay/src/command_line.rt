@@ -5,9 +5,8 @@ use clap::{Arg, Command, Error, value_parser};
 use dq_replay::CAPACITY_LIMIT;
 use std::alloc::Global;
 use std::convert::AsStr;
-use std::env;
-use std::io;
 use std::rt::Env;
+use std::{env, io};
 
 /// The capacity where none is given.
 const DEFAULT_CAPACITY: usize = 1024;
@@ -51,8 +50,51 @@ fn capacity_of<S: AsStr>(alloc: Global, words: &[S]) -> Result<usize, Error> {
         .default_value("1024");
     let command = Command::new(alloc, "delay-replay")
         .bin_name("delay-replay")?
-        .about("Replays a script of delays from standard input and writes its answers to standard output")
+        .about(
+            "Replays a script of delays from standard input and writes its answers to standard output",
+        )
         .arg(capacity)?;
     let matches = command.try_get_matches_from(words)?;
-    Ok(matches.get_one::<usize>("capacity").unwrap_or(DEFAULT_CAPACITY))
+    Ok(
+        matches
+            .get_one::<usize>("capacity")
+            .unwrap_or(DEFAULT_CAPACITY),
+    )
+}
+
+#[cfg(test)]
+mod tests {
+    use super::*;
+    use std::test::Fail;
+
+    #[test]
+    fn capacities(rt: HostRuntime) -> Result<(), Fail> {
+        for (words, capacity) in [
+            (["delay-replay"].as_slice(), 1024),
+            (["delay-replay", "--capacity", "1"].as_slice(), 1),
+            (["delay-replay", "--capacity=65536"].as_slice(), 65536),
+        ] {
+            let given = capacity_of(rt.alloc(), words)?;
+            assert_eq!(rt; given, capacity);
+        }
+        Ok(())
+    }
+
+    #[test]
+    fn refused_words(rt: HostRuntime) {
+        for (word, kind) in [
+            ("--capacity=0", ErrorKind::ValueValidation),
+            ("--capacity=65537", ErrorKind::ValueValidation),
+            ("--capacity=-1", ErrorKind::ValueValidation),
+            ("--capacity=ten", ErrorKind::ValueValidation),
+            ("--capacity", ErrorKind::InvalidValue),
+            ("script", ErrorKind::UnknownArgument),
+            ("--help", ErrorKind::DisplayHelp),
+        ] {
+            match capacity_of(rt.alloc(), ["delay-replay", word].as_slice()) {
+                Ok(_) => assert!(rt; false, "{word}"),
+                Err(error) => assert!(rt; error.kind() == kind, "{word}"),
+            }
+        }
+    }
 }
