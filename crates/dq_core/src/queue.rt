@@ -123,10 +123,12 @@ impl<T: Drop, W: Words, A: Allocator> DelayCore<T, W, A> {
     ghost use Rattle.dq_core.specs.Core.{Core, machine, IsLawfulCore};
     ghost use Rattle.dq_core.specs.Calls.{SameCore, Inserts, IsProgress, noting, Polls, TellsWake, IsFind, TellsDeadline, Removes, Resets};
 
-    /// The shard law, and what the wheel's own law says of this queue's wheel.
+    /// The shard law, what the wheel's own law says of this queue's wheel, and that what is known and counted is what
+    /// the words' keeper knows and has counted.
     pub fn law(&self)
         ensures shard { IsLawfulCore self.now }
         ensures wheel { IsLawfulWheel self.now.wheel }
+        ensures words { (self.now.known ≡ W.known self.now.words) × (self.now.counts ≡ W.counts self.now.words) }
     {
         self.wheel.law();
     }
