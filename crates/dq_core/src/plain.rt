@@ -5,9 +5,6 @@
 ghost use Rattle.std.specs.Prelude.{◌≡◌, ◌<◌, ◌==◌, length};
 ghost use Rattle.dq_core.specs.Soonest.{IsSoonest};
 
-#[cfg(test)]
-mod tests;
-
 use crate::errors::CoreError;
 use crate::vec_words::CAPACITY_LIMIT;
 use dq_ticks::LAST_TICK;

@@ -6,9 +6,6 @@
 ghost use Rattle.std.specs.Prelude.{◌≡◌, ℕ, ◌+◌, ◌<◌, ◌≤◌, ◌^◌, length, replicate, IfOk, Some, true};
 ghost use Rattle.std.specs.List.{count_by};
 
-#[cfg(test)]
-mod tests;
-
 use std::alloc::{AllocError, Allocator, Global};
 use std::marker::Model;
 

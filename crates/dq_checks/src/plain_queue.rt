@@ -1,5 +1,4 @@
-use super::{PlainQueue, PlainTurn};
-use crate::errors::CoreError;
+use dq_core::{CoreError, PlainQueue, PlainTurn};
 use linked_list_allocator::LocalHeap;
 use std::test::Fail;
 

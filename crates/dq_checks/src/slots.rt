@@ -1,4 +1,4 @@
-use super::Slots;
+use dq_core::Slots;
 use linked_list_allocator::LocalHeap;
 use std::test::Fail;
 

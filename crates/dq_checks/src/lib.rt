@@ -1,0 +1,14 @@
+//! The worked rows of the queue and of its parts, as tests. They stand in a crate of their own, since a crate is proved once
+//! more with its tests.
+#![tactic(auto)]
+
+#[cfg(test)]
+mod plain_queue;
+#[cfg(test)]
+mod plain_rows;
+#[cfg(test)]
+mod queues;
+#[cfg(test)]
+mod rows;
+#[cfg(test)]
+mod slots;
