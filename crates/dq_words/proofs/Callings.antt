@@ -1,5 +1,5 @@
 -- What a caller's load and step together tell.
-use Rattle.std.proofs.Common.{◌≡◌, ◌≢◌, ◌⊎◌, ℕ, ◌<◌, ◌≤◌, max, List, ◌∷◌, length, get_or, set, sym, ap, ◌∙◌, subst, inr, ⊎_elim, Ok, Err, get_or-set_same, set-set, arith}
+use Rattle.std.proofs.Common.{Result, MatchResult, ◌≡◌, ◌≢◌, ◌⊎◌, ℕ, ◌<◌, ◌≤◌, max, List, ◌∷◌, length, get_or, set, sym, ap, ◌∙◌, subst, inr, ⊎_elim, Ok, Err, get_or-set_same, set-set, arith}
 use Rattle.dq_ticks.specs.Keys.{KeyName}
 use Rattle.dq_ticks.specs.Word.{word, stamp_of, mark_of, field_of}
 use Rattle.dq_core.specs.declared.words.CallError.{CallError}
@@ -134,3 +134,7 @@ module _ (v u w : View) (k : KeyName) (m n : ℕ) (inside : k.entry.index < leng
         ap (λ (y : View). y.calls) whole,
       ))
       (λ (miss : (stamp_of n ≡ stamp_of new → mark_of n ≢ 0) × (w ≡ stepping u i n CallerLoad) × Fair u.calls i n). absurd (miss.0 (same ∙ sym at) live)) steps.1
+
+  pub calls_cancel : (new : ℕ) (r : Result ℕ CallError) → new ≡ word k.stamp 1 0 → Cancels u w i new n → MatchResult r (λ d. (stamp_of n ≡ k.stamp) × (mark_of n ≡ 0) × (d ≡ field_of n)) (λ e. Refuses n k.stamp e) → IsCancel v k r w
+  calls_cancel new (Ok d) is steps h = accepts_cancel new d is steps h.0 h.1 h.2
+  calls_cancel new (Err e) is steps h = refuses_cancel new e is steps h

@@ -11,6 +11,7 @@ use Rattle.dq_words.specs.declared.views.Write.TheVariants.{Begin, Expired, Rene
 abbrev pub most_begins : ℕ
 most_begins = 68719411200
 
+-- how often the writes begin an entry
 abbrev pub begins_in : List Write → ℕ
 begins_in [] = 0
 begins_in (Begin i s b ∷ ws) = begins_in ws + 1
@@ -18,6 +19,7 @@ begins_in (Expired i s d ∷ ws) = begins_in ws
 begins_in (Renewed i s d b ∷ ws) = begins_in ws
 begins_in (Removed i s d ∷ ws) = begins_in ws
 
+-- how often they end one as expired
 abbrev pub expiries_in : List Write → ℕ
 expiries_in [] = 0
 expiries_in (Begin i s b ∷ ws) = expiries_in ws
@@ -25,6 +27,7 @@ expiries_in (Expired i s d ∷ ws) = expiries_in ws + 1
 expiries_in (Renewed i s d b ∷ ws) = expiries_in ws
 expiries_in (Removed i s d ∷ ws) = expiries_in ws
 
+-- how often they end one as removed
 abbrev pub removals_in : List Write → ℕ
 removals_in [] = 0
 removals_in (Begin i s b ∷ ws) = removals_in ws
@@ -32,6 +35,7 @@ removals_in (Expired i s d ∷ ws) = removals_in ws
 removals_in (Renewed i s d b ∷ ws) = removals_in ws
 removals_in (Removed i s d ∷ ws) = removals_in ws + 1
 
+-- how many of the accepted calls are cancels
 abbrev pub cancels_in : List Call → ℕ
 cancels_in [] = 0
 cancels_in (Extend i s w ∷ cs) = cancels_in cs
@@ -42,12 +46,15 @@ abbrev pub total : (View → ℕ) → List View → ℕ
 total f [] = 0
 total f (v ∷ vs) = f v + total f vs
 
+-- 1 for a caller that was given back
 abbrev pub goes : View → ℕ
 goes v = if v.gone then 1 else 0
 
+-- the cancels of a caller that was given back
 abbrev pub gone_cancels : View → ℕ
 gone_cancels v = if v.gone then cancels_in v.calls else 0
 
+-- the cancels of a caller, given back or not
 abbrev pub own_cancels : View → ℕ
 own_cancels v = cancels_in v.calls
 
@@ -60,11 +67,12 @@ abbrev pub below : (ℕ → ℕ) → List ℕ → ℕ → ℕ
 below f words zero = 0
 below f words (suc k) = f (slice_index words k) + below f words k
 
--- the keeper's view is the first
+-- how many callers the keeper issued: its view is the first
 abbrev pub issued_in : List View → ℕ
 issued_in [] = 0
 issued_in (v ∷ vs) = v.issued
 
+-- the return word that the keeper saw last
 abbrev pub returns_in : List View → ℕ
 returns_in [] = 0
 returns_in (v ∷ vs) = v.returns

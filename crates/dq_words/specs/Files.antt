@@ -6,6 +6,7 @@ use Rattle.dq_words.specs.declared.views.Write.{Write}
 use Rattle.dq_words.specs.declared.views.Write.TheVariants.{Begin, Expired, Renewed, Removed}
 use Rattle.dq_words.specs.declared.views.View.{View}
 
+-- whether two slots and two stamps are the same
 abbrev pub is_at : ℕ → ℕ → ℕ → ℕ → Bool
 is_at i s j t = (i == j) && (s == t)
 
@@ -41,30 +42,36 @@ cancels_at i s [] = []
 cancels_at i s (Extend j t w ∷ cs) = cancels_at i s cs
 cancels_at i s (Cancel j t d ∷ cs) = with_if (is_at i s j t) d (cancels_at i s cs)
 
--- the keeper's view is the first
+-- the keeper's writes: its view is the first
 abbrev pub keeper_writes : List View → List Write
 keeper_writes [] = []
 keeper_writes (v ∷ vs) = v.writes
 
+-- f of the calls of each view, one after another
 abbrev pub gathered : {A : Type 0} → (List Call → List A) → List View → List A
 gathered f [] = []
 gathered f (v ∷ vs) = f v.calls ++ gathered f vs
 
+-- all that was written and called of one slot at one stamp
 pub record File : Type 0 where
   pub bases : List ℕ
   pub ends : List (ℕ × ℕ)
   pub extends : List ℕ
   pub cancels : List ℕ
 
+-- the file of a stamp that was not given
 abbrev pub blank : File
 blank = record { bases = []; ends = []; extends = []; cancels = [] }
 
+-- the file of four lists
 abbrev pub filed : List ℕ → List (ℕ × ℕ) → List ℕ → List ℕ → File
 filed a b c d = record { bases = a; ends = b; extends = c; cancels = d }
 
+-- what the views say of the slot i at the stamp s
 abbrev pub file : ℕ → ℕ → List View → File
 file i s views = filed (bases_at i s (keeper_writes views)) (ends_at i s (keeper_writes views)) (gathered (extends_at i s) views) (gathered (cancels_at i s) views)
 
+-- x is in the list
 abbrev pub Has : {A : Type 0} → List A → A → Type 0
 Has [] x = ⊥
 Has (y ∷ ys) x = (x ≡ y) ⊎ Has ys x
@@ -73,6 +80,6 @@ Has (y ∷ ys) x = (x ≡ y) ⊎ Has ys x
 abbrev pub Among : File → ℕ → Type 0
 Among f d = Has f.bases d ⊎ Has f.extends d
 
--- the deadline in force
+-- the deadline in force: the greatest of the base and the accepted extends
 abbrev pub IsDeadline : File → ℕ → Type 0
 IsDeadline f d = Among f d × ((x : ℕ) → Among f x → x ≤ d)

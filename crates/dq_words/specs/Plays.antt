@@ -26,24 +26,31 @@ Fair calls i n =
 abbrev pub stepping : View → ℕ → ℕ → StepKind → View
 stepping v i n kind = record v { seen = slice_set v.seen i n; steps = kind ∷ v.steps }
 
+-- the view of a caller whose step of the word k was accepted as an extend and left the word n
 abbrev pub extending : View → ℕ → ℕ → ℕ → View
 extending v i k n = record v { seen = slice_set v.seen i n; steps = ExtendMax ∷ v.steps; calls = Extend i (stamp_of k) (field_of k) ∷ v.calls }
 
+-- the view of a caller whose step of the word k was accepted as a cancel, gave up the deadline d and left the word n
 abbrev pub cancelling : View → ℕ → ℕ → ℕ → ℕ → View
 cancelling v i k d n = record v { seen = slice_set v.seen i n; steps = CancelMax ∷ v.steps; calls = Cancel i (stamp_of k) d ∷ v.calls }
 
+-- the view of the keeper that stored the word k
 abbrev pub beginning : View → ℕ → ℕ → View
 beginning v i k = record v { seen = slice_set v.seen i k; steps = BeginStore ∷ v.steps; writes = Begin i (stamp_of k) (field_of k) ∷ v.writes }
 
+-- the view of the keeper that exchanged the live word `old` for the expired word `new`
 abbrev pub expiring : View → ℕ → ℕ → ℕ → View
 expiring v i old new = record v { seen = slice_set v.seen i new; steps = SettleExchange ∷ v.steps; writes = Expired i (stamp_of old) (field_of old) ∷ v.writes }
 
+-- the same, for a live word of the next stamp
 abbrev pub renewing : View → ℕ → ℕ → ℕ → View
 renewing v i old new = record v { seen = slice_set v.seen i new; steps = RenewExchange ∷ v.steps; writes = Renewed i (stamp_of old) (field_of old) (field_of new) ∷ v.writes }
 
+-- the same, for the removed word
 abbrev pub removing : View → ℕ → ℕ → ℕ → View
 removing v i old new = record v { seen = slice_set v.seen i new; steps = FinishExchange ∷ v.steps; writes = Removed i (stamp_of old) (field_of old) ∷ v.writes }
 
+-- a seat: its view, and no slots
 abbrev pub Sat : Type 0
 Sat = Me ℕ View
 
@@ -104,6 +111,7 @@ hearing v n = record v { steps = ReturnLoad ∷ v.steps; returns = n }
 abbrev pub Audits : View → ℕ → Type 0
 Audits w c = (t : State ℕ View) × Ruled (length w.seen) t × (get_elem? t.views 0 ≡ some w) × (total goes t.views ≡ w.issued) × (total own_cancels t.views ≡ c)
 
+-- The keeper's load of the return word that found n: no more callers are gone than were issued, and their cancels and its own ends are no more than its begins. Where all are gone there is such a moment.
 abbrev pub Hears : View → View → ℕ → Type 0
 Hears v w n = (w ≡ hearing v n) × (n % 2048 ≤ v.issued) × ((expiries_in v.writes + removals_in v.writes) + n / 2048 ≤ begins_in v.writes) × (n % 2048 ≡ v.issued → Audits w (n / 2048))
 

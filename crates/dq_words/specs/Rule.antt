@@ -10,8 +10,7 @@ use Rattle.dq_words.specs.Word.{Left, Learned}
 use Rattle.dq_words.specs.Counts.{begins_in, expiries_in, removals_in, total, goes, gone_cancels, own_cancels, lives, below, issued_in, returns_in, given_in, InOrder}
 use Rattle.dq_words.specs.Files.{File, blank, file, keeper_writes, Has, Among, IsDeadline}
 
--- The word n of a slot, and one stamp s.
--- The stamp was not given.
+-- Of the word n of a slot, one stamp s and the stamp's file: the stamp was not given.
 pub record Unborn (n s : ℕ) (f : File) : Type 0 where
   pub none : f ≡ blank
   pub below : n < s * stamp_unit
@@ -50,6 +49,7 @@ pub record Ended (n s : ℕ) (f : File) : Type 0 where
   pub small : deadline ≤ LAST_TICK
   pub now : ((n ≡ word s mark deadline) × (1 < mark) × (mark < 4)) ⊎ Left n s
 
+-- what the rule says of one slot at one stamp
 abbrev pub Law : ℕ → ℕ → File → Type 0
 Law n s f = Unborn n s f ⊎ (Living n s f ⊎ (Cancelled n s f ⊎ Ended n s f))
 
@@ -60,13 +60,16 @@ HadAt x s f =
     ⊎ (((d : ℕ) × (x ≡ word s 1 0) × Has f.cancels d)
     ⊎ ((m : ℕ) × (d : ℕ) × (x ≡ word s m d) × (1 < m) × (m < 4) × (d ≤ LAST_TICK) × Has f.ends (m, d)))
 
+-- the slot i has had the word x
 abbrev pub Had : ℕ → ℕ → List View → Type 0
 Had x i views = (x ≡ 0) ⊎ ((s : ℕ) × HadAt x s (file i s views))
 
+-- the first view is the keeper's, and the keeper makes no calls; the others are callers', and a caller makes no writes
 abbrev pub Role : ℕ → View → Type 0
 Role zero v = (v.keeps ≡ true) × (v.calls ≡ [])
 Role (suc j) v = (v.keeps ≡ false) × (v.writes ≡ [])
 
+-- What the seat j knows: each word that it saw is one that the slot has had, and not above the present one. What the keeper saw may have become the present word by callers' steps alone.
 pub record Sees (rows : ℕ) (words : List ℕ) (views : List View) (j : ℕ) (v : View) : Type 0 where
   pub role : Role j v
   pub row : length v.seen ≡ rows
@@ -74,6 +77,7 @@ pub record Sees (rows : ℕ) (words : List ℕ) (views : List View) (j : ℕ) (v
   pub had : (i : ℕ) → i < rows → Had (slice_index v.seen i) i views
   pub learns : v.keeps ≡ true → (i : ℕ) → i < rows → Learned (slice_index v.seen i) (slice_index words i)
 
+-- Words and views agree.
 pub record Kept (rows : ℕ) (t : State ℕ View) : Type 0 where
   pub sized : length t.words ≡ rows + 1
   pub cells : (i s : ℕ) → i < rows → 0 < s → Law (slice_index t.words i) s (file i s t.views)
@@ -81,7 +85,7 @@ pub record Kept (rows : ℕ) (t : State ℕ View) : Type 0 where
   pub unused : (i : ℕ) → i < rows → slice_index t.words i < stamp_unit → slice_index t.words i ≡ 0
   pub sees : (j : ℕ) (v : View) → get_elem? t.views j ≡ some v → Sees rows t.words t.views j v
 
--- The numbers. G callers are gone, and the return word is G + 2048 C.
+-- The numbers. The return word is G + 2048 C, where G callers are gone and their lists have C cancels; what was begun has ended or is live.
 pub record Tallied (rows : ℕ) (t : State ℕ View) : Type 0 where
   pub few : rows ≤ 65536
   pub wide : (i : ℕ) → i < rows → slice_index t.words i < 18446744073709551616
@@ -95,12 +99,15 @@ pub record Tallied (rows : ℕ) (t : State ℕ View) : Type 0 where
   pub given : (i : ℕ) → i < rows → given_in i (keeper_writes t.views) ≡ stamp_of (slice_index t.words i)
   pub bounded : begins_in (keeper_writes t.views) ≤ below stamp_of t.words rows
 
+-- The rule of the words: it holds between any two atomic steps of the keeper and its callers.
 pub record Ruled (rows : ℕ) (t : State ℕ View) : Type 0 where
   pub kept : Kept rows t
   pub tallied : Tallied rows t
 
+-- a row of words that were never used
 abbrev pub zeros : ℕ → List ℕ
 zeros n = replicate n 0
 
+-- the keeper's view at the start
 abbrev pub first_keeper : ℕ → View
 first_keeper rows = record { keeps = true; seen = zeros rows; steps = []; calls = []; gone = false; writes = []; issued = 0; returns = 0 }

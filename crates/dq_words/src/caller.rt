@@ -1,17 +1,17 @@
 //! A seat that extends and cancels, from any thread.
-ghost use Rattle.std.specs.Prelude.{◌≡◌, ◌≢◌, ◌+◌, ◌<◌, ◌≤◌, [], length, false, slice_index, MatchOption};
+ghost use Rattle.std.specs.Prelude.{◌≡◌, ◌≢◌, ◌+◌, ◌<◌, ◌≤◌, [], length, false, slice_index, MatchOption, MatchResult};
 ghost use Rattle.std.specs.Arc.{arc_value};
-ghost use Rattle.dq_ticks.specs.Word.{word, stamp_of, mark_of};
+ghost use Rattle.dq_ticks.specs.Word.{word, stamp_of, mark_of, field_of};
 ghost use Rattle.dq_words.specs.Calls.{IsCaller, IsForged, Refuses, IsExtend, IsCancel, IsLook};
 ghost use Rattle.dq_words.specs.Counts.{cancels_in};
 ghost use Rattle.dq_words.specs.Plays.{Looks, Extends, Cancels};
 
-use crate::parts::{cancelled, field, live, mark, stamp};
+use crate::parts::{cancelled, live, mark, stamp};
 use crate::plays::{GiveUp, Leave, Look as Glance, Prolong};
 use crate::rule::{Board, Place};
 use dq_core::vec_words::shown;
 use dq_core::{CallError, Look};
-use dq_ticks::{Key, LAST_TICK, unpack};
+use dq_ticks::{Key, LAST_TICK, Mark, unpack};
 use std::alloc::{Allocator, Global};
 use std::marker::Model;
 use std::sync::Arc;
@@ -42,18 +42,22 @@ impl<A: Allocator> Model for Caller<A> {
     ghost invariant = { λ k. (k.place.table_id ≡ (arc_value k.board).shared.table_id) × ((arc_value k.board).shared.key ≡ k.rows) × ((arc_value k.board).shared.table_id.words ≡ k.rows + 1) × (k.place.me.0.keeps ≡ false) × (k.place.me.0.gone ≡ false) × (length k.place.me.0.seen ≡ k.rows) × (k.cancels ≡ cancels_in k.place.me.0.calls) × (k.cancels ≤ most_begins) };
 }
 
-// Why the word n refuses a key of the stamp.
-fn refusal(n: u64, asked: u32) -> CallError
-    requires { (asked ≤ stamp_of n) × (stamp_of n ≡ asked → mark_of n ≢ 0) }
-    ensures { Refuses n asked result }
+// The deadline of the word that a step of a stamp found live at that stamp, or why the word refuses the stamp.
+fn deadline_at(found: u64, asked: u32) -> Result<u64, CallError>
+    requires { asked ≤ stamp_of found }
+    ensures { MatchResult result
+        (λ d. (stamp_of found ≡ asked) × (mark_of found ≡ 0) × (d ≡ field_of found))
+        (λ e. Refuses found asked e) }
 {
-    let parts = unpack(n);
+    let parts = unpack(found);
     if asked < parts.stamp {
-        CallError::Stale { seen: parts.stamp }
-    } else {
-        CallError::Ended {
+        return Err(CallError::Stale { seen: parts.stamp });
+    }
+    match parts.mark {
+        Mark::LiveMark => Ok(parts.field),
+        _ => Err(CallError::Ended {
             how: shown(parts.mark, parts.field),
-        }
+        }),
     }
 }
 
@@ -149,11 +153,8 @@ impl<A: Allocator> Caller<A> {
             return Err(CallError::Unknown);
         }
         let found = self.raise(index, live(asked, when));
-        if stamp(found) == asked && mark(found) == 0 {
-            Ok(field(found).max(when))
-        } else {
-            Err(refusal(found, asked))
-        }
+        let before = deadline_at(found, asked)?;
+        Ok(before.max(when))
     }
 
     /// Cancels a live entry, and answers the deadline that it gave up. Refused as `extend` is, but never as TooFar.
@@ -169,11 +170,7 @@ impl<A: Allocator> Caller<A> {
             return Err(CallError::Unknown);
         }
         let found = self.give_up(index, cancelled(asked));
-        if stamp(found) == asked && mark(found) == 0 {
-            Ok(field(found))
-        } else {
-            Err(refusal(found, asked))
-        }
+        deadline_at(found, asked)
     }
 
     /// What the entry of a key is. Refused as Unknown where no slot has the key, and as Stale where the slot has a later

@@ -255,13 +255,13 @@ impl<A: Allocator> Words for Keeper<A> {
     // Each try that fails shows a greater word.
     fn renew(&mut self, index: usize, stamp: u32, when: u64) -> Option<u64> {
         let new = live(stamp + 1, when);
-        let mut old = self.load(index);
-        while mark(old) == 0 {
-            let found = self.try_renew(index, old, new);
-            if found == old {
-                return Some(field(old));
+        let mut seen = self.load(index);
+        while mark(seen) == 0 {
+            let found = self.try_renew(index, seen, new);
+            if found == seen {
+                return Some(field(seen));
             }
-            old = found;
+            seen = found;
         }
         None
     }

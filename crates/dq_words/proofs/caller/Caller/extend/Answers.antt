@@ -1,20 +1,23 @@
-use Rattle.std.proofs.Common.{sym, ◌∙◌, arith}
+use Rattle.std.proofs.Common.{◌<◌, length, arith}
+use Rattle.std.proofs.lemmas.Result.{err_from_is_err_and}
 use Rattle.dq_words.proofs.Callings.{accepts_extend, refuses_extend}
 use Rattle.dq_words.proofs.caller.Caller.extend.Goals as goal
 
-pub returns-then-mark-eq0 : goal.returns-then-mark-eq0
-returns-then-mark-eq0 g c =
+pub returns-in_err-before : goal.returns-in_err-before
+returns-in_err-before g c =
     let asked = c.stamp-asked.ensures in
     let slot = c.in-Some.ensures in
-    let inside = slot.1 in
     let index = slot.0 in
-    accepts_extend _ _ _ c.args.key.now _ _ (omega arith) slot.2 (rw index at c.load-seen.ensures) _ _ _ (omega arith) (rw asked at c.live.ensures) (rw index at c.raise-found.ensures)
-    (sym c.stamp-2.ensures.0 ∙ c.if-stamp-asked-2.true ∙ asked) (sym c.mark.ensures.0 ∙ c.if-mark-eq0.true) (omega arith)
+    let inside = slot.1 in
+    let p = err_from_is_err_and c.from_residual.result c.from_residual.ensures.1 in
+    rw (p.1, p.2) (refuses_extend _ _ _ c.args.key.now _ _ (omega arith) slot.2 (rw index at c.load-seen.ensures) _ _ _ (omega arith) (rw asked at c.live.ensures) (rw index at c.raise-found.ensures) (rw asked at c.in_err-before.ensures))
 
-pub returns-else-stamp-asked-2 : goal.returns-else-stamp-asked-2
-returns-else-stamp-asked-2 g c =
+pub returns : goal.returns
+returns g c =
     let asked = c.stamp-asked.ensures in
     let slot = c.in-Some.ensures in
-    let inside = slot.1 in
     let index = slot.0 in
-    refuses_extend _ _ _ c.args.key.now _ _ (omega arith) slot.2 (rw index at c.load-seen.ensures) _ _ _ (omega arith) (rw asked at c.live.ensures) (rw index at c.raise-found.ensures) (rw asked at c.refusal.ensures)
+    let inside = slot.1 in
+    let hit = c.in_ok-before.ensures in
+    let same = hit.2 in
+    accepts_extend _ _ _ c.args.key.now _ _ (omega arith) slot.2 (rw index at c.load-seen.ensures) _ _ _ (omega arith) (rw asked at c.live.ensures) (rw index at c.raise-found.ensures) (rw asked at hit.0) hit.1 (omega arith)

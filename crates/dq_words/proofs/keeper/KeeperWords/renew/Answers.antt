@@ -4,19 +4,19 @@ use Rattle.dq_words.proofs.Keepings.{open_on}
 use Rattle.dq_words.proofs.Bridge.{row_known, over_shown, open_at, live_is, changes, unchanged, shown_again}
 use Rattle.dq_words.proofs.keeper.KeeperWords.renew.Goals as goal
 
-pub returns-then-found-old-clause-changed : goal.returns-then-found-old-clause-changed
-returns-then-found-old-clause-changed g c =
+pub returns-then-found-seen-clause-changed : goal.returns-then-found-seen-clause-changed
+returns-then-found-seen-clause-changed g c =
     let shown = c.loop-self.invariant.0 in
     changes _ _ _ _ _ _ _ _ c.requires.in_range shown (open_on _ _ _ (open_at c.args.self.now.seen c.args.index _ _ c.requires.in_force).0 shown.0) (sym c.mark.ensures.0 ∙ c.loop-self-test.true)
-    (ap (λ (v : View). v.seen) (c.try_renew-found.ensures.1.0 c.if-found-old.true)) (live_is _ _ _ c.live-new.ensures c.requires.tick) _ c.field.ensures.0
+    (ap (λ (v : View). v.seen) (c.try_renew-found.ensures.1.0 c.if-found-seen.true)) (live_is _ _ _ c.live-new.ensures c.requires.tick) _ c.field.ensures.0
 
-pub returns-then-found-old-clause-known : goal.returns-then-found-old-clause-known
-returns-then-found-old-clause-known g c =
-    row_known c.args.self.now.seen _ _ _ c.requires.in_range (over_shown _ _ _ _ _ _ c.loop-self.invariant.0.1 (ap (λ (v : View). v.seen) (c.try_renew-found.ensures.1.0 c.if-found-old.true)))
+pub returns-then-found-seen-clause-known : goal.returns-then-found-seen-clause-known
+returns-then-found-seen-clause-known g c =
+    row_known c.args.self.now.seen _ _ _ c.requires.in_range (over_shown _ _ _ _ _ _ c.loop-self.invariant.0.1 (ap (λ (v : View). v.seen) (c.try_renew-found.ensures.1.0 c.if-found-seen.true)))
 
 pub loop-self-preserved : goal.loop-self-preserved
 loop-self-preserved g c =
-    let is = c.try_renew-found.ensures.1.1 c.if-found-old.false in
+    let is = c.try_renew-found.ensures.1.1 c.if-found-seen.false in
     (shown_again _ _ _ _ _ _ c.requires.in_range c.loop-self.invariant.0 c.try_renew-found.ensures.0 (ap (λ (v : View). v.seen) is), search rules)
 
 pub returns-clause-changed : goal.returns-clause-changed
