@@ -1,4 +1,13 @@
-//! A hierarchical timing wheel over indexes.
+//! A hierarchical timing wheel over indexes (Varghese and Lauck, SOSP 1987, Scheme 7).
+//!
+//! The wheel stands at a tick of one millisecond, and an index is filed at a tick less than `2^36` ahead. It waits at the
+//! level of the highest base-64 digit in which its tick differs from the wheel's, in the slot that this digit names; the
+//! top level is a ring, of which the tick's own slot comes last. When the wheel comes to the start of a slot, the slot is
+//! opened: each of its indexes goes to a lower level, or is due where it is filed at just that tick.
+//!
+//! The lists are linked by indexes in one row that is made with the wheel, so no other call takes memory. To link, to
+//! unlink and to take a due index off needs no search and no test of a list's ends; the next slot is found in at most six
+//! words of occupancy bits; a slot is opened by one step for each of its indexes.
 #![tactic(auto)]
 
 mod occupied;

@@ -1,4 +1,7 @@
 //! Lists of indexes, linked both ways, in a fixed row.
+//!
+//! Each list is a circle through a head of its own. The heads stand behind the entries in the same row, so an entry always
+//! has a neighbour on either side, and no call asks where a list begins or ends.
 
 ghost use Rattle.std.specs.Prelude.{◌≡◌, ◌⊎◌, ℕ, ◌+◌, ◌<◌, ◌≤◌, length, slice_index, slice_set, replicate, IfOk, MatchOption};
 ghost use Rattle.dq_wheel.specs.Rows.{nexts, prevs, homes, AreAlone};

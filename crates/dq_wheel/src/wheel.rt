@@ -1,4 +1,4 @@
-//! The wheel.
+//! The wheel: where each index is filed, and the calls that file, move and find them.
 
 ghost use Rattle.std.specs.Prelude.{◌≡◌, ◌≢◌, ◌⊎◌, ℕ, ◌+◌, ◌<◌, ◌≤◌, ◌↔◌, length, slice_index, IfSome, MatchBool, MatchOption, MatchResult};
 ghost use Rattle.std.specs.Int.{bit_at};
@@ -60,7 +60,7 @@ impl From<AllocError> for WheelError {
     }
 }
 
-/// A hierarchical timing wheel over the indexes below its capacity.
+/// A hierarchical timing wheel over the indexes below its capacity. Its ticks are milliseconds.
 #[derive(Drop)]
 pub struct Wheel<A: Allocator = Global> {
     tick: u64,
@@ -113,7 +113,8 @@ fn place_of(home: u16) -> Place
 }
 
 impl<A: Allocator + Clone> Wheel<A> {
-    /// A wheel at tick 0 with nothing linked.
+    /// A wheel at tick 0 with nothing linked, over 1 to 65536 indexes. Another capacity is `BadConfig`; where an
+    /// allocation is refused it is `NoMemory`. No other call takes memory.
     pub fn new(alloc: A, capacity: usize) -> Result<Wheel<A>, WheelError>
         ensures { MatchResult result
             (λ w. (0 < capacity) × (capacity ≤ CAPACITY_LIMIT) × (w.filing ≡ fresh_filing capacity))
@@ -239,7 +240,7 @@ impl<A: Allocator> Wheel<A> {
         self.slots.least_in(list, &self.filed)
     }
 
-    /// Files a loose index at a tick.
+    /// Files a loose index at a tick from the wheel's own on, less than `2^36` ticks ahead. It has not moved then.
     pub fn link(&mut self, index: usize, filed: u64)
         requires index_in { index < length self.old.filing.filed }
         requires loose { filed_at self.old.filing.filed index ≡ None }
@@ -253,7 +254,7 @@ impl<A: Allocator> Wheel<A> {
         self.moves[index] = 0;
     }
 
-    /// Takes a linked index out.
+    /// Takes a linked index out, wherever it stands.
     pub fn unlink(&mut self, index: usize)
         requires index_in { index < length self.old.filing.filed }
         requires linked { filed_at self.old.filing.filed index ≢ None }
@@ -264,7 +265,7 @@ impl<A: Allocator> Wheel<A> {
         self.moves[index] = 0;
     }
 
-    /// Takes one index off the due list.
+    /// Takes one index off the due list, or tells that nothing is filed at the tick.
     pub fn pop_due(&mut self) -> Option<usize>
         ensures { MatchOption result
             ((self.new ≡ self.old) × ((i : ℕ) → filed_at self.old.filing.filed i ≢ Some self.old.filing.tick))
@@ -279,7 +280,8 @@ impl<A: Allocator> Wheel<A> {
         Some(index)
     }
 
-    /// Goes to the next wake, but not past the limit. Where a slot starts there it is opened.
+    /// Goes on to the next wake, but not past the limit, once nothing is due. True where the wake was reached: its slot
+    /// is opened, and each of its indexes goes down to a lower level or is due. A way to a lower slot is a move.
     pub fn advance(&mut self, limit: u64) -> bool
         requires none_due { (i : ℕ) → filed_at self.old.filing.filed i ≢ Some self.old.filing.tick }
         requires not_before { self.old.filing.tick ≤ limit }
