@@ -124,7 +124,7 @@ module _ (e : ℕ) (filed : List (Option ℕ)) (moves homes next words : List �
         once = λ i i_in is.
             let i_home : i < length homes = rw ok.filed_size at i_in in
             met i i_home (home_of_place e (filed_at filed i) _ _ p (ok.home i i_home) p_in is);
-        else_none = λ i i_in other.
+        elsewhere = λ i i_in other.
             let i_home : i < length homes = rw ok.filed_size at i_in in
             missed i i_home (λ h. other (place_of_its_home e (filed_at filed i) _ _ p (ok.home i i_home) h));
         bit = λ p_low. (

@@ -27,7 +27,7 @@ pub record IsLawfulList (e : ℕ) (filed : List (Option ℕ)) (next words : List
   pub list : List ℕ
   pub walk : IsWalk (length filed) (slice_index next) (length filed + p) (slice_index next (length filed + p)) list
   pub once : (i : ℕ) → i < length filed → place_for e (filed_at filed i) ≡ place_of_list p → times i list ≡ 1
-  pub else_none : (i : ℕ) → i < length filed → place_for e (filed_at filed i) ≢ place_of_list p → times i list ≡ 0
+  pub elsewhere : (i : ℕ) → i < length filed → place_for e (filed_at filed i) ≢ place_of_list p → times i list ≡ 0
   pub bit : p < 384 → (bit_of words p ≡ 1) ↔ (list ≢ [])
 
 -- a filed tick isn't before the wheel's tick, and less than a lap after it
