@@ -83,6 +83,7 @@ fn rows<T: Drop, A: Allocator + Clone>(
 const REACH: u64 = 68719476735;
 
 /// Where a deadline is filed at a tick.
+#[inline]
 fn filing_for(tick: u64, deadline: u64) -> u64
     requires tick { tick ≤ LAST_TICK }
     requires deadline { deadline ≤ LAST_TICK }
@@ -148,6 +149,7 @@ impl<T: Drop, W: Words, A: Allocator> DelayCore<T, W, A> {
     }
 
     /// Puts an entry in.
+    #[inline]
     pub fn insert(&mut self, value: T, when: u64) -> Result<Key, (CoreError, T)>
         ensures same { SameCore self.old self.new }
         ensures inserts { Inserts self.old value when result self.new }
@@ -177,6 +179,7 @@ impl<T: Drop, W: Words, A: Allocator> DelayCore<T, W, A> {
     }
 
     /// One step of a poll: settles an index that is due, or goes on to a later tick.
+    #[inline]
     fn step(&mut self) -> Progress<T>
         ensures same { SameCore self.old self.new }
         ensures noted { self.new.noted ≡ self.old.noted }
@@ -193,14 +196,14 @@ impl<T: Drop, W: Words, A: Allocator> DelayCore<T, W, A> {
         let stamp = self.slots.stamp(index);
         match self.words.settle(index, stamp, tick) {
             Settled::SettledExpired => {
-                let held = self.slots.vacate(index);
+                let gone = self.slots.vacate(index);
                 self.expired += 1;
-                let entry = EntryId::new(self.shard, index as u32, held.born);
+                let entry = EntryId::new(self.shard, index as u32, gone.born);
                 Progress::Gave(Expired {
                     key: Key::new(entry, stamp),
                     deadline: tick,
                     noted: self.noted,
-                    value: held.value,
+                    value: gone.value,
                 })
             }
             Settled::Later(deadline) => {
@@ -273,6 +276,7 @@ impl<T: Drop, W: Words, A: Allocator> DelayCore<T, W, A> {
     }
 
     /// Where an entry is held, none where it is missing.
+    #[inline]
     pub(crate) fn find(&self, entry: &EntryId) -> Option<usize>
         ensures { IsFind self.now entry.now result }
     {
@@ -308,6 +312,7 @@ impl<T: Drop, W: Words, A: Allocator> DelayCore<T, W, A> {
     }
 
     /// Takes a live entry out.
+    #[inline]
     pub fn remove(&mut self, entry: &EntryId) -> Result<Removed<T>, CoreError>
         ensures same { SameCore self.old self.new }
         ensures removes { Removes W.shared self.old entry.now result self.new }
@@ -330,6 +335,7 @@ impl<T: Drop, W: Words, A: Allocator> DelayCore<T, W, A> {
     }
 
     /// Gives a live entry another deadline, and the slot's next stamp.
+    #[inline]
     pub fn reset(&mut self, entry: &EntryId, when: u64) -> Result<Key, CoreError>
         ensures same { SameCore self.old self.new }
         ensures resets { Resets W.shared self.old entry.now when result self.new }

@@ -56,6 +56,7 @@ impl<A: Allocator> VecWords<A> {
     }
 
     /// The word that a key names, where the key's stamp is its stamp.
+    #[inline]
     fn named(&self, key: &Key) -> Result<Parts, CallError>
         ensures { IsNamed self.now.known key.now result }
     {
@@ -74,6 +75,7 @@ impl<A: Allocator> VecWords<A> {
     }
 
     /// The deadline of the word that a key names, where it is live.
+    #[inline]
     fn callable(&self, key: &Key) -> Result<u64, CallError>
         ensures { IsCalled self.now.known key.now result }
     {
@@ -87,6 +89,7 @@ impl<A: Allocator> VecWords<A> {
     }
 
     /// Raises the deadline of a live word, and answers the deadline that is then in force.
+    #[inline]
     pub fn extend(&mut self, key: &Key, when: u64) -> Result<u64, CallError>
         ensures { IsExtend self.old key.now when result self.new }
     {
@@ -103,6 +106,7 @@ impl<A: Allocator> VecWords<A> {
     }
 
     /// Cancels a live word, and answers the deadline that is given up.
+    #[inline]
     pub fn cancel(&mut self, key: &Key) -> Result<u64, CallError>
         ensures { IsCancel self.old key.now result self.new }
     {
@@ -147,6 +151,7 @@ impl<A: Allocator> Words for VecWords<A> {
         self.row.len()
     }
 
+    #[inline]
     fn begin(&mut self, index: usize, stamp: u32, when: u64) {
         self.row[index] = Parts {
             stamp,
@@ -156,10 +161,12 @@ impl<A: Allocator> Words for VecWords<A> {
         self.begins += 1;
     }
 
+    #[inline]
     fn look(&mut self, index: usize) -> Parts {
         self.row[index]
     }
 
+    #[inline]
     fn settle(&mut self, index: usize, stamp: u32, at: u64) -> Settled {
         let word = self.row[index];
         match word.mark {
@@ -177,6 +184,7 @@ impl<A: Allocator> Words for VecWords<A> {
         }
     }
 
+    #[inline]
     fn renew(&mut self, index: usize, stamp: u32, when: u64) -> Option<u64> {
         let word = self.row[index];
         match word.mark {
@@ -192,6 +200,7 @@ impl<A: Allocator> Words for VecWords<A> {
         }
     }
 
+    #[inline]
     fn finish(&mut self, index: usize, stamp: u32) -> Option<u64> {
         let word = self.row[index];
         match word.mark {

@@ -23,9 +23,9 @@ pub invariant_of-self-in-SettledExpired : goal.invariant_of-self-in-SettledExpir
 invariant_of-self-in-SettledExpired g c =
     let s = c.self.inside in
     let b = core_of s.shard s.noted s.wheel s.slots (g.W.Words.known s.words) (g.W.Words.counts s.words) s.words in
-    let n = core_of s.shard s.noted c.pop_due.new.self c.vacate-held.new.self (g.W.Words.known c.settle.new.self) (g.W.Words.counts c.settle.new.self) c.settle.new.self in
+    let n = core_of s.shard s.noted c.pop_due.new.self c.vacate-gone.new.self (g.W.Words.known c.settle.new.self) (g.W.Words.counts c.settle.new.self) c.settle.new.self in
     let settled = rw (c.stamp-stamp.ensures, c.tick-tick.ensures.value) at c.in-SettledExpired.ensures.settled in
-    (expired_lawful g.W.Words.shared b n c.self.invariant.0 c.in-Some.index c.in-Some.ensures.1 refl settled c.in-Some.ensures.2 c.vacate-held.ensures.vacated c.in-SettledExpired.ensures.known c.in-SettledExpired.ensures.counts, c.in-SettledExpired.ensures.counts ∙ ap (λ x. settled_counts x SettledExpired) c.self.invariant.1)
+    (expired_lawful g.W.Words.shared b n c.self.invariant.0 c.in-Some.index c.in-Some.ensures.1 refl settled c.in-Some.ensures.2 c.vacate-gone.ensures.vacated c.in-SettledExpired.ensures.known c.in-SettledExpired.ensures.counts, c.in-SettledExpired.ensures.counts ∙ ap (λ x. settled_counts x SettledExpired) c.self.invariant.1)
 
 pub invariant_of-self-in-SettledCancelled : goal.invariant_of-self-in-SettledCancelled
 invariant_of-self-in-SettledCancelled g c =
@@ -39,7 +39,7 @@ pub returns-in-SettledExpired-clause-progress : goal.returns-in-SettledExpired-c
 returns-in-SettledExpired-clause-progress g c =
     let settled = rw (c.stamp-stamp.ensures, c.tick-tick.ensures.value) at c.in-SettledExpired.ensures.settled in
     rw (← c.self.view_is)
-    (step_expired g.W.Words.shared _ _ c.self.invariant.0 c.in-Some.index c.in-Some.ensures.1 refl c.vacate-held.result c.new-entry.result _ settled c.vacate-held.ensures.held c.in-Some.ensures.2 c.vacate-held.ensures.vacated c.in-SettledExpired.ensures.known c.in-SettledExpired.ensures.counts c.new-entry.ensures (key_at _ _ _ _ c.new.ensures c.stamp-stamp.ensures) c.tick-tick.ensures.value refl refl)
+    (step_expired g.W.Words.shared _ _ c.self.invariant.0 c.in-Some.index c.in-Some.ensures.1 refl c.vacate-gone.result c.new-entry.result _ settled c.vacate-gone.ensures.held c.in-Some.ensures.2 c.vacate-gone.ensures.vacated c.in-SettledExpired.ensures.known c.in-SettledExpired.ensures.counts c.new-entry.ensures (key_at _ _ _ _ c.new.ensures c.stamp-stamp.ensures) c.tick-tick.ensures.value refl refl)
 
 pub returns-in-Later-clause-progress : goal.returns-in-Later-clause-progress
 returns-in-Later-clause-progress g c =
