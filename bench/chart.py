@@ -5,6 +5,7 @@ from xml.sax.saxutils import escape
 
 # Colours that are told apart without red and green (Okabe and Ito).
 COLOURS = {
+    "ours-owned": "#cc79a7",
     "ours": "#d55e00",
     "fetch-max": "#000000",
     "heap-note": "#56b4e9",

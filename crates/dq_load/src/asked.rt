@@ -1,0 +1,91 @@
+//! What the command line asks for.
+
+use crate::load::Row;
+use std::fmt;
+
+/// The rows of one owner.
+pub const ROWS: [(&str, Row); 7] = [
+    ("insert", Row::Insert),
+    ("extend", Row::Extend),
+    ("reset", Row::Reset),
+    ("remove", Row::Remove),
+    ("cancel", Row::Cancel),
+    ("poll", Row::Poll),
+    ("mixed", Row::Mixed),
+];
+
+/// What is timed: a row of one owner, or the callers.
+#[derive(Clone, Copy, Debug, PartialEq, Eq)]
+pub enum Timed {
+    Owned(Row),
+    Callers,
+}
+
+/// One command.
+#[derive(Debug, Drop)]
+pub struct Asked<'a> {
+    pub row: &'a str,
+    pub timed: Timed,
+    pub entries: usize,
+    pub threads: u64,
+    pub rounds: u64,
+}
+
+/// The row, the entries and the threads, as they stand in a line.
+impl fmt::Display for Asked<'_> {
+    fn fmt<W: fmt::Write>(&self, f: &mut fmt::Formatter<W>) -> fmt::Result {
+        write!(f, "{} {} {}", self.row, self.entries, self.threads)
+    }
+}
+
+impl<'a> Asked<'a> {
+    /// The command that the words of a command line are, if they are one.
+    pub fn read(words: &'a [String]) -> Option<Asked<'a>> {
+        let [time, row, entries, threads, rounds] = words else {
+            return None;
+        };
+        let timed = row_of(row.as_str())?;
+        let entries = number(entries.as_str(), 65_536)?;
+        let threads = number(threads.as_str(), timed.most_threads())?;
+        let rounds = number(rounds.as_str(), 1_000)?;
+        if time.as_str() != "time" {
+            return None;
+        }
+        Some(Asked {
+            row: row.as_str(),
+            timed,
+            entries: entries as usize,
+            threads,
+            rounds,
+        })
+    }
+}
+
+impl Timed {
+    fn most_threads(self) -> u64 {
+        match self {
+            Timed::Owned(_) => 1,
+            Timed::Callers => 64,
+        }
+    }
+}
+
+/// A number from 1 to `most`.
+fn number(text: &str, most: u64) -> Option<u64> {
+    match text.parse::<u64>() {
+        Ok(number) if 0 < number && number <= most => Some(number),
+        _ => None,
+    }
+}
+
+fn row_of(name: &str) -> Option<Timed> {
+    if name == "callers" {
+        return Some(Timed::Callers);
+    }
+    for (known, row) in ROWS {
+        if known == name {
+            return Some(Timed::Owned(row));
+        }
+    }
+    None
+}

@@ -1,0 +1,145 @@
+//! The bench's own load: the queue under the plan of bench/README.md, timed by itself. `dq_load time ROW ENTRIES
+//! THREADS ROUNDS` prints a line for each queue and round. Without arguments it makes each row once, small, and prints
+//! the counts, which never change, and the bytes of an entry.
+#![tactic(auto)]
+
+mod asked;
+mod bytes;
+mod callers;
+mod load;
+mod plan;
+mod queues;
+mod sample;
+
+use anyhow::{Result, bail};
+use asked::{Asked, ROWS, Timed};
+use load::{Load, Row};
+use queues::{Issues, Owned, Queue, Shared};
+use sample::Sample;
+use std::env;
+use std::rt::Clock;
+use std::sync::Wait;
+use std::thread::Threads;
+
+/// The entries and the callers of the small run.
+const SMALL: usize = 100;
+
+const SMALL_CALLERS: u64 = 2;
+
+fn main(rt: HostRuntime) -> Result<()> {
+    let words: Result<Vec<String>, _> = env::args(&rt)?.skip(1).collect(rt.alloc());
+    run(&rt, words?.as_slice())
+}
+
+fn run<R>(rt: &R, words: &[String]) -> Result<()>
+where
+    R: Clock + Print + AllocGlobal + Threads + Wait + Clone + Drop + Send + 'static,
+{
+    if words.is_empty() {
+        return small(rt);
+    }
+    let Some(asked) = Asked::read(words) else {
+        bail!("usage: dq_load time ROW ENTRIES THREADS ROUNDS (bench/README.md has the rows)");
+    };
+    let shared = Shared::new(rt.alloc(), asked.entries)?;
+    match asked.timed {
+        Timed::Owned(row) => {
+            let owned = Owned::new(rt.alloc(), asked.entries)?;
+            time_row(rt, &asked, row, owned, shared)
+        }
+        Timed::Callers => time_callers(rt, &asked, shared),
+    }
+}
+
+/// Makes each row once, and prints what was done.
+fn small<R>(rt: &R) -> Result<()>
+where
+    R: Clock + Print + AllocGlobal + Threads + Wait + Clone + Drop + Send + 'static,
+{
+    for (name, row) in ROWS {
+        small_row(rt, "ours-owned", name, row, Owned::new(rt.alloc(), SMALL)?)?;
+        small_row(rt, "ours", name, row, Shared::new(rt.alloc(), SMALL)?)?;
+    }
+    small_callers(rt, Shared::new(rt.alloc(), SMALL)?)?;
+    print_bytes(rt)
+}
+
+fn small_callers<R, Q>(rt: &R, queue: Q) -> Result<()>
+where
+    R: Clock + Print + AllocGlobal + Threads + Wait + Clone + Drop + Send + 'static,
+    Q: Issues + Drop,
+{
+    let mut load = warmed(rt, queue, SMALL, Row::Insert)?;
+    let sample = load.callers(rt, SMALL_CALLERS)?;
+    let Sample {
+        operations,
+        counts,
+        ..
+    } = sample;
+    println!(rt; "ours callers {SMALL} {SMALL_CALLERS} {operations} {counts}")?;
+    Ok(())
+}
+
+fn print_bytes<R: Print + AllocGlobal>(rt: &R) -> Result<()> {
+    let shared = bytes::shared(rt.alloc())?;
+    let owned = bytes::owned(rt.alloc())?;
+    println!(rt; "bytes of an entry, its value of 8 included: {shared}, over plain words {owned}")?;
+    Ok(())
+}
+
+fn small_row<R, Q>(rt: &R, named: &str, name: &str, row: Row, queue: Q) -> Result<()>
+where
+    R: Clock + Print + AllocGlobal,
+    Q: Queue + Drop,
+{
+    let mut load = warmed(rt, queue, SMALL, row)?;
+    let Sample {
+        operations,
+        counts,
+        ..
+    } = load.round(rt, row)?;
+    println!(rt; "{named} {name} {SMALL} 1 {operations} {counts}")?;
+    Ok(())
+}
+
+/// A queue under load that has made one pass to warm up.
+fn warmed<R, Q>(rt: &R, queue: Q, entries: usize, row: Row) -> Result<Load<Q>>
+where
+    R: Clock + AllocGlobal,
+    Q: Queue + Drop,
+{
+    let mut load = Load::new(rt.alloc(), queue, entries);
+    load.pass(rt, row)?;
+    Ok(load)
+}
+
+/// Times rounds of two queues in turns.
+fn time_row<R, P, Q>(rt: &R, asked: &Asked, row: Row, owned: P, shared: Q) -> Result<()>
+where
+    R: Clock + Print + AllocGlobal,
+    P: Queue + Drop,
+    Q: Queue + Drop,
+{
+    let mut owned = warmed(rt, owned, asked.entries, row)?;
+    let mut shared = warmed(rt, shared, asked.entries, row)?;
+    for round in 1..=asked.rounds {
+        let sample = owned.round(rt, row)?;
+        println!(rt; "ours-owned {asked} {round} {sample}")?;
+        let sample = shared.round(rt, row)?;
+        println!(rt; "ours {asked} {round} {sample}")?;
+    }
+    Ok(())
+}
+
+fn time_callers<R, Q>(rt: &R, asked: &Asked, queue: Q) -> Result<()>
+where
+    R: Clock + Print + AllocGlobal + Threads + Wait + Clone + Drop + Send + 'static,
+    Q: Issues + Drop,
+{
+    let mut load = warmed(rt, queue, asked.entries, Row::Insert)?;
+    for round in 1..=asked.rounds {
+        let sample = load.callers(rt, asked.threads)?;
+        println!(rt; "ours {asked} {round} {sample}")?;
+    }
+    Ok(())
+}

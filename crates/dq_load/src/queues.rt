@@ -1,0 +1,159 @@
+//! What the rows drive: our queue over plain words of its owner alone, and over words that callers share with it.
+
+use anyhow::Result;
+use dq_core::{CallError, CoreConfig, CoreError, DelayCore, Turn, VecWords, Words};
+use dq_ticks::{Key, LAST_STAMP};
+use dq_words::{Caller, Keeper};
+use std::alloc::Global;
+use thiserror::Error;
+
+/// Why a call was refused. No row wants a refusal.
+#[derive(Clone, Copy, Debug, PartialEq, Eq, Drop, Error)]
+pub enum Refusal {
+    #[error("the queue refused a call: {0}")]
+    Core(CoreError),
+    #[error("a caller was refused: {0}")]
+    Call(CallError),
+}
+
+/// A queue of values with deadlines. Ticks are of one millisecond.
+pub trait Queue {
+    fn insert(&mut self, value: u64, when: u64) -> Result<Key, Refusal>;
+    /// Raises a deadline, and gives the one in force.
+    fn extend(&mut self, key: &Key, when: u64) -> Result<u64, Refusal>;
+    /// Sets a deadline, also to an earlier one.
+    fn reset(&mut self, key: &Key, when: u64) -> Result<Key, Refusal>;
+    /// Ends an entry, and gives its value.
+    fn remove(&mut self, key: &Key) -> Result<u64, Refusal>;
+    /// Ends an entry, which a poll reaps.
+    fn cancel(&mut self, key: &Key) -> Result<u64, Refusal>;
+    /// An entry whose deadline is at most `tick`: its value and its deadline.
+    fn poll(&mut self, tick: u64) -> Result<Option<(u64, u64)>, Refusal>;
+}
+
+/// A queue that callers share.
+pub trait Issues: Queue {
+    /// One caller more, for another thread.
+    fn issue(&mut self) -> Result<Caller>;
+}
+
+pub fn config(capacity: usize) -> CoreConfig {
+    CoreConfig {
+        shard: 0,
+        capacity,
+        last_stamp: LAST_STAMP,
+    }
+}
+
+fn inserted<W: Words>(core: &mut DelayCore<u64, W>, value: u64, when: u64) -> Result<Key, Refusal> {
+    core.insert(value, when)
+        .map_err(|refused| Refusal::Core(refused.0))
+}
+
+fn removed<W: Words>(core: &mut DelayCore<u64, W>, key: &Key) -> Result<u64, Refusal> {
+    match core.remove(&key.entry()) {
+        Ok(removed) => Ok(removed.value),
+        Err(refused) => Err(Refusal::Core(refused)),
+    }
+}
+
+fn polled<W: Words>(
+    core: &mut DelayCore<u64, W>,
+    tick: u64,
+) -> Result<Option<(u64, u64)>, Refusal> {
+    match core.poll(tick) {
+        Ok(Turn::Out(out)) => Ok(Some((out.value, out.deadline))),
+        Ok(_) => Ok(None),
+        Err(refused) => Err(Refusal::Core(refused)),
+    }
+}
+
+/// The queue of one owner, whose words nobody shares.
+#[derive(Drop)]
+pub struct Owned {
+    core: DelayCore<u64, VecWords>,
+}
+
+impl Owned {
+    pub fn new(alloc: Global, capacity: usize) -> Result<Owned> {
+        let words = VecWords::new(alloc, capacity)?;
+        let core = DelayCore::new(alloc, config(capacity), words).map_err(|refused| refused.0)?;
+        Ok(Owned { core })
+    }
+}
+
+impl Queue for Owned {
+    fn insert(&mut self, value: u64, when: u64) -> Result<Key, Refusal> {
+        inserted(&mut self.core, value, when)
+    }
+
+    fn extend(&mut self, key: &Key, when: u64) -> Result<u64, Refusal> {
+        self.core.extend(key, when).map_err(Refusal::Call)
+    }
+
+    fn reset(&mut self, key: &Key, when: u64) -> Result<Key, Refusal> {
+        self.core.reset(&key.entry(), when).map_err(Refusal::Core)
+    }
+
+    fn remove(&mut self, key: &Key) -> Result<u64, Refusal> {
+        removed(&mut self.core, key)
+    }
+
+    fn cancel(&mut self, key: &Key) -> Result<u64, Refusal> {
+        self.core.cancel(key).map_err(Refusal::Call)
+    }
+
+    fn poll(&mut self, tick: u64) -> Result<Option<(u64, u64)>, Refusal> {
+        polled(&mut self.core, tick)
+    }
+}
+
+/// The queue whose callers share its words, and a caller in the owner's hands.
+#[derive(Drop)]
+pub struct Shared {
+    core: DelayCore<u64, Keeper>,
+    caller: Caller,
+}
+
+impl Shared {
+    pub fn new(alloc: Global, capacity: usize) -> Result<Shared> {
+        let keeper = Keeper::new(alloc, capacity)?;
+        let mut core = DelayCore::new(alloc, config(capacity), keeper).map_err(
+            |refused| refused.0,
+        )?;
+        let caller = core.issue()?;
+        Ok(Shared { core, caller })
+    }
+}
+
+impl Issues for Shared {
+    fn issue(&mut self) -> Result<Caller> {
+        Ok(self.core.issue()?)
+    }
+}
+
+impl Queue for Shared {
+    fn insert(&mut self, value: u64, when: u64) -> Result<Key, Refusal> {
+        inserted(&mut self.core, value, when)
+    }
+
+    fn extend(&mut self, key: &Key, when: u64) -> Result<u64, Refusal> {
+        self.caller.extend(key, when).map_err(Refusal::Call)
+    }
+
+    fn reset(&mut self, key: &Key, when: u64) -> Result<Key, Refusal> {
+        self.core.reset(&key.entry(), when).map_err(Refusal::Core)
+    }
+
+    fn remove(&mut self, key: &Key) -> Result<u64, Refusal> {
+        removed(&mut self.core, key)
+    }
+
+    fn cancel(&mut self, key: &Key) -> Result<u64, Refusal> {
+        self.caller.cancel(key).map_err(Refusal::Call)
+    }
+
+    fn poll(&mut self, tick: u64) -> Result<Option<(u64, u64)>, Refusal> {
+        polled(&mut self.core, tick)
+    }
+}
