@@ -111,7 +111,7 @@ pub struct Slots<T, A: Allocator = Global> {
     last: u32,
     taken: usize,
     cells: Vec<Cell<T>, A>,
-    free: Vec<u32, A>,
+    free: Vec<u16, A>,
 }
 
 impl<T, A: Allocator> Model for Slots<T, A> {
@@ -142,7 +142,7 @@ impl<T: Drop, A: Allocator + Clone> Slots<T, A> {
         // The lowest index goes on top.
         for turn in 0..capacity {
             cells.push_reserved(Cell::unused());
-            free.push_reserved((capacity - 1 - turn) as u32);
+            free.push_reserved((capacity - 1 - turn) as u16);
         }
         Ok(Slots {
             last,
@@ -251,7 +251,7 @@ impl<T: Drop, A: Allocator> Slots<T, A> {
         let cell = &mut self.cells[index];
         let held = cell.vacate();
         if cell.stamp() < self.last {
-            self.free.push_reserved(index as u32);
+            self.free.push_reserved(index as u16);
         }
         self.taken -= 1;
         held
