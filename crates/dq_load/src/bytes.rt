@@ -6,6 +6,7 @@ use dq_core::{DelayCore, VecWords};
 use dq_words::Keeper;
 use linked_list_allocator::LocalHeap;
 use std::alloc::Global;
+use std::mem::size_of;
 
 /// Two numbers of slots, far enough apart that what does not grow with them is lost in the division.
 const FEW: usize = 1_024;
@@ -15,7 +16,10 @@ const MANY: usize = 17_408;
 /// Room for the greater queue.
 const ROOM: usize = 4 << 20;
 
-/// The bytes that each slot of the queue with shared words takes, its value of eight bytes included.
+/// What the value of a slot takes: a number, or none.
+const VALUE: usize = size_of::<Option<u64>>();
+
+/// The bytes that each slot of the queue with shared words takes beside its value.
 pub fn shared(alloc: Global) -> Result<usize> {
     let few = shared_total(alloc, FEW)?;
     let many = shared_total(alloc, MANY)?;
@@ -30,7 +34,8 @@ pub fn owned(alloc: Global) -> Result<usize> {
 }
 
 fn each(few: usize, many: usize) -> usize {
-    many.saturating_sub(few) / (MANY - FEW)
+    let total = many.saturating_sub(few) / (MANY - FEW);
+    total.saturating_sub(VALUE)
 }
 
 fn shared_total(alloc: Global, capacity: usize) -> Result<usize> {

@@ -83,7 +83,7 @@ where
 fn print_bytes<R: Print + AllocGlobal>(rt: &R) -> Result<()> {
     let shared = bytes::shared(rt.alloc())?;
     let owned = bytes::owned(rt.alloc())?;
-    println!(rt; "bytes of an entry, its value of 8 included: {shared}, over plain words {owned}")?;
+    println!(rt; "bytes of an entry beside its value: ours {shared}, ours-owned {owned}")?;
     Ok(())
 }
 
