@@ -1,5 +1,7 @@
 //! The calls by key of a queue over plain words. Over shared words a caller makes them without the queue.
 
+ghost use Rattle.std.specs.Prelude.{◌≡◌, ◌↔◌, IsTrue};
+
 use crate::queue::DelayCore;
 use crate::vec_words::VecWords;
 use crate::words::{CallError, Look};
@@ -16,6 +18,13 @@ impl<T: Drop, A: Allocator> DelayCore<T, VecWords<A>, A> {
         ensures { OwnEventsAlone T }
     {}
 
+    /// Whether a key is of this queue's shard.
+    fn is_mine(&self, key: &Key) -> bool
+        ensures { IsTrue result ↔ (key.now.entry.shard ≡ self.now.shard) }
+    {
+        key.entry().shard() == self.shard
+    }
+
     /// Raises the deadline in force of a live entry, and answers the deadline that is then in force.
     pub fn extend(&mut self, key: &Key, when: u64) -> Result<u64, CallError>
         ensures same { SameCore self.old self.new }
@@ -24,7 +33,7 @@ impl<T: Drop, A: Allocator> DelayCore<T, VecWords<A>, A> {
         if when > LAST_TICK {
             return Err(CallError::TooFar { limit: LAST_TICK });
         }
-        if key.entry().shard() != self.shard {
+        if !self.is_mine(key) {
             return Err(CallError::Unknown);
         }
         self.words.extend(key, when)
@@ -35,7 +44,7 @@ impl<T: Drop, A: Allocator> DelayCore<T, VecWords<A>, A> {
         ensures same { SameCore self.old self.new }
         ensures cancels { Cancels self.old key.now result self.new }
     {
-        if key.entry().shard() != self.shard {
+        if !self.is_mine(key) {
             return Err(CallError::Unknown);
         }
         self.words.cancel(key)
@@ -45,7 +54,7 @@ impl<T: Drop, A: Allocator> DelayCore<T, VecWords<A>, A> {
     pub fn look(&self, key: &Key) -> Result<Look, CallError>
         ensures { Shows self.now key.now result }
     {
-        if key.entry().shard() != self.shard {
+        if !self.is_mine(key) {
             return Err(CallError::Unknown);
         }
         self.words.look_key(key)

@@ -6,4 +6,4 @@ pub returns-clause-cancels : goal.returns-clause-cancels
 returns-clause-cancels g c =
     let s = c.self.inside in
     rw (← c.self.view_is)
-    (cancels_by s.shard s.noted s.wheel s.slots s.words c.cancel.new.self c.args.key.now c.self.invariant.0 (ap (λ e. e.shard) (sym c.entry.ensures) ∙ sym c.shard.ensures ∙ c.if-shard-self.false) c.cancel.result c.cancel.ensures)
+    (cancels_by s.shard s.noted s.wheel s.slots s.words c.cancel.new.self c.args.key.now c.self.invariant.0 (c.is_mine.ensures.0 c.if-not-is_mine.false ∙ sym (ap (λ x. x.shard) c.self.view_is)) c.cancel.result c.cancel.ensures)
