@@ -3,6 +3,14 @@
 #![tactic(auto)]
 
 #[cfg(test)]
+mod limits;
+#[cfg(test)]
+mod model;
+#[cfg(test)]
+mod placed_rows;
+#[cfg(test)]
+mod plain_placed_rows;
+#[cfg(test)]
 mod plain_queue;
 #[cfg(test)]
 mod plain_rows;
@@ -10,5 +18,7 @@ mod plain_rows;
 mod queues;
 #[cfg(test)]
 mod rows;
+#[cfg(test)]
+mod same_calls;
 #[cfg(test)]
 mod slots;

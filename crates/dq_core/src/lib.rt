@@ -4,8 +4,6 @@
 mod desk;
 pub mod errors;
 mod key_calls;
-#[cfg(test)]
-mod model;
 mod outcomes;
 pub mod plain;
 pub mod queue;

@@ -4,8 +4,7 @@
 //! free slot an insert takes, which of equal deadlines comes out first, and which of the cancelled entries that are filed
 //! there were reaped before it.
 
-use crate::errors::CoreError;
-use crate::words::{CallError, Look};
+use dq_core::{CallError, CoreError, Look};
 use dq_ticks::{EntryId, Key};
 use std::alloc::{AllocError, Global};
 
@@ -455,7 +454,7 @@ impl Draw {
 #[cfg(test)]
 mod tests {
     use super::*;
-    use crate::plain::{PlainQueue, PlainTurn};
+    use dq_core::{PlainQueue, PlainTurn};
     use std::test::Fail;
 
     // The model and the plain queue answer a poll alike.

@@ -1,0 +1,117 @@
+//! The limits of a queue and of its words, and refused memory.
+
+use dq_core::{CoreConfig, CoreError, DelayCore, VecWords, Words};
+use linked_list_allocator::LocalHeap;
+use std::alloc::Global;
+use std::test::Fail;
+
+// Why no queue is made of that many words, and how many came back; None where one is made.
+fn refusal(
+    alloc: Global,
+    capacity: usize,
+    last_stamp: u32,
+    rows: usize,
+) -> Result<Option<(CoreError, usize)>, CoreError> {
+    let config = CoreConfig {
+        shard: 0,
+        capacity,
+        last_stamp,
+    };
+    let words = VecWords::new(alloc, rows)?;
+    let made: Result<DelayCore<char, VecWords>, (CoreError, VecWords)> = DelayCore::new(
+        alloc, config, words,
+    );
+    match made {
+        Ok(_queue) => Ok(None),
+        Err((error, words)) => Ok(Some((error, words.rows()))),
+    }
+}
+
+#[test]
+fn bad_configs(rt: HostRuntime) -> Result<(), Fail> {
+    let bad = CoreError::BadConfig;
+    for (capacity, last_stamp, rows) in [
+        (0, 1, 1),
+        (65537, 1, 65536),
+        (4, 0, 4),
+        (4, 1048576, 4),
+        (4, 1, 3),
+    ] {
+        let refused = refusal(rt.alloc(), capacity, last_stamp, rows);
+        assert_eq!(rt; refused, Ok(Some((bad, rows))), "capacity {capacity}");
+    }
+    assert_eq!(rt; refusal(rt.alloc(), 65536, 1048575, 65536), Ok(None));
+    for capacity in [0, 65537] {
+        assert_eq!(rt; refusal(rt.alloc(), 1, 1, capacity), Err(bad));
+    }
+    Ok(())
+}
+
+// Whether a queue is made where memory is taken from that heap, and the words come back where it is not.
+fn is_made(alloc: Global, heap: &LocalHeap) -> Result<bool, CoreError> {
+    let config = CoreConfig {
+        shard: 0,
+        capacity: 4,
+        last_stamp: 1,
+    };
+    match DelayCore::new(heap, config, VecWords::new(alloc, 4)?) {
+        Ok(mut queue) => Ok(queue.insert('v', 5).is_ok()),
+        Err((CoreError::NoMemory, words)) if words.rows() == 4 => Ok(false),
+        Err((error, _words)) => Err(error),
+    }
+}
+
+// The making takes some blocks of 16 bytes and more: as the heap grows by 16 bytes, each is refused in turn.
+#[test]
+fn queue_refused_memory(rt: HostRuntime) -> Result<(), Fail> {
+    let mut refused = 0u64;
+    for blocks in 0..1024usize {
+        let heap = LocalHeap::new(rt.alloc(), blocks * 16)?;
+        let made = is_made(rt.alloc(), &heap)?;
+        assert_eq!(rt; heap.used(), 0);
+        if made {
+            assert!(rt; refused > 4);
+            return Ok(());
+        }
+        refused = refused.saturating_add(1);
+    }
+    assert!(rt; false, "no heap was large enough");
+    Ok(())
+}
+
+#[test]
+fn words_refused_memory(rt: HostRuntime) -> Result<(), Fail> {
+    // Four words are one block of 64 bytes.
+    for (size, made) in [(0, false), (48, false), (64, true)] {
+        let heap = LocalHeap::new(rt.alloc(), size)?;
+        match VecWords::new(&heap, 4) {
+            Ok(words) => assert!(rt; made && words.rows() == 4),
+            Err(error) => assert!(rt; !made && error == CoreError::NoMemory),
+        }
+        assert_eq!(rt; heap.used(), 0);
+    }
+    Ok(())
+}
+
+fn moved<T: Send>(value: T) -> T {
+    value
+}
+
+#[test]
+fn queue_and_words_move_to_a_thread(rt: HostRuntime) -> Result<(), Fail> {
+    let words = VecWords::new(rt.alloc(), 1)?;
+    let config = CoreConfig {
+        shard: 0,
+        capacity: 1,
+        last_stamp: 1,
+    };
+    match DelayCore::new(rt.alloc(), config, words) {
+        Ok(queue) => {
+            let mut queue = moved(queue);
+            queue.insert('v', 0)?;
+        }
+        Err((error, _words)) => assert!(rt; false, "{error}"),
+    }
+    assert_eq!(rt; moved(VecWords::new(rt.alloc(), 2)?).rows(), 2);
+    Ok(())
+}
