@@ -40,7 +40,8 @@ fn a_raise_keeps_the_birth_stamp(rt: HostRuntime) -> Result<(), Fail> {
 
 #[test]
 fn slots_refused_memory(rt: HostRuntime) -> Result<(), Fail> {
-    // Four cells are one block of 96 bytes, their stack of free indexes one of 16: at 48 the first is refused, at 96 the second.
+    // Four cells are one block of 96 bytes, and their stack of free indexes takes one of 16: at 48 the first is refused, at 96
+    // the second.
     for (size, made) in [(0, false), (48, false), (96, false), (112, true)] {
         let heap = LocalHeap::new(rt.alloc(), size)?;
         match Slots::new(&heap, 4, 1) {
