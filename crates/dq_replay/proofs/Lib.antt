@@ -10,3 +10,15 @@ mod Outcomes
 mod LineRuns
 mod Whole
 pub mod Orders
+mod Ordered
+mod Sorted
+mod LiveSlots
+mod Keyed
+mod Runs
+mod Refused
+mod Tied
+mod KeyCalls
+mod Roomy
+mod Moves
+mod Calls
+mod Expiry

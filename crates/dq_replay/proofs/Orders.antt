@@ -1,5 +1,5 @@
 -- The live names stay distinct and in order.
-use Rattle.std.proofs.Common.{◌≡◌, ℕ, ◌+◌, ◌<◌, ◌⊎◌, inl, inr, Bool, true, false, cond, ◌&&◌, ◌||◌, List, [], ◌∷◌, ◌++◌, length, refl, ap, sym, ◌∙◌, arith}
+use Rattle.std.proofs.Common.{◌≡◌, ℕ, ◌+◌, ◌<◌, ◌⊎◌, inl, inr, Bool, true, false, cond, not, ◌&&◌, ◌||◌, List, [], ◌∷◌, ◌++◌, length, refl, ap, sym, ◌∙◌, arith}
 use Rattle.std.specs.Prelude.{◌==◌, nat_lt, nat_le, max, filter, bytes_eq, Option, Some, None, Result, Ok, Err, IfOk, IfSome}
 use Rattle.std.specs.Ordering.{nat_cmp, is_lt, ordering_reverse}
 use Rattle.std.specs.declared.cmp.Ordering.{Ordering}
@@ -8,11 +8,11 @@ use Rattle.std.specs.Cmp.Lexicographic.{slice_cmp, nat_list_cmp_total, nat_list_
 use Rattle.std.proofs.lemmas.Bool.{lt-ltb, le-ltb, eq-eqb, ltb-true, eqb-true, or_cases, and_parts, cases_order}
 use Rattle.dq_replay.specs.declared.session.Entry.{Entry}
 use Rattle.dq_replay.specs.declared.command.Command.{Command}
-use Rattle.dq_replay.specs.declared.command.Command.TheVariants.{Insert, Tick}
+use Rattle.dq_replay.specs.declared.command.Command.TheVariants.{Insert, Reset, Extend, Cancel, Remove, Deadline, Live, Clear, Tick}
 use Rattle.dq_replay.specs.declared.fault.FaultKind.{FaultKind}
 use Rattle.dq_replay.specs.declared.line.TheConstants.{LINE_LIMIT, LAST_LINE}
 use Rattle.dq_replay.specs.Text.{words_of}
-use Rattle.dq_replay.specs.Script.{State, Outcome, comes_before, with_entry, is_live, insert_in, tick_in, step, header_does, command_does, limit_of, command_of, line_does, outcome_from, after_answer, ends_by}
+use Rattle.dq_replay.specs.Script.{State, Outcome, comes_before, with_entry, is_live, deadline_of, without, moved, insert_in, reset_by, extend_by, cancel_by, remove_by, deadline_by, tick_in, step, header_does, command_does, limit_of, command_of, line_does, outcome_from, after_answer, ends_by}
 use Rattle.dq_replay.proofs.Whole.{after_two}
 use Rattle.dq_replay.specs.Order.{ComesBeforeAll, IsInOrder, HasDistinctNames, IsOrdered, behind_answer, after_lines}
 
@@ -162,8 +162,54 @@ tick_ordered : (s : State) (to : ℕ) → IsOrdered s → IsOrdered (tick_in s t
 tick_ordered s to ordered = either_ordered (nat_lt s.limit to) _ _ ordered
     (in_order_filter (λ e. nat_lt (max s.noted to) e.deadline) s.live ordered.0, distinct_filter (λ e. nat_lt (max s.noted to) e.deadline) s.live ordered.1)
 
+none_without : (name : List ℕ) (xs : List Entry) → is_live name (without name xs) ≡ false
+none_without name [] = refl
+none_without name (x ∷ xs) = by (bytes_eq x.name name) refl (none_without name xs)
+  where
+    by : (t : Bool) → bytes_eq x.name name ≡ t → is_live name (without name xs) ≡ false → is_live name (cond (not t) (x ∷ without name xs) (without name xs)) ≡ false
+    by true is rest = rest
+    by false is rest = rw is rest
+
+without_ordered : (s : State) (name : List ℕ) → IsOrdered s → IsOrdered (record s { live = without name s.live })
+without_ordered s name ordered =
+    (in_order_filter (λ e. not (bytes_eq e.name name)) s.live ordered.0, distinct_filter (λ e. not (bytes_eq e.name name)) s.live ordered.1)
+
+moved_ordered : (s : State) (name : List ℕ) (deadline : ℕ) → IsOrdered s → IsOrdered (record s { live = moved name deadline s.live })
+moved_ordered s name deadline ordered =
+    let others = without_ordered s name ordered in (
+      in_order_with (record { name = name; deadline = deadline }) (without name s.live) (none_without name s.live) others.0,
+      distinct_with (record { name = name; deadline = deadline }) (without name s.live) (none_without name s.live) others.1,
+    )
+
+reset_ordered : (s : State) (name : List ℕ) (when : ℕ) (o : Option ℕ) → IsOrdered s → IsOrdered (reset_by s name when o).0
+reset_ordered s name when None ordered = ordered
+reset_ordered s name when (Some deadline) ordered = either_ordered (nat_lt s.limit when) _ _ ordered (moved_ordered s name (max when s.noted) ordered)
+
+extend_ordered : (s : State) (name : List ℕ) (when : ℕ) (o : Option ℕ) → IsOrdered s → IsOrdered (extend_by s name when o).0
+extend_ordered s name when None ordered = ordered
+extend_ordered s name when (Some deadline) ordered = either_ordered (nat_lt s.limit when) _ _ ordered (moved_ordered s name (max when deadline) ordered)
+
+cancel_ordered : (s : State) (name : List ℕ) (o : Option ℕ) → IsOrdered s → IsOrdered (cancel_by s name o).0
+cancel_ordered s name None ordered = ordered
+cancel_ordered s name (Some deadline) ordered = without_ordered s name ordered
+
+remove_ordered : (s : State) (name : List ℕ) (o : Option ℕ) → IsOrdered s → IsOrdered (remove_by s name o).0
+remove_ordered s name None ordered = ordered
+remove_ordered s name (Some deadline) ordered = without_ordered s name ordered
+
+deadline_ordered : (s : State) (name : List ℕ) (o : Option ℕ) → IsOrdered s → IsOrdered (deadline_by s name o).0
+deadline_ordered s name None ordered = ordered
+deadline_ordered s name (Some deadline) ordered = ordered
+
 step_ordered : (s : State) (command : Command) → IsOrdered s → IsOrdered (step s command).0
 step_ordered s (Insert name when) ordered = insert_ordered s name when ordered
+step_ordered s (Reset name when) ordered = reset_ordered s name when (deadline_of name s.live) ordered
+step_ordered s (Extend name when) ordered = extend_ordered s name when (deadline_of name s.live) ordered
+step_ordered s (Cancel name) ordered = cancel_ordered s name (deadline_of name s.live) ordered
+step_ordered s (Remove name) ordered = remove_ordered s name (deadline_of name s.live) ordered
+step_ordered s (Deadline name) ordered = deadline_ordered s name (deadline_of name s.live) ordered
+step_ordered s Live ordered = ordered
+step_ordered s Clear ordered = (tt, tt)
 step_ordered s (Tick to) ordered = tick_ordered s to ordered
 
 header_ordered : (s : State) (limit : Option ℕ) → IsOrdered s → IfOk (header_does s limit) (λ done. IsOrdered done.0)

@@ -155,6 +155,10 @@ ran_to_fault had mid left held midst holds capacity number s new Write stands ra
 ran_to_fault had mid left held midst holds capacity number s new NoMemory stands ran = ran_behind {T = Unit {0}} (Err NoMemory) had mid left held midst holds capacity number s stands (λ e. cc) ran
 ran_to_fault had mid left held midst holds capacity number s new BadConfig stands ran = absurd ran.4
 
+-- nothing was read where there is no memory to begin with
+pub ran_unstarted : (had held : Option (List ℕ)) (capacity : ℕ) → Ran {T = Unit {0}} had had held held 1 (start capacity) (Err NoMemory)
+ran_unstarted had held capacity = ([], [], consumes_none had, appends_none held, inl (nothing_in_line 1 (start capacity)))
+
 -- no line answers a bad capacity
 pub no_config : (had left held holds : Option (List ℕ)) (number : ℕ) (old new : State) (fault : ReplayFault) → LineRan had left held holds number old new (Err fault) → fault ≡ BadConfig → ⊥
 no_config had left held holds number old new BadConfig ran is = ran.4

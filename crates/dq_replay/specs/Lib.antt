@@ -6,3 +6,6 @@ pub mod Lines
 pub mod Script
 pub mod Order
 pub mod Replay
+pub mod Leases
+pub mod Leased
+pub mod Sitting

@@ -1,7 +1,20 @@
 -- The order of live names, and the states that a script reaches.
 use Rattle.std.specs.Prelude.{◌≡◌, ℕ, ◌+◌, true, false, List, [], ◌∷◌, ◌++◌, Option, Some, None, Ok, Err}
+use Rattle.std.specs.List.{AllByRecursion}
+use Rattle.std.specs.Cmp.Lexicographic.{slice_cmp}
+use Rattle.std.specs.Ordering.{nat_cmp, ordering_then}
+use Rattle.std.specs.declared.cmp.Ordering.{Ordering}
 use Rattle.dq_replay.specs.declared.session.Entry.{Entry}
 use Rattle.dq_replay.specs.Script.{State, comes_before, is_live, line_does}
+
+-- the order as `cmp` has it: by the deadline, and then by the name's bytes
+abbrev pub entry_cmp : Entry → Entry → Ordering
+entry_cmp a b = ordering_then (nat_cmp a.deadline b.deadline) (slice_cmp nat_cmp a.name b.name)
+
+-- no entry comes before an earlier one of the list
+abbrev pub IsLined : List Entry → Type 0
+IsLined [] = Unit {0}
+IsLined (x ∷ xs) = AllByRecursion (λ y. comes_before y x ≡ false) xs × IsLined xs
 
 -- an entry comes before each of these
 abbrev pub ComesBeforeAll : Entry → List Entry → Type 0

@@ -1,5 +1,5 @@
 -- What a script is answered: a function of all its bytes and the capacity.
-use Rattle.std.specs.Prelude.{ℕ, ◌+◌, max, Bool, ◌&&◌, ◌||◌, List, [], ◌∷◌, ◌++◌, length, if◌then◌else◌, nat_lt, nat_le, ◌==◌, Option, Some, None, Result, Ok, Err, bytes_eq, codes, decimal, filter, flat_map}
+use Rattle.std.specs.Prelude.{ℕ, ◌+◌, max, Bool, not, ◌&&◌, ◌||◌, List, [], ◌∷◌, ◌++◌, length, if◌then◌else◌, nat_lt, nat_le, ◌==◌, Option, Some, None, Result, Ok, Err, bytes_eq, codes, decimal, filter, flat_map}
 use Rattle.std.specs.Cmp.Lexicographic.{slice_cmp}
 use Rattle.std.specs.Ordering.{nat_cmp, is_lt}
 use Rattle.std.specs.List.{list_any}
@@ -7,7 +7,9 @@ use Rattle.dq_ticks.specs.declared.TheConstants.{LAST_TICK}
 use Rattle.dq_replay.specs.declared.fault.FaultKind.{FaultKind}
 use Rattle.dq_replay.specs.declared.fault.FaultKind.TheVariants.{TooManyLines, LineTooLong, UnfinishedLine, BadHeader, UnknownCommand, BadShape, BadName, BadNumber}
 use Rattle.dq_replay.specs.declared.command.Command.{Command}
-use Rattle.dq_replay.specs.declared.command.Command.TheVariants.{Insert, Tick}
+use Rattle.dq_replay.specs.declared.command.Command.TheVariants.{Insert, Reset, Extend, Cancel, Remove, Deadline, Live, Clear, Tick}
+use Rattle.dq_replay.specs.declared.command.Verb.{Verb}
+use Rattle.dq_replay.specs.declared.command.Verb.TheVariants.{ToInsert, ToReset, ToExtend, ToCancel, ToRemove, ToTell, ToCount, ToClear, ToTick}
 use Rattle.dq_replay.specs.declared.session.Entry.{Entry}
 use Rattle.dq_replay.specs.declared.header.TheConstants.{FIRST_EDITION_LIMIT}
 use Rattle.dq_replay.specs.declared.line.TheConstants.{LINE_LIMIT, LAST_LINE}
@@ -37,12 +39,37 @@ with_entry e (x ∷ xs) = if comes_before e x then e ∷ x ∷ xs else x ∷ wit
 abbrev pub is_live : List ℕ → List Entry → Bool
 is_live name live = list_any (λ e. bytes_eq e.name name) live
 
+-- the deadline in force of a name, none where it isn't live
+abbrev pub deadline_of : List ℕ → List Entry → Option ℕ
+deadline_of name [] = None
+deadline_of name (e ∷ es) = if bytes_eq e.name name then Some e.deadline else deadline_of name es
+
+-- the list without a name
+abbrev pub without : List ℕ → List Entry → List Entry
+without name live = filter (λ e. not (bytes_eq e.name name)) live
+
+-- the list with a name at that deadline, where it was at another
+abbrev pub moved : List ℕ → ℕ → List Entry → List Entry
+moved name deadline live = with_entry (record { name = name; deadline = deadline }) (without name live)
+
 -- an answer line: its text and its end
 abbrev pub line : List ℕ → List ℕ
 line text = text ++ 10 ∷ []
 
 abbrev pub at_line : List ℕ → ℕ → List ℕ
 at_line name deadline = line (name ++ codes " at " ++ decimal deadline)
+
+abbrev pub cancelled_line : List ℕ → ℕ → List ℕ
+cancelled_line name deadline = line (name ++ codes " cancelled " ++ decimal deadline)
+
+abbrev pub removed_line : List ℕ → ℕ → List ℕ
+removed_line name deadline = line (name ++ codes " removed " ++ decimal deadline)
+
+abbrev pub live_line : ℕ → List ℕ
+live_line count = line (codes "live " ++ decimal count)
+
+abbrev pub cleared_line : ℕ → List ℕ
+cleared_line count = line (codes "cleared " ++ decimal count)
 
 abbrev pub expired_line : Entry → List ℕ
 expired_line e = line (e.name ++ codes " expired " ++ decimal e.deadline)
@@ -58,6 +85,38 @@ insert_in s name when =
     else if nat_le s.capacity (length s.live) then (s, line (codes "refused full"))
     else (record s { live = with_entry (record { name = name; deadline = max when s.noted }) s.live }, at_line name (max when s.noted))
 
+-- the commands on one name, by its deadline in force
+
+-- it gets another deadline, the greater of what was asked and what was noted
+abbrev pub reset_by : State → List ℕ → ℕ → Option ℕ → State × List ℕ
+reset_by s name when None = (s, line (codes "refused missing"))
+reset_by s name when (Some deadline) =
+    if nat_lt s.limit when then (s, line (codes "refused too-far"))
+    else (record s { live = moved name (max when s.noted) s.live }, at_line name (max when s.noted))
+
+-- its deadline is raised to what was asked
+abbrev pub extend_by : State → List ℕ → ℕ → Option ℕ → State × List ℕ
+extend_by s name when None = (s, line (codes "refused missing"))
+extend_by s name when (Some deadline) =
+    if nat_lt s.limit when then (s, line (codes "refused too-far"))
+    else (record s { live = moved name (max when deadline) s.live }, at_line name (max when deadline))
+
+abbrev pub cancel_by : State → List ℕ → Option ℕ → State × List ℕ
+cancel_by s name None = (s, line (codes "refused missing"))
+cancel_by s name (Some deadline) = (record s { live = without name s.live }, cancelled_line name deadline)
+
+abbrev pub remove_by : State → List ℕ → Option ℕ → State × List ℕ
+remove_by s name None = (s, line (codes "refused missing"))
+remove_by s name (Some deadline) = (record s { live = without name s.live }, removed_line name deadline)
+
+abbrev pub deadline_by : State → List ℕ → Option ℕ → State × List ℕ
+deadline_by s name None = (s, line (codes "refused missing"))
+deadline_by s name (Some deadline) = (s, at_line name deadline)
+
+-- no name is live any longer
+abbrev pub clear_in : State → State × List ℕ
+clear_in s = (record s { live = [] }, cleared_line (length s.live))
+
 -- what is due at the tick goes, in order
 abbrev pub tick_to : State → ℕ → State × List ℕ
 tick_to s now = (
@@ -71,35 +130,84 @@ tick_in s to = if nat_lt s.limit to then (s, line (codes "refused tick-too-large
 -- the state and the answer after a command
 abbrev pub step : State → Command → State × List ℕ
 step s (Insert name when) = insert_in s name when
+step s (Reset name when) = reset_by s name when (deadline_of name s.live)
+step s (Extend name when) = extend_by s name when (deadline_of name s.live)
+step s (Cancel name) = cancel_by s name (deadline_of name s.live)
+step s (Remove name) = remove_by s name (deadline_of name s.live)
+step s (Deadline name) = deadline_by s name (deadline_of name s.live)
+step s Live = (s, live_line (length s.live))
+step s Clear = clear_in s
 step s (Tick to) = tick_in s to
 
--- the command that a name and a number make
-abbrev pub insert_at : Option (List ℕ) → Option ℕ → Result Command FaultKind
-insert_at None when = Err BadName
-insert_at (Some name) None = Err BadNumber
-insert_at (Some name) (Some when) = Ok (Insert name when)
+-- the words behind a command's first: a name and a number
+abbrev pub name_and_number : Option (List ℕ) → Option ℕ → Result (List ℕ × ℕ) FaultKind
+name_and_number None number = Err BadName
+name_and_number (Some name) None = Err BadNumber
+name_and_number (Some name) (Some number) = Ok (name, number)
 
-abbrev pub tick_at : Option ℕ → Result Command FaultKind
-tick_at None = Err BadNumber
-tick_at (Some to) = Ok (Tick to)
+abbrev pub both_of : List (List ℕ) → Result (List ℕ × ℕ) FaultKind
+both_of (name ∷ number ∷ []) = name_and_number (name_of name) (number_of number)
+both_of _ = Err BadShape
 
--- the words behind `insert`
-abbrev pub insert_of : List (List ℕ) → Result Command FaultKind
-insert_of (name ∷ when ∷ []) = insert_at (name_of name) (number_of when)
-insert_of _ = Err BadShape
+-- a name
+abbrev pub name_alone : Option (List ℕ) → Result (List ℕ) FaultKind
+name_alone None = Err BadName
+name_alone (Some name) = Ok name
 
--- the words behind `tick`
-abbrev pub tick_of : List (List ℕ) → Result Command FaultKind
-tick_of (to ∷ []) = tick_at (number_of to)
-tick_of _ = Err BadShape
+abbrev pub one_name : List (List ℕ) → Result (List ℕ) FaultKind
+one_name (name ∷ []) = name_alone (name_of name)
+one_name _ = Err BadShape
+
+-- a number
+abbrev pub number_alone : Option ℕ → Result ℕ FaultKind
+number_alone None = Err BadNumber
+number_alone (Some number) = Ok number
+
+abbrev pub one_number : List (List ℕ) → Result ℕ FaultKind
+one_number (number ∷ []) = number_alone (number_of number)
+one_number _ = Err BadShape
+
+-- nothing
+abbrev pub alone : Command → List (List ℕ) → Result Command FaultKind
+alone command [] = Ok command
+alone command _ = Err BadShape
+
+-- the command that those words make, or their fault
+abbrev pub makes : {A : Type 0} → (A → Command) → Result A FaultKind → Result Command FaultKind
+makes f (Ok words) = Ok (f words)
+makes f (Err kind) = Err kind
+
+-- the command that a line's first word begins
+abbrev pub verb_of : List ℕ → Option Verb
+verb_of word =
+    if bytes_eq word (codes "insert") then Some ToInsert
+    else if bytes_eq word (codes "reset") then Some ToReset
+    else if bytes_eq word (codes "extend") then Some ToExtend
+    else if bytes_eq word (codes "cancel") then Some ToCancel
+    else if bytes_eq word (codes "remove") then Some ToRemove
+    else if bytes_eq word (codes "deadline") then Some ToTell
+    else if bytes_eq word (codes "live") then Some ToCount
+    else if bytes_eq word (codes "clear") then Some ToClear
+    else if bytes_eq word (codes "tick") then Some ToTick
+    else None
+
+-- the command that the words behind the first complete
+abbrev pub completed : Option Verb → List (List ℕ) → Result Command FaultKind
+completed None rest = Err UnknownCommand
+completed (Some ToInsert) rest = makes (λ w. Insert w.0 w.1) (both_of rest)
+completed (Some ToReset) rest = makes (λ w. Reset w.0 w.1) (both_of rest)
+completed (Some ToExtend) rest = makes (λ w. Extend w.0 w.1) (both_of rest)
+completed (Some ToCancel) rest = makes Cancel (one_name rest)
+completed (Some ToRemove) rest = makes Remove (one_name rest)
+completed (Some ToTell) rest = makes Deadline (one_name rest)
+completed (Some ToCount) rest = alone Live rest
+completed (Some ToClear) rest = alone Clear rest
+completed (Some ToTick) rest = makes Tick (one_number rest)
 
 -- the command that the words of a line say
 abbrev pub command_of : List (List ℕ) → Result Command FaultKind
 command_of [] = Err UnknownCommand
-command_of (first ∷ rest) =
-    if bytes_eq first (codes "insert") then insert_of rest
-    else if bytes_eq first (codes "tick") then tick_of rest
-    else Err UnknownCommand
+command_of (first ∷ rest) = completed (verb_of first) rest
 
 -- the last tick of the edition that a first line names
 abbrev pub limit_of : List ℕ → Option ℕ

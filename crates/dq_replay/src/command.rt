@@ -2,7 +2,7 @@
 ghost use Rattle.std.specs.Prelude.{◌≡◌, ℕ, ◌+◌, ◌<◌, ◌^◌, ◌*◌, ◌-◌, ◌≤◌, ◌⊎◌, ◌==◌, true, false, List, [], ◌∷◌, length, Some, None, MatchOption, position, IfSome, OnSome, IfNone};
 ghost use Rattle.std.specs.Char.{is_ascii_digit};
 ghost use Rattle.dq_replay.specs.Text.{words_of, number_of, digits_behind};
-ghost use Rattle.dq_replay.specs.Script.{command_of, insert_of, tick_of};
+ghost use Rattle.dq_replay.specs.Script.{command_of, verb_of, completed, both_of, one_name, one_number, alone};
 ghost use Rattle.dq_replay.specs.Words.{words_behind};
 
 use crate::fault::FaultKind;
@@ -14,8 +14,36 @@ use std::marker::Model;
 pub enum Command {
     /// A new name, to expire at a tick.
     Insert { name: Name, when: u64 },
+    /// Another tick for a live name to expire at.
+    Reset { name: Name, when: u64 },
+    /// A later tick for a live name to expire at.
+    Extend { name: Name, when: u64 },
+    /// The end of a live name, by whoever holds it.
+    Cancel { name: Name },
+    /// The end of a live name, by the queue's owner.
+    Remove { name: Name },
+    /// The deadline of a live name.
+    Deadline { name: Name },
+    /// The number of live names.
+    Live,
+    /// The end of all live names.
+    Clear,
     /// The tick that was reached.
     Tick { to: u64 },
+}
+
+/// What a line's first word asks for.
+#[derive(Clone, Copy)]
+pub enum Verb {
+    ToInsert,
+    ToReset,
+    ToExtend,
+    ToCancel,
+    ToRemove,
+    ToTell,
+    ToCount,
+    ToClear,
+    ToTick,
 }
 
 /// The command that a line says.
@@ -26,40 +54,112 @@ pub fn parse(line: &[u8]) -> Result<Command, FaultKind>
     let Some(first) = words.next() else {
         return Err(FaultKind::UnknownCommand);
     };
-    if first == b"insert".as_slice() {
-        insert(&mut words)
-    } else if first == b"tick".as_slice() {
-        tick(&mut words)
+    let Some(verb) = verb_of(first) else {
+        return Err(FaultKind::UnknownCommand);
+    };
+    complete(verb, &mut words)
+}
+
+fn verb_of(word: &[u8]) -> Option<Verb>
+    ensures { result ≡ verb_of word.now }
+{
+    if word == b"insert".as_slice() {
+        Some(Verb::ToInsert)
+    } else if word == b"reset".as_slice() {
+        Some(Verb::ToReset)
+    } else if word == b"extend".as_slice() {
+        Some(Verb::ToExtend)
+    } else if word == b"cancel".as_slice() {
+        Some(Verb::ToCancel)
+    } else if word == b"remove".as_slice() {
+        Some(Verb::ToRemove)
+    } else if word == b"deadline".as_slice() {
+        Some(Verb::ToTell)
+    } else if word == b"live".as_slice() {
+        Some(Verb::ToCount)
+    } else if word == b"clear".as_slice() {
+        Some(Verb::ToClear)
+    } else if word == b"tick".as_slice() {
+        Some(Verb::ToTick)
     } else {
-        Err(FaultKind::UnknownCommand)
+        None
     }
 }
 
-fn insert(words: &mut Words<'_>) -> Result<Command, FaultKind>
-    ensures { result ≡ insert_of words.old }
+/// The command that the words behind the first complete.
+fn complete(verb: Verb, words: &mut Words<'_>) -> Result<Command, FaultKind>
+    ensures { result ≡ completed (Some verb) words.old }
 {
-    let (Some(name), Some(when), None) = (words.next(), words.next(), words.next()) else {
+    match verb {
+        Verb::ToInsert => {
+            let (name, when) = name_and_number(words)?;
+            Ok(Command::Insert { name, when })
+        }
+        Verb::ToReset => {
+            let (name, when) = name_and_number(words)?;
+            Ok(Command::Reset { name, when })
+        }
+        Verb::ToExtend => {
+            let (name, when) = name_and_number(words)?;
+            Ok(Command::Extend { name, when })
+        }
+        Verb::ToCancel => Ok(Command::Cancel {
+            name: one_name(words)?,
+        }),
+        Verb::ToRemove => Ok(Command::Remove {
+            name: one_name(words)?,
+        }),
+        Verb::ToTell => Ok(Command::Deadline {
+            name: one_name(words)?,
+        }),
+        Verb::ToCount => alone(words, Command::Live),
+        Verb::ToClear => alone(words, Command::Clear),
+        Verb::ToTick => Ok(Command::Tick {
+            to: one_number(words)?,
+        }),
+    }
+}
+
+fn name_and_number(words: &mut Words<'_>) -> Result<(Name, u64), FaultKind>
+    ensures { result ≡ both_of words.old }
+{
+    let (Some(name), Some(number), None) = (words.next(), words.next(), words.next()) else {
         return Err(FaultKind::BadShape);
     };
     let Some(name) = Name::parse(name) else {
         return Err(FaultKind::BadName);
     };
-    let Some(when) = number(when) else {
+    let Some(number) = number_of(number) else {
         return Err(FaultKind::BadNumber);
     };
-    Ok(Command::Insert { name, when })
+    Ok((name, number))
 }
 
-fn tick(words: &mut Words<'_>) -> Result<Command, FaultKind>
-    ensures { result ≡ tick_of words.old }
+fn one_name(words: &mut Words<'_>) -> Result<Name, FaultKind>
+    ensures { result ≡ one_name words.old }
 {
-    let (Some(to), None) = (words.next(), words.next()) else {
+    let (Some(name), None) = (words.next(), words.next()) else {
         return Err(FaultKind::BadShape);
     };
-    let Some(to) = number(to) else {
-        return Err(FaultKind::BadNumber);
+    Name::parse(name).ok_or(FaultKind::BadName)
+}
+
+fn one_number(words: &mut Words<'_>) -> Result<u64, FaultKind>
+    ensures { result ≡ one_number words.old }
+{
+    let (Some(number), None) = (words.next(), words.next()) else {
+        return Err(FaultKind::BadShape);
     };
-    Ok(Command::Tick { to })
+    number_of(number).ok_or(FaultKind::BadNumber)
+}
+
+fn alone(words: &mut Words<'_>, command: Command) -> Result<Command, FaultKind>
+    ensures { result ≡ alone command words.old }
+{
+    match words.next() {
+        None => Ok(command),
+        Some(_) => Err(FaultKind::BadShape),
+    }
 }
 
 /// The words of a line that are left, between single spaces.
@@ -112,7 +212,7 @@ fn space_at(text: &[u8]) -> Option<usize>
 }
 
 /// The number that a word is: digits, of which the first of several isn't `0`.
-fn number(word: &[u8]) -> Option<u64>
+fn number_of(word: &[u8]) -> Option<u64>
     ensures { result ≡ number_of word.now }
 {
     match word {

@@ -1,5 +1,5 @@
 //! The replay of a script.
-ghost use Rattle.std.specs.Prelude.{◌≡◌, ℕ, ◌<◌, ◌≤◌, ◌↔◌, ◌⊎◌, List, length, IfSome, IfErr, IsErrOf};
+ghost use Rattle.std.specs.Prelude.{◌≡◌, ℕ, ◌<◌, ◌≤◌, ◌↔◌, ◌⊎◌, List, length, IfSome, IfOk, IfErr, IsErrOf};
 ghost use Rattle.std.specs.Io.KnownBytes.{Appends, Keeps};
 ghost use Rattle.dq_replay.specs.declared.fault.ReplayFault.TheVariants.{Script, Write};
 ghost use Rattle.dq_replay.specs.Script.{start, line_does, outcome_of};
@@ -73,10 +73,12 @@ fn replay<A: Allocator + Copy, R: Read, W: Write>(
     writer: &mut W,
     capacity: usize,
 ) -> Result<(), ReplayFault>
+    requires some { 0 < capacity }
+    requires few { capacity ≤ CAPACITY_LIMIT }
     ensures runs { Ran (R.remaining reader.old) (R.remaining reader.new) (W.contents writer.old) (W.contents writer.new) 1 (start capacity) result }
     ensures config { ¬ IsErrOf result ReplayFault.BadConfig }
 {
-    let mut session = Session::new(alloc, capacity);
+    let mut session = Session::new(alloc, capacity)?;
     let mut line = Vec::new(alloc);
     for number in 1..LAST_LINE + 1 {
         if !replay_line(alloc, reader, writer, &mut session, &mut line, number)? {
@@ -98,8 +100,11 @@ fn replay_line<A: Allocator + Copy, R: Read, W: Write>(
     line: &mut Vec<u8, A>,
     number: u32,
 ) -> Result<bool, ReplayFault>
-    requires { number ≤ LAST_LINE }
-    ensures { LineRan (R.remaining reader.old) (R.remaining reader.new) (W.contents writer.old) (W.contents writer.new) number session.old session.new result }
+    requires lines { number ≤ LAST_LINE }
+    // Each line gives at most one stamp.
+    requires given { session.old.given < number }
+    ensures ran { LineRan (R.remaining reader.old) (R.remaining reader.new) (W.contents writer.old) (W.contents writer.new) number session.old.state session.new.state result }
+    ensures given { IfOk result (λ _. session.new.given ≤ number) }
 {
     match next_line(reader, line)? {
         LineEnd::Whole => {
@@ -123,7 +128,9 @@ fn answer<A: Allocator + Copy>(
 ) -> Result<String<A>, ReplayFault>
     requires lines { number ≤ LAST_LINE }
     requires bytes { length line.now ≤ LINE_LIMIT }
-    ensures { DoesLine number session.new result (line_does number session.old line.now) }
+    requires given { session.old.given < number }
+    ensures does { DoesLine number session.new.state result (line_does number session.old.state line.now) }
+    ensures given { IfOk result (λ _. session.new.given ≤ number) }
 {
     if number == 1 {
         let Some(limit) = limit_of(line) else {

@@ -1,142 +1,193 @@
 //! What a script has made so far, and what each command does to it.
-ghost use Rattle.std.specs.Prelude.{◌≡◌, ℕ, ◌≤◌, List, [], ◌∷◌, ◌++◌, length, max, IfOk, OnOk, OnErr, string_bytes, nat_lt, filter, insert, position};
-ghost use Rattle.dq_replay.specs.Script.{State, start, step, insert_in, tick_in, is_live, with_entry, comes_before};
+ghost use Rattle.std.specs.Prelude.{◌≡◌, ℕ, ◌+◌, ◌<◌, ◌≤◌, IfOk, string_bytes, length};
+ghost use Rattle.dq_replay.specs.Script.{start, step, insert_in, reset_by, extend_by, cancel_by, remove_by, deadline_by, deadline_of, clear_in, tick_in, live_line};
+ghost use Rattle.dq_replay.specs.Sitting.{Sitting};
 
 use crate::command::Command;
 use crate::header::FIRST_EDITION_LIMIT;
+use crate::leases::Leases;
 use crate::name::Name;
-use crate::texts::{at_text, refusal_text, tick_text};
+use crate::texts::{
+    at_text, cancelled_text, cleared_text, live_text, refusal_text, removed_text, tick_text,
+};
+use dq_ticks::{LAST_STAMP, LAST_TICK};
 use std::alloc::{AllocError, Allocator};
 use std::marker::Model;
 
-/// A live name with its deadline in force.
-#[derive(Drop)]
+/// A live name with its deadline in force. Entries are in the order of their deadlines, and then of their names.
+#[derive(PartialEq, Eq, PartialOrd, Ord, Drop)]
 pub struct Entry {
-    pub name: Name,
     pub deadline: u64,
+    pub name: Name,
 }
 
-/// The live names in order, the noted tick, and the limits.
+/// The live names with the noted tick, and the last tick that the script's edition knows.
 #[derive(Drop)]
 pub struct Session<A: Allocator> {
-    capacity: usize,
     limit: u64,
-    live: Vec<Entry, A>,
-    noted: u64,
+    leases: Leases<A>,
 }
 
 impl<A: Allocator> Model for Session<A> {
-    ghost use Rattle.dq_replay.specs.Script.{State};
+    ghost use Rattle.std.specs.Prelude.{◌≤◌};
+    ghost use Rattle.dq_ticks.specs.declared.TheConstants.{LAST_TICK};
+    ghost use Rattle.dq_replay.specs.Sitting.{Sitting, sitting};
 
-    ghost Value = { State };
+    ghost Value = { Sitting };
 
-    ghost view = { λ s. record { capacity = s.capacity; limit = s.limit; live = s.live.items; noted = s.noted } };
+    ghost view = { λ s. sitting s.limit s.leases };
+
+    ghost invariant = { λ s. s.limit ≤ LAST_TICK };
 }
 
 impl<A: Allocator + Copy> Session<A> {
-    pub fn new(alloc: A, capacity: usize) -> Session<A>
-        ensures { result ≡ start capacity }
+    pub fn new(alloc: A, capacity: usize) -> Result<Session<A>, AllocError>
+        requires some { 0 < capacity }
+        requires few { capacity ≤ 65536 }
+        ensures { IfOk result (λ session. session ≡ record { state = start capacity; given = 0 }) }
     {
-        Session {
-            capacity,
+        Ok(Session {
             limit: FIRST_EDITION_LIMIT,
-            live: Vec::new(alloc),
-            noted: 0,
-        }
+            leases: Leases::new(alloc, capacity)?,
+        })
     }
 
     /// Sets the last tick that the script's edition knows.
     pub fn set_limit(&mut self, limit: u64)
-        ensures { self.new ≡ record self.old { limit = limit } }
+        requires { limit ≤ LAST_TICK }
+        ensures state { self.new.state ≡ record self.old.state { limit = limit } }
+        ensures given { self.new.given ≡ self.old.given }
     {
         self.limit = limit;
     }
 
     /// Does a command, and gives the text of its answer.
     pub fn answer(&mut self, alloc: A, command: Command) -> Result<String<A>, AllocError>
-        ensures ok { IfOk result (λ text. step self.old command ≡ (self.new, string_bytes text)) }
-        ensures err { OnErr result (self.new ≡ self.old) }
+        requires { self.old.given < LAST_STAMP }
+        ensures ok { IfOk result (λ text. step self.old.state command ≡ (self.new.state, string_bytes text)) }
+        ensures given { IfOk result (λ _. self.new.given ≤ self.old.given + 1) }
     {
         match command {
             Command::Insert { name, when } => self.insert(alloc, name, when),
+            Command::Reset { name, when } => self.reset(alloc, &name, when),
+            Command::Extend { name, when } => self.extend(alloc, &name, when),
+            Command::Cancel { name } => self.cancel(alloc, &name),
+            Command::Remove { name } => self.remove(alloc, &name),
+            Command::Deadline { name } => self.deadline(alloc, &name),
+            Command::Live => self.live(alloc),
+            Command::Clear => self.clear(alloc),
             Command::Tick { to } => self.tick(alloc, to),
         }
     }
 
     fn insert(&mut self, alloc: A, name: Name, when: u64) -> Result<String<A>, AllocError>
-        ensures ok { IfOk result (λ text. insert_in self.old name when ≡ (self.new, string_bytes text)) }
-        ensures err { OnErr result (self.new ≡ self.old) }
+        requires { self.old.given < LAST_STAMP }
+        ensures ok { IfOk result (λ text. insert_in self.old.state name when ≡ (self.new.state, string_bytes text)) }
+        ensures given { IfOk result (λ _. self.new.given ≤ self.old.given + 1) }
     {
-        if is_live(&name, &self.live) {
+        if self.leases.is_live(&name) {
             return refusal_text(alloc, "name-taken");
         }
         if when > self.limit {
             return refusal_text(alloc, "too-far");
         }
-        if self.live.len() >= self.capacity {
+        if self.leases.len() >= self.leases.capacity() {
             return refusal_text(alloc, "full");
         }
-        let deadline = when.max(self.noted);
+        let deadline = when.max(self.leases.noted());
         let text = at_text(alloc, &name, deadline)?;
-        put(&mut self.live, Entry { name, deadline })?;
+        self.leases.insert(name, deadline)?;
         Ok(text)
     }
 
+    fn reset(&mut self, alloc: A, name: &Name, when: u64) -> Result<String<A>, AllocError>
+        requires { self.old.given < LAST_STAMP }
+        ensures ok { IfOk result (λ text. reset_by self.old.state name.now when (deadline_of name.now self.old.state.live) ≡ (self.new.state, string_bytes text)) }
+        ensures given { IfOk result (λ _. self.new.given ≤ self.old.given + 1) }
+    {
+        if !self.leases.is_live(name) {
+            return refusal_text(alloc, "missing");
+        }
+        if when > self.limit {
+            return refusal_text(alloc, "too-far");
+        }
+        let deadline = when.max(self.leases.noted());
+        match self.leases.reset(name, deadline) {
+            None => refusal_text(alloc, "missing"),
+            Some(deadline) => at_text(alloc, name, deadline),
+        }
+    }
+
+    fn extend(&mut self, alloc: A, name: &Name, when: u64) -> Result<String<A>, AllocError>
+        ensures ok { IfOk result (λ text. extend_by self.old.state name.now when (deadline_of name.now self.old.state.live) ≡ (self.new.state, string_bytes text)) }
+        ensures given { IfOk result (λ _. self.new.given ≤ self.old.given + 1) }
+    {
+        if !self.leases.is_live(name) {
+            return refusal_text(alloc, "missing");
+        }
+        if when > self.limit {
+            return refusal_text(alloc, "too-far");
+        }
+        match self.leases.extend(name, when) {
+            None => refusal_text(alloc, "missing"),
+            Some(deadline) => at_text(alloc, name, deadline),
+        }
+    }
+
+    fn cancel(&mut self, alloc: A, name: &Name) -> Result<String<A>, AllocError>
+        ensures ok { IfOk result (λ text. cancel_by self.old.state name.now (deadline_of name.now self.old.state.live) ≡ (self.new.state, string_bytes text)) }
+        ensures given { IfOk result (λ _. self.new.given ≤ self.old.given + 1) }
+    {
+        match self.leases.cancel(name) {
+            None => refusal_text(alloc, "missing"),
+            Some(deadline) => cancelled_text(alloc, name, deadline),
+        }
+    }
+
+    fn remove(&mut self, alloc: A, name: &Name) -> Result<String<A>, AllocError>
+        ensures ok { IfOk result (λ text. remove_by self.old.state name.now (deadline_of name.now self.old.state.live) ≡ (self.new.state, string_bytes text)) }
+        ensures given { IfOk result (λ _. self.new.given ≤ self.old.given + 1) }
+    {
+        match self.leases.remove(name) {
+            None => refusal_text(alloc, "missing"),
+            Some(deadline) => removed_text(alloc, name, deadline),
+        }
+    }
+
+    fn deadline(&mut self, alloc: A, name: &Name) -> Result<String<A>, AllocError>
+        ensures ok { IfOk result (λ text. deadline_by self.old.state name.now (deadline_of name.now self.old.state.live) ≡ (self.new.state, string_bytes text)) }
+        ensures given { IfOk result (λ _. self.new.given ≤ self.old.given + 1) }
+    {
+        match self.leases.deadline(name) {
+            None => refusal_text(alloc, "missing"),
+            Some(deadline) => at_text(alloc, name, deadline),
+        }
+    }
+
+    fn live(&mut self, alloc: A) -> Result<String<A>, AllocError>
+        ensures ok { IfOk result (λ text. string_bytes text ≡ live_line (length self.old.state.live)) }
+        ensures same { self.new ≡ self.old }
+    {
+        live_text(alloc, self.leases.len())
+    }
+
+    fn clear(&mut self, alloc: A) -> Result<String<A>, AllocError>
+        ensures ok { IfOk result (λ text. clear_in self.old.state ≡ (self.new.state, string_bytes text)) }
+        ensures given { IfOk result (λ _. self.new.given ≤ self.old.given + 1) }
+    {
+        let count = self.leases.clear();
+        cleared_text(alloc, count)
+    }
+
     fn tick(&mut self, alloc: A, to: u64) -> Result<String<A>, AllocError>
-        ensures ok { IfOk result (λ text. tick_in self.old to ≡ (self.new, string_bytes text)) }
-        ensures err { OnErr result (self.new ≡ self.old) }
+        ensures ok { IfOk result (λ text. tick_in self.old.state to ≡ (self.new.state, string_bytes text)) }
+        ensures given { IfOk result (λ _. self.new.given ≤ self.old.given + 1) }
     {
         if to > self.limit {
             return refusal_text(alloc, "tick-too-large");
         }
-        let now = self.noted.max(to);
-        let text = tick_text(alloc, &self.live, now)?;
-        drop_due(&mut self.live, now);
-        self.noted = now;
-        Ok(text)
+        let now = self.leases.noted().max(to);
+        let due = self.leases.tick(alloc, now)?;
+        tick_text(alloc, &due, now)
     }
-}
-
-fn is_live(name: &Name, live: &[Entry]) -> bool
-    ensures { result ≡ is_live name.now live.now }
-{
-    live.iter().any(|entry| entry.name.text() == name.text())
-}
-
-/// An earlier deadline, or the same one and a lesser name.
-fn comes_before(a: &Entry, b: &Entry) -> bool
-    ensures { result ≡ comes_before a.now b.now }
-{
-    a.deadline < b.deadline || (a.deadline == b.deadline && a.name.text() < b.name.text())
-}
-
-/// Drops what is due.
-fn drop_due<A: Allocator>(live: &mut Vec<Entry, A>, now: u64)
-    ensures { live.new.items ≡ filter (λ e. nat_lt now e.deadline) live.old.items }
-{
-    live.retain(|entry| now < entry.deadline);
-}
-
-/// Puts an entry at its place.
-fn put<A: Allocator>(live: &mut Vec<Entry, A>, entry: Entry) -> Result<(), AllocError>
-    ensures ok { OnOk result (live.new.items ≡ with_entry entry live.old.items) }
-    ensures err { OnErr result (live.new.items ≡ live.old.items) }
-{
-    let place = place_of(&entry, live);
-    live.insert(place, entry)?;
-    Ok(())
-}
-
-/// Where an entry goes among those that are in order.
-fn place_of(entry: &Entry, live: &[Entry]) -> usize
-    ensures within { result ≤ length live.now }
-    ensures place { insert live.now result entry.now ≡ with_entry entry.now live.now }
-{
-    first_behind(entry, live).unwrap_or(live.len())
-}
-
-fn first_behind(entry: &Entry, live: &[Entry]) -> Option<usize>
-    ensures { result ≡ position (comes_before entry.now) live.now }
-{
-    live.iter().position(|other| comes_before(entry, other))
 }

@@ -128,7 +128,7 @@ fn one_fault_each(rt: HostRuntime) -> Result<(), Fail> {
         (b"".as_slice(), FaultKind::UnknownCommand),
         ([b'a'; 129].as_slice(), FaultKind::LineTooLong),
         ([b'a'; 128].as_slice(), FaultKind::UnknownCommand),
-        (b"live".as_slice(), FaultKind::UnknownCommand),
+        (b"lives".as_slice(), FaultKind::UnknownCommand),
         (b"insert  5".as_slice(), FaultKind::BadName),
         (
             b"insert aaaaaaaaaaaaaaaaaaaaaaaaaaaaaaaaa 5".as_slice(),
@@ -398,11 +398,11 @@ fn refused_memory(rt: HostRuntime) -> Result<(), Fail> {
         b"delay 1\ninsert a 5\ninsert aaaaaaaaaaaaaaaaaaaaaaaaaaaaaaaa 5\ninsert b 3\ninsert c 4\ninsert d 4\ninsert e 4\ntick 4\ntick 9\n";
     let answers =
         b"a at 5\naaaaaaaaaaaaaaaaaaaaaaaaaaaaaaaa at 5\nb at 3\nc at 4\nd at 4\ne at 4\nb expired 3\nc expired 4\nd expired 4\ne expired 4\ntick 4\na expired 5\naaaaaaaaaaaaaaaaaaaaaaaaaaaaaaaa expired 5\ntick 9\n".as_slice();
-    for size in 0..400 {
+    for size in 0..4000 {
         let heap = LocalHeap::new(rt.alloc(), 16 * size)?;
         let mut reader = input.as_slice();
         let mut written = Vec::new(rt.alloc());
-        let end = run(&heap, &mut reader, &mut written, 1024);
+        let end = run(&heap, &mut reader, &mut written, 6);
         assert_eq!(rt; heap.used(), 0);
         if end == Ok(()) {
             assert!(rt; written.as_slice() == answers);
@@ -500,4 +500,136 @@ fn reports_each_kind(rt: HostRuntime) {
         );
         assert!(rt; told.as_slice() == text);
     }
+}
+
+#[test]
+fn script_capacity_one(rt: HostRuntime) {
+    let input =
+        b"delay 1\ninsert a 10\ninsert a 12\ninsert b 12\nextend a 4\nextend a 50\ntick 10\ncancel a\ninsert a 2\nlive\ntick 3\nremove a\ninsert z 68719476736\ntick 68719476736\nclear\n";
+    let answers =
+        b"a at 10\nrefused name-taken\nrefused full\na at 10\na at 50\ntick 10\na cancelled 50\na at 10\nlive 1\na expired 10\ntick 10\nrefused missing\nrefused too-far\nrefused tick-too-large\ncleared 0\n";
+    expect(&rt, rt.alloc(), 1, input, answers, Ok(()));
+}
+
+const CAPACITY_THREE: &[u8] =
+    b"delay 1\ninsert b 7\ninsert a 7\ninsert c 90\nreset c 6\ndeadline c\ntick 7\ninsert d 20\nremove d\ninsert e 30\nclear\n";
+
+const CAPACITY_THREE_ANSWERS: &[u8] =
+    b"b at 7\na at 7\nc at 90\nc at 6\nc at 6\nc expired 6\na expired 7\nb expired 7\ntick 7\nd at 20\nd removed 20\ne at 30\ncleared 1\n";
+
+#[test]
+fn script_capacity_three(rt: HostRuntime) {
+    expect(
+        &rt,
+        rt.alloc(),
+        3,
+        CAPACITY_THREE,
+        CAPACITY_THREE_ANSWERS,
+        Ok(()),
+    );
+}
+
+/// How many bytes of answers stand behind each line of the script of capacity three.
+const ANSWERED_THREE: [usize; 11] = [0, 7, 14, 22, 29, 36, 79, 87, 100, 108, 118];
+
+#[test]
+fn fault_at_each_read(rt: HostRuntime) {
+    let mut lines: usize = 0;
+    for read in 0..CAPACITY_THREE.len() {
+        let answered = match lines.checked_sub(1) {
+            Some(last) => ANSWERED_THREE[last.min(10)],
+            None => 0,
+        };
+        let mut errors = 0;
+        let mut written = Vec::new(rt.alloc());
+        let end = {
+            let mut reader = Broken {
+                left: &CAPACITY_THREE[..read],
+                errors: &mut errors,
+            };
+            run(rt.alloc(), &mut reader, &mut written, 3)
+        };
+        assert_eq!(rt; end, Err(ReplayFault::Read));
+        assert_eq!(rt; errors, 1);
+        assert!(rt; answered <= CAPACITY_THREE_ANSWERS.len());
+        assert!(rt; written.as_slice() == &CAPACITY_THREE_ANSWERS[..answered]);
+        if CAPACITY_THREE[read] == b'\n' {
+            lines = lines.saturating_add(1);
+        }
+    }
+}
+
+#[test]
+fn fault_at_each_write(rt: HostRuntime) {
+    for write in 0..CAPACITY_THREE_ANSWERS.len() {
+        let mut taken = Vec::new(rt.alloc());
+        let mut reader = CAPACITY_THREE;
+        let end = {
+            let mut writer = Slow {
+                taken: &mut taken,
+                calls_left: write + 1,
+            };
+            run(rt.alloc(), &mut reader, &mut writer, 3)
+        };
+        assert_eq!(rt; end, Err(ReplayFault::Write));
+        assert!(rt; taken.as_slice() == &CAPACITY_THREE_ANSWERS[..write]);
+    }
+}
+
+/// Every command, and every refusal.
+const EVERY_COMMAND: &[u8] =
+    b"insert a 10\ninsert a 5\ninsert b 4398046511104\ninsert b 20\ninsert c 5\nreset c 4398046511104\nreset a 4398046511104\nreset a 30\nextend c 4398046511104\nextend b 4398046511104\nextend b 25\ndeadline b\ndeadline c\ncancel c\ncancel a\ninsert c 21\nremove d\nremove b\nlive\ntick 4398046511104\ntick 21\nlive\ninsert e 1\nclear\nclear\n";
+
+const EVERY_ANSWER: &[u8] =
+    b"a at 10\nrefused name-taken\nrefused too-far\nb at 20\nrefused full\nrefused missing\nrefused too-far\na at 30\nrefused missing\nrefused too-far\nb at 25\nb at 25\nrefused missing\nrefused missing\na cancelled 30\nc at 21\nrefused missing\nb removed 25\nlive 1\nrefused tick-too-large\nc expired 21\ntick 21\nlive 0\ne at 21\ncleared 1\ncleared 0\n";
+
+#[test]
+fn every_command_in_both_editions(rt: HostRuntime) -> Result<(), Fail> {
+    for header in [b"delay 1\n".as_slice(), b"delay 2\n".as_slice()] {
+        let mut input = Vec::from_slice(rt.alloc(), header)?;
+        input.extend_from_slice(EVERY_COMMAND)?;
+        expect(&rt, rt.alloc(), 2, &input, EVERY_ANSWER, Ok(()));
+    }
+    // Between the editions' limits the first refuses and the second accepts.
+    let between =
+        b"insert a 68719476736\ninsert b 1\nreset b 68719476736\nextend b 68719476737\ntick 68719476736\nlive\n";
+    for (header, answers) in [
+        (
+            b"delay 1\n".as_slice(),
+            b"refused too-far\nb at 1\nrefused too-far\nrefused too-far\nrefused tick-too-large\nlive 1\n".as_slice(),
+        ),
+        (
+            b"delay 2\n".as_slice(),
+            b"a at 68719476736\nb at 1\nb at 68719476736\nb at 68719476737\na expired 68719476736\ntick 68719476736\nlive 1\n".as_slice(),
+        ),
+    ] {
+        let mut input = Vec::from_slice(rt.alloc(), header)?;
+        input.extend_from_slice(between)?;
+        expect(&rt, rt.alloc(), 2, &input, answers, Ok(()));
+    }
+    Ok(())
+}
+
+/// A heap too small for every command, then one a little larger, until a run meets no refusal.
+#[test]
+fn refused_memory_at_every_command(rt: HostRuntime) -> Result<(), Fail> {
+    let mut input = Vec::from_slice(rt.alloc(), b"delay 2\n".as_slice())?;
+    input.extend_from_slice(EVERY_COMMAND)?;
+    for size in 0..4000 {
+        let heap = LocalHeap::new(rt.alloc(), 16 * size)?;
+        let mut reader = input.as_slice();
+        let mut written = Vec::new(rt.alloc());
+        let end = run(&heap, &mut reader, &mut written, 2);
+        assert_eq!(rt; heap.used(), 0);
+        if end == Ok(()) {
+            assert!(rt; written.as_slice() == EVERY_ANSWER);
+            assert!(rt; size > 10);
+            return Ok(());
+        }
+        assert_eq!(rt; end, Err(ReplayFault::NoMemory));
+        assert!(rt; EVERY_ANSWER.starts_with(&written));
+        assert!(rt; written.is_empty() || written.ends_with(b"\n"));
+    }
+    assert!(rt; false, "no heap was large enough");
+    Ok(())
 }

@@ -1,6 +1,6 @@
 //! The texts of answers, each line with its end.
-ghost use Rattle.std.specs.Prelude.{◌≡◌, ◌++◌, IfOk, string_bytes, codes, decimal, nat_le, filter, flat_map};
-ghost use Rattle.dq_replay.specs.Script.{at_line, expired_line, tick_line, line};
+ghost use Rattle.std.specs.Prelude.{◌≡◌, ◌++◌, IfOk, string_bytes, codes, decimal, flat_map};
+ghost use Rattle.dq_replay.specs.Script.{at_line, cancelled_line, removed_line, live_line, cleared_line, expired_line, tick_line, line};
 
 use crate::name::Name;
 use crate::session::Entry;
@@ -12,6 +12,38 @@ pub fn at_text<A: Allocator>(alloc: A, name: &Name, deadline: u64) -> Result<Str
     format!(in alloc; "{name} at {deadline}\n")
 }
 
+pub fn cancelled_text<A: Allocator>(
+    alloc: A,
+    name: &Name,
+    deadline: u64,
+) -> Result<String<A>, AllocError>
+    ensures { IfOk result (λ text. string_bytes text ≡ cancelled_line name.now deadline) }
+{
+    format!(in alloc; "{name} cancelled {deadline}\n")
+}
+
+pub fn removed_text<A: Allocator>(
+    alloc: A,
+    name: &Name,
+    deadline: u64,
+) -> Result<String<A>, AllocError>
+    ensures { IfOk result (λ text. string_bytes text ≡ removed_line name.now deadline) }
+{
+    format!(in alloc; "{name} removed {deadline}\n")
+}
+
+pub fn live_text<A: Allocator>(alloc: A, count: usize) -> Result<String<A>, AllocError>
+    ensures { IfOk result (λ text. string_bytes text ≡ live_line count) }
+{
+    format!(in alloc; "live {count}\n")
+}
+
+pub fn cleared_text<A: Allocator>(alloc: A, count: usize) -> Result<String<A>, AllocError>
+    ensures { IfOk result (λ text. string_bytes text ≡ cleared_line count) }
+{
+    format!(in alloc; "cleared {count}\n")
+}
+
 /// The answer of a refused command.
 pub fn refusal_text<A: Allocator>(alloc: A, reason: &str) -> Result<String<A>, AllocError>
     ensures { IfOk result (λ text. string_bytes text ≡ line (codes "refused " ++ reason.now)) }
@@ -19,21 +51,18 @@ pub fn refusal_text<A: Allocator>(alloc: A, reason: &str) -> Result<String<A>, A
     format!(in alloc; "refused {reason}\n")
 }
 
-/// The lines of what is due at a tick, and the line of the tick.
+/// The lines of the names that expire at a tick, and the line of the tick.
 pub fn tick_text<A: Allocator + Copy>(
     alloc: A,
-    live: &[Entry],
+    due: &[Entry],
     now: u64,
 ) -> Result<String<A>, AllocError>
-    ensures { IfOk result (λ text. string_bytes text
-        ≡ flat_map expired_line (filter (λ e. nat_le e.deadline now) live.now) ++ tick_line now) }
+    ensures { IfOk result (λ text. string_bytes text ≡ flat_map expired_line due.now ++ tick_line now) }
 {
     let mut text = String::new(alloc);
-    for entry in live {
-        if entry.deadline <= now {
-            let expired = expired_text(alloc, entry)?;
-            text.push_str(&expired)?;
-        }
+    for entry in due {
+        let expired = expired_text(alloc, entry)?;
+        text.push_str(&expired)?;
     }
     let last = last_text(alloc, now)?;
     text.push_str(&last)?;

@@ -1,0 +1,37 @@
+use Rattle.std.proofs.Common.{◌≡◌, ◌<◌, ◌∙◌, sym, refl, subst, inr, max, rules}
+use Rattle.dq_ticks.specs.declared.TheConstants.{LAST_STAMP}
+use Rattle.dq_replay.proofs.Moves.{live_key, some_key, none_deadline, stamps_below}
+use Rattle.dq_replay.proofs.Calls.{reset_tied, reset_shown}
+use Rattle.dq_replay.proofs.leases.Leases.reset.Goals as goal
+
+pub returns-in_default : goal.returns-in_default
+returns-in_default g c = rw (← c.self.view_is)
+    (none_deadline c.self.inside.queue c.self.inside.names c.self.inside.given c.args.name.now c.self.invariant (sym c.get.ensures ∙ c.in_default.is), refl)
+
+pub reset_at-next-requires : goal.reset_at-next-requires
+reset_at-next-requires g c = record {
+  live = some_key c.self.inside.queue c.self.inside.names c.self.inside.given c.args.name.now c.in-Some.key c.self.invariant (sym c.get.ensures ∙ c.in-Some.is);
+  stamps = stamps_below c.self.inside.queue c.self.inside.names c.self.inside.given c.self.invariant (subst (λ x. x.given < LAST_STAMP) (sym c.self.view_is) c.requires.stamps);
+  tick = c.requires.tick;
+}
+
+pub put-requires : goal.put-requires
+put-requires g c = inr (rw (c.twin.ensures, sym c.get.ensures ∙ c.in-Some.is) (search rules))
+
+pub invariant_of-self : goal.invariant_of-self
+invariant_of-self g c =
+    let found = sym c.get.ensures ∙ c.in-Some.is in
+    let at = live_key c.self.inside.queue c.self.inside.names c.self.inside.given c.args.name.now c.in-Some.key c.self.invariant found in
+    let reset = c.reset_at-next.ensures c.args.name.now at.0 at.1 in
+    reset_tied c.self.inside.queue c.reset_at-next.new.queue c.self.inside.names c.put.new.self c.self.inside.given c.args.name.now at.0 c.args.when c.in-Some.key c.reset_at-next.result
+    c.self.invariant found at.1 reset (rw c.twin.ensures at c.put.ensures.put) (rw c.twin.ensures at c.put.ensures.len)
+
+pub returns : goal.returns
+returns g c =
+    let found = sym c.get.ensures ∙ c.in-Some.is in
+    let at = live_key c.self.inside.queue c.self.inside.names c.self.inside.given c.args.name.now c.in-Some.key c.self.invariant found in
+    let reset = c.reset_at-next.ensures c.args.name.now at.0 at.1 in
+    let is : c.max-deadline.result ≡ max c.args.when c.self.inside.queue.wheel.filing.tick = search rules in
+    rw (← c.self.view_is)
+    (reset_shown c.self.inside.queue c.reset_at-next.new.queue c.self.inside.names c.put.new.self c.self.inside.given c.args.name.now at.0 c.args.when c.in-Some.key c.reset_at-next.result
+    c.self.invariant found at.1 reset c.max-deadline.result is)

@@ -1,0 +1,65 @@
+-- The leases of a queue: the names that its machine has live, in order, and the keys under which they are found.
+use Rattle.std.specs.Prelude.{◌≡◌, ℕ, List, [], ◌∷◌, Option, Some, None, bytes_eq, if◌then◌else◌}
+use Rattle.std.specs.Map.{lookup}
+use Rattle.dq_ticks.specs.Keys.{KeyName}
+use Rattle.dq_core.specs.Machine.{Slot, Machine, slot_at}
+use Rattle.dq_core.specs.Machine.{Entry as Linked}
+use Rattle.dq_replay.specs.declared.session.Entry.{Entry}
+use Rattle.dq_replay.specs.Script.{with_entry}
+
+-- a linked name with its deadline in force, none where it is cancelled
+abbrev pub lease_by : List ℕ → Option ℕ → Option Entry
+lease_by name None = None
+lease_by name (Some deadline) = Some (record { name = name; deadline = deadline })
+
+abbrev pub lease_of : Option (Linked (List ℕ)) → Option Entry
+lease_of None = None
+lease_of (Some e) = lease_by e.value e.due
+
+abbrev pub with_lease : Option Entry → List Entry → List Entry
+with_lease None live = live
+with_lease (Some e) live = with_entry e live
+
+-- the live names of the slots, in order
+abbrev pub live_of : List (Slot (List ℕ)) → List Entry
+live_of [] = []
+live_of (s ∷ ss) = with_lease (lease_of s.entry) (live_of ss)
+
+-- a slot without an entry
+abbrev pub vacant : Slot (List ℕ)
+vacant = record { stamp = 0; entry = None }
+
+-- an entry that is linked and live
+abbrev pub live_entry : ℕ → List ℕ → ℕ → Linked (List ℕ)
+live_entry born name deadline = record { born = born; value = name; due = Some deadline }
+
+-- the key of the entry that was born at that stamp at slot i, at the slot's present stamp
+abbrev pub key_at : ℕ → Machine (List ℕ) → ℕ → ℕ → KeyName
+key_at shard m i born = record { entry = record { shard = shard; index = i; born = born }; stamp = (slot_at m i).stamp }
+
+-- the key of a name among names with their keys
+abbrev pub key_of : List (List ℕ × KeyName) → List ℕ → Option KeyName
+key_of names name = lookup (bytes_eq name) names
+
+-- each live name is found under the key of its entry, and no other name is found
+pub record AreKeyed (shard : ℕ) (m : Machine (List ℕ)) (keys : List ℕ → Option KeyName) : Type 0 where
+  pub found : (i born : ℕ) (name : List ℕ) (d : ℕ) → (slot_at m i).entry ≡ Some (live_entry born name d) → keys name ≡ Some (key_at shard m i born)
+  pub live : (name : List ℕ) (k : KeyName) → keys name ≡ Some k → (d : ℕ) × ((slot_at m k.entry.index).entry ≡ Some (live_entry k.entry.born name d)) × (k ≡ key_at shard m k.entry.index k.entry.born)
+
+-- names with their keys, and for how many more there is room
+pub record NameTable : Type 0 where
+  pub entries : List (List ℕ × KeyName)
+  pub spare : ℕ
+
+-- the key that a table has for a name
+abbrev pub found_in : NameTable → List ℕ → Option KeyName
+found_in t name = key_of t.entries name
+
+-- a table in which that name has that key, or none, and each other name what it had
+abbrev pub IsPutIn : NameTable → List ℕ → Option KeyName → NameTable → Type 0
+IsPutIn t name key u = (q : List ℕ) → found_in u q ≡ (if bytes_eq name q then key else found_in t q)
+
+-- one if there is a key
+abbrev pub one_if : Option KeyName → ℕ
+one_if None = 0
+one_if (Some key) = 1
