@@ -87,7 +87,7 @@ def draw(cases, names, about):
         name = names[peer].replace("`", "")
         parts.append(f'<rect x="{x}" y="42" width="12" height="12" fill="{COLOURS[peer]}"/>')
         parts.append(text(x + 17, 52, name, 12))
-        x += 34 + 6.6 * len(name)
+        x += 30 + 6.2 * len(name)
     for place, (title, groups) in enumerate(shown):
         base = TOP + place * (PANEL + GAP) + PANEL
         parts.append(text(LEFT, base - PANEL - 14, title, 14, weight="bold"))
