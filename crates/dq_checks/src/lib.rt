@@ -17,8 +17,16 @@ mod plain_rows;
 #[cfg(test)]
 mod queues;
 #[cfg(test)]
+mod race;
+#[cfg(test)]
 mod rows;
 #[cfg(test)]
 mod same_calls;
 #[cfg(test)]
+mod shared;
+#[cfg(test)]
+mod shared_rows;
+#[cfg(test)]
 mod slots;
+#[cfg(test)]
+mod words;
