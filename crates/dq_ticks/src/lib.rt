@@ -13,8 +13,7 @@
 //! | 4 | 4.7 h | 12 days |
 //! | 5 | 12 days | 2.2 years, a ring |
 //!
-//! These are ticks and words of the second edition. In the first, whose scripts are still read, ticks and fields had 36
-//! bits, stamps 26, and the top level was no ring: the last tick was the end of its one lap.
+//! A script of the first edition keeps an older, lesser last tick: docs/SCRIPT.md.
 #![tactic(auto)]
 
 pub mod digits;

@@ -1,8 +1,8 @@
 //! Words shared without a lock: the keeper and its callers.
 //!
-//! Each slot of a shard has one word of 64 bits, which says how its entry stands: its stamp, its mark and a deadline. The
-//! [`Keeper`] begins and ends entries under the shard's lock. Any number of [`Caller`]s, each in a thread of its own, extend
-//! and cancel entries by one atomic step on that word, whoever holds the lock.
+//! Each slot of a queue has one word of 64 bits, which says how its entry stands: its stamp, its mark and a deadline. The
+//! [`Keeper`] belongs to the queue's owner and begins and ends entries. Up to 1,024 [`Caller`]s, each in a thread of its own,
+//! extend and cancel entries by one atomic step on that word, whatever the owner does meanwhile.
 #![tactic(auto)]
 
 pub mod caller;
