@@ -1,6 +1,6 @@
 -- What the calls of the leases leave of them, and what they show.
 use Rattle.std.proofs.Common.{◌≡◌, ℕ, ◌+◌, ◌<◌, ◌≤◌, inl, inr, false, List, [], ◌∷◌, length, refl, ap, sym, ◌∙◌, subst, arith, suc, zero, get_or, set}
-use Rattle.std.specs.Prelude.{Option, Some, None, max, replicate}
+use Rattle.std.specs.Prelude.{Option, Some, None, Ok, max, replicate}
 use Rattle.std.specs.List.{AllByRecursion}
 use Rattle.std.proofs.lemmas.Bool.{cases_eq}
 use Rattle.dq_ticks.specs.Keys.{KeyName}
@@ -42,17 +42,19 @@ module _ {W : Type 0} (b c : Core (List ℕ) W) (t u : NameTable) (given : ℕ) 
       (put_in_other t u name (Some new) put_in)
       (omega (arith, size, one, count, sizes))
 
-  pub reset_shown : (x : ℕ) → x ≡ max when b.wheel.filing.tick → ResetsLease (leased b given) name when (Some x) (leased c (given + 1))
-  reset_shown x is = (
-    d,
-    key_deadline b t given name d k l live,
-    is,
-    leased_path c (given + 1) (moved_lease (leased b given) name x (given + 1)) reset.0.same.rows
-        (changed_tick b c k.entry.index ((slot_at (machine b) k.entry.index).stamp + 1) (Some (live_entry k.entry.born name (max when (machine b).tick))) reset.0)
-        (changed_noted b c k.entry.index ((slot_at (machine b) k.entry.index).stamp + 1) (Some (live_entry k.entry.born name (max when (machine b).tick))) reset.0) refl
-        (key_moved b c t u given (given + 1) ((slot_at (machine b) k.entry.index).stamp + 1) (Some (live_entry k.entry.born name (max when (machine b).tick))) name d k l at live reset.0 x
-        (ap (λ z. Some (live_entry k.entry.born name z)) (sym is))),
-  )
+  pub reset_shown : (asked limit : ℕ) → asked ≤ limit → when ≡ max asked b.noted → b.wheel.filing.tick ≤ b.noted → ResetsLease (leased b given) name asked limit (Ok when) (leased c (given + 1))
+  reset_shown asked limit within is reached =
+      let here : max when (machine b).tick ≡ when = omega (arith, is, reached) in (
+        d,
+        key_deadline b t given name d k l live,
+        within,
+        is,
+        leased_path c (given + 1) (moved_lease (leased b given) name when (given + 1)) reset.0.same.rows
+            (changed_tick b c k.entry.index ((slot_at (machine b) k.entry.index).stamp + 1) (Some (live_entry k.entry.born name (max when (machine b).tick))) reset.0)
+            (changed_noted b c k.entry.index ((slot_at (machine b) k.entry.index).stamp + 1) (Some (live_entry k.entry.born name (max when (machine b).tick))) reset.0) refl
+            (key_moved b c t u given (given + 1) ((slot_at (machine b) k.entry.index).stamp + 1) (Some (live_entry k.entry.born name (max when (machine b).tick))) name d k l at live reset.0 when
+            (ap (λ z. Some (live_entry k.entry.born name z)) here)),
+      )
 
 -- extend
 module _ {W : Type 0} (b c : Core (List ℕ) W) (t : NameTable) (given : ℕ) (name : List ℕ) (d when x : ℕ) (k : KeyName) (l : IsLeased b t given) (at : found_in t name ≡ Some k) (live : IsLiveKey b k name d)
@@ -70,10 +72,11 @@ module _ {W : Type 0} (b c : Core (List ℕ) W) (t : NameTable) (given : ℕ) (n
       (λ q other. refl)
       (omega (arith, count, sizes))
 
-  pub extend_shown : ExtendsLease (leased b given) name when (Some x) (leased c given)
-  extend_shown = (
+  pub extend_shown : (limit : ℕ) → when ≤ limit → ExtendsLease (leased b given) name when limit (Ok x) (leased c given)
+  extend_shown limit within = (
     d,
     key_deadline b t given name d k l live,
+    within,
     extended.0,
     leased_path c given (moved_lease (leased b given) name x given) extended.1.same.rows
         (changed_tick b c k.entry.index (slot_at (machine b) k.entry.index).stamp (Some (live_entry k.entry.born name x)) extended.1)

@@ -3,7 +3,7 @@ use Rattle.std.proofs.Common.{◌≡◌, ◌≢◌, ℕ, ◌<◌, inl, inr, Bool
 use Rattle.std.specs.Prelude.{Option, Some, None, bytes_eq, ◌||◌}
 use Rattle.std.specs.List.{list_any}
 use Rattle.std.proofs.lemmas.List.{get_or-set_same, get_or-set_other, get_or_past}
-use Rattle.std.proofs.lemmas.Bool.{true≢false, false≢true, cases_Bool, cases_lt}
+use Rattle.std.proofs.lemmas.Bool.{true≢false, cases_Bool, cases_lt}
 use Rattle.std.proofs.lemmas.Slice.Eq.{bytes_eq-Decides}
 use Rattle.dq_core.specs.Machine.{Slot, Machine, slot_at, put}
 use Rattle.dq_core.specs.Machine.{Entry as Linked}
@@ -122,12 +122,3 @@ no_deadline name (x ∷ xs) h = by (bytes_eq x.name name) refl h (λ g. no_deadl
     by : (t : Bool) → bytes_eq x.name name ≡ t → (t || is_live name xs) ≡ false → (is_live name xs ≡ false → deadline_of name xs ≡ None) → deadline_of name (x ∷ xs) ≡ None
     by true e g f = absurd (true≢false g)
     by false e g f = rw e (f g)
-
--- a live name has a deadline
-pub some_deadline : (name : List ℕ) (live : List Entry) → is_live name live ≡ true → (d : ℕ) × (deadline_of name live ≡ Some d)
-some_deadline name [] h = absurd (false≢true h)
-some_deadline name (x ∷ xs) h = by (bytes_eq x.name name) refl h (λ g. some_deadline name xs g)
-  where
-    by : (t : Bool) → bytes_eq x.name name ≡ t → (t || is_live name xs) ≡ true → (is_live name xs ≡ true → (d : ℕ) × (deadline_of name xs ≡ Some d)) → (d : ℕ) × (deadline_of name (x ∷ xs) ≡ Some d)
-    by true e g f = (x.deadline, rw e refl)
-    by false e g f = let rest = f g in (rest.0, rw e rest.1)

@@ -1,5 +1,5 @@
 -- The leases of a script as its commands see them, and what holds of the queue and the names below.
-use Rattle.std.specs.Prelude.{◌≡◌, ℕ, ◌+◌, ◌<◌, ◌≤◌, max, nat_le, nat_lt, List, [], Option, Some, None, length, filter}
+use Rattle.std.specs.Prelude.{◌≡◌, ℕ, ◌+◌, ◌<◌, ◌≤◌, max, nat_le, nat_lt, List, [], Option, Some, None, Result, Ok, Err, length, filter}
 use Rattle.std.specs.List.{count_by}
 use Rattle.dq_ticks.specs.Keys.{KeyName}
 use Rattle.dq_ticks.specs.declared.TheConstants.{LAST_STAMP}
@@ -8,6 +8,8 @@ use Rattle.dq_core.specs.Machine.{Machine, slot_at, put}
 use Rattle.dq_core.specs.Machine.{Entry as Linked}
 use Rattle.dq_core.specs.Core.{Core, machine}
 use Rattle.dq_replay.specs.declared.session.Entry.{Entry}
+use Rattle.dq_replay.specs.declared.leases.Refusal.{Refusal}
+use Rattle.dq_replay.specs.declared.leases.Refusal.TheVariants.{Missing, TooFar}
 use Rattle.dq_replay.specs.Script.{with_entry, deadline_of, without, moved}
 use Rattle.dq_replay.specs.Leases.{live_of, live_entry, key_at, AreKeyed, NameTable, found_in}
 
@@ -136,15 +138,17 @@ moved_lease b name deadline given = record { capacity = b.capacity; tick = b.tic
 abbrev pub without_lease : Leased → List ℕ → Leased
 without_lease b name = record { capacity = b.capacity; tick = b.tick; noted = b.noted; given = b.given; live = without name b.live }
 
--- a live name gets the greater of what was asked and the tick as its deadline
-abbrev pub ResetsLease : Leased → List ℕ → ℕ → Option ℕ → Leased → Type 0
-ResetsLease b name when None c = (deadline_of name b.live ≡ None) × (c ≡ b)
-ResetsLease b name when (Some d) c = (old : ℕ) × (deadline_of name b.live ≡ Some old) × (d ≡ max when b.tick) × (c ≡ moved_lease b name d (b.given + 1))
+-- a live name gets the greater of what was asked, at most the limit, and what was noted as its deadline
+abbrev pub ResetsLease : Leased → List ℕ → ℕ → ℕ → Result ℕ Refusal → Leased → Type 0
+ResetsLease b name when limit (Err Missing) c = (deadline_of name b.live ≡ None) × (c ≡ b)
+ResetsLease b name when limit (Err TooFar) c = (old : ℕ) × (deadline_of name b.live ≡ Some old) × (limit < when) × (c ≡ b)
+ResetsLease b name when limit (Ok d) c = (old : ℕ) × (deadline_of name b.live ≡ Some old) × (when ≤ limit) × (d ≡ max when b.noted) × (c ≡ moved_lease b name d (b.given + 1))
 
--- a live name's deadline is raised to what was asked
-abbrev pub ExtendsLease : Leased → List ℕ → ℕ → Option ℕ → Leased → Type 0
-ExtendsLease b name when None c = (deadline_of name b.live ≡ None) × (c ≡ b)
-ExtendsLease b name when (Some d) c = (old : ℕ) × (deadline_of name b.live ≡ Some old) × (d ≡ max when old) × (c ≡ moved_lease b name d b.given)
+-- a live name's deadline is raised to what was asked, at most the limit
+abbrev pub ExtendsLease : Leased → List ℕ → ℕ → ℕ → Result ℕ Refusal → Leased → Type 0
+ExtendsLease b name when limit (Err Missing) c = (deadline_of name b.live ≡ None) × (c ≡ b)
+ExtendsLease b name when limit (Err TooFar) c = (old : ℕ) × (deadline_of name b.live ≡ Some old) × (limit < when) × (c ≡ b)
+ExtendsLease b name when limit (Ok d) c = (old : ℕ) × (deadline_of name b.live ≡ Some old) × (when ≤ limit) × (d ≡ max when old) × (c ≡ moved_lease b name d b.given)
 
 -- a live name ends, and its deadline in force is told
 abbrev pub EndsLease : Leased → List ℕ → Option ℕ → Leased → Type 0

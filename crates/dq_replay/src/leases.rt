@@ -18,6 +18,13 @@ use dq_ticks::{Key, LAST_STAMP, LAST_TICK};
 use std::alloc::{AllocError, Allocator};
 use std::marker::Model;
 
+/// Why a name's deadline stays: the name isn't live, or what was asked is beyond the limit.
+#[derive(Clone, Copy, Debug, PartialEq, Eq)]
+pub enum Refusal {
+    Missing,
+    TooFar,
+}
+
 type Queue<A> = DelayCore<Name, VecWords<A>, A>;
 
 /// Sweeps a queue that is full, though fewer names are live than it has slots.
@@ -121,8 +128,10 @@ fn expire_one<A: Allocator>(queue: &mut Queue<A>, now: u64) -> Option<Entry>
 
 /// The live names of a script: a queue of them, and a key for each.
 ///
-/// Each call takes constant time, but for a sweep of a full queue, which looks at every slot, and for a tick. Nothing is
-/// ever worn: a stamp is given by an insert or a reset alone, and a script has fewer lines than a slot has stamps.
+/// Each call takes constant time, but for a sweep of a full queue and a clear, which look at every slot, and for a tick.
+/// Between two sweeps at least half as many names are inserted as there are slots: an entry is cancelled only where at
+/// most half of them have live names, and a sweep comes only where none is free. Nothing is ever worn: a stamp is given
+/// by an insert or a reset alone, and a script has fewer lines than a slot has stamps.
 #[derive(Drop)]
 pub struct Leases<A: Allocator> {
     queue: Queue<A>,
@@ -215,37 +224,50 @@ impl<A: Allocator + Copy> Leases<A> {
         Ok(deadline)
     }
 
-    /// Gives a live name another deadline: the greater of what is asked and the tick.
-    pub fn reset(&mut self, name: &Name, when: u64) -> Option<u64>
-        requires tick { when ≤ LAST_TICK }
+    /// Gives a live name another deadline: the greater of what is asked, at most the limit, and the noted tick.
+    pub fn reset(&mut self, name: &Name, when: u64, limit: u64) -> Result<u64, Refusal>
+        requires limit { limit ≤ LAST_TICK }
         requires stamps { self.old.given < LAST_STAMP }
-        ensures { ResetsLease self.old name.now when result self.new }
+        ensures { ResetsLease self.old name.now when limit result self.new }
     {
         let Some(key) = self.names.get(name) else {
-            return None;
+            return Err(Refusal::Missing);
         };
-        let deadline = when.max(self.queue.tick());
-        let next = reset_at(&mut self.queue, &key, when);
+        if when > limit {
+            return Err(Refusal::TooFar);
+        }
+        self.queue.law();
+        let deadline = when.max(self.queue.noted());
+        let next = reset_at(&mut self.queue, &key, deadline);
         self.names.put(name.twin(), next);
         self.given += 1;
-        Some(deadline)
+        Ok(deadline)
     }
 
-    /// Raises a live name's deadline to what is asked.
-    pub fn extend(&mut self, name: &Name, when: u64) -> Option<u64>
-        requires { when ≤ LAST_TICK }
-        ensures { ExtendsLease self.old name.now when result self.new }
+    /// Raises a live name's deadline to what is asked, at most the limit.
+    pub fn extend(&mut self, name: &Name, when: u64, limit: u64) -> Result<u64, Refusal>
+        requires { limit ≤ LAST_TICK }
+        ensures { ExtendsLease self.old name.now when limit result self.new }
     {
         let Some(key) = self.names.get(name) else {
-            return None;
+            return Err(Refusal::Missing);
         };
-        Some(extend_at(&mut self.queue, &key, when))
+        if when > limit {
+            return Err(Refusal::TooFar);
+        }
+        Ok(extend_at(&mut self.queue, &key, when))
     }
 
     /// Ends a live name as its holder does, and answers its deadline.
+    ///
+    /// A cancelled entry keeps its slot until a sweep. Where more than half of the slots have live names it is removed
+    /// instead, or a script that stays near its capacity would pay a sweep for each insert.
     pub fn cancel(&mut self, name: &Name) -> Option<u64>
         ensures { EndsLease self.old name.now result self.new }
     {
+        if self.names.len() > self.queue.capacity() / 2 {
+            return self.remove(name);
+        }
         let Some(key) = self.names.get(name) else {
             return None;
         };

@@ -5,7 +5,7 @@ ghost use Rattle.dq_replay.specs.Sitting.{Sitting};
 
 use crate::command::Command;
 use crate::header::FIRST_EDITION_LIMIT;
-use crate::leases::Leases;
+use crate::leases::{Leases, Refusal};
 use crate::name::Name;
 use crate::texts::{
     at_text, cancelled_text, cleared_text, live_text, refusal_text, removed_text, tick_text,
@@ -105,16 +105,10 @@ impl<A: Allocator + Copy> Session<A> {
         ensures ok { IfOk result (λ text. reset_by self.old.state name.now when (deadline_of name.now self.old.state.live) ≡ (self.new.state, string_bytes text)) }
         ensures given { IfOk result (λ _. self.new.given ≤ self.old.given + 1) }
     {
-        if !self.leases.is_live(name) {
-            return refusal_text(alloc, "missing");
-        }
-        if when > self.limit {
-            return refusal_text(alloc, "too-far");
-        }
-        let deadline = when.max(self.leases.noted());
-        match self.leases.reset(name, deadline) {
-            None => refusal_text(alloc, "missing"),
-            Some(deadline) => at_text(alloc, name, deadline),
+        match self.leases.reset(name, when, self.limit) {
+            Ok(deadline) => at_text(alloc, name, deadline),
+            Err(Refusal::Missing) => refusal_text(alloc, "missing"),
+            Err(Refusal::TooFar) => refusal_text(alloc, "too-far"),
         }
     }
 
@@ -122,15 +116,10 @@ impl<A: Allocator + Copy> Session<A> {
         ensures ok { IfOk result (λ text. extend_by self.old.state name.now when (deadline_of name.now self.old.state.live) ≡ (self.new.state, string_bytes text)) }
         ensures given { IfOk result (λ _. self.new.given ≤ self.old.given + 1) }
     {
-        if !self.leases.is_live(name) {
-            return refusal_text(alloc, "missing");
-        }
-        if when > self.limit {
-            return refusal_text(alloc, "too-far");
-        }
-        match self.leases.extend(name, when) {
-            None => refusal_text(alloc, "missing"),
-            Some(deadline) => at_text(alloc, name, deadline),
+        match self.leases.extend(name, when, self.limit) {
+            Ok(deadline) => at_text(alloc, name, deadline),
+            Err(Refusal::Missing) => refusal_text(alloc, "missing"),
+            Err(Refusal::TooFar) => refusal_text(alloc, "too-far"),
         }
     }
 

@@ -511,6 +511,16 @@ fn script_capacity_one(rt: HostRuntime) {
     expect(&rt, rt.alloc(), 1, input, answers, Ok(()));
 }
 
+/// A cancelled name's place is given anew: by a sweep of the full queue, and at once where most places are taken.
+#[test]
+fn cancelled_places_come_back(rt: HostRuntime) {
+    let input =
+        b"delay 1\ninsert a 10\ninsert b 11\ncancel a\ninsert c 12\ninsert d 13\ninsert e 14\ninsert f 15\ncancel e\ninsert f 15\nlive\ntick 20\n";
+    let answers =
+        b"a at 10\nb at 11\na cancelled 10\nc at 12\nd at 13\ne at 14\nrefused full\ne cancelled 14\nf at 15\nlive 4\nb expired 11\nc expired 12\nd expired 13\nf expired 15\ntick 20\n";
+    expect(&rt, rt.alloc(), 4, input, answers, Ok(()));
+}
+
 const CAPACITY_THREE: &[u8] =
     b"delay 1\ninsert b 7\ninsert a 7\ninsert c 90\nreset c 6\ndeadline c\ntick 7\ninsert d 20\nremove d\ninsert e 30\nclear\n";
 

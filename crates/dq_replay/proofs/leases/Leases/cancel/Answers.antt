@@ -15,8 +15,8 @@ invariant_of-self g c =
     let found = sym c.get.ensures ∙ c.in-Some.is in
     let at = live_key c.self.inside.queue c.self.inside.names c.self.inside.given c.args.name.now c.in-Some.key c.self.invariant found in
     let ended = c.cancel_at-deadline.ensures c.args.name.now at.0 at.1 in
-    end_tied c.self.inside.queue c.cancel_at-deadline.new.queue c.self.inside.names c.remove.new.self c.self.inside.given (Some (record { born = c.in-Some.key.entry.born; value = c.args.name.now; due = None })) c.args.name.now at.0 c.cancel_at-deadline.result c.in-Some.key
-    c.self.invariant found at.1 ended.0 ended.1 refl c.remove.ensures.put c.remove.ensures.len
+    end_tied c.self.inside.queue c.cancel_at-deadline.new.queue c.self.inside.names c.remove-2.new.self c.self.inside.given (Some (record { born = c.in-Some.key.entry.born; value = c.args.name.now; due = None })) c.args.name.now at.0 c.cancel_at-deadline.result c.in-Some.key
+    c.self.invariant found at.1 ended.0 ended.1 refl c.remove-2.ensures.put c.remove-2.ensures.len
 
 pub returns : goal.returns
 returns g c =
@@ -24,5 +24,5 @@ returns g c =
     let at = live_key c.self.inside.queue c.self.inside.names c.self.inside.given c.args.name.now c.in-Some.key c.self.invariant found in
     let ended = c.cancel_at-deadline.ensures c.args.name.now at.0 at.1 in
     rw (← c.self.view_is)
-    (end_shown c.self.inside.queue c.cancel_at-deadline.new.queue c.self.inside.names c.remove.new.self c.self.inside.given (Some (record { born = c.in-Some.key.entry.born; value = c.args.name.now; due = None })) c.args.name.now at.0 c.cancel_at-deadline.result c.in-Some.key
+    (end_shown c.self.inside.queue c.cancel_at-deadline.new.queue c.self.inside.names c.remove-2.new.self c.self.inside.given (Some (record { born = c.in-Some.key.entry.born; value = c.args.name.now; due = None })) c.args.name.now at.0 c.cancel_at-deadline.result c.in-Some.key
     c.self.invariant found at.1 ended.0 ended.1 refl)
