@@ -10,8 +10,8 @@ use Rattle.dq_words.specs.declared.views.Call.TheVariants.{Extend, Cancel}
 use Rattle.dq_words.specs.declared.views.StepKind.{StepKind}
 use Rattle.dq_words.specs.declared.views.StepKind.TheVariants.{CallerLoad, ExtendMax, CancelMax}
 use Rattle.dq_words.specs.Counts.{most_begins, cancels_in}
-use Rattle.dq_words.specs.Plays.{Fair, Looks, Extends, Cancels, stepping, extending, cancelling}
-use Rattle.dq_words.specs.Calls.{Reads, seen_at, IsForged, Refuses, IsRefused, IsExtend, IsCancel}
+use Rattle.dq_words.specs.Plays.{Covers, NoneBeyond, Fair, Looks, Extends, Cancels, stepping, extending, cancelling}
+use Rattle.dq_words.specs.Calls.{Reads, seen_at, IsForged, Refuses, IsRefused, IsAccepted, IsExtend, IsCancel}
 
 -- the view v after a call that saw n
 abbrev seeing : View → ℕ → ℕ → List StepKind → List Call → View
@@ -39,6 +39,13 @@ seen_twice v i m n steps calls = λ q. record v { seen = set-set v.seen i m n q;
 not_forged : (v : View) (k : KeyName) → k.entry.index < length v.seen → 0 < k.stamp → ¬ IsForged v k
 not_forged v k inside pos h = ⊎_elim (λ (far : length v.seen ≤ k.entry.index). omega arith) (λ (z : k.stamp ≡ 0). omega arith) h
 
+-- a word that is live not beyond d agrees with the calls that it was fair to
+covers_by : (calls : List Call) (i n s d : ℕ) → Fair calls i n → stamp_of n ≡ s → mark_of n ≡ 0 → field_of n ≤ d → Covers calls i s d × NoneBeyond calls i s
+covers_by calls i n s d fair at live low =
+    let P : ℕ → Type 0 = λ z. Covers calls i z d × NoneBeyond calls i z in
+    let own = fair.0 (λ (one : mark_of n ≡ 1). omega arith) in
+    subst P at (((λ x h. let b = own.0 x h in omega arith), own.1), fair.1)
+
 -- a refusal shows that the step missed
 missed_by : (n s : ℕ) (e : CallError) → Refuses n s e → stamp_of n ≡ s → mark_of n ≡ 0 → ⊥
 missed_by n s (TooFar limit) h a b = h
@@ -53,7 +60,15 @@ module _ (v u w : View) (k : KeyName) (m n : ℕ) (inside : k.entry.index < leng
   seen_between : get_or u.seen i 0 ≡ m
   seen_between = ap (λ (x : View). get_or x.seen i 0) loaded.0 ∙ get_or-set_same v.seen i m 0 inside
 
-  refused_after : (e : CallError) → w ≡ stepping u i n CallerLoad → get_or u.seen i 0 ≤ n → Fair u.calls i n → Refuses n k.stamp e → IsRefused v k e w
+  -- a call that was accepted at the deadline d
+  accepted_at : (d : ℕ) → Fair u.calls i n → stamp_of n ≡ k.stamp → mark_of n ≡ 0 → field_of n ≤ d → IsAccepted v k d
+  accepted_at d fair at live low =
+      let mid : u.calls ≡ v.calls = ap (λ (x : View). x.calls) loaded.0 in
+      let P : List Call → Type 0 = λ c. Covers c i k.stamp d × NoneBeyond c i k.stamp in
+      subst P mid (covers_by u.calls i n k.stamp d fair at live low)
+
+  -- a step that failed
+  refused_after : (e : CallError) → w ≡ stepping u i n CallerLoad → get_or u.seen i 0 ≤ n → Fair u.calls i n → Refuses n k.stamp e → IsRefused v k e (CallerLoad ∷ CallerLoad ∷ v.steps) w
   refused_after e is low fair refuses =
       let whole : w ≡ seeing v i n (CallerLoad ∷ CallerLoad ∷ v.steps) v.calls = is ∙ ap (λ (x : View). stepping x i n CallerLoad) loaded.0 ∙ seen_twice v i m n (CallerLoad ∷ CallerLoad ∷ v.steps) v.calls in
       let here = seen_now v w i n (CallerLoad ∷ CallerLoad ∷ v.steps) v.calls inside whole in
@@ -65,32 +80,47 @@ module _ (v u w : View) (k : KeyName) (m n : ℕ) (inside : k.entry.index < leng
       inr (
         not_forged v k inside pos,
         reads_by v w i n (CallerLoad ∷ CallerLoad ∷ v.steps) v.calls inside whole (omega arith) (omega arith),
+        ap (λ (x : View). x.steps) whole,
         subst P (sym here) refuses,
         subst Q (λ q. ((mid ∙ sym calls) q, sym here q)) fair,
         calls,
       )
 
-  pub refuses_extend : (when new : ℕ) (e : CallError) → when ≤ 4398046511103 → new ≡ word k.stamp 0 when → Extends u w i new n → Refuses n k.stamp e → IsExtend v k when (Err e) w
-  refuses_extend when new e small is steps refuses = by e (refused steps.1) refuses where
+  -- no step follows a load that shows a lower stamp than the key's
+  stamped : get_or u.seen i 0 ≤ n → k.stamp ≤ stamp_of m → stamp_of n < k.stamp → ⊥
+  stamped low asked below = let a = seen_between in omega arith
+
+  pub refuses_extend : (when new : ℕ) (e : CallError) → when ≤ 4398046511103 → new ≡ word k.stamp 0 when → k.stamp ≤ stamp_of m → Extends u w i new n → Refuses n k.stamp e → IsExtend v k when (Err e) w
+  refuses_extend when new e small is asked steps refuses = by e (refused steps.2) refuses where
     at : stamp_of new ≡ k.stamp
     at = omega arith
 
-    refused : (((stamp_of n ≡ stamp_of new) × (mark_of n ≡ 0) × (w ≡ extending u i new (max n new))) ⊎ ((stamp_of n ≡ stamp_of new → mark_of n ≢ 0) × (w ≡ stepping u i n CallerLoad) × Fair u.calls i n)) → IsRefused v k e w
+    refused : (((stamp_of n ≡ stamp_of new) × (mark_of n ≡ 0) × (w ≡ extending u i new (max n new))) ⊎ ((stamp_of n ≡ stamp_of new → mark_of n ≢ 0) × (w ≡ stepping u i n CallerLoad))) → IsRefused v k e (CallerLoad ∷ CallerLoad ∷ v.steps) w
     refused way = ⊎_elim
         (λ (hit : (stamp_of n ≡ stamp_of new) × (mark_of n ≡ 0) × (w ≡ extending u i new (max n new))). absurd (missed_by n k.stamp e refuses (hit.0 ∙ at) hit.1))
-        (λ (miss : (stamp_of n ≡ stamp_of new → mark_of n ≢ 0) × (w ≡ stepping u i n CallerLoad) × Fair u.calls i n). refused_after e miss.1 steps.0 miss.2 refuses) way
+        (λ (miss : (stamp_of n ≡ stamp_of new → mark_of n ≢ 0) × (w ≡ stepping u i n CallerLoad)). refused_after e miss.1 steps.0 steps.1 refuses) way
 
-    by : (e : CallError) → IsRefused v k e w → Refuses n k.stamp e → IsExtend v k when (Err e) w
+    by : (e : CallError) → IsRefused v k e (CallerLoad ∷ CallerLoad ∷ v.steps) w → Refuses n k.stamp e → IsExtend v k when (Err e) w
     by (TooFar limit) r h = absurd h
-    by Unknown r h = (small, r)
+    by Unknown r h = absurd (stamped steps.0 asked h)
     by (Stale seen) r h = (small, r)
     by (Ended how) r h = (small, r)
 
-  pub refuses_cancel : (new : ℕ) (e : CallError) → new ≡ word k.stamp 1 0 → Cancels u w i new n → Refuses n k.stamp e → IsCancel v k (Err e) w
-  refuses_cancel new e is steps refuses =
-      let at : stamp_of new ≡ k.stamp = omega arith in ⊎_elim
-      (λ (hit : (stamp_of n ≡ stamp_of new) × (mark_of n ≡ 0) × (w ≡ cancelling u i new (field_of n) new) × (cancels_in w.calls ≤ most_begins)). absurd (missed_by n k.stamp e refuses (hit.0 ∙ at) hit.1))
-      (λ (miss : (stamp_of n ≡ stamp_of new → mark_of n ≢ 0) × (w ≡ stepping u i n CallerLoad) × Fair u.calls i n). refused_after e miss.1 steps.0 miss.2 refuses) steps.1
+  pub refuses_cancel : (new : ℕ) (e : CallError) → new ≡ word k.stamp 1 0 → k.stamp ≤ stamp_of m → Cancels u w i new n → Refuses n k.stamp e → IsCancel v k (Err e) w
+  refuses_cancel new e is asked steps refuses = by e (refused steps.2) refuses where
+    at : stamp_of new ≡ k.stamp
+    at = omega arith
+
+    refused : (((stamp_of n ≡ stamp_of new) × (mark_of n ≡ 0) × (w ≡ cancelling u i new (field_of n) new) × (cancels_in w.calls ≤ most_begins)) ⊎ ((stamp_of n ≡ stamp_of new → mark_of n ≢ 0) × (w ≡ stepping u i n CallerLoad))) → IsRefused v k e (CallerLoad ∷ CallerLoad ∷ v.steps) w
+    refused way = ⊎_elim
+        (λ (hit : (stamp_of n ≡ stamp_of new) × (mark_of n ≡ 0) × (w ≡ cancelling u i new (field_of n) new) × (cancels_in w.calls ≤ most_begins)). absurd (missed_by n k.stamp e refuses (hit.0 ∙ at) hit.1))
+        (λ (miss : (stamp_of n ≡ stamp_of new → mark_of n ≢ 0) × (w ≡ stepping u i n CallerLoad)). refused_after e miss.1 steps.0 steps.1 refuses) way
+
+    by : (e : CallError) → IsRefused v k e (CallerLoad ∷ CallerLoad ∷ v.steps) w → Refuses n k.stamp e → IsCancel v k (Err e) w
+    by (TooFar limit) r h = absurd h
+    by Unknown r h = absurd (stamped steps.0 asked h)
+    by (Stale seen) r h = r
+    by (Ended how) r h = r
 
   pub accepts_extend : (when new d : ℕ) → when ≤ 4398046511103 → new ≡ word k.stamp 0 when → Extends u w i new n → stamp_of n ≡ k.stamp → mark_of n ≡ 0 → d ≡ max (field_of n) when → IsExtend v k when (Ok d) w
   accepts_extend when new d small is steps same live best =
@@ -111,9 +141,10 @@ module _ (v u w : View) (k : KeyName) (m n : ℕ) (inside : k.entry.index < leng
         here ∙ omega arith,
         omega arith,
         omega arith,
+        accepted_at d steps.1 same live (omega arith),
         ap (λ (y : View). y.calls) whole,
       ))
-      (λ (miss : (stamp_of n ≡ stamp_of new → mark_of n ≢ 0) × (w ≡ stepping u i n CallerLoad) × Fair u.calls i n). absurd (miss.0 (same ∙ sym at) live)) steps.1
+      (λ (miss : (stamp_of n ≡ stamp_of new → mark_of n ≢ 0) × (w ≡ stepping u i n CallerLoad)). absurd (miss.0 (same ∙ sym at) live)) steps.2
 
   pub accepts_cancel : (new d : ℕ) → new ≡ word k.stamp 1 0 → Cancels u w i new n → stamp_of n ≡ k.stamp → mark_of n ≡ 0 → d ≡ field_of n → IsCancel v k (Ok d) w
   accepts_cancel new d is steps same live best =
@@ -131,10 +162,12 @@ module _ (v u w : View) (k : KeyName) (m n : ℕ) (inside : k.entry.index < leng
         ap (λ (y : View). y.steps) whole,
         here ∙ is,
         omega arith,
+        omega arith,
+        accepted_at d steps.1 same live (omega arith),
         ap (λ (y : View). y.calls) whole,
       ))
-      (λ (miss : (stamp_of n ≡ stamp_of new → mark_of n ≢ 0) × (w ≡ stepping u i n CallerLoad) × Fair u.calls i n). absurd (miss.0 (same ∙ sym at) live)) steps.1
+      (λ (miss : (stamp_of n ≡ stamp_of new → mark_of n ≢ 0) × (w ≡ stepping u i n CallerLoad)). absurd (miss.0 (same ∙ sym at) live)) steps.2
 
-  pub calls_cancel : (new : ℕ) (r : Result ℕ CallError) → new ≡ word k.stamp 1 0 → Cancels u w i new n → MatchResult r (λ d. (stamp_of n ≡ k.stamp) × (mark_of n ≡ 0) × (d ≡ field_of n)) (λ e. Refuses n k.stamp e) → IsCancel v k r w
-  calls_cancel new (Ok d) is steps h = accepts_cancel new d is steps h.0 h.1 h.2
-  calls_cancel new (Err e) is steps h = refuses_cancel new e is steps h
+  pub calls_cancel : (new : ℕ) (r : Result ℕ CallError) → new ≡ word k.stamp 1 0 → k.stamp ≤ stamp_of m → Cancels u w i new n → MatchResult r (λ d. (stamp_of n ≡ k.stamp) × (mark_of n ≡ 0) × (d ≡ field_of n)) (λ e. Refuses n k.stamp e) → IsCancel v k r w
+  calls_cancel new (Ok d) is asked steps h = accepts_cancel new d is steps h.0 h.1 h.2
+  calls_cancel new (Err e) is asked steps h = refuses_cancel new e is asked steps h

@@ -1,5 +1,5 @@
 -- What a caller's calls answer.
-use Rattle.std.specs.Prelude.{◌≡◌, ◌≢◌, ◌⊎◌, ℕ, ◌<◌, ◌≤◌, false, ◌∷◌, length, slice_index, slice_set, Result, Ok, Err}
+use Rattle.std.specs.Prelude.{◌≡◌, ◌≢◌, ◌⊎◌, ℕ, ◌<◌, ◌≤◌, false, List, ◌∷◌, length, slice_index, slice_set, Result, Ok, Err}
 use Rattle.dq_ticks.specs.declared.TheConstants.{LAST_TICK}
 use Rattle.dq_ticks.specs.Keys.{KeyName}
 use Rattle.dq_ticks.specs.Word.{word, stamp_of, mark_of, parts_of}
@@ -9,9 +9,10 @@ use Rattle.dq_core.specs.declared.words.CallError.TheVariants.{TooFar, Unknown, 
 use Rattle.dq_core.specs.Words.{look_by}
 use Rattle.dq_words.specs.declared.views.View.{View}
 use Rattle.dq_words.specs.declared.views.Call.TheVariants.{Extend, Cancel}
+use Rattle.dq_words.specs.declared.views.StepKind.{StepKind}
 use Rattle.dq_words.specs.declared.views.StepKind.TheVariants.{CallerLoad, ExtendMax, CancelMax}
 use Rattle.dq_words.specs.Counts.{most_begins, cancels_in}
-use Rattle.dq_words.specs.Plays.{Fair}
+use Rattle.dq_words.specs.Plays.{Covers, NoneBeyond, Fair}
 
 -- the view of a caller that is out
 abbrev pub IsCaller : View → Type 0
@@ -43,31 +44,42 @@ Refuses n s Unknown = stamp_of n < s
 Refuses n s (Stale seen) = (seen ≡ stamp_of n) × (s < seen)
 Refuses n s (Ended how) = (stamp_of n ≡ s) × (mark_of n ≢ 0) × (how ≡ look_of n)
 
--- A call of a key was refused: at once where no slot has the key, else by the word that is then seen, which agrees with the caller's own accepted calls.
-abbrev pub IsRefused : View → KeyName → CallError → View → Type 0
-IsRefused v k e w =
+-- A call of a key was refused: at once and with no step where no slot has the key, else by the steps `made` and the word that is then seen, which agrees with the caller's own accepted calls.
+abbrev pub IsRefused : View → KeyName → CallError → List StepKind → View → Type 0
+IsRefused v k e made w =
     (IsForged v k × (e ≡ Unknown) × (w ≡ v))
-    ⊎ (¬ IsForged v k × Reads v w k.entry.index × Refuses (seen_at w k.entry.index) k.stamp e × Fair w.calls k.entry.index (seen_at w k.entry.index) × (w.calls ≡ v.calls))
+    ⊎ (¬ IsForged v k × Reads v w k.entry.index × (w.steps ≡ made) × Refuses (seen_at w k.entry.index) k.stamp e × Fair w.calls k.entry.index (seen_at w k.entry.index) × (w.calls ≡ v.calls))
+
+-- The steps of an extend or a cancel that the word refused: the load, and where that showed no lower stamp than the key's the step that failed, which counts as a load.
+abbrev pub tried : CallError → List StepKind → List StepKind
+tried (TooFar limit) steps = steps
+tried Unknown steps = CallerLoad ∷ steps
+tried (Stale seen) steps = CallerLoad ∷ CallerLoad ∷ steps
+tried (Ended how) steps = CallerLoad ∷ CallerLoad ∷ steps
+
+-- A call of a key was accepted at the deadline d, in agreement with the caller's calls before.
+abbrev pub IsAccepted : View → KeyName → ℕ → Type 0
+IsAccepted v k d = Covers v.calls k.entry.index k.stamp d × NoneBeyond v.calls k.entry.index k.stamp
 
 -- An extend is accepted by one load and one step, after which the word is live at d, not before the deadline asked for. It is refused as too far exactly beyond the last tick.
 abbrev pub IsExtend : View → KeyName → ℕ → Result ℕ CallError → View → Type 0
 IsExtend v k when (Ok d) w =
     (when ≤ LAST_TICK) × (0 < k.stamp) × Reads v w k.entry.index × (w.steps ≡ ExtendMax ∷ CallerLoad ∷ v.steps)
-    × (seen_at w k.entry.index ≡ word k.stamp 0 d) × (when ≤ d) × (d ≤ LAST_TICK) × (w.calls ≡ Extend k.entry.index k.stamp when ∷ v.calls)
+    × (seen_at w k.entry.index ≡ word k.stamp 0 d) × (when ≤ d) × (d ≤ LAST_TICK) × IsAccepted v k d × (w.calls ≡ Extend k.entry.index k.stamp when ∷ v.calls)
 IsExtend v k when (Err (TooFar limit)) w = (LAST_TICK < when) × (limit ≡ LAST_TICK) × (w ≡ v)
-IsExtend v k when (Err e) w = (when ≤ LAST_TICK) × IsRefused v k e w
+IsExtend v k when (Err e) w = (when ≤ LAST_TICK) × IsRefused v k e (tried e v.steps) w
 
--- A cancel is accepted by one load and one step, after which the word is cancelled. Its answer is the deadline that it gave up.
+-- A cancel is accepted by one load and one step, after which the word is cancelled. Its answer is the deadline that it gave up; the live word of that deadline is not below the word seen before.
 abbrev pub IsCancel : View → KeyName → Result ℕ CallError → View → Type 0
 IsCancel v k (Ok d) w =
     (0 < k.stamp) × Reads v w k.entry.index × (w.steps ≡ CancelMax ∷ CallerLoad ∷ v.steps)
-    × (seen_at w k.entry.index ≡ word k.stamp 1 0) × (d ≤ LAST_TICK) × (w.calls ≡ Cancel k.entry.index k.stamp d ∷ v.calls)
-IsCancel v k (Err e) w = IsRefused v k e w
+    × (seen_at w k.entry.index ≡ word k.stamp 1 0) × (seen_at v k.entry.index ≤ word k.stamp 0 d) × (d ≤ LAST_TICK) × IsAccepted v k d × (w.calls ≡ Cancel k.entry.index k.stamp d ∷ v.calls)
+IsCancel v k (Err e) w = IsRefused v k e (tried e v.steps) w
 
--- A look answers the word that is then seen, by one load, and that word agrees with the caller's own accepted calls.
+-- A look answers the word that is then seen, by one load, and that word agrees with the caller's own accepted calls. Where the word refuses it, it made that load too.
 abbrev pub IsLook : View → KeyName → Result Look CallError → View → Type 0
 IsLook v k (Ok how) w =
     (0 < k.stamp) × Reads v w k.entry.index × (w.steps ≡ CallerLoad ∷ v.steps)
     × (stamp_of (seen_at w k.entry.index) ≡ k.stamp) × (how ≡ look_of (seen_at w k.entry.index)) × Fair w.calls k.entry.index (seen_at w k.entry.index) × (w.calls ≡ v.calls)
 IsLook v k (Err (Ended how)) w = ⊥
-IsLook v k (Err e) w = IsRefused v k e w
+IsLook v k (Err e) w = IsRefused v k e (CallerLoad ∷ v.steps) w

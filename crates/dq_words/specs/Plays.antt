@@ -15,12 +15,17 @@ use Rattle.dq_words.specs.Files.{Has, extends_at, cancels_at}
 use Rattle.dq_words.specs.Rule.{zeros, Ruled}
 use Rattle.dq_words.specs.Counts.{most_begins, cancels_in, begins_in, expiries_in, removals_in, total, goes, own_cancels}
 
--- What the word n of the slot i shows of a caller's own accepted calls:
--- unless it is cancelled, no extend at its stamp is later than its field, and no cancel was accepted at its stamp; none has a later stamp.
+-- The deadline d of the slot i at the stamp s covers a caller's own accepted calls: no extend of it there is later, and it cancelled nothing there.
+abbrev pub Covers : List Call → ℕ → ℕ → ℕ → Type 0
+Covers calls i s d = ((x : ℕ) → Has (extends_at i s calls) x → x ≤ d) × (cancels_at i s calls ≡ [])
+
+-- no call of the slot i was accepted at a stamp beyond s
+abbrev pub NoneBeyond : List Call → ℕ → ℕ → Type 0
+NoneBeyond calls i s = (t : ℕ) → s < t → (extends_at i t calls ≡ []) × (cancels_at i t calls ≡ [])
+
+-- What the word n of the slot i shows of a caller's own accepted calls: unless it is cancelled, its field covers them, and none has a later stamp.
 abbrev pub Fair : List Call → ℕ → ℕ → Type 0
-Fair calls i n =
-    (mark_of n ≢ 1 → ((x : ℕ) → Has (extends_at i (stamp_of n) calls) x → x ≤ field_of n) × (cancels_at i (stamp_of n) calls ≡ []))
-    × ((s : ℕ) → stamp_of n < s → (extends_at i s calls ≡ []) × (cancels_at i s calls ≡ []))
+Fair calls i n = (mark_of n ≢ 1 → Covers calls i (stamp_of n) (field_of n)) × NoneBeyond calls i (stamp_of n)
 
 -- the view after a step of a kind that leaves the word n in the slot i
 abbrev pub stepping : View → ℕ → ℕ → StepKind → View
@@ -65,22 +70,22 @@ looked st m n m' = Looks m.0 m'.0 st.word n
 abbrev pub learned : Step ℕ → Sat → ℕ → Sat → Type 0
 learned st m n m' = (m'.0 ≡ stepping m.0 st.word n KeeperLoad) × Learned (slice_index m.0.seen st.word) n
 
--- The fetch_max of the word k, live, that found n. It was accepted where it found a live word of its stamp.
+-- The fetch_max of the word k, live, that found n, which agrees with the caller's calls before. It was accepted where it found a live word of its stamp.
 abbrev pub Extends : View → View → ℕ → ℕ → ℕ → Type 0
 Extends v w i k n =
-    (slice_index v.seen i ≤ n)
+    (slice_index v.seen i ≤ n) × Fair v.calls i n
     × (((stamp_of n ≡ stamp_of k) × (mark_of n ≡ 0) × (w ≡ extending v i k (max n k)))
-    ⊎ ((stamp_of n ≡ stamp_of k → mark_of n ≢ 0) × (w ≡ stepping v i n CallerLoad) × Fair v.calls i n))
+    ⊎ ((stamp_of n ≡ stamp_of k → mark_of n ≢ 0) × (w ≡ stepping v i n CallerLoad)))
 
 abbrev pub extended : Step ℕ → Sat → ℕ → Sat → Type 0
 extended st m n m' = Extends m.0 m'.0 st.word st.first n
 
--- The fetch_max of the word k, cancelled.
+-- The same for the word k, cancelled.
 abbrev pub Cancels : View → View → ℕ → ℕ → ℕ → Type 0
 Cancels v w i k n =
-    (slice_index v.seen i ≤ n)
+    (slice_index v.seen i ≤ n) × Fair v.calls i n
     × (((stamp_of n ≡ stamp_of k) × (mark_of n ≡ 0) × (w ≡ cancelling v i k (field_of n) k) × (cancels_in w.calls ≤ most_begins))
-    ⊎ ((stamp_of n ≡ stamp_of k → mark_of n ≢ 0) × (w ≡ stepping v i n CallerLoad) × Fair v.calls i n))
+    ⊎ ((stamp_of n ≡ stamp_of k → mark_of n ≢ 0) × (w ≡ stepping v i n CallerLoad)))
 
 abbrev pub cancelled : Step ℕ → Sat → ℕ → Sat → Type 0
 cancelled st m n m' = Cancels m.0 m'.0 st.word st.first n

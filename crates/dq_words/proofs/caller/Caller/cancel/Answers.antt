@@ -1,4 +1,4 @@
-use Rattle.std.proofs.Common.{◌<◌, length, arith}
+use Rattle.std.proofs.Common.{arith}
 use Rattle.dq_words.proofs.Callings.{calls_cancel}
 use Rattle.dq_words.proofs.caller.Caller.cancel.Goals as goal
 
@@ -8,4 +8,6 @@ returns g c =
     let slot = c.in-Some.ensures in
     let index = slot.0 in
     let inside = slot.1 in
-    calls_cancel _ _ _ c.args.key.now _ _ (omega arith) slot.2 (rw index at c.load-seen.ensures) _ _ (rw asked at c.cancelled.ensures) (rw index at c.give_up-found.ensures) (rw asked at c.deadline_at.ensures)
+    let loaded = c.stamp.ensures in
+    let given = c.if-stamp-asked.false in
+    calls_cancel _ _ _ c.args.key.now _ _ (omega arith) slot.2 (rw index at c.load-seen.ensures) _ _ (rw asked at c.cancelled.ensures) (omega arith) (rw index at c.give_up-found.ensures) (rw asked at c.deadline_at.ensures)

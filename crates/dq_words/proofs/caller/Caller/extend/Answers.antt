@@ -1,4 +1,4 @@
-use Rattle.std.proofs.Common.{◌<◌, length, arith}
+use Rattle.std.proofs.Common.{arith}
 use Rattle.std.proofs.lemmas.Result.{err_from_is_err_and}
 use Rattle.dq_words.proofs.Callings.{accepts_extend, refuses_extend}
 use Rattle.dq_words.proofs.caller.Caller.extend.Goals as goal
@@ -9,8 +9,10 @@ returns-in_err-before g c =
     let slot = c.in-Some.ensures in
     let index = slot.0 in
     let inside = slot.1 in
+    let loaded = c.stamp.ensures in
+    let given = c.if-stamp-asked.false in
     let p = err_from_is_err_and c.from_residual.result c.from_residual.ensures.1 in
-    rw (p.1, p.2) (refuses_extend _ _ _ c.args.key.now _ _ (omega arith) slot.2 (rw index at c.load-seen.ensures) _ _ _ (omega arith) (rw asked at c.live.ensures) (rw index at c.raise-found.ensures) (rw asked at c.in_err-before.ensures))
+    rw (p.1, p.2) (refuses_extend _ _ _ c.args.key.now _ _ (omega arith) slot.2 (rw index at c.load-seen.ensures) _ _ _ (omega arith) (rw asked at c.live.ensures) (omega arith) (rw index at c.raise-found.ensures) (rw asked at c.in_err-before.ensures))
 
 pub returns : goal.returns
 returns g c =
