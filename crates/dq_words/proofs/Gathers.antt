@@ -4,7 +4,7 @@ use mathlib.Core.Option.{some, some-injective, some-ne-none}
 use lib.ListN.{get_elem?}
 use Rattle.dq_words.specs.declared.views.View.{View}
 use Rattle.dq_words.specs.declared.views.Call.{Call}
-use Rattle.dq_words.specs.Files.{is_at, with_if, bases_at, ends_at, extends_at, cancels_at, keeper_writes, gathered, filed, file, Has}
+use Rattle.dq_words.specs.Files.{is_at, with_if, bases_at, ends_at, extends_at, cancels_at, keeper_writes, gathered, file_of_lists, file, Has}
 
 pub at_here : (i s : ℕ) → is_at i s i s ≡ true
 at_here i s = rw (eq-eqb i i refl, eq-eqb s s refl)
@@ -109,8 +109,8 @@ writes_new [] u h = absurd (omega arith)
 writes_new (v ∷ vs) u h = refl
 
 -- a file from its four lists
-pub file_of : (a a' : List ℕ) (b b' : List (ℕ × ℕ)) (c c' d d' : List ℕ) → a ≡ a' → b ≡ b' → c ≡ c' → d ≡ d' → filed a b c d ≡ filed a' b' c' d'
-file_of a a' b b' c c' d d' p q r s = λ k. filed (p k) (q k) (r k) (s k)
+pub file_of : (a a' : List ℕ) (b b' : List (ℕ × ℕ)) (c c' d d' : List ℕ) → a ≡ a' → b ≡ b' → c ≡ c' → d ≡ d' → file_of_lists a b c d ≡ file_of_lists a' b' c' d'
+file_of a a' b b' c c' d d' p q r s = λ k. file_of_lists (p k) (q k) (r k) (s k)
 
 -- a view that adds neither a write nor a call leaves each file
 pub file_same : (vs : List View) (id : ℕ) (v w : View) (i s : ℕ) → get_elem? vs id ≡ some v → w.calls ≡ v.calls → w.writes ≡ v.writes → file i s (set vs id w) ≡ file i s vs

@@ -8,7 +8,6 @@ pub mod Ends
 pub mod Extends
 pub mod Gathers
 pub mod Keepings
-pub mod Packed
 pub mod Returns
 pub mod Starts
 pub mod Steps

@@ -12,7 +12,7 @@ use Rattle.dq_words.specs.declared.views.StepKind.TheVariants.{KeeperLoad}
 use Rattle.dq_ticks.specs.Word.{stamp_unit, word, stamp_of, mark_of, field_of}
 use Rattle.dq_words.specs.Word.{Left, Learned}
 use Rattle.dq_words.specs.Counts.{lives}
-use Rattle.dq_words.specs.Files.{is_at, with_if, File, filed, blank, file, Has, Among, IsDeadline, bases_at, ends_at, extends_at, cancels_at, gathered, keeper_writes}
+use Rattle.dq_words.specs.Files.{is_at, with_if, File, file_of_lists, blank, file, Has, Among, IsDeadline, bases_at, ends_at, extends_at, cancels_at, gathered, keeper_writes}
 use Rattle.dq_words.specs.Rule.{Unborn, Living, Cancelled, Ended, Law, Kept, Ruled}
 use Rattle.dq_words.specs.Plays.{Sat, beginning, expiring, renewing, removing, began, swapped}
 use Rattle.dq_words.proofs.Gathers.{at_other_slot, at_other_stamp, if_here, if_other, has_with_if, gathered_same, writes_own, file_of}
@@ -46,24 +46,24 @@ leave_law n n' s f at m left law = ⊎_elim
     law
 
 -- a stamp that is given
-begin_law : (s base : ℕ) (bs : List ℕ) (es : List (ℕ × ℕ)) (xs cs : List ℕ) → filed bs es xs cs ≡ blank → base ≤ 4398046511103 → Living (word s 0 base) s (filed (base ∷ bs) es xs cs)
+begin_law : (s base : ℕ) (bs : List ℕ) (es : List (ℕ × ℕ)) (xs cs : List ℕ) → file_of_lists bs es xs cs ≡ blank → base ≤ 4398046511103 → Living (word s 0 base) s (file_of_lists (base ∷ bs) es xs cs)
 begin_law s base bs es xs cs none_yet small =
     let b0 : bs ≡ [] = ap (λ (f : File). f.bases) none_yet in
     let x0 : xs ≡ [] = ap (λ (f : File). f.extends) none_yet in
     let P : List ℕ → ℕ → Type 0 = λ ys y. Has ys y in
-    let bound : (x : ℕ) → Among (filed (base ∷ bs) es xs cs) x → x ≤ base = λ x a. ⊎_elim
+    let bound : (x : ℕ) → Among (file_of_lists (base ∷ bs) es xs cs) x → x ≤ base = λ x a. ⊎_elim
     (λ h. ⊎_elim (λ (e : x ≡ base). omega arith) (λ old. absurd (subst (λ (ys : List ℕ). P ys x) b0 old)) h)
     (λ h. absurd (subst (λ (ys : List ℕ). P ys x) x0 h)) a in
     record { base = base; deadline = base; given = ap (λ ys. base ∷ ys) b0; unended = ap (λ (f : File). f.ends) none_yet; uncancelled = ap (λ (f : File). f.cancels) none_yet; in_force = (inl (inl refl), bound); small = small; now = refl }
 
 -- a live stamp that is ended
-end_law : (n n' s m : ℕ) (bs : List ℕ) (es : List (ℕ × ℕ)) (xs cs : List ℕ) (d : ℕ) → Living n s (filed bs es xs cs) → n ≡ word s 0 d → d ≤ 4398046511103
-    → ((n' ≡ word s m d) × (1 < m) × (m < 4)) ⊎ Left n' s → Ended n' s (filed bs ((m, d) ∷ es) xs cs)
+end_law : (n n' s m : ℕ) (bs : List ℕ) (es : List (ℕ × ℕ)) (xs cs : List ℕ) (d : ℕ) → Living n s (file_of_lists bs es xs cs) → n ≡ word s 0 d → d ≤ 4398046511103
+    → ((n' ≡ word s m d) × (1 < m) × (m < 4)) ⊎ Left n' s → Ended n' s (file_of_lists bs ((m, d) ∷ es) xs cs)
 end_law n n' s m bs es xs cs d l was small now =
     let a = l.now in let b = l.small in
     let same : l.deadline ≡ d = omega arith in
-    let P : ℕ → Type 0 = λ x. IsDeadline (filed bs es xs cs) x in
-    let force : IsDeadline (filed bs es xs cs) d = subst P same l.in_force in
+    let P : ℕ → Type 0 = λ x. IsDeadline (file_of_lists bs es xs cs) x in
+    let force : IsDeadline (file_of_lists bs es xs cs) d = subst P same l.in_force in
     record { base = l.base; deadline = d; mark = m; given = l.given; ended = ap (λ ys. (m, d) ∷ ys) l.unended; uncancelled = l.uncancelled; in_force = force; small = small; now = now }
 
 long : (l : List View) (u : View) → get_elem? l 0 ≡ some u → (v : View) × (vs : List View) × (l ≡ v ∷ vs)
@@ -79,7 +79,7 @@ module _ (vs : List View) (id : ℕ) (v w : View) (at : get_elem? vs id ≡ some
       let there : get_elem? (set vs id w) 0 ≡ some w = subst Q (sym first) (set_at vs 0 v w at0) in
       writes_own (set vs id w) w there ∙ e ∙ ap (λ ws. x ∷ ws) (sym (writes_own vs v at0))
 
-  pub written : (j z : ℕ) → file j z (set vs id w) ≡ filed (bases_at j z (x ∷ keeper_writes vs)) (ends_at j z (x ∷ keeper_writes vs)) (gathered (extends_at j z) vs) (gathered (cancels_at j z) vs)
+  pub written : (j z : ℕ) → file j z (set vs id w) ≡ file_of_lists (bases_at j z (x ∷ keeper_writes vs)) (ends_at j z (x ∷ keeper_writes vs)) (gathered (extends_at j z) vs) (gathered (cancels_at j z) vs)
   written j z = file_of _ _ _ _ _ _ _ _ (ap (bases_at j z) now_written) (ap (ends_at j z) now_written)
       (gathered_same (extends_at j z) vs id v w at (ap (extends_at j z) c)) (gathered_same (cancels_at j z) vs id v w at (ap (cancels_at j z) c))
 
@@ -135,7 +135,7 @@ module _ (rows : ℕ) (t : State ℕ View) (r : Kept rows t) (i id : ℕ) (v : V
       (λ j z far. same j z (off j z i s (omega arith) far))
       (λ z p. by_index s z (Law k z (file i z (set t.views id w)))
       (λ e. let P : ℕ → Type 0 = λ y. Law k y (file i y (set t.views id w)) in
-      let here : file i s (set t.views id w) ≡ filed (b ∷ bases_at i s (keeper_writes t.views)) (ends_at i s (keeper_writes t.views)) (gathered (extends_at i s) t.views) (gathered (cancels_at i s) t.views) =
+      let here : file i s (set t.views id w) ≡ file_of_lists (b ∷ bases_at i s (keeper_writes t.views)) (ends_at i s (keeper_writes t.views)) (gathered (extends_at i s) t.views) (gathered (cancels_at i s) t.views) =
       written t.views id v w at my_id x refl refl i s ∙ file_of _ _ _ _ _ _ _ _ (if_here i s b (bases_at i s (keeper_writes t.views))) refl refl refl in
       let Q : ℕ × File → Type 0 = λ y. Law y.0 s y.1 in
       let old : file i s t.views ≡ blank = law_beyond n s (file i s t.views) (omega arith) (law_at n s found (omega arith)) in
@@ -156,7 +156,7 @@ module _ (rows : ℕ) (t : State ℕ View) (r : Kept rows t) (i id : ℕ) (v : V
       (λ j z far. same j z (off j z i s pos far))
       (λ z p. by_index s z (Law k z (file i z (set t.views id w)))
       (λ e. let P : ℕ → Type 0 = λ y. Law k y (file i y (set t.views id w)) in
-      let here : file i s (set t.views id w) ≡ filed (bases_at i s (keeper_writes t.views)) ((m, d) ∷ ends_at i s (keeper_writes t.views)) (gathered (extends_at i s) t.views) (gathered (cancels_at i s) t.views) =
+      let here : file i s (set t.views id w) ≡ file_of_lists (bases_at i s (keeper_writes t.views)) ((m, d) ∷ ends_at i s (keeper_writes t.views)) (gathered (extends_at i s) t.views) (gathered (cancels_at i s) t.views) =
       written t.views id v w at my_id x calls writes i s ∙ file_of _ _ _ _ _ _ _ _ (bs i s (keeper_writes t.views)) (es i s (keeper_writes t.views) ∙ if_here i s (m, d) (ends_at i s (keeper_writes t.views))) refl refl in
       let Q : File → Type 0 = λ f. Law k s f in
       subst P (sym e) (subst Q (sym here) (inr (inr (inr (end_law n k s m _ _ _ _ d (law_live n s (file i s t.views) refl nm (law_at n s found pos)) (omega arith) (omega arith) (inl (omega arith, ended, omega arith))))))))
@@ -183,13 +183,13 @@ module _ (rows : ℕ) (t : State ℕ View) (r : Kept rows t) (i id : ℕ) (v : V
       (λ j z far. same j z (off j z i s pos far) (off j z i (s + 1) (omega arith) far))
       (λ z p. by_index s z (Law k z (file i z (set t.views id w)))
       (λ e. let P : ℕ → Type 0 = λ y. Law k y (file i y (set t.views id w)) in
-      let here : file i s (set t.views id w) ≡ filed (bases_at i s (keeper_writes t.views)) ((0, d) ∷ ends_at i s (keeper_writes t.views)) (gathered (extends_at i s) t.views) (gathered (cancels_at i s) t.views) =
+      let here : file i s (set t.views id w) ≡ file_of_lists (bases_at i s (keeper_writes t.views)) ((0, d) ∷ ends_at i s (keeper_writes t.views)) (gathered (extends_at i s) t.views) (gathered (cancels_at i s) t.views) =
       written t.views id v w at my_id x refl refl i s ∙ file_of _ _ _ _ _ _ _ _ (if_other (is_at i s i (s + 1)) b (bases_at i s (keeper_writes t.views)) (at_other_stamp i s i (s + 1) (λ f. omega arith))) (if_here i s (0, d) (ends_at i s (keeper_writes t.views))) refl refl in
       let Q : File → Type 0 = λ f. Law k s f in
       subst P (sym e) (subst Q (sym here) (inr (inr (inr (end_law n k s 0 _ _ _ _ d (law_live n s (file i s t.views) refl nm (law_at n s found pos)) (omega arith) (omega arith) (inr (omega arith))))))))
       (λ ne. by_index (s + 1) z (Law k z (file i z (set t.views id w)))
       (λ e. let P : ℕ → Type 0 = λ y. Law k y (file i y (set t.views id w)) in let s' : ℕ = s + 1 in
-      let here : file i s' (set t.views id w) ≡ filed (b ∷ bases_at i s' (keeper_writes t.views)) (ends_at i s' (keeper_writes t.views)) (gathered (extends_at i s') t.views) (gathered (cancels_at i s') t.views) =
+      let here : file i s' (set t.views id w) ≡ file_of_lists (b ∷ bases_at i s' (keeper_writes t.views)) (ends_at i s' (keeper_writes t.views)) (gathered (extends_at i s') t.views) (gathered (cancels_at i s') t.views) =
       written t.views id v w at my_id x refl refl i s' ∙ file_of _ _ _ _ _ _ _ _ (if_here i s' b (bases_at i s' (keeper_writes t.views))) (if_other (is_at i s' i s) (0, d) (ends_at i s' (keeper_writes t.views)) (at_other_stamp i s' i s (λ f. omega arith))) refl refl in
       let Q : ℕ × File → Type 0 = λ y. Law y.0 s' y.1 in
       let old : file i s' t.views ≡ blank = law_beyond n s' (file i s' t.views) (omega arith) (law_at n s' found (omega arith)) in

@@ -46,10 +46,3 @@ abbrev pub Accounts : View → ℕ → Type 0
 Accounts w c =
     (t : State ℕ View) × Ruled (length w.seen) t × (get_elem? t.views 0 ≡ some w) × (total goes t.views ≡ w.issued) × (total own_cancels t.views ≡ c)
     × (begins_in w.writes ≡ expiries_in w.writes + removals_in w.writes + c + below lives t.words (length w.seen))
-
--- At such a moment these are the keeper's begun, expired and removed entries, those that callers cancelled, and those that were live.
-abbrev pub IsTotals : View → (inserted expired removed cancelled live : ℕ) → Type 0
-IsTotals w inserted expired removed cancelled live =
-    (t : State ℕ View) × Ruled (length w.seen) t × (get_elem? t.views 0 ≡ some w) × (total goes t.views ≡ w.issued)
-    × (begins_in w.writes ≡ inserted) × (expiries_in w.writes ≡ expired) × (removals_in w.writes ≡ removed)
-    × (total own_cancels t.views ≡ cancelled) × (below lives t.words (length w.seen) ≡ live)

@@ -64,12 +64,12 @@ abbrev pub blank : File
 blank = record { bases = []; ends = []; extends = []; cancels = [] }
 
 -- the file of four lists
-abbrev pub filed : List ℕ → List (ℕ × ℕ) → List ℕ → List ℕ → File
-filed a b c d = record { bases = a; ends = b; extends = c; cancels = d }
+abbrev pub file_of_lists : List ℕ → List (ℕ × ℕ) → List ℕ → List ℕ → File
+file_of_lists a b c d = record { bases = a; ends = b; extends = c; cancels = d }
 
 -- what the views say of the slot i at the stamp s
 abbrev pub file : ℕ → ℕ → List View → File
-file i s views = filed (bases_at i s (keeper_writes views)) (ends_at i s (keeper_writes views)) (gathered (extends_at i s) views) (gathered (cancels_at i s) views)
+file i s views = file_of_lists (bases_at i s (keeper_writes views)) (ends_at i s (keeper_writes views)) (gathered (extends_at i s) views) (gathered (cancels_at i s) views)
 
 -- x is in the list
 abbrev pub Has : {A : Type 0} → List A → A → Type 0

@@ -6,7 +6,7 @@ ghost use Rattle.dq_words.specs.Calls.{IsCaller, IsForged, Refuses, IsExtend, Is
 ghost use Rattle.dq_words.specs.Counts.{cancels_in};
 ghost use Rattle.dq_words.specs.Plays.{Looks, Extends, Cancels};
 
-use crate::parts::{cancelled, live, mark, stamp};
+use crate::parts::{ONE_CANCEL, cancelled, is_live, live, stamp};
 use crate::plays::{GiveUp, Leave, Look as Glance, Prolong};
 use crate::rule::{Board, Place};
 use dq_core::vec_words::shown;
@@ -129,7 +129,7 @@ impl<A: Allocator> Caller<A> {
             .board
             .shared
             .fetch_max::<GiveUp>(&mut self.place, index, new);
-        if mark(found) == 0 && stamp(found) == stamp(new) {
+        if is_live(found) && stamp(found) == stamp(new) {
             self.cancels += 1;
         }
         found
@@ -206,7 +206,7 @@ impl<A: Allocator> Caller<A> {
         let cancels = self.cancels;
         self.board
             .shared
-            .fetch_add::<Leave>(&mut self.place, self.rows, 1 + 2048 * cancels);
+            .fetch_add::<Leave>(&mut self.place, self.rows, 1 + ONE_CANCEL * cancels);
         cancels
     }
 }

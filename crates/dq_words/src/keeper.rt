@@ -10,7 +10,7 @@ ghost use Rattle.dq_core.specs.Words.{word_at, Learned as Learns};
 ghost use Rattle.dq_words.specs.declared.views.StepKind.TheVariants.{KeeperLoad};
 
 use crate::caller::Caller;
-use crate::parts::{expired, field, live, mark, removed};
+use crate::parts::{ONE_CANCEL, expired, field, is_live, live, removed};
 use crate::plays::{Expire, Hear, Issue, Learn, Remove, Renew, Start};
 use crate::rule::{Board, Place, WordsRule};
 use atomic_table::Table;
@@ -198,7 +198,7 @@ impl<A: Allocator> Keeper<A> {
     pub fn out(&mut self) -> u64
         ensures { Tells self.old result self.new }
     {
-        let gone = self.hear() % 2048;
+        let gone = self.hear() % ONE_CANCEL;
         self.issued - gone
     }
 
@@ -208,8 +208,12 @@ impl<A: Allocator> Keeper<A> {
         ensures accounts { IfOk result (λ c. Accounts self.new c) }
     {
         let word = self.hear();
-        let out = self.issued - word % 2048;
-        if out == 0 { Ok(word / 2048) } else { Err(out) }
+        let out = self.issued - word % ONE_CANCEL;
+        if out == 0 {
+            Ok(word / ONE_CANCEL)
+        } else {
+            Err(out)
+        }
     }
 }
 
@@ -245,7 +249,7 @@ impl<A: Allocator> Words for Keeper<A> {
         let found = self.try_expire(index, old, expired(stamp, at));
         if found == old {
             Settled::SettledExpired
-        } else if mark(found) == 0 {
+        } else if is_live(found) {
             Settled::Later(field(found))
         } else {
             Settled::SettledCancelled
@@ -256,7 +260,7 @@ impl<A: Allocator> Words for Keeper<A> {
     fn renew(&mut self, index: usize, stamp: u32, when: u64) -> Option<u64> {
         let new = live(stamp + 1, when);
         let mut seen = self.load(index);
-        while mark(seen) == 0 {
+        while is_live(seen) {
             let found = self.try_renew(index, seen, new);
             if found == seen {
                 return Some(field(seen));
@@ -268,7 +272,7 @@ impl<A: Allocator> Words for Keeper<A> {
 
     fn finish(&mut self, index: usize, stamp: u32) -> Option<u64> {
         let mut old = self.load(index);
-        while mark(old) == 0 {
+        while is_live(old) {
             let deadline = field(old);
             let found = self.try_remove(index, old, removed(stamp, deadline));
             if found == old {

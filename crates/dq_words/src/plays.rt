@@ -1,4 +1,4 @@
-// What each step on the table tells the seat that makes it.
+//! What each step on the table tells the seat that makes it.
 ghost use Rattle.dq_words.specs.Plays.{looked, learned, extended, cancelled, began, swapped, expiring, renewing, removing, issuing, newcomer, gave, heard};
 
 use crate::views::View;
