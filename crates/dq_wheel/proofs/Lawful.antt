@@ -3,14 +3,15 @@
 use Rattle.std.proofs.Common.{◌≡◌, ℕ, ◌+◌, ◌<◌, ◌≤◌, List, length, get_or, set, replicate, refl, sym, arith, ◌∙◌, ap, inl, inr, Option, None, Some, IfSome}
 use Rattle.std.proofs.Math.ListN.{length-set}
 use Rattle.std.proofs.lemmas.List.{get_or-set_same, get_or-set_other, map-set, length-map, length-replicate, get_or-replicate, get_or-map, ext_get_or}
+use Rattle.dq_ticks.specs.Digits.{digit_of}
 use Rattle.dq_ticks.specs.Units.{lap, tick_limit}
 use Rattle.dq_ticks.proofs.Levels.{level_small}
 use Rattle.dq_wheel.specs.State.{Filing, filed_at, linked, unlinked, fresh_filing}
 use Rattle.dq_wheel.specs.Filed.{filed_by, deadlines}
 use Rattle.dq_wheel.specs.Homes.{list_number}
-use Rattle.dq_wheel.specs.Lawful.{IsHome, IsLawful, IsWithin}
+use Rattle.dq_wheel.specs.Lawful.{IsAt, IsHome, IsLawful, IsWithin}
 use Rattle.dq_wheel.proofs.Links.{same_or_not}
-use Rattle.dq_wheel.proofs.Numbers.{due_where_high}
+use Rattle.dq_wheel.proofs.Numbers.{number_apart}
 
 abbrev pub filing_of : ℕ → List (Option ℕ) → List ℕ → ℕ → Filing
 filing_of tick filed moves moved = record { tick = tick; filed = filed; moves = moves; moved = moved }
@@ -49,9 +50,20 @@ within_home e None h m home = tt
 within_home e (Some f) h m home = record { later = home.later; in_range = home.in_range; near = home.near }
 
 -- what stands on the due list is filed at the tick
-pub home_due : (e : ℕ) (o : Option ℕ) (h m : ℕ) → IsHome e o h m → h ≡ 385 → o ≡ Some e
-home_due e None h m home high = let zero_home : h ≡ 0 = home.0 in absurd (omega arith)
-home_due e (Some f) h m home high = ap Some (sym (due_where_high e f (list_number e f) refl (omega (arith, home.number))))
+pub at_due : (e f h m : ℕ) → IsAt e f h m → list_number e f ≡ digit_of e 0 → e ≡ f
+at_due e f h m at is =
+    elim (same_or_not e f) [
+      | inl same ↦ same
+      | inr other ↦
+          let later : e ≤ f = at.later in
+          absurd (number_apart e f (record { later = omega arith; near = at.near; in_range = at.in_range }) is)
+    ]
+
+pub home_due : (e : ℕ) (o : Option ℕ) (h m : ℕ) → IsHome e o h m → h ≡ digit_of e 0 + 1 → o ≡ Some e
+home_due e None h m home there = let zero_home : h ≡ 0 = home.0 in absurd (omega arith)
+home_due e (Some f) h m home there =
+    let at : IsAt e f h m = home in
+    ap Some (sym (at_due e f h m at (omega (arith, at.number))))
 
 -- a wheel's rows, and what callers see of them
 module _ (tick moved : ℕ) (words moves homes : List ℕ) (now : Filing) (ok : IsLawful tick (deadlines words) moves homes)
@@ -79,7 +91,7 @@ module _ (tick moved : ℕ) (words moves homes : List ℕ) (now : Filing) (ok : 
       (lawful_set tick (deadlines words) moves homes ok i i_in None 0 0 (refl, refl))
 
   -- what stands on the due list is filed at the tick
-  pub seen_due : (i : ℕ) → i < length homes → get_or homes i 0 ≡ 385 → (i < length now.filed) × (filed_at now.filed i ≡ Some now.tick)
+  pub seen_due : (i : ℕ) → i < length homes → get_or homes i 0 ≡ digit_of tick 0 + 1 → (i < length now.filed) × (filed_at now.filed i ≡ Some now.tick)
   seen_due i i_in h = (
     rw (← filed_is, ok.filed_size) i_in,
     rw (← filed_is, ← tick_is) (home_due tick (filed_at (deadlines words) i) (get_or homes i 0) (get_or moves i 0) (ok.home i i_in) h),

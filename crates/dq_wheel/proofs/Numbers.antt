@@ -1,29 +1,46 @@
 -- Lists by number against ticks.
 
-use Rattle.std.proofs.Common.{◌≡◌, ◌≢◌, ℕ, ◌+◌, ◌*◌, ◌<◌, ◌≤◌, arith, inl, inr}
-use Rattle.dq_ticks.specs.Digits.{digit_of, level}
-use Rattle.dq_ticks.proofs.Laws.{digit_below}
-use Rattle.dq_ticks.proofs.Levels.{level_small}
+use Rattle.std.proofs.Common.{◌≡◌, ◌≢◌, ℕ, ◌+◌, ◌*◌, ◌/◌, ◌%◌, ◌^◌, ◌<◌, sym, ap, arith, ◌∙◌}
+use Rattle.dq_ticks.specs.Digits.{digit_of, level, start, IsAhead}
+use Rattle.dq_ticks.proofs.Laws.{at_level, digit_below, start_low}
+use Rattle.dq_ticks.proofs.Levels.{IsLevel, above_zero, above_suc, digits_make, level_same, level_small}
 use Rattle.dq_wheel.specs.Homes.{list_number}
-use Rattle.dq_wheel.proofs.Links.{same_or_not}
 
-pub number_same : (e f : ℕ) → e ≡ f → list_number e f ≡ 384
-number_same e f same = grind arith
+-- what is filed at the tick is seen at level 0
+pub level_due : (e f : ℕ) → e ≡ f → level e f ≡ 0
+level_due e f same = ap (λ t. level e t) (sym same) ∙ level_same e
 
-pub number_other : (e f : ℕ) → e ≢ f → list_number e f ≡ 64 * level e f + digit_of f (level e f)
-number_other e f other = grind arith
-
-pub number_low : (e f : ℕ) → e ≢ f → list_number e f < 384
-number_low e f other = omega (arith, number_other e f other, level_small e f, digit_below f (level e f))
+pub number_low : (e f : ℕ) → list_number e f < 384
+number_low e f = omega (arith, level_small e f, digit_below f (level e f))
 
 -- the due list has what is filed at the tick
-pub due_where_high : (e f to : ℕ) → to ≡ list_number e f → 384 ≤ to → e ≡ f
-due_where_high e f to to_is high =
-    elim (same_or_not e f) [
-      | inl same ↦ same
-      | inr other ↦ let low : list_number e f < 384 = number_low e f other in absurd (omega arith)
-    ]
+pub number_same : (e f : ℕ) → e ≡ f → list_number e f ≡ digit_of e 0
+number_same e f same =
+    let flat : level e f ≡ 0 = level_due e f same in
+    let number : list_number e f ≡ 64 * 0 + digit_of f 0 = ap (λ l. 64 * l + digit_of f l) flat in
+    let digit : digit_of f 0 ≡ digit_of e 0 = ap (λ t. digit_of t 0) (sym same) in
+    omega arith
 
--- and a slot what is filed later
-pub later_where_low : (e f to : ℕ) → to ≡ list_number e f → to < 384 → e ≢ f
-later_where_low e f to to_is low same = let high : list_number e f ≡ 384 = number_same e f same in omega arith
+-- what is filed at another tick of level 0 has another digit there
+digits_apart : (e f : ℕ) → IsLevel e f 0 → digit_of f 0 ≢ digit_of e 0
+digits_apart e f at same =
+    let high : e / 64 ≡ f / 64 =
+    ap (λ t. t / 64) (sym (above_zero e)) ∙ (sym (above_suc e 0) ∙ (at.agrees (omega arith) ∙ (above_suc f 0 ∙ ap (λ t. t / 64) (above_zero f)))) in
+    let low : e % 64 ≡ f % 64 = ap (λ t. t % 64) (sym (above_zero e)) ∙ (sym same ∙ ap (λ t. t % 64) (above_zero f)) in
+    at.differs (ap (λ t. t / 64 ^ 0) (digits_make e f high low))
+
+-- and nothing else
+pub number_apart : (e f : ℕ) → IsAhead e f → list_number e f ≢ digit_of e 0
+number_apart e f a same =
+    let flat : level e f ≡ 0 = omega (arith, digit_below e 0) in
+    let number : list_number e f ≡ 64 * 0 + digit_of f 0 = ap (λ l. 64 * l + digit_of f l) flat in
+    let digit : digit_of f 0 ≡ digit_of e 0 = omega arith in
+    digits_apart e f (rw flat at (at_level e f a)) digit
+
+-- a slot of level 0 starts at its own tick
+pub start_lowest : (e list : ℕ) → list < 64 → e / 64 * 64 + list ≡ start e (list / 64) (list % 64)
+start_lowest e list low =
+    let level_zero : list / 64 ≡ 0 = omega arith in
+    let slot : list % 64 ≡ list = omega arith in
+    let lowest : start e 0 list ≡ e / 64 ^ (0 + 1) * 64 ^ (0 + 1) + list * 64 ^ 0 = start_low e 0 list (omega arith) in
+    rw (level_zero, slot) (omega (arith, lowest))

@@ -1,6 +1,6 @@
 -- Occupancy words through a link and an unlink.
 
-use Rattle.std.proofs.Common.{◌≡◌, ◌≢◌, ℕ, ◌+◌, ◌*◌, ◌/◌, ◌%◌, ◌<◌, ◌≤◌, ◌↔◌, List, length, get_or, set, refl, sym, arith, ◌∙◌, inl, inr}
+use Rattle.std.proofs.Common.{◌≡◌, ◌≢◌, ℕ, ◌+◌, ◌*◌, ◌/◌, ◌%◌, ◌<◌, ◌↔◌, List, length, get_or, set, refl, sym, arith, ◌∙◌, inl, inr}
 use Rattle.std.specs.Int.{bit_at}
 use Rattle.std.proofs.Math.ListN.{length-set}
 use Rattle.std.proofs.lemmas.List.{get_or-set_same, get_or-set_other}
@@ -48,14 +48,6 @@ module _ (Where : ℕ → Type 0) (words homes : List ℕ) (ok : IsOccupiedAt Wh
             ];
       }
 
-  -- an index goes to the due list, which has no bit
-  pub due_linked : (p : ℕ) → ((q : ℕ) → Where q → get_or homes i 0 ≢ q + 1) → 384 ≤ p → IsOccupiedAt Where words (set homes i (p + 1))
-  due_linked p from high =
-      record {
-        filled = λ q q_in w bit. filled_after homes i (p + 1) q (from q w) (ok.filled q q_in w bit);
-        shown = λ q q_in w full. ok.shown q q_in w (filled_before homes i (p + 1) q (λ e. omega arith) i_in full);
-      }
-
   -- an index leaves list p, of which nothing is said from then on
   pub left_out : (p : ℕ) → get_or homes i 0 ≡ p + 1 → ((q : ℕ) → q ≢ p → Where q) → IsOccupiedBut p words (set homes i 0)
   left_out p from here =
@@ -81,20 +73,45 @@ bit_cleared words homes after p ok empty none others =
           ];
     }
 
+-- the list that was left out is still filled
+pub bit_kept : (words homes : List ℕ) (p : ℕ) → IsOccupiedBut p words homes → bit_of words p ≡ 1 → IsFilled homes p → IsOccupied words homes
+bit_kept words homes p ok one full =
+    record {
+      filled = λ q q_in w bit.
+          elim (same_or_not q p) [
+            | inl e ↦ rw e full
+            | inr d ↦ ok.filled q q_in d bit
+          ];
+      shown = λ q q_in w there.
+          elim (same_or_not q p) [
+            | inl e ↦ rw e one
+            | inr d ↦ ok.shown q q_in d there
+          ];
+    }
+
 -- one list may be left out
 pub but_one : (words homes : List ℕ) (p : ℕ) → IsOccupied words homes → IsOccupiedBut p words homes
 but_one words homes p ok = record { filled = λ q q_in d. ok.filled q q_in tt; shown = λ q q_in d. ok.shown q q_in tt }
 
--- bit k of word L is list 64 * L + k
-pub occupied_at : (words homes : List ℕ) → IsOccupied words homes → (L k : ℕ) → L < 6 → k < 64 →
-    (bit_at (get_or words L 0) k ≡ 1) ↔ IsFilled homes (64 * L + k)
-occupied_at words homes ok L k L_in k_in =
+-- bit k of word L, where list p shows as empty
+pub occupied_without : (words homes after : List ℕ) → IsOccupied words homes → (p : ℕ) → bit_of after p ≡ 0 →
+    ((q : ℕ) → q ≢ p → bit_of after q ≡ bit_of words q) → (L k : ℕ) → L < 6 → k < 64 →
+    (bit_at (get_or after L 0) k ≡ 1) ↔ ((64 * L + k ≢ p) × IsFilled homes (64 * L + k))
+occupied_without words homes after ok p none others L k L_in k_in =
     let high : (64 * L + k) / 64 ≡ L = omega arith in
     let low : (64 * L + k) % 64 ≡ k = omega arith in
-    let same : bit_of words (64 * L + k) ≡ bit_at (get_or words L 0) k = rw (high, low) refl in
-    (λ bit. ok.filled (64 * L + k) (omega arith) tt (same ∙ bit), λ full. sym same ∙ ok.shown (64 * L + k) (omega arith) tt full)
+    let same : bit_of after (64 * L + k) ≡ bit_at (get_or after L 0) k = rw (high, low) refl in (
+      λ bit.
+          let other : 64 * L + k ≢ p = λ e. let one : bit_of after p ≡ 1 = rw (← e) (same ∙ bit) in omega arith in
+          (other, ok.filled (64 * L + k) (omega arith) tt (sym (others (64 * L + k) other) ∙ (same ∙ bit))),
+      λ full. sym same ∙ (others (64 * L + k) full.0 ∙ ok.shown (64 * L + k) (omega arith) tt full.1),
+    )
 
 module _ (words homes : List ℕ) (ok : IsOccupied words homes) where
+  -- an index leaves a list
+  pub bit_was : (i p : ℕ) → i < length homes → get_or homes i 0 ≡ p + 1 → p < 384 → bit_of words p ≡ 1
+  bit_was i p i_in stands p_in = ok.shown p p_in tt (i, (i_in, stands))
+
   -- what the first bit says of the lists
   pub first_filled : (own q : ℕ) → (q < 384) × (bit_of words q ≡ 1) × ((p : ℕ) → p < 384 → bit_of words p ≡ 1 → IsEarlier own q p) →
       (q < 384) × IsFilled homes q × ((p : ℕ) → p < 384 → IsFilled homes p → IsEarlier own q p)

@@ -9,7 +9,7 @@ use Rattle.dq_wheel.specs.Lists.{StandsIn, IsEmpty}
 use Rattle.dq_wheel.specs.Occupied.{bit_of, IsOccupied, IsOccupiedBut}
 use Rattle.dq_wheel.specs.Homes.{list_number, rehomed, recounted, CanGo, IsOpened}
 use Rattle.dq_wheel.proofs.Links.{same_or_not}
-use Rattle.dq_wheel.proofs.Occupancy.{but_one, left_out, bit_linked, due_linked}
+use Rattle.dq_wheel.proofs.Occupancy.{but_one, left_out, bit_linked}
 
 -- 1 where an index stands in list p
 abbrev pub waits : ℕ → ℕ → ℕ
@@ -152,25 +152,26 @@ module _ (e p : ℕ) (filed homes moves homes2 moves2 words : List ℕ) (made : 
     left : IsOccupiedBut p words (set homes2 i 0)
     left = left_out (λ q. q ≢ p) words homes2 s.occupied i stands.0 p stands.1 (λ q d. d)
 
-    -- the index is due
-    pub opening_due : e ≡ get_or filed i 0 → 384 ≤ to → IsOpening e p filed homes moves homes3 moves2 words made
-    opening_due due high =
-        opening_more words moves2 made
-        (due_linked (λ q. q ≢ p) words (set homes2 i 0) left i (rw length-set stands.0) to from_elsewhere high)
-        refl (moves_were ∙ sym (recounted_due e p _ _ _ home_was due)) (λ j d. refl) s.sum (omega arith)
+    module _ (words3 : List ℕ) (one : bit_of words3 to ≡ 1) (others : (q : ℕ) → q ≢ to → bit_of words3 q ≡ bit_of words q) where
+      occupied_now : IsOccupiedBut p words3 homes3
+      occupied_now = bit_linked (λ q. q ≢ p) words (set homes2 i 0) left i (rw length-set stands.0) words3 to from_elsewhere one others
 
-    -- it goes to a slot
-    pub opening_moved : (words3 : List ℕ) → e ≢ get_or filed i 0 → bit_of words3 to ≡ 1 →
-        ((q : ℕ) → q ≢ to → bit_of words3 q ≡ bit_of words q) →
-        IsOpening e p filed homes moves homes3 (set moves2 i (get_or moves2 i 0 + 1)) words3 (made + 1)
-    opening_moved words3 later one others =
-        let i_in : i < length moves2 = rw (s.moves_size, ← s.size) stands.0 in
-        let more = sum_by-set (λ m. m) moves2 i (get_or moves2 i 0 + 1) 0 i_in in
-        opening_more words3 (set moves2 i (get_or moves2 i 0 + 1)) (made + 1)
-        (bit_linked (λ q. q ≢ p) words (set homes2 i 0) left i (rw length-set stands.0) words3 to from_elsewhere one others)
-        (simp length-set refl)
-        (get_or-set_same moves2 i (get_or moves2 i 0 + 1) 0 i_in ∙ (ap (λ m. m + 1) moves_were ∙ sym (recounted_moved e p _ _ _ home_was later)))
-        (λ j d. get_or-set_other moves2 i j (get_or moves2 i 0 + 1) 0 d) (omega (arith, s.sum, more)) (omega arith)
+      -- the index is due
+      pub opening_due : e ≡ get_or filed i 0 → IsOpening e p filed homes moves homes3 moves2 words3 made
+      opening_due due =
+          opening_more words3 moves2 made occupied_now refl (moves_were ∙ sym (recounted_due e p _ _ _ home_was due)) (λ j d. refl)
+          s.sum (omega arith)
+
+      -- it goes to a slot
+      pub opening_moved : e ≢ get_or filed i 0 →
+          IsOpening e p filed homes moves homes3 (set moves2 i (get_or moves2 i 0 + 1)) words3 (made + 1)
+      opening_moved later =
+          let i_in : i < length moves2 = rw (s.moves_size, ← s.size) stands.0 in
+          let more = sum_by-set (λ m. m) moves2 i (get_or moves2 i 0 + 1) 0 i_in in
+          opening_more words3 (set moves2 i (get_or moves2 i 0 + 1)) (made + 1) occupied_now
+          (simp length-set refl)
+          (get_or-set_same moves2 i (get_or moves2 i 0 + 1) 0 i_in ∙ (ap (λ m. m + 1) moves_were ∙ sym (recounted_moved e p _ _ _ home_was later)))
+          (λ j d. get_or-set_other moves2 i j (get_or moves2 i 0 + 1) 0 d) (omega (arith, s.sum, more)) (omega arith)
 
 -- no index waits any more
 pub opening_end : (e p : ℕ) (filed homes moves homes2 moves2 words : List ℕ) (made : ℕ) → IsOpening e p filed homes moves homes2 moves2 words made →

@@ -17,7 +17,7 @@ use Rattle.dq_wheel.specs.Occupied.{IsFilled, IsEarlier}
 use Rattle.dq_wheel.specs.Homes.{list_number, rehomed, recounted, CanGo, IsOpened}
 use Rattle.dq_wheel.specs.Lawful.{IsAt, IsHome, IsLawful}
 use Rattle.dq_wheel.proofs.Links.{same_or_not}
-use Rattle.dq_wheel.proofs.Numbers.{number_same, number_other, number_low}
+use Rattle.dq_wheel.proofs.Numbers.{number_same}
 use Rattle.dq_wheel.proofs.Opening.{rehomed_there, rehomed_elsewhere, recounted_due, recounted_moved, recounted_elsewhere}
 use Rattle.dq_wheel.proofs.Lawful.{filing_of}
 use Rattle.dq_wheel.proofs.Wakes.{ahead, some_at, home_stable, still_there, start_here, start_later, opens_after, opens_in_range, later_all, wake_other, lawful_stable, next_wake, due_stands, due_least, least_all, none_filed}
@@ -91,23 +91,52 @@ module _ (e w f h m list : ℕ) (at : IsAt e f h m) (later : e < f) (here : star
   falls other = elim (start_opens e f ahead_now) [ inl due ↦ absurd (other (omega arith)) | inr lower ↦ rw here at lower ]
 
   list_is : list ≡ 64 * level e f + digit_of f (level e f)
-  list_is = omega (arith, at.number, number_other e f (λ s. omega arith))
+  list_is = omega (arith, at.number)
 
-  pub goes : CanGo w list f m
-  goes =
-      let few : m + level e f ≤ 5 = at.few in
-      let high : list < 384 = omega (arith, at.number, number_low e f (λ s. omega arith)) in (
+  -- from level 1 it comes to level 0
+  to_lowest : list < 128 → level w f ≡ 0
+  to_lowest low =
+      elim (same_or_not w f) [
+        | inl due ↦ ap (λ t. level t f) due ∙ level_same f
+        | inr other ↦ omega (arith, list_is, falls other)
+      ]
+
+  pub goes : 64 ≤ list → CanGo w list f m
+  goes high =
+      let few : m + level e f ≤ 5 = at.few in (
         opens_by,
         at.in_range,
         λ same. elim (same_or_not w f) [
-          | inl due ↦ let number : list_number w f ≡ 384 = number_same w f due in omega arith
+          | inl due ↦
+              let number : list_number w f ≡ digit_of w 0 = number_same w f due in
+              let small : digit_of w 0 < 64 = digit_below w 0 in
+              omega arith
           | inr other ↦
               let lower : level w f < level e f = falls other in
-              let number : list_number w f ≡ 64 * level w f + digit_of f (level w f) = number_other w f other in
               omega (arith, list_is, digit_below f (level w f), digit_below f (level e f))
         ],
-        omega arith,
+        omega (arith, list_is, digit_below f (level e f)),
+        to_lowest,
       )
+
+  -- where it stood at level 0 it is due, and in the due list
+  due_here : list < 64 → w ≡ f
+  due_here low =
+      elim (start_opens e f ahead_now) [
+        | inl due ↦ omega arith
+        | inr lower ↦ let flat : level e f ≡ 0 = omega (arith, list_is, digit_below f (level e f)) in absurd (omega arith)
+      ]
+
+  pub stays_home : list < 64 → h ≡ rehomed w list f h
+  stays_home low =
+      let due : w ≡ f = due_here low in
+      let number : list_number w f ≡ digit_of w 0 = number_same w f due in
+      let flat : level e f ≡ 0 = omega (arith, list_is, digit_below f (level e f)) in
+      let digit : digit_of f (level e f) ≡ digit_of w 0 = ap (λ l. digit_of f l) flat ∙ ap (λ t. digit_of t 0) (sym due) in
+      omega (arith, list_is, rehomed_there w list f h stands)
+
+  pub stays_counted : list < 64 → m ≡ recounted w list f h m
+  stays_counted low = sym (recounted_due w list f h m stands (due_here low))
 
   pub opened_home : IsAt w f (rehomed w list f h) (recounted w list f h m)
   opened_home =
@@ -163,11 +192,36 @@ module _ (e : ℕ) (words moves homes : List ℕ) (ok : IsLawful e (deadlines wo
   opens_at : (i f : ℕ) → filed_at (deadlines words) i ≡ Some f → get_or homes i 0 ≡ list + 1 → start_for e f ≡ opening
   opens_at = start_here e (deadlines words) moves homes ok list list_in filled first later
 
-  pub can_go : (i : ℕ) → StandsIn homes list i → CanGo opening list (get_or words i 0) (get_or moves i 0)
-  can_go i stands =
+  pub can_go : 64 ≤ list → (i : ℕ) → StandsIn homes list i → CanGo opening list (get_or words i 0) (get_or moves i 0)
+  can_go high i stands =
       let s = standing i stands.0 stands.1 in
       rw (word_of words i s.0 (word_in i stands.0) s.1)
-      (goes e opening s.0 (get_or homes i 0) (get_or moves i 0) list s.2 (later i s.0 s.1) (opens_at i s.0 s.1 stands.1) stands.1)
+      (goes e opening s.0 (get_or homes i 0) (get_or moves i 0) list s.2 (later i s.0 s.1) (opens_at i s.0 s.1 stands.1) stands.1 high)
+
+  -- a slot of level 0 becomes the due list as it is
+  pub opened_low : list < 64 → IsOpened opening list words homes moves homes moves 0
+  opened_low low =
+      record {
+        size = refl;
+        moves_size = ok.moves_size;
+        placed = λ i i_in.
+            elim (same_or_not (get_or homes i 0) (list + 1)) [
+              | inl stands ↦
+                  let s = standing i i_in stands in
+                  rw (word_of words i s.0 (word_in i i_in) s.1)
+                  (stays_home e opening s.0 (get_or homes i 0) (get_or moves i 0) list s.2 (later i s.0 s.1) (opens_at i s.0 s.1 stands) stands low)
+              | inr elsewhere ↦ sym (rehomed_elsewhere opening list _ _ elsewhere)
+            ];
+        counted = λ i i_in.
+            elim (same_or_not (get_or homes i 0) (list + 1)) [
+              | inl stands ↦
+                  let s = standing i i_in stands in
+                  rw (word_of words i s.0 (word_in i i_in) s.1)
+                  (stays_counted e opening s.0 (get_or homes i 0) (get_or moves i 0) list s.2 (later i s.0 s.1) (opens_at i s.0 s.1 stands) stands low)
+              | inr elsewhere ↦ sym (recounted_elsewhere opening list _ _ _ elsewhere)
+            ];
+        sum = omega arith;
+      }
 
   stays : (i f : ℕ) → get_or homes i 0 ≢ list + 1 → filed_at (deadlines words) i ≡ Some f → (e < f) × (opening < start_for e f)
   stays i f elsewhere is = (later i f is, start_later e (deadlines words) moves homes ok list list_in filled first later i f is elsewhere)
@@ -298,8 +352,25 @@ module _ (e : ℕ) (words moves homes : List ℕ) (ok : IsLawful e (deadlines wo
     seen_opened e words moves homes ok list list_in filled first later homes2 moves2 made o moved now now_is,
   )
 
+  -- and is of level 0
+  pub seen_arrival : (list : ℕ) → list < 384 → (filled : IsFilled homes list) →
+      ((p : ℕ) → p < 384 → IsFilled homes p → IsEarlier (digit_of e 5) list p) →
+      ((i f : ℕ) → filed_at (deadlines words) i ≡ Some f → e < f) → list < 64 → moved ≤ 18446744073709551615 →
+      (limit : ℕ) → start e (list / 64) (list % 64) ≤ limit →
+      (w : ℕ) × IsNextWake now.tick now.filed w × (w ≤ limit)
+      × (filing_of (start e (list / 64) (list % 64)) (deadlines words) moves moved ≡ passed now w)
+  seen_arrival list list_in filled first later low small limit reached =
+      let o = opened_low e words moves homes ok list list_in filled first later low in
+      let seen = seen_opening list list_in filled first later homes moves 0 limit o reached in
+      let count : min (moved + 0) 18446744073709551615 ≡ moved = omega arith in
+      rw count at seen
+
+  -- no index is filed at the tick
+  pub seen_none_due : ((i f : ℕ) → filed_at (deadlines words) i ≡ Some f → e < f) → (i : ℕ) → filed_at now.filed i ≢ Some now.tick
+  seen_none_due later i is = let after : e < now.tick = later i now.tick (rw filed_is is) in omega (arith, tick_is)
+
   -- what is filed least
-  pub seen_least_due : (i : ℕ) → StandsIn homes 384 i → IsLeast now.filed i
+  pub seen_least_due : (i : ℕ) → StandsIn homes (digit_of e 0) i → IsLeast now.filed i
   seen_least_due i stands =
       let is : filed_at (deadlines words) i ≡ Some e = due_stands e (deadlines words) moves homes ok i stands in
       rw (← filed_is) (e, rw ok.filed_size stands.0, is, due_least e (deadlines words) moves homes ok i is)

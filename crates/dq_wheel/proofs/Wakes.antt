@@ -13,7 +13,7 @@ use Rattle.dq_wheel.specs.Occupied.{IsFilled, IsEarlier}
 use Rattle.dq_wheel.specs.Homes.{list_number}
 use Rattle.dq_wheel.specs.Lawful.{IsAt, IsHome, IsLawful, IsWithin, WakesAreAhead}
 use Rattle.dq_wheel.proofs.Links.{same_or_not, nat_le_or_lt}
-use Rattle.dq_wheel.proofs.Numbers.{number_same, number_other, number_low}
+use Rattle.dq_wheel.proofs.Numbers.{number_same, number_low}
 use Rattle.dq_wheel.proofs.Lawful.{home_due}
 
 pub wake_same : (e f : ℕ) → e ≡ f → wake_for e f ≡ e
@@ -37,9 +37,7 @@ some_at e (Some f) h m home on = (f, refl, home)
 pub number_stable : (e n f : ℕ) → IsAhead e f → e ≤ n → n < start_for e f → list_number n f ≡ list_number e f
 number_stable e n f a after before =
     let still : level n f ≡ level e f = level_stable e f a n after before in
-    let le : start_for e f ≤ f = start_le e f a in
-    let later : e < f = a.later in
-    number_other n f (λ s. omega arith) ∙ (ap (λ l. 64 * l + digit_of f l) still ∙ sym (number_other e f (λ s. omega arith)))
+    ap (λ l. 64 * l + digit_of f l) still
 
 -- so does its home
 pub home_stable : (e n : ℕ) (o : Option ℕ) (h m : ℕ) → e ≤ n → IsHome e o h m →
@@ -89,24 +87,20 @@ turn_less e place j k j_in k_in d le =
     ]
 
 -- the list of a slot tells its level and its digit
-list_level : (e f p : ℕ) → e ≢ f → list_number e f ≡ p → p / 64 ≡ level e f
-list_level e f p other is = omega (arith, number_other e f other, digit_below f (level e f))
+pub list_level : (e f p : ℕ) → list_number e f ≡ p → p / 64 ≡ level e f
+list_level e f p is = omega (arith, digit_below f (level e f))
 
-list_digit : (e f p : ℕ) → e ≢ f → list_number e f ≡ p → p % 64 ≡ digit_of f (level e f)
-list_digit e f p other is = omega (arith, number_other e f other, digit_below f (level e f))
+pub list_digit : (e f p : ℕ) → list_number e f ≡ p → p % 64 ≡ digit_of f (level e f)
+list_digit e f p is = omega (arith, digit_below f (level e f))
 
 -- what stands in an earlier slot comes before the start of a later one
 pub earlier_first : (e f g p q : ℕ) → IsAhead e f → IsAhead e g → list_number e f ≡ p → list_number e g ≡ q → p ≢ q →
     IsEarlier (digit_of e 5) p q → f < start_for e g
 earlier_first e f g p q of_f of_g p_is q_is apart earlier =
-    let f_later : e < f = of_f.later in
-    let g_later : e < g = of_g.later in
-    let e_f : e ≢ f = λ s. omega arith in
-    let e_g : e ≢ g = λ s. omega arith in
-    let p_level : p / 64 ≡ level e f = list_level e f p e_f p_is in
-    let q_level : q / 64 ≡ level e g = list_level e g q e_g q_is in
-    let p_digit : p % 64 ≡ digit_of f (level e f) = list_digit e f p e_f p_is in
-    let q_digit : q % 64 ≡ digit_of g (level e g) = list_digit e g q e_g q_is in
+    let p_level : p / 64 ≡ level e f = list_level e f p p_is in
+    let q_level : q / 64 ≡ level e g = list_level e g q q_is in
+    let p_digit : p % 64 ≡ digit_of f (level e f) = list_digit e f p p_is in
+    let q_digit : q % 64 ≡ digit_of g (level e g) = list_digit e g q q_is in
     elim earlier [
       | inl lower ↦ lower_first e f g of_f of_g (omega arith)
       | inr same ↦
@@ -138,11 +132,11 @@ module _ (e : ℕ) (filed : List (Option ℕ)) (moves homes : List ℕ) (ok : Is
   none_before i f is = (filed_home i f is).1.later
 
   -- what stands on the due list is filed at the tick
-  pub due_stands : (i : ℕ) → StandsIn homes 384 i → filed_at filed i ≡ Some e
+  pub due_stands : (i : ℕ) → StandsIn homes (digit_of e 0) i → filed_at filed i ≡ Some e
   due_stands i stands = home_due e (filed_at filed i) _ _ (ok.home i stands.0) stands.1
 
   -- nothing is due where no index stands on the due list
-  pub none_due : IsEmpty homes 384 → (i f : ℕ) → filed_at filed i ≡ Some f → e < f
+  pub none_due : IsEmpty homes (digit_of e 0) → (i f : ℕ) → filed_at filed i ≡ Some f → e < f
   none_due empty i f is =
       let home = filed_home i f is in
       let at : IsAt e f (get_or homes i 0) (get_or moves i 0) = home.1 in
@@ -150,7 +144,7 @@ module _ (e : ℕ) (filed : List (Option ℕ)) (moves homes : List ℕ) (ok : Is
       elim (same_or_not e f) [
         | inl same ↦
             let number : get_or homes i 0 ≡ list_number e f + 1 = at.number in
-            let due : list_number e f ≡ 384 = number_same e f same in
+            let due : list_number e f ≡ digit_of e 0 = number_same e f same in
             absurd (empty i home.0 (omega arith))
         | inr other ↦ omega arith
       ]
@@ -170,7 +164,7 @@ module _ (e : ℕ) (filed : List (Option ℕ)) (moves homes : List ℕ) (ok : Is
       let home = filed_home i f is in
       let at : IsAt e f (get_or homes i 0) (get_or moves i 0) = home.1 in
       let after : e < f = later i f is in
-      empty (list_number e f) (number_low e f (λ s. omega arith)) i home.0 at.number
+      empty (list_number e f) (number_low e f) i home.0 at.number
 
   -- an index that is due is next
   pub due_wake : (i : ℕ) → filed_at filed i ≡ Some e → IsNextWake e filed e
@@ -220,7 +214,7 @@ module _ (e : ℕ) (filed : List (Option ℕ)) (moves homes : List ℕ) (ok : Is
     start_here i f is stands =
         let after : e < f = later i f is in
         let here : list_number e f ≡ list = omega (arith, number_of i f is) in
-        rw (list_level e f list (λ s. omega arith) here, list_digit e f list (λ s. omega arith) here) refl
+        rw (list_level e f list here, list_digit e f list here) refl
 
     pub first_filed : (g : ℕ) × (filed_at filed filled.0 ≡ Some g) × IsAt e g (get_or homes filled.0 0) (get_or moves filled.0 0)
     first_filed = some_at e (filed_at filed filled.0) _ _ (ok.home filled.0 filled.1.0) (omega (arith, filled.1.1))
@@ -233,7 +227,7 @@ module _ (e : ℕ) (filed : List (Option ℕ)) (moves homes : List ℕ) (ok : Is
         let home = filed_home j g there in
         earlier_first e f g list (list_number e g) (ahead_of i f is) (ahead_of j g there) (omega (arith, number_of i f is)) refl
         (λ s. elsewhere (omega (arith, number_of j g there)))
-        (first (list_number e g) (number_low e g (λ s. omega arith)) (j, (home.0, number_of j g there)))
+        (first (list_number e g) (number_low e g) (j, (home.0, number_of j g there)))
 
     -- the others start later
     pub start_later : (j g : ℕ) → filed_at filed j ≡ Some g → get_or homes j 0 ≢ list + 1 → opens < start_for e g

@@ -149,14 +149,14 @@ module _ (cap lists : ℕ) (next prev home rank : ℕ → ℕ) (ring : Ring cap 
         | inr d ↦ omega (arith, walked_once i i_in ∙ none_at (home i) (p + 1) d)
       ]
 
-pub list_of_rings : (cap : ℕ) (next prev homes now : List ℕ) → IsRings cap next prev homes → take cap homes ≡ now → (p : ℕ) → p < 385 → IsListOf next now p
+pub list_of_rings : (cap : ℕ) (next prev homes now : List ℕ) → IsRings cap next prev homes → take cap homes ≡ now → (p : ℕ) → p < 384 → IsListOf next now p
 list_of_rings cap next prev homes now r now_is p p_in =
     let len : length now ≡ cap = capacity_is cap homes now (omega (arith, r.homes_len)) now_is in
-    let w = walked cap 385 _ _ _ r.rank r.ring p p_in in
+    let w = walked cap 384 _ _ _ r.rank r.ring p p_in in
     record {
       list = w.0;
       walk = rw len w.1;
       once = λ i i_in.
           let i_cap : i < cap = omega arith in
-          walked_once cap 385 _ _ _ r.rank r.ring p p_in i i_cap ∙ ap (λ h. cond (eqb h (p + 1)) 1 0) (sym (seen_home cap homes now i now_is i_cap));
+          walked_once cap 384 _ _ _ r.rank r.ring p p_in i i_cap ∙ ap (λ h. cond (eqb h (p + 1)) 1 0) (sym (seen_home cap homes now i now_is i_cap));
     }

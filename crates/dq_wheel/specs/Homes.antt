@@ -1,4 +1,5 @@
--- The lists by number: 64 * level + slot is that slot, and 384 is the due list.
+-- The lists by number: 64 * level + slot is that slot. At level 0 the slot of the tick's own digit is the due list, since
+-- what is filed later stands in another one.
 
 use Rattle.std.specs.Prelude.{List, length, slice_index, sum, ◌≡◌, ◌≢◌, ℕ, ◌+◌, ◌*◌, ◌<◌, ◌≤◌, ◌==◌, if◌then◌else◌}
 use Rattle.dq_ticks.specs.Digits.{digit_of, level}
@@ -6,7 +7,7 @@ use Rattle.dq_ticks.specs.Units.{tick_limit}
 
 -- the list in which f stands at tick e
 abbrev pub list_number : ℕ → ℕ → ℕ
-list_number e f = if e == f then 384 else 64 * level e f + digit_of f (level e f)
+list_number e f = 64 * level e f + digit_of f (level e f)
 
 -- the home of an index that is filed at f, once list p was opened at tick e
 abbrev pub rehomed : ℕ → ℕ → ℕ → ℕ → ℕ
@@ -16,9 +17,9 @@ rehomed e p f home = if home == p + 1 then list_number e f + 1 else home
 abbrev pub recounted : ℕ → ℕ → ℕ → ℕ → ℕ → ℕ
 recounted e p f home moves = if home == p + 1 then (if e == f then moves else moves + 1) else moves
 
--- an index that is filed at f may go from list p to the list that its tick names at tick e
+-- an index that is filed at f may go from list p to the list that its tick names at tick e, and from level 1 to level 0
 abbrev pub CanGo : ℕ → ℕ → ℕ → ℕ → Type 0
-CanGo e p f moves = (e ≤ f) × (f < tick_limit) × (list_number e f ≢ p) × (moves < 255)
+CanGo e p f moves = (e ≤ f) × (f < tick_limit) × (list_number e f ≢ p) × (moves < 255) × (p < 128 → level e f ≡ 0)
 
 -- list p was opened at tick e: each of its indexes is placed again, no other is, and the moves that were made are counted
 pub record IsOpened (e p : ℕ) (filed homes moves homes2 moves2 : List ℕ) (made : ℕ) : Type 0 where

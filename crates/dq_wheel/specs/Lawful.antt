@@ -2,7 +2,7 @@
 -- stands in any; and each occupancy bit is 1 exactly where its list isn't empty.
 
 use Rattle.std.specs.Prelude.{◌≡◌, ◌≢◌, ℕ, ◌+◌, ◌-◌, ◌/◌, ◌%◌, ◌<◌, ◌≤◌, ◌↔◌, ◌==◌, if◌then◌else◌, List, [], length, slice_index, Option, None, Some}
-use Rattle.dq_ticks.specs.Digits.{level}
+use Rattle.dq_ticks.specs.Digits.{digit_of, level}
 use Rattle.dq_ticks.specs.Units.{lap, tick_limit}
 use Rattle.dq_wheel.specs.State.{filed_at, WheelState}
 use Rattle.dq_wheel.specs.Places.{place_for, MovesFit}
@@ -13,22 +13,22 @@ use Rattle.dq_wheel.specs.Homes.{list_number}
 use Rattle.dq_wheel.specs.declared.wheel.Place.{Place}
 use Rattle.dq_wheel.specs.declared.wheel.Place.TheVariants.{Loose, Due, InSlot}
 
--- the place whose list it is
-abbrev pub place_of_list : ℕ → Place
-place_of_list p = if p == 384 then Due else InSlot (p / 64) (p % 64)
+-- the place whose list it is at tick e: the slot of the tick's own digit at level 0 is the due list
+abbrev pub place_of_list : ℕ → ℕ → Place
+place_of_list e p = if p == digit_of e 0 then Due else InSlot (p / 64) (p % 64)
 
 -- the place that a home stands for
-abbrev pub place_of_home : ℕ → Place
-place_of_home home = if home == 0 then Loose else place_of_list (home - 1)
+abbrev pub place_of_home : ℕ → ℕ → Place
+place_of_home e home = if home == 0 then Loose else place_of_list e (home - 1)
 
 -- The lawful wheel, of list p. Walked along the wheel's links from its head until one is back there, it has each index
 -- once whose place it is, and no other; its bit is 1 exactly where it isn't empty.
 pub record IsLawfulList (e : ℕ) (filed : List (Option ℕ)) (next words : List ℕ) (p : ℕ) : Type 0 where
   pub list : List ℕ
   pub walk : IsWalk (length filed) (slice_index next) (length filed + p) (slice_index next (length filed + p)) list
-  pub once : (i : ℕ) → i < length filed → place_for e (filed_at filed i) ≡ place_of_list p → times i list ≡ 1
-  pub elsewhere : (i : ℕ) → i < length filed → place_for e (filed_at filed i) ≢ place_of_list p → times i list ≡ 0
-  pub bit : p < 384 → (bit_of words p ≡ 1) ↔ (list ≢ [])
+  pub once : (i : ℕ) → i < length filed → place_for e (filed_at filed i) ≡ place_of_list e p → times i list ≡ 1
+  pub elsewhere : (i : ℕ) → i < length filed → place_for e (filed_at filed i) ≢ place_of_list e p → times i list ≡ 0
+  pub bit : (bit_of words p ≡ 1) ↔ (list ≢ [])
 
 -- a filed tick isn't before the wheel's tick, and less than a lap after it
 pub record IsWithin (e f : ℕ) : Type 0 where
@@ -42,7 +42,9 @@ pub record IsLawfulWheel (w : WheelState) : Type 0 where
   pub small : length w.filing.filed ≤ 65536
   pub moves_size : length w.filing.moves ≡ length w.filing.filed
   pub in_range : w.filing.tick < tick_limit
-  pub lists : (p : ℕ) → p < 385 → IsLawfulList w.filing.tick w.filing.filed w.next w.words p
+  pub lists : (p : ℕ) → p < 384 → IsLawfulList w.filing.tick w.filing.filed w.next w.words p
+  pub placed : (i f : ℕ) → filed_at w.filing.filed i ≡ Some f →
+      (p : ℕ) × (p < 384) × (place_for w.filing.tick (Some f) ≡ place_of_list w.filing.tick p)
   pub within : (i f : ℕ) → filed_at w.filing.filed i ≡ Some f → IsWithin w.filing.tick f
   pub moves : (i : ℕ) → i < length w.filing.filed →
       MovesFit (place_for w.filing.tick (filed_at w.filing.filed i)) (slice_index w.filing.moves i)

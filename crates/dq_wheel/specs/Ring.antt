@@ -18,11 +18,11 @@ pub record Ring (cap lists : ℕ) (next prev home rank : ℕ → ℕ) : Type 0 w
   pub node : (x : ℕ) → x < cap + lists → 0 < home x → Node (cap + lists) next prev home x
   pub falls : (x : ℕ) → x < cap → 0 < home x → rank (prev x) < rank x
 
--- the 385 lists of a wheel over cap entries
+-- the 384 lists of a wheel over cap entries
 pub record IsRings (cap : ℕ) (next prev homes : List ℕ) : Type 0 where
   pub small : cap ≤ 65536
-  pub next_len : length next ≡ cap + 385
-  pub prev_len : length prev ≡ cap + 385
-  pub homes_len : length homes ≡ cap + 385
+  pub next_len : length next ≡ cap + 384
+  pub prev_len : length prev ≡ cap + 384
+  pub homes_len : length homes ≡ cap + 384
   pub rank : ℕ → ℕ
-  pub ring : Ring cap 385 (slice_index next) (slice_index prev) (slice_index homes) rank
+  pub ring : Ring cap 384 (slice_index next) (slice_index prev) (slice_index homes) rank

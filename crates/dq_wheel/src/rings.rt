@@ -12,7 +12,7 @@ use std::alloc::{AllocError, Allocator, Global};
 use std::marker::Model;
 
 /// The number of lists.
-pub const LISTS: usize = 385;
+pub const LISTS: usize = 384;
 
 /// The links of an entry or of a list's head, and the list in which it stands.
 #[derive(Clone, Copy, Drop)]
@@ -99,7 +99,7 @@ fn row_at(rows: &[Row], at: usize) -> Row
 fn append(rows: &mut [Row], capacity: usize, index: usize, list: usize)
     requires rings { IsRings capacity (nexts rows.old) (prevs rows.old) (homes rows.old) }
     requires index_in { index < capacity }
-    requires list_in { list < 385 }
+    requires list_in { list < 384 }
     requires loose { slice_index (homes rows.old) index ≡ 0 }
     ensures rings { IsRings capacity (nexts rows.new) (prevs rows.new) (homes rows.new) }
     ensures home { homes rows.new ≡ slice_set (homes rows.old) index (list + 1) }
@@ -136,7 +136,7 @@ fn detach(rows: &mut [Row], capacity: usize, index: usize)
 /// Takes the entry that follows the head of a list out of it.
 fn detach_first(rows: &mut [Row], capacity: usize, list: usize, first: usize)
     requires rings { IsRings capacity (nexts rows.old) (prevs rows.old) (homes rows.old) }
-    requires list_in { list < 385 }
+    requires list_in { list < 384 }
     requires first_is { first ≡ slice_index (nexts rows.old) (capacity + list) }
     requires entry { first < capacity }
     ensures rings { IsRings capacity (nexts rows.new) (prevs rows.new) (homes rows.new) }
@@ -152,7 +152,7 @@ fn detach_first(rows: &mut [Row], capacity: usize, list: usize, first: usize)
 /// The rows of entries and heads that stand alone.
 fn lone_rows<A: Allocator>(alloc: A, capacity: usize) -> Result<Vec<Row, A>, AllocError>
     requires { capacity ≤ 65536 }
-    ensures { IfOk result (λ v. (length v.items ≡ capacity + 385) × AreAlone capacity v.items) }
+    ensures { IfOk result (λ v. (length v.items ≡ capacity + 384) × AreAlone capacity v.items) }
 {
     let count = (capacity + LISTS) as u32;
     let mut rows = Vec::with_capacity(alloc, capacity + LISTS)?;
@@ -198,7 +198,7 @@ impl<A: Allocator> Rings<A> {
 
     /// Each list, walked along its links from its head, has once each index whose home it is, and no other.
     pub fn law(&self)
-        ensures { (p : ℕ) → p < 385 → IsListOf self.now.next self.now.homes p }
+        ensures { (p : ℕ) → p < 384 → IsListOf self.now.next self.now.homes p }
     {
         let _ = &self.rows;
     }
@@ -206,14 +206,15 @@ impl<A: Allocator> Rings<A> {
     /// The list of an index, and one more, or 0.
     pub fn home(&self, index: usize) -> u16
         requires { index < length self.now.homes }
-        ensures { result ≡ slice_index self.now.homes index }
+        ensures value { result ≡ slice_index self.now.homes index }
+        ensures small { result ≤ 384 }
     {
         row_at(&self.rows, index).home
     }
 
     /// The first index of a list.
     pub fn first(&self, list: usize) -> Option<usize>
-        requires { list < 385 }
+        requires { list < 384 }
         ensures { MatchOption result
             (IsEmpty self.now.homes list)
             (λ x. StandsIn self.now.homes list x × (x ≡ slice_index self.now.next (length self.now.homes + list))) }
@@ -228,7 +229,7 @@ impl<A: Allocator> Rings<A> {
 
     /// An index of a list whose key is least there.
     pub fn least_in(&self, list: usize, keys: &[u64]) -> Option<usize>
-        requires list_in { list < 385 }
+        requires list_in { list < 384 }
         requires same_length { length keys.now ≡ length self.now.homes }
         ensures { MatchOption result
             (IsEmpty self.now.homes list)
@@ -253,7 +254,7 @@ impl<A: Allocator> Rings<A> {
     /// Puts a loose index at the end of a list.
     pub fn link(&mut self, index: usize, list: usize)
         requires index_in { index < length self.old.homes }
-        requires list_in { list < 385 }
+        requires list_in { list < 384 }
         requires loose { slice_index self.old.homes index ≡ 0 }
         ensures { self.new.homes ≡ slice_set self.old.homes index (list + 1) }
     {
@@ -271,7 +272,7 @@ impl<A: Allocator> Rings<A> {
 
     /// Takes the first index out of a list.
     pub fn take_first(&mut self, list: usize) -> Option<usize>
-        requires { list < 385 }
+        requires { list < 384 }
         ensures { MatchOption result
             (IsEmpty self.old.homes list × (self.new ≡ self.old))
             (λ x. StandsIn self.old.homes list x × (self.new.homes ≡ slice_set self.old.homes x 0)) }

@@ -1,19 +1,17 @@
-//! The slots of six levels and the due list, with occupancy words.
+//! The slots of six levels, of which one is the due list, with occupancy words.
 
-ghost use Rattle.std.specs.Prelude.{◌≡◌, ◌≢◌, ℕ, ◌+◌, ◌*◌, ◌<◌, ◌≤◌, ◌↔◌, length, slice_index, slice_set, replicate, sum, IfOk, MatchOption};
+ghost use Rattle.std.specs.Prelude.{◌≡◌, ◌≢◌, ℕ, ◌+◌, ◌*◌, ◌/◌, ◌%◌, ◌<◌, ◌≤◌, ◌↔◌, length, slice_index, slice_set, replicate, sum, IfOk, MatchOption};
 ghost use Rattle.std.specs.Int.{bit_at};
 ghost use Rattle.dq_wheel.specs.Lists.{IsEmpty, IsListOf, StandsIn};
-ghost use Rattle.dq_wheel.specs.Occupied.{IsEarlier, IsFilled, IsOccupied};
+ghost use Rattle.dq_wheel.specs.Occupied.{bit_of, IsEarlier, IsFilled, IsOccupied, IsOccupiedBut};
+ghost use Rattle.dq_ticks.specs.Digits.{digit_of, level, start};
 ghost use Rattle.dq_wheel.specs.Homes.{list_number, CanGo, IsOpened};
 
 use crate::occupied::{Words, clear_bit, first_list, set_bit};
 use crate::rings::Rings;
-use dq_ticks::{LAST_TICK, LEVELS, SLOTS, digit, level_of};
+use dq_ticks::{LAST_TICK, LEVELS, SLOTS, digit, level_of, slot_start};
 use std::alloc::{AllocError, Allocator, Global};
 use std::marker::Model;
-
-/// The list of the due indexes. List `64 * level + slot` is that slot.
-pub const DUE: usize = 384;
 
 /// Which slot each index stands in, if any, with a bit for each slot that isn't empty.
 #[derive(Drop)]
@@ -33,20 +31,71 @@ impl<A: Allocator> Model for Slots<A> {
     ghost invariant = { λ a. IsOccupied a.words a.rings.homes };
 }
 
-/// The number of the list for a tick.
+/// The list of what is filed at the tick: level 0's slot of its digit.
+pub fn due_list(tick: u64) -> usize
+    requires { tick ≤ LAST_TICK }
+    ensures value { result ≡ digit_of tick 0 }
+    ensures small { result < 64 }
+{
+    digit(tick, 0) as usize
+}
+
+/// The number of the list for a tick: list `64 * level + slot` is that slot.
 pub fn list_of(tick: u64, when: u64) -> usize
     requires ordered { tick ≤ when }
     requires in_range { when ≤ LAST_TICK }
     ensures value { result ≡ list_number tick when }
-    ensures small { result < 385 }
+    ensures small { result < 384 }
 {
-    match level_of(tick, when) {
-        None => DUE,
-        Some(level) => SLOTS * level + digit(when, level) as usize,
+    let level = match level_of(tick, when) {
+        Some(level) => level,
+        None => 0,
+    };
+    SLOTS * level + digit(when, level) as usize
+}
+
+/// The tick at which the slot of a list starts. Level 0 comes nearly every time, and is the shortest way.
+pub fn start_of(tick: u64, list: usize) -> u64
+    requires in_range { tick ≤ LAST_TICK }
+    requires list_in { list < 384 }
+    ensures { result ≡ start tick (list / 64) (list % 64) }
+{
+    if list < SLOTS {
+        tick / SLOTS as u64 * SLOTS as u64 + list as u64
+    } else {
+        slot_start(tick, list / SLOTS, (list % SLOTS) as u64)
     }
 }
 
-/// Places each index of a list again by the new tick, and gives how many of them went to a slot.
+/// The list to which an index goes from an opened one. A slot of level 1 spans no more than level 0.
+fn list_from(list: usize, tick: u64, when: u64) -> usize
+    requires ordered { tick ≤ when }
+    requires in_range { when ≤ LAST_TICK }
+    requires low { list < 128 → level tick when ≡ 0 }
+    ensures value { result ≡ list_number tick when }
+    ensures small { result < 384 }
+{
+    if list < 2 * SLOTS {
+        digit(when, 0) as usize
+    } else {
+        list_of(tick, when)
+    }
+}
+
+/// Clears the bit of a list that its last index has left.
+fn clear_if_empty<A: Allocator>(rings: &Rings<A>, words: &mut Words, list: usize)
+    requires list_in { list < 384 }
+    requires others { IsOccupiedBut list words.old rings.now.homes }
+    requires was_filled { bit_of words.old list ≡ 1 }
+    ensures { IsOccupied words.new rings.now.homes }
+{
+    match rings.first(list) {
+        Some(_) => {}
+        None => clear_bit(words, list),
+    }
+}
+
+/// Places each index of a list again by the new tick, and gives how many of them aren't due yet.
 fn empty_slot<A: Allocator>(
     rings: &mut Rings<A>,
     words: &mut Words,
@@ -67,10 +116,10 @@ fn empty_slot<A: Allocator>(
     let mut made = 0;
     while let Some(index) = rings.take_first(list) {
         let when = filed[index];
-        let to = list_of(tick, when);
+        let to = list_from(list, tick, when);
         rings.link(index, to);
-        if to < DUE {
-            set_bit(words, to);
+        set_bit(words, to);
+        if when != tick {
             moves[index] += 1;
             made += 1;
         }
@@ -95,7 +144,7 @@ impl<A: Allocator> Slots<A> {
     /// Each list, walked along its links from its head, has once each index whose home it is, and no other; and each
     /// bit is 1 exactly where its list isn't empty.
     pub fn law(&self)
-        ensures lists { (p : ℕ) → p < 385 → IsListOf self.now.next self.now.homes p }
+        ensures lists { (p : ℕ) → p < 384 → IsListOf self.now.next self.now.homes p }
         ensures bits { IsOccupied self.now.words self.now.homes }
     {
         self.rings.law();
@@ -112,14 +161,15 @@ impl<A: Allocator> Slots<A> {
     /// The list of an index, and one more, or 0.
     pub fn home(&self, index: usize) -> u16
         requires { index < length self.now.homes }
-        ensures { result ≡ slice_index self.now.homes index }
+        ensures value { result ≡ slice_index self.now.homes index }
+        ensures small { result ≤ 384 }
     {
         self.rings.home(index)
     }
 
     /// The first index of a list.
     pub fn first(&self, list: usize) -> Option<usize>
-        requires { list < 385 }
+        requires { list < 384 }
         ensures { MatchOption result (IsEmpty self.now.homes list) (λ x. StandsIn self.now.homes list x) }
     {
         match self.rings.first(list) {
@@ -130,7 +180,7 @@ impl<A: Allocator> Slots<A> {
 
     /// An index of a list whose key is least there.
     pub fn least_in(&self, list: usize, keys: &[u64]) -> Option<usize>
-        requires list_in { list < 385 }
+        requires list_in { list < 384 }
         requires same_length { length keys.now ≡ length self.now.homes }
         ensures { MatchOption result
             (IsEmpty self.now.homes list)
@@ -140,12 +190,16 @@ impl<A: Allocator> Slots<A> {
         self.rings.least_in(list, keys)
     }
 
-    /// The occupancy word of a level.
-    pub fn word(&self, level: usize) -> u64
-        requires { level < LEVELS }
-        ensures { (k : ℕ) → k < 64 → (bit_at result k ≡ 1) ↔ IsFilled self.now.homes (64 * level + k) }
+    /// The occupancy word of a level, in which a list shows as empty.
+    pub fn word_without(&self, level: usize, list: usize) -> u64
+        requires level_in { level < LEVELS }
+        requires list_in { list < 384 }
+        ensures { (k : ℕ) → k < 64 →
+            (bit_at result k ≡ 1) ↔ ((64 * level + k ≢ list) × IsFilled self.now.homes (64 * level + k)) }
     {
-        self.words[level]
+        let mut words = self.words;
+        clear_bit(&mut words, list);
+        words[level]
     }
 
     /// The slot of the lowest level that has one, there the first after the own one.
@@ -165,14 +219,12 @@ impl<A: Allocator> Slots<A> {
     /// Puts a loose index at the end of a list.
     pub fn link(&mut self, index: usize, list: usize)
         requires index_in { index < length self.old.homes }
-        requires list_in { list < 385 }
+        requires list_in { list < 384 }
         requires loose { slice_index self.old.homes index ≡ 0 }
         ensures { self.new.homes ≡ slice_set self.old.homes index (list + 1) }
     {
         self.rings.link(index, list);
-        if list < DUE {
-            set_bit(&mut self.words, list);
-        }
+        set_bit(&mut self.words, list);
     }
 
     /// Takes an index out of its list.
@@ -183,24 +235,24 @@ impl<A: Allocator> Slots<A> {
     {
         let list = self.rings.home(index) as usize - 1;
         self.rings.unlink(index);
-        if list < DUE {
-            match self.rings.first(list) {
-                Some(_) => {}
-                None => clear_bit(&mut self.words, list),
-            }
-        }
+        clear_if_empty(&self.rings, &mut self.words, list);
     }
 
-    /// Takes the first index off the due list.
-    pub fn take_due(&mut self) -> Option<usize>
+    /// Takes the first index out of a list.
+    pub fn take_first(&mut self, list: usize) -> Option<usize>
+        requires { list < 384 }
         ensures { MatchOption result
-            (IsEmpty self.old.homes DUE × (self.new ≡ self.old))
-            (λ x. StandsIn self.old.homes DUE x × (self.new.homes ≡ slice_set self.old.homes x 0)) }
+            (IsEmpty self.old.homes list × (self.new ≡ self.old))
+            (λ x. StandsIn self.old.homes list x × (self.new.homes ≡ slice_set self.old.homes x 0)) }
     {
-        self.rings.take_first(DUE)
+        let Some(first) = self.rings.take_first(list) else {
+            return None;
+        };
+        clear_if_empty(&self.rings, &mut self.words, list);
+        Some(first)
     }
 
-    /// Opens a slot: each of its indexes is placed again by the new tick. Gives how many of them went to a slot.
+    /// Opens a slot: each of its indexes is placed again by the new tick. Gives how many of them aren't due yet.
     pub fn open(&mut self, list: usize, tick: u64, filed: &[u64], moves: &mut [u8]) -> u64
         requires list_in { list < 384 }
         requires filed_all { length filed.now ≡ length self.old.homes }

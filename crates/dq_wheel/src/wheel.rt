@@ -10,8 +10,8 @@ ghost use Rattle.dq_wheel.specs.Wakes.{wake_for, IsNextWake};
 ghost use Rattle.dq_wheel.specs.Filed.{filed_by};
 ghost use Rattle.dq_wheel.specs.Lawful.{place_of_home, IsLawfulWheel, IsWithin, WakesAreAhead};
 
-use crate::slots::{DUE, Slots, list_of};
-use dq_ticks::{LAST_TICK, LEVELS, SLOTS, digit, slot_start};
+use crate::slots::{Slots, due_list, list_of, start_of};
+use dq_ticks::{LAST_TICK, LEVELS, SLOTS, digit};
 use std::alloc::{AllocError, Allocator, Global};
 use std::marker::Model;
 use thiserror::Error;
@@ -94,15 +94,16 @@ fn filed_of(word: u64) -> Option<u64>
 }
 
 /// The place that a home stands for.
-fn place_of(home: u16) -> Place
-    requires { home ≤ 385 }
-    ensures { result ≡ place_of_home home }
+fn place_of(tick: u64, home: u16) -> Place
+    requires in_range { tick ≤ LAST_TICK }
+    requires small { home ≤ 384 }
+    ensures { result ≡ place_of_home tick home }
 {
     if home == 0 {
         return Place::Loose;
     }
     let list = home as usize - 1;
-    if list == DUE {
+    if list == due_list(tick) {
         Place::Due
     } else {
         Place::InSlot {
@@ -177,7 +178,7 @@ impl<A: Allocator> Wheel<A> {
         requires { index < length self.now.filing.filed }
         ensures { result ≡ place_for self.now.filing.tick (filed_at self.now.filing.filed index) }
     {
-        place_of(self.slots.home(index))
+        place_of(self.tick, self.slots.home(index))
     }
 
     /// The occupancy word of a level: bit k is 1 exactly where its slot k isn't empty.
@@ -185,7 +186,7 @@ impl<A: Allocator> Wheel<A> {
         requires { level < LEVELS }
         ensures { (k : ℕ) → k < 64 → (bit_at result k ≡ 1) ↔ IsSlotFilled self.now.filing.tick self.now.filing.filed level k }
     {
-        self.slots.word(level)
+        self.slots.word_without(level, due_list(self.tick))
     }
 
     /// How often an index went from a slot to a slot of a lower level since it was linked.
@@ -210,13 +211,13 @@ impl<A: Allocator> Wheel<A> {
             ((i f : ℕ) → filed_at self.now.filing.filed i ≢ Some f)
             (λ w. IsNextWake self.now.filing.tick self.now.filing.filed w) }
     {
-        match self.slots.first(DUE) {
+        match self.slots.first(due_list(self.tick)) {
             Some(_) => Some(self.tick),
             None => match self
                 .slots
                 .first_filled(digit(self.tick, LEVELS - 1) as usize)
             {
-                Some(list) => Some(slot_start(self.tick, list / SLOTS, (list % SLOTS) as u64)),
+                Some(list) => Some(start_of(self.tick, list)),
                 None => None,
             },
         }
@@ -228,7 +229,7 @@ impl<A: Allocator> Wheel<A> {
             ((i f : ℕ) → filed_at self.now.filing.filed i ≢ Some f)
             (λ i. IsLeast self.now.filing.filed i) }
     {
-        if let Some(index) = self.slots.first(DUE) {
+        if let Some(index) = self.slots.first(due_list(self.tick)) {
             return Some(index);
         }
         let Some(list) = self
@@ -272,7 +273,7 @@ impl<A: Allocator> Wheel<A> {
             (λ i. (i < length self.old.filing.filed) × (filed_at self.old.filing.filed i ≡ Some self.old.filing.tick)
             × (self.new.filing ≡ unlinked self.old.filing i)) }
     {
-        let Some(index) = self.slots.take_due() else {
+        let Some(index) = self.slots.take_first(due_list(self.tick)) else {
             return None;
         };
         self.filed[index] = NOT_FILED;
@@ -301,12 +302,16 @@ impl<A: Allocator> Wheel<A> {
             self.tick = limit;
             return false;
         };
-        let start = slot_start(self.tick, list / SLOTS, (list % SLOTS) as u64);
+        let start = start_of(self.tick, list);
         if limit < start {
             self.tick = limit;
             return false;
         }
         self.tick = start;
+        // All that stands in a slot of level 0 is due at its start, where that slot is the due list.
+        if list < SLOTS {
+            return true;
+        }
         let made = self.slots.open(list, start, &self.filed, &mut self.moves);
         self.moved = self.moved.saturating_add(made);
         true

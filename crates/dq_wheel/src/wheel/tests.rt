@@ -156,13 +156,13 @@ fn bad_configs(rt: HostRuntime) {
 
 #[test]
 fn refused_memory(rt: HostRuntime) -> Result<(), Fail> {
-    // Four indexes take 32 bytes for their ticks, 16 for their moves, and for their rows and those of the heads 4672.
+    // Four indexes take 32 bytes for their ticks, 16 for their moves, and for their rows and those of the heads 4656.
     for (size, made) in [
         (0, false),
         (32, false),
         (48, false),
-        (4704, false),
-        (4720, true),
+        (4688, false),
+        (4704, true),
     ] {
         let heap = LocalHeap::new(rt.alloc(), size)?;
         match Wheel::new(&heap, 4) {

@@ -1,5 +1,4 @@
-use Rattle.std.proofs.Common.{ap}
-use Rattle.dq_wheel.proofs.Numbers.{due_where_high, later_where_low}
+use Rattle.std.proofs.Common.{ap, sym}
 use Rattle.dq_wheel.proofs.Occupancy.{bit_cleared}
 use Rattle.dq_wheel.proofs.Opening.{opening_init, stays_away, opening_due, opening_moved, opening_end, opening_falls}
 use Rattle.dq_wheel.proofs.slots.empty_slot.Goals as goal
@@ -11,33 +10,33 @@ pub loop-index-preserved : goal.loop-index-preserved
 loop-index-preserved g c =
     let turn = c.loop-index.invariant in
     let stands = c.in-Some.ensures.0 in
-    let to_is = c.list_of-to.ensures.value in
+    let to_is = c.list_from-to.ensures.value in
     rw (c.link.ensures, c.in-Some.ensures.1)
     (opening_due _ _ _ _ _ _ _ _ _ turn _ _ stands to_is (stays_away _ _ _ _ _ _ _ _ _ turn _ _ stands to_is c.requires.can_go)
-    (due_where_high _ _ _ to_is c.if-to-lt-DUE.false) c.if-to-lt-DUE.false)
+    _ c.set_bit.ensures.set c.set_bit.ensures.others (sym c.if-when-tick.false))
 
-pub loop-index-preserved-then-to-lt-DUE : goal.loop-index-preserved-then-to-lt-DUE
-loop-index-preserved-then-to-lt-DUE g c =
+pub loop-index-preserved-then-when-tick : goal.loop-index-preserved-then-when-tick
+loop-index-preserved-then-when-tick g c =
     let turn = c.loop-index.invariant in
     let stands = c.in-Some.ensures.0 in
-    let to_is = c.list_of-to.ensures.value in
+    let to_is = c.list_from-to.ensures.value in
     rw (c.link.ensures, c.in-Some.ensures.1)
     (opening_moved _ _ _ _ _ _ _ _ _ turn _ _ stands to_is (stays_away _ _ _ _ _ _ _ _ _ turn _ _ stands to_is c.requires.can_go)
-    _ (later_where_low _ _ _ to_is c.if-to-lt-DUE.true) c.set_bit.ensures.set c.set_bit.ensures.others)
+    _ c.set_bit.ensures.set c.set_bit.ensures.others (λ same. c.if-when-tick.true (sym same)))
 
 pub loop-index-smaller : goal.loop-index-smaller
 loop-index-smaller g c =
     let turn = c.loop-index.invariant in
     let stands = c.in-Some.ensures.0 in
-    let to_is = c.list_of-to.ensures.value in
+    let to_is = c.list_from-to.ensures.value in
     rw (c.link.ensures, c.in-Some.ensures.1)
     (opening_falls _ _ _ _ _ _ _ _ _ turn _ _ stands to_is (stays_away _ _ _ _ _ _ _ _ _ turn _ _ stands to_is c.requires.can_go))
 
-pub loop-index-smaller-then-to-lt-DUE : goal.loop-index-smaller-then-to-lt-DUE
-loop-index-smaller-then-to-lt-DUE g c =
+pub loop-index-smaller-then-when-tick : goal.loop-index-smaller-then-when-tick
+loop-index-smaller-then-when-tick g c =
     let turn = c.loop-index.invariant in
     let stands = c.in-Some.ensures.0 in
-    let to_is = c.list_of-to.ensures.value in
+    let to_is = c.list_from-to.ensures.value in
     rw (c.link.ensures, c.in-Some.ensures.1)
     (opening_falls _ _ _ _ _ _ _ _ _ turn _ _ stands to_is (stays_away _ _ _ _ _ _ _ _ _ turn _ _ stands to_is c.requires.can_go))
 
