@@ -12,4 +12,5 @@ pub mod Slotwise
 pub mod Steps
 pub mod Turns
 pub mod Ways
+pub mod WheelSteps
 pub mod WordRow

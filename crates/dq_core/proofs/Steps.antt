@@ -24,6 +24,8 @@ use Rattle.dq_core.specs.Calls.{SameCore, LooksOver, IsFiledOver, IsUnderWay, Is
 use Rattle.dq_wheel.specs.Wakes.{IsNextWake}
 use Rattle.dq_core.proofs.Slotwise.{held_inside}
 use Rattle.dq_core.proofs.Law.{Filed, filed_is, held_filed, law_kept, law_vacated, force_learned, force_live}
+use Rattle.dq_core.specs.WheelWays.{GoesOn}
+use Rattle.dq_core.proofs.WheelSteps.{goes_more, goes_one, goes_none}
 use Rattle.dq_core.proofs.Ways.{run_of_more, run_of_into, run_of_none, run_of_one, callers_on_the_way, learning, machine_is, vacated_of, none_before, none_due, slot_is, core_of}
 
 -- filed anew where it was filed before
@@ -77,14 +79,15 @@ filed_more u a v b w c i up up' x (inr (inl f')) = inr (inl f')
 filed_more u a v b w c i up up' x (inr (inr (t, from, to, mark, f))) = inr (inr (t, omega (arith, from, up), to, mark, f))
 
 -- one way after another
-pub under_way_more : {T W : Type 0} (shared : Bool) (a b c : Core T W) → b.shelf.last_stamp ≡ a.shelf.last_stamp → IsUnderWay shared a b → IsUnderWay shared b c → IsUnderWay shared a c
-under_way_more shared a b c last x y =
+pub under_way_more : {T W : Type 0} (shared : Bool) (a b c : Core T W) → b.shelf.last_stamp ≡ a.shelf.last_stamp → b.noted ≡ a.noted → IsUnderWay shared a b → IsUnderWay shared b c → IsUnderWay shared a c
+under_way_more shared a b c last noted x y =
     let P : ℕ → Type 0 = λ n. RunOf (IsOnTheWay shared) n (machine b) (machine c) in
     let ticks = x.ticks in
     let ticks' = y.ticks in
     record {
       way = run_of_more (IsOnTheWay shared) a.shelf.last_stamp (machine a) (machine b) (machine c) x.way (subst P last y.way);
       looks = looks_more shared a.known b.known c.known x.looks y.looks;
+      wheel = goes_more a.noted b.noted a.wheel.filing b.wheel.filing c.wheel.filing noted x.wheel y.wheel;
       ticks = omega arith;
       filed = λ i. filed_more a.wheel.filing a.known b.wheel.filing b.known c.wheel.filing c.known i ticks ticks' (x.filed i) (y.filed i);
       counts = y.counts ∙ x.counts;
@@ -92,7 +95,7 @@ under_way_more shared a b c last x y =
 
 pub under_way_none : {T W : Type 0} (shared : Bool) (b : Core T W) → IsUnderWay shared b b
 under_way_none shared b =
-    record { way = run_of_none (IsOnTheWay shared) b.shelf.last_stamp (machine b) (machine b) refl; looks = looks_none shared b.known; ticks = omega arith; filed = λ i. inl (refl, refl); counts = refl }
+    record { way = run_of_none (IsOnTheWay shared) b.shelf.last_stamp (machine b) (machine b) refl; looks = looks_none shared b.known; wheel = goes_none b.noted b.wheel.filing; ticks = omega arith; filed = λ i. inl (refl, refl); counts = refl }
 
 -- how the indexes are filed where one index changes
 filed_one : (v w : Filing) (old new : List Parts) (i : ℕ) (o : Option ℕ) (p : Parts) → w.filed ≡ set v.filed i o → new ≡ set old i p → IsFiledOver v old w new i → (j : ℕ) → IsFiledOver v old w new j
@@ -164,6 +167,7 @@ module _ {T W : Type 0} (shared : Bool) (b c : Core T W) (l : IsLawfulCore b) (i
         record {
           way = subst P (sym mc) (run_of_into (IsCallers shared) (IsOnTheWay shared) (callers_on_the_way shared) b.shelf.last_stamp (machine b) (machine_of b.wheel.filing.tick b.noted b.shelf.rows (set b.known i v)) lea.way);
           looks = subst Q (sym ek) (looks_one shared b.known i v inside_known settled.2);
+          wheel = goes_one b.noted b.wheel.filing c.wheel.filing (inr (inl (i, filing_for b.wheel.filing.tick d, due, later.0, filing)));
           ticks = t0;
           filed = filed_one b.wheel.filing c.wheel.filing b.known c.known i (Some (filing_for b.wheel.filing.tick d)) v filed ek (inr (inr (b.wheel.filing.tick, omega arith, t0, vm, at_i)));
           counts = ec;
@@ -218,6 +222,7 @@ module _ {T W : Type 0} (shared : Bool) (b c : Core T W) (l : IsLawfulCore b) (i
         record {
           way = run_of_more (IsOnTheWay shared) b.shelf.last_stamp (machine b) m1 (machine c) (run_of_into (IsCallers shared) (IsOnTheWay shared) (callers_on_the_way shared) b.shelf.last_stamp (machine b) m1 lea.way) reap;
           looks = subst Q (sym ek) (looks_one shared b.known i v inside_known settled.1);
+          wheel = goes_one b.noted b.wheel.filing c.wheel.filing (inl (i, due, ew));
           ticks = t0;
           filed = filed_one b.wheel.filing c.wheel.filing b.known c.known i None v filed ek (inr (inl at_i));
           counts = ec;
@@ -275,6 +280,7 @@ module _ {T W : Type 0} (shared : Bool) (b c : Core T W) (l : IsLawfulCore b) (i
       record {
         run = (machine b, run_of_none (IsOnTheWay shared) b.shelf.last_stamp (machine b) (machine b) refl, out);
         row = row;
+        wheel = goes_one b.noted b.wheel.filing c.wheel.filing (inl (i, due, ew));
         ticks = omega (arith, ticks);
         filed = filed_one b.wheel.filing c.wheel.filing b.known c.known i None v filed ek (inr (inl at_i));
         counts = ec;
@@ -294,8 +300,8 @@ module _ {T W : Type 0} (shared : Bool) (b c : Core T W) (l : IsLawfulCore b) (i
       subst N (sym en) (law_vacated l i b.wheel.filing.tick v here ew es ek vs (λ e. cc) (λ e. omega (arith, vf, tick)) begins (omega (arith, expiries, removals)))
 
 -- with nothing due, the tick passes on
-pub step_advanced : {T W : Type 0} (shared : Bool) (b c : Core T W) → IsLawfulCore b → c.wheel.filing.filed ≡ b.wheel.filing.filed → c.wheel.filing.tick ≤ b.noted → b.wheel.filing.tick < c.wheel.filing.tick → ((i f : ℕ) → filed_at c.wheel.filing.filed i ≡ Some f → c.wheel.filing.tick ≤ f) → c.shelf ≡ b.shelf → c.known ≡ b.known → c.counts ≡ b.counts → c.noted ≡ b.noted → IsUnderWay shared b c × (work c < work b)
-step_advanced {T} {W} shared b c l ef small up before es ek ec en =
+pub step_advanced : {T W : Type 0} (shared : Bool) (b c : Core T W) → IsLawfulCore b → GoesOn b.noted b.wheel.filing c.wheel.filing → c.wheel.filing.filed ≡ b.wheel.filing.filed → c.wheel.filing.tick ≤ b.noted → b.wheel.filing.tick < c.wheel.filing.tick → ((i f : ℕ) → filed_at c.wheel.filing.filed i ≡ Some f → c.wheel.filing.tick ≤ f) → c.shelf ≡ b.shelf → c.known ≡ b.known → c.counts ≡ b.counts → c.noted ≡ b.noted → IsUnderWay shared b c × (work c < work b)
+step_advanced {T} {W} shared b c l goes ef small up before es ek ec en =
     let t = c.wheel.filing.tick in
     let Q : List Parts → Type 0 = λ ws. LooksOver shared b.known ws in
     let late : (i f : ℕ) → filed_at b.wheel.filing.filed i ≡ Some f → t ≤ f = λ i f e. before i f (ap (λ xs. filed_at xs i) ef ∙ e) in
@@ -305,6 +311,7 @@ step_advanced {T} {W} shared b c l ef small up before es ek ec en =
       record {
         way = run_of_one (IsOnTheWay shared) b.shelf.last_stamp (machine b) (machine c) (Pass t) tt (omega (arith, up), small, none, mc);
         looks = subst Q (sym ek) (looks_none shared b.known);
+        wheel = goes_one b.noted b.wheel.filing c.wheel.filing (inr (inr goes));
         ticks = omega (arith, up);
         filed = λ i. inl (ap (λ xs. filed_at xs i) ef, ap (λ ws. word_at ws i) ek);
         counts = ec;
@@ -366,8 +373,8 @@ law_noted {T} {noted} {wheel} {shelf} {known} {counts} l t later small e =
     }
 
 -- a way and then an answer
-answered_more : {T W : Type 0} (shared : Bool) (a b c : Core T W) (x : Expired T) → SameCore a b → IsUnderWay shared a b → IsAnswered shared b (Out x) c → IsAnswered shared a (Out x) c
-answered_more {T} shared a b c x same way ans =
+answered_more : {T W : Type 0} (shared : Bool) (a b c : Core T W) (x : Expired T) → SameCore a b → b.noted ≡ a.noted → IsUnderWay shared a b → IsAnswered shared b (Out x) c → IsAnswered shared a (Out x) c
+answered_more {T} shared a b c x same noted way ans =
     let L : ℕ → Type 0 = λ s. (m : Machine T) × RunOf (IsOnTheWay shared) s (machine b) m × IsOut b.shard s m x (machine c) in
     let S : ℕ → Type 0 = λ s. (m : Machine T) × RunOf (IsOnTheWay shared) a.shelf.last_stamp (machine b) m × IsOut s a.shelf.last_stamp m x (machine c) in
     let run = subst S same.0 (subst L same.1 ans.run) in
@@ -376,6 +383,7 @@ answered_more {T} shared a b c x same way ans =
     record {
       run = (run.0, run_of_more (IsOnTheWay shared) a.shelf.last_stamp (machine a) (machine b) run.0 way.way run.1, run.2);
       row = (ans.row.0, looks_more shared a.known b.known ans.row.0 way.looks ans.row.1, ans.row.2, ans.row.3);
+      wheel = goes_more a.noted b.noted a.wheel.filing b.wheel.filing c.wheel.filing noted way.wheel ans.wheel;
       ticks = omega arith;
       filed = λ i. filed_more a.wheel.filing a.known b.wheel.filing b.known c.wheel.filing c.known i up up' (way.filed i) (ans.filed i);
       counts = ans.counts ∙ ap (λ n. settled_counts n SettledExpired) way.counts;
@@ -385,7 +393,7 @@ answered_more {T} shared a b c x same way ans =
 pub polled_gave : {T W : Type 0} (shared : Bool) (b n cur c : Core T W) (t : ℕ) (x : Expired T) → t ≤ LAST_TICK → n ≡ noting b t → SameCore n cur → cur.noted ≡ n.noted → IsUnderWay shared n cur → IsAnswered shared cur (Out x) c → c.noted ≡ cur.noted → IsPolled shared b t (Out x) c
 polled_gave {T} {W} shared b n cur c t x small en same noted way ans cn =
     let P : Core T W → Type 0 = λ m. IsAnswered shared m (Out x) c in
-    (small, refl, subst P en (answered_more shared n cur c x same way ans), cn ∙ noted ∙ ap (λ m. m.noted) en)
+    (small, refl, subst P en (answered_more shared n cur c x same noted way ans), cn ∙ noted ∙ ap (λ m. m.noted) en)
 
 -- a poll that rests
 pub polled_rests : {T W : Type 0} (shared : Bool) (b n cur : Core T W) (t : ℕ) (turn : Turn T) → t ≤ LAST_TICK → n ≡ noting b t → SameCore n cur → cur.noted ≡ n.noted → IsUnderWay shared n cur → IsTurn cur.shard cur.shelf.last_stamp (machine cur) turn (machine cur) cur.wheel.filing → TurnRow shared n.known turn cur.known → turn_counts n.counts turn ≡ n.counts → IsPolled shared b t turn cur
@@ -398,6 +406,7 @@ polled_rests {T} {W} shared b n cur t turn small en same noted way is row counts
       subst P en (record {
         run = (machine cur, way.way, subst L same.1 (subst S same.0 is));
         row = row;
+        wheel = way.wheel;
         ticks = way.ticks;
         filed = way.filed;
         counts = way.counts ∙ sym counts;
@@ -435,7 +444,7 @@ IsOnWay shared b t cur = (t ≤ LAST_TICK) × SameCore (noting b t) cur × (cur.
 
 pub on_way_more : {T W : Type 0} (shared : Bool) (b cur c : Core T W) (t : ℕ) → IsOnWay shared b t cur → SameCore cur c → c.noted ≡ cur.noted → IsUnderWay shared cur c → IsOnWay shared b t c
 on_way_more shared b cur c t on same noted way =
-    (on.0, (same.0 ∙ on.1.0, same.1 ∙ on.1.1, same.2 ∙ on.1.2), noted ∙ on.2, under_way_more shared (noting b t) cur c on.1.1 on.3 way)
+    (on.0, (same.0 ∙ on.1.0, same.1 ∙ on.1.1, same.2 ∙ on.1.2), noted ∙ on.2, under_way_more shared (noting b t) cur c on.1.1 on.2 on.3 way)
 
 pub polled_out : {T W : Type 0} (shared : Bool) (b cur c : Core T W) (t : ℕ) (x : Expired T) → IsOnWay shared b t cur → IsAnswered shared cur (Out x) c → c.noted ≡ cur.noted → IsPolled shared b t (Out x) c
 polled_out shared b cur c t x on ans noted = polled_gave shared b (noting b t) cur c t x on.0 refl on.1 on.2 on.3 ans noted

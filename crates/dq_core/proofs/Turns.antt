@@ -7,11 +7,11 @@ use Rattle.std.proofs.lemmas.Bool.{lt-leb}
 use Rattle.std.proofs.lemmas.Option.{slice_get-get_or}
 use Rattle.dq_ticks.specs.declared.TheConstants.{LAST_TICK}
 use Rattle.dq_core.specs.declared.plain.Pending.{Pending}
-use Rattle.dq_core.specs.Plain.{plain, IsPlain, NoneSooner, due_by}
+use Rattle.dq_core.specs.Plain.{plain, IsPlain, NoneSooner, due_entries}
 use Rattle.dq_core.specs.Soonest.{IsSoonest}
 
 -- where no deadline is before t, nothing is due before t
-pub none_due : {T : Type 0} (es : List (Pending T)) (n t : ℕ) → NoneSooner es t → n < t → due_by es n ≡ []
+pub none_due : {T : Type 0} (es : List (Pending T)) (n t : ℕ) → NoneSooner es t → n < t → due_entries es n ≡ []
 none_due [] n t none later = refl
 none_due (e ∷ es) n t none later =
     let here : t ≤ e.deadline = All-head (λ x. t ≤ x.deadline) e es none in
@@ -23,7 +23,7 @@ not_empty es i inside none = let n = ap length none in omega arith
 
 -- a poll that finds nothing due
 pub turn_waiting : {T : Type 0} (capacity noted tick m i t : ℕ) (es : List (Pending T)) → m ≡ max noted tick → IsSoonest es i t → m < t
-    → (es ≢ []) × (due_by es (max noted tick) ≡ []) × (plain capacity m m es ≡ plain capacity (max noted tick) (max noted tick) es)
+    → (es ≢ []) × (due_entries es (max noted tick) ≡ []) × (plain capacity m m es ≡ plain capacity (max noted tick) (max noted tick) es)
 turn_waiting capacity noted tick m i t es is s later =
     (not_empty es i s.inside, none_due es (max noted tick) t s.least (rw (← is) later), ap (λ k. plain capacity k k es) is)
 

@@ -23,6 +23,7 @@ use Rattle.dq_core.specs.Words.{Counts, Learned, live, cancelled, expired, remov
 use Rattle.dq_core.specs.Slots.{is_held, is_worn, unused, row_at, filled, vacated, raised}
 use Rattle.dq_core.specs.Machine.{Entry, Machine, Note, Insert, Reset, Remove, Expire, Step, RunOf, Callers, Has, slot_at, IsOnTheWay, NoneLiveBefore, NoneLinked, due}
 use Rattle.dq_core.specs.Core.{Core, machine, filing_for}
+use Rattle.dq_core.specs.WheelWays.{WheelGoes}
 
 -- what stays the same of a queue in each call
 abbrev pub SameCore : {T W : Type 0} → Core T W → Core T W → Type 0
@@ -53,6 +54,7 @@ pub record IsLookedAt {T W : Type 0} (shared : Bool) (b : Core T W) (i : ℕ) (v
 
 -- new
 
+-- a new queue: nothing is noted, no slot was used
 abbrev pub new_core : {T W : Type 0} → ℕ → ℕ → ℕ → WheelState → List Parts → Counts → W → Core T W
 new_core shard capacity last wheel known counts words =
     record { shard = shard; noted = 0; wheel = wheel; shelf = record { last_stamp = last; rows = replicate capacity unused }; known = known; counts = counts; words = words }
@@ -115,6 +117,7 @@ IsMissing {T} b id = id.shard ≡ b.shard → (e : Entry T) → (slot_at (machin
 abbrev pub IsFound : {T W : Type 0} → Core T W → EntryId → ℕ → Type 0
 IsFound {T} b id i = (id.shard ≡ b.shard) × (i ≡ id.index) × (i < length b.shelf.rows) × ((h : Held T) × ((row_at b.shelf.rows i).held ≡ Some h) × (h.born ≡ id.born))
 
+-- a search for an entry: where it is held, none exactly where it is missing
 abbrev pub IsFind : {T W : Type 0} → Core T W → EntryId → Option ℕ → Type 0
 IsFind b id (Some i) = IsFound b id i
 IsFind b id None = IsMissing b id
@@ -162,6 +165,7 @@ FindRefused shared b id Missing c = IsMissing b id × (c ≡ b)
 FindRefused shared b id WasCancelled c = IsFoundCancelled shared b id c
 FindRefused shared b id e c = ⊥
 
+-- a remove, or its refusal
 abbrev pub Removes : {T W : Type 0} → Bool → Core T W → EntryId → Result (Removed T) CoreError → Core T W → Type 0
 Removes shared b id (Ok x) c = IsRemoved shared b id x c
 Removes shared b id (Err e) c = FindRefused shared b id e c
@@ -191,6 +195,7 @@ ResetRefused shared b id when WasCancelled c = (when ≤ LAST_TICK) × IsFoundCa
 ResetRefused shared b id when Worn c = (when ≤ LAST_TICK) × ((d : ℕ) × IsFoundLive shared b id d c) × ((row_at b.shelf.rows id.index).stamp ≡ b.shelf.last_stamp)
 ResetRefused shared b id when e c = ⊥
 
+-- a reset, or its refusal
 abbrev pub Resets : {T W : Type 0} → Bool → Core T W → EntryId → ℕ → Result Key CoreError → Core T W → Type 0
 Resets shared b id when (Ok k) c = IsReset shared b id when k c
 Resets shared b id when (Err e) c = ResetRefused shared b id when e c
@@ -225,6 +230,7 @@ IsTurn shard last m (Out x) n w = IsOut shard last m x n
 IsTurn shard last m (Waiting next) n w = (n ≡ m) × (n.tick ≡ n.noted) × (due n n.noted ≡ []) × IsNextWake w.tick w.filed next
 IsTurn shard last m Idle n w = (n ≡ m) × (n.tick ≡ n.noted) × (due n n.noted ≡ []) × NoneLinked n
 
+-- the counts after a poll: one expiry more where an entry came out
 abbrev pub turn_counts : {T : Type 0} → Counts → Turn T → Counts
 turn_counts c (Out x) = settled_counts c SettledExpired
 turn_counts c (Waiting next) = c
@@ -249,6 +255,7 @@ IsFiledOver v old w new i =
 pub record IsUnderWay {T W : Type 0} (shared : Bool) (b c : Core T W) : Type 0 where
   pub way : RunOf (IsOnTheWay shared) b.shelf.last_stamp (machine b) (machine c)
   pub looks : LooksOver shared b.known c.known
+  pub wheel : WheelGoes b.noted b.wheel.filing c.wheel.filing
   pub ticks : b.wheel.filing.tick ≤ c.wheel.filing.tick
   pub filed : (i : ℕ) → IsFiledOver b.wheel.filing b.known c.wheel.filing c.known i
   pub counts : c.counts ≡ b.counts
@@ -257,15 +264,17 @@ pub record IsUnderWay {T W : Type 0} (shared : Bool) (b c : Core T W) : Type 0 w
 pub record IsAnswered {T W : Type 0} (shared : Bool) (b : Core T W) (turn : Turn T) (c : Core T W) : Type 0 where
   pub run : (m : Machine T) × RunOf (IsOnTheWay shared) b.shelf.last_stamp (machine b) m × IsTurn b.shard b.shelf.last_stamp m turn (machine c) c.wheel.filing
   pub row : TurnRow shared b.known turn c.known
+  pub wheel : WheelGoes b.noted b.wheel.filing c.wheel.filing
   pub ticks : b.wheel.filing.tick ≤ c.wheel.filing.tick
   pub filed : (i : ℕ) → IsFiledOver b.wheel.filing b.known c.wheel.filing c.known i
   pub counts : c.counts ≡ turn_counts b.counts turn
 
--- how much work is left to a poll
+-- how much work a poll may have with an index that is filed so
 abbrev pub cost : Option ℕ → ℕ
 cost None = 0
 cost (Some f) = LAST_TICK + 1 - f
 
+-- how much work is left to a poll: that with all indexes, and the ticks up to the noted one
 abbrev pub work : {T W : Type 0} → Core T W → ℕ
 work c = sum_by cost c.wheel.filing.filed + (c.noted - c.wheel.filing.tick)
 
@@ -284,6 +293,7 @@ abbrev pub IsPolled : {T W : Type 0} → Bool → Core T W → ℕ → Turn T �
 IsPolled shared b tick turn c =
     (tick ≤ LAST_TICK) × Step b.shelf.last_stamp (machine b) (Note tick) (machine (noting b tick)) × IsAnswered shared (noting b tick) turn c × (c.noted ≡ max b.noted tick)
 
+-- a poll, or its refusal: exactly beyond the last tick, and then nothing changes
 abbrev pub Polls : {T W : Type 0} → Bool → Core T W → ℕ → Result (Turn T) CoreError → Core T W → Type 0
 Polls shared b tick (Ok turn) c = IsPolled shared b tick turn c
 Polls shared b tick (Err e) c = (e ≡ TickTooLarge LAST_TICK) × (LAST_TICK < tick) × (c ≡ b)

@@ -1,3 +1,4 @@
+-- A slot as it lies in memory.
 use Rattle.std.specs.Prelude.{ℕ, Option, Some, None}
 use Rattle.dq_core.specs.declared.slots.Held.{Held}
 

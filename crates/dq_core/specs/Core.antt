@@ -30,13 +30,16 @@ due_by CancelledMark d = None
 due_by ExpiredMark d = None
 due_by RemovedMark d = None
 
+-- what is held at a slot, as an entry: its deadline in force is that of the word
 abbrev pub entry_of : {T : Type 0} → Option (Held T) → Parts → Option (Entry T)
 entry_of None w = None
 entry_of (Some h) w = Some (record { born = h.born; value = h.value; due = due_by w.mark w.field })
 
+-- a slot, with its word, as one of the machine
 abbrev pub slot_of : {T : Type 0} → Row T → Parts → Slot T
 slot_of r w = record { stamp = r.stamp; entry = entry_of r.held w }
 
+-- all slots, each with its word
 abbrev pub slots_of : {T : Type 0} → List (Row T) → List Parts → List (Slot T)
 slots_of [] ws = []
 slots_of (r ∷ rs) [] = []
@@ -46,6 +49,7 @@ slots_of (r ∷ rs) (w ∷ ws) = slot_of r w ∷ slots_of rs ws
 abbrev pub machine_of : {T : Type 0} → ℕ → ℕ → List (Row T) → List Parts → Machine T
 machine_of tick noted rows known = record { tick = tick; noted = noted; slots = slots_of rows known }
 
+-- the machine that a queue is
 abbrev pub machine : {T W : Type 0} → Core T W → Machine T
 machine c = machine_of c.wheel.filing.tick c.noted c.shelf.rows c.known
 
@@ -71,6 +75,7 @@ pub record IsSlot {T : Type 0} (tick noted last : ℕ) (r : Row T) (w : Parts) (
   pub bound : r.stamp ≤ last
   pub placed : IsPlaced tick noted r.stamp r.held w f
 
+-- all slots, each with its word and where its index is filed
 abbrev pub AreSlots : {T : Type 0} → ℕ → ℕ → ℕ → List (Row T) → List Parts → List (Option ℕ) → Type 0
 AreSlots tick noted last rows known filed = (i : ℕ) → i < length rows → IsSlot tick noted last (row_at rows i) (word_at known i) (filed_at filed i)
 
@@ -88,5 +93,6 @@ pub record IsLawful {T : Type 0} (noted : ℕ) (wheel : Filing) (shelf : Shelf T
   -- each that was begun is linked, or ended as expired, as removed or as cancelled
   pub balance : counts.expiries + counts.removals + count_by is_held shelf.rows ≤ counts.begins
 
+-- the shard law of a queue
 abbrev pub IsLawfulCore : {T W : Type 0} → Core T W → Type 0
 IsLawfulCore c = IsLawful c.noted c.wheel.filing c.shelf c.known c.counts

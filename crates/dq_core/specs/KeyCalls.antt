@@ -38,6 +38,7 @@ abbrev pub ExtendingRefused : {T W : Type 0} → Core T W → Key → ℕ → Ca
 ExtendingRefused b k when (TooFar limit) = (limit ≡ LAST_TICK) × (LAST_TICK < when)
 ExtendingRefused b k when e = (when ≤ LAST_TICK) × KeyRefused b k e
 
+-- an extend, or its refusal, which changes nothing
 abbrev pub Extends : {T W : Type 0} → Core T W → Key → ℕ → Result ℕ CallError → Core T W → Type 0
 Extends b k when (Ok d) c = IsExtended b k when d c
 Extends b k when (Err e) c = ExtendingRefused b k when e × (c ≡ b)
@@ -51,6 +52,7 @@ pub record IsGivenUp {T W : Type 0} (b : Core T W) (k : Key) (d : ℕ) (c : Core
   pub step : Step b.shelf.last_stamp (machine b) (Cancel k.entry.index k.stamp) (machine c)
   pub rest : KeepsRest b c
 
+-- a cancel, or its refusal, which changes nothing
 abbrev pub Cancels : {T W : Type 0} → Core T W → Key → Result ℕ CallError → Core T W → Type 0
 Cancels b k (Ok d) c = IsGivenUp b k d c
 Cancels b k (Err e) c = KeyRefused b k e × (c ≡ b)

@@ -9,5 +9,6 @@ pub mod Shelved
 pub mod Slots
 pub mod Soonest
 pub mod Sweeps
+pub mod WheelWays
 pub mod WordRows
 pub mod Words

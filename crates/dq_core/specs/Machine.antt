@@ -19,6 +19,7 @@ pub record Machine (T : Type 0) : Type 0 where
   pub noted : ℕ
   pub slots : List (Slot T)
 
+-- what may come to a queue; Step says when, and what is left then
 pub data Event (T : Type 0) : Type 0 where
   Note : (tick : ℕ) → Event T
   Pass : (tick : ℕ) → Event T
@@ -30,6 +31,7 @@ pub data Event (T : Type 0) : Type 0 where
   Reap : (slot born : ℕ) → Event T
   Expire : (slot born at : ℕ) → Event T
 
+-- the slot at an index; past the table's end, one that was never used
 abbrev pub slot_at : {T : Type 0} → Machine T → ℕ → Slot T
 slot_at m i = slice_index_or m.slots i (record { stamp = 0; entry = None })
 
@@ -49,10 +51,12 @@ NoneLiveBefore {T} m t = (i : ℕ) (e : Entry T) (d : ℕ) → (slot_at m i).ent
 abbrev pub NoneLinked : {T : Type 0} → Machine T → Type 0
 NoneLinked m = (i : ℕ) → (slot_at m i).entry ≡ None
 
+-- a deadline in force is at most t; a cancelled entry has none
 abbrev pub is_due_by : ℕ → Option ℕ → Bool
 is_due_by t None = false
 is_due_by t (Some d) = nat_le d t
 
+-- an entry is linked, is live, and is due at t
 abbrev pub is_due_entry : {T : Type 0} → ℕ → Option (Entry T) → Bool
 is_due_entry t None = false
 is_due_entry t (Some e) = is_due_by t e.due
@@ -61,6 +65,7 @@ is_due_entry t (Some e) = is_due_by t e.due
 abbrev pub due : {T : Type 0} → Machine T → ℕ → List (Slot T)
 due m t = filter (λ s. is_due_entry t s.entry) m.slots
 
+-- the entry with another deadline in force, or cancelled
 abbrev pub with_due : {T : Type 0} → Entry T → Option ℕ → Option (Entry T)
 with_due e d = Some (record { born = e.born; value = e.value; due = d })
 

@@ -16,6 +16,7 @@ pub record Plain (T : Type 0) : Type 0 where
   pub noted : ℕ
   pub entries : List (Pending T)
 
+-- a plain queue of its parts
 abbrev pub plain : {T : Type 0} → ℕ → ℕ → ℕ → List (Pending T) → Plain T
 plain capacity tick noted entries = record { capacity = capacity; tick = tick; noted = noted; entries = entries }
 
@@ -24,8 +25,8 @@ abbrev pub NoneSooner : {T : Type 0} → List (Pending T) → ℕ → Type 0
 NoneSooner es t = All (λ e. t ≤ e.deadline) es
 
 -- the entries whose deadline is at most t
-abbrev pub due_by : {T : Type 0} → List (Pending T) → ℕ → List (Pending T)
-due_by es t = filter (λ e. nat_le e.deadline t) es
+abbrev pub due_entries : {T : Type 0} → List (Pending T) → ℕ → List (Pending T)
+due_entries es t = filter (λ e. nat_le e.deadline t) es
 
 -- a plain queue in good order: no deadline is before its tick, none beyond the last tick
 pub record IsPlain {T : Type 0} (q : Plain T) : Type 0 where
@@ -66,7 +67,7 @@ abbrev pub PlainTurns : {T : Type 0} → Plain T → ℕ → PlainTurn T → Pla
 PlainTurns b n (PlainOut deadline value) c =
     (i : ℕ) × (slice_get b.entries i ≡ Some (record { deadline = deadline; value = value })) × NoneSooner b.entries deadline × (deadline ≤ n)
     × (c ≡ plain b.capacity deadline n (remove b.entries i))
-PlainTurns b n PlainWaiting c = (b.entries ≢ []) × (due_by b.entries n ≡ []) × (c ≡ plain b.capacity n n b.entries)
+PlainTurns b n PlainWaiting c = (b.entries ≢ []) × (due_entries b.entries n ≡ []) × (c ≡ plain b.capacity n n b.entries)
 PlainTurns b n PlainIdle c = (b.entries ≡ []) × (c ≡ plain b.capacity n n b.entries)
 
 -- a poll notes its tick, and then turns; a tick beyond the last one is refused, and nothing changes

@@ -1,3 +1,4 @@
+-- How the slots go with the stack of free indexes and the count of held ones.
 use Rattle.std.specs.Prelude.{◌≡◌, ℕ, ◌≤◌, ◌==◌, Bool, List, length, nat_lt, ◌&&◌, cond}
 use Rattle.std.specs.List.{count_by}
 use Rattle.dq_core.specs.Slots.{Row, row_at, is_free, is_held, IsShelf}

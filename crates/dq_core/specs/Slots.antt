@@ -1,3 +1,4 @@
+-- The fixed row of slots, and what a call makes of it.
 use Rattle.std.specs.Prelude.{◌≡◌, ℕ, ◌+◌, ◌<◌, ◌≤◌, Bool, true, List, Option, Some, None, Result, Ok, Err, slice_index_or, slice_set, length, nat_lt, ◌&&◌, not, is_some, is_none}
 use Rattle.std.specs.List.{count_by, All}
 use Rattle.dq_core.specs.declared.slots.Held.{Held}
@@ -21,6 +22,7 @@ unused = record { stamp = 0; held = None }
 abbrev pub row_at : {T : Type 0} → List (Row T) → ℕ → Row T
 row_at rows i = slice_index_or rows i unused
 
+-- something is held there
 abbrev pub is_held : {T : Type 0} → Row T → Bool
 is_held r = is_some r.held
 
@@ -49,12 +51,15 @@ vacated_row r = record { stamp = r.stamp; held = None }
 abbrev pub raised_row : {T : Type 0} → Row T → Row T
 raised_row r = record { stamp = r.stamp + 1; held = r.held }
 
+-- the slots with a value put in at slot i
 abbrev pub filled : {T : Type 0} → Shelf T → ℕ → T → Shelf T
 filled s i v = record { last_stamp = s.last_stamp; rows = slice_set s.rows i (filled_row (row_at s.rows i) v) }
 
+-- the slots with slot i vacated
 abbrev pub vacated : {T : Type 0} → Shelf T → ℕ → Shelf T
 vacated s i = record { last_stamp = s.last_stamp; rows = slice_set s.rows i (vacated_row (row_at s.rows i)) }
 
+-- the slots with slot i under its next stamp
 abbrev pub raised : {T : Type 0} → Shelf T → ℕ → Shelf T
 raised s i = record { last_stamp = s.last_stamp; rows = slice_set s.rows i (raised_row (row_at s.rows i)) }
 

@@ -37,6 +37,7 @@ abbrev pub IsMadeRow : ℕ → Result WordRow CoreError → Type 0
 IsMadeRow capacity (Ok w) = IsCapacity capacity × (w ≡ new_row capacity)
 IsMadeRow capacity (Err e) = RowRefused capacity e
 
+-- the mark of a word that is live
 abbrev pub is_live : Mark → Bool
 is_live LiveMark = true
 is_live CancelledMark = false

@@ -15,15 +15,19 @@ pub record Counts : Type 0 where
   pub expiries : ℕ
   pub removals : ℕ
 
+-- the live word of stamp s, with the deadline in force d
 abbrev pub live : ℕ → ℕ → Parts
 live s d = record { stamp = s; mark = LiveMark; field = d }
 
+-- the cancelled word of stamp s
 abbrev pub cancelled : ℕ → Parts
 cancelled s = record { stamp = s; mark = CancelledMark; field = 0 }
 
+-- the word of stamp s that expired at d
 abbrev pub expired : ℕ → ℕ → Parts
 expired s d = record { stamp = s; mark = ExpiredMark; field = d }
 
+-- the word of stamp s that was removed while d was in force
 abbrev pub removed : ℕ → ℕ → Parts
 removed s d = record { stamp = s; mark = RemovedMark; field = d }
 
@@ -60,14 +64,17 @@ abbrev pub IsChanged : Bool → ℕ → (ℕ → Parts) → Parts → Option ℕ
 IsChanged shared s into w (Some d) v = Learned shared w (live s d) × (v ≡ into d)
 IsChanged shared s into w None v = Learned shared w (cancelled s) × (v ≡ cancelled s)
 
+-- the counts with one begin more
 abbrev pub begun_counts : Counts → Counts
 begun_counts c = record { begins = c.begins + 1; expiries = c.expiries; removals = c.removals }
 
+-- the counts with one expiry more, where a word expired
 abbrev pub settled_counts : Counts → Settled → Counts
 settled_counts c SettledExpired = record { begins = c.begins; expiries = c.expiries + 1; removals = c.removals }
 settled_counts c (Later d) = c
 settled_counts c SettledCancelled = c
 
+-- the counts with one removal more, where a word was removed
 abbrev pub finished_counts : Counts → Option ℕ → Counts
 finished_counts c (Some d) = record { begins = c.begins; expiries = c.expiries; removals = c.removals + 1 }
 finished_counts c None = c

@@ -1,15 +1,18 @@
-use Rattle.std.proofs.Common.{ap, ◌∙◌, refl, arith}
+use Rattle.std.proofs.Common.{◌≡◌, ◌<◌, ap, ◌∙◌, refl, arith}
 use Rattle.dq_core.specs.Words.{settled_counts}
 use Rattle.dq_core.specs.declared.words.Settled.TheVariants.{SettledExpired}
 use Rattle.dq_core.proofs.Ways.{core_of}
+use Rattle.dq_core.proofs.WheelSteps.{goes_on}
 use Rattle.dq_core.proofs.Steps.{step_advanced, advanced_on, rests_at, step_expired, expired_lawful, step_later, step_cancelled, cancelled_lawful, refiled, key_at}
 use Rattle.dq_core.proofs.queue.DelayCore.step.Goals as goal
 
 pub returns-then-tick-self-clause-progress : goal.returns-then-tick-self-clause-progress
 returns-then-tick-self-clause-progress g c =
     let same = c.in_default.ensures.0 in
+    let tick = c.tick-tick.ensures.value in
+    let goes = goes_on _ _ c.self.inside.wheel.filing _ _ (ap (λ w. w.filing) same) (omega (arith, tick, c.if-tick-self.true)) c.in_default.ensures.1 c.advance.ensures.way in
     rw (← c.self.view_is)
-    (step_advanced g.W.Words.shared _ _ c.self.invariant.0 (c.advance.ensures.filed ∙ ap (λ w. w.filing.filed) same) c.advance.ensures.within (advanced_on _ _ c.pop_due.new.self.filing.tick _ c.tick-tick.ensures.value (ap (λ w. w.filing.tick) same) c.if-tick-self.true c.advance.ensures.onward) c.advance.ensures.none_before refl refl refl refl)
+    (step_advanced g.W.Words.shared _ _ c.self.invariant.0 goes (c.advance.ensures.filed ∙ ap (λ w. w.filing.filed) same) c.advance.ensures.within (advanced_on _ _ c.pop_due.new.self.filing.tick _ c.tick-tick.ensures.value (ap (λ w. w.filing.tick) same) c.if-tick-self.true c.advance.ensures.onward) c.advance.ensures.none_before refl refl refl refl)
 
 pub returns-in_default-clause-progress : goal.returns-in_default-clause-progress
 returns-in_default-clause-progress g c =
