@@ -1,17 +1,11 @@
-//! The worked rows of the queue and of its parts, as tests. They stand in a crate of their own, since a crate is proved once
-//! more with its tests.
+//! The worked rows of the queue over plain words and over shared ones, and of shared words alone, as tests. They stand in a
+//! crate of their own, since a crate is proved once more with its tests.
 #![tactic(auto)]
 
-#[cfg(test)]
-mod limits;
-#[cfg(test)]
-mod model;
 #[cfg(test)]
 mod placed_rows;
 #[cfg(test)]
 mod plain_placed_rows;
-#[cfg(test)]
-mod plain_queue;
 #[cfg(test)]
 mod plain_rows;
 #[cfg(test)]
@@ -21,12 +15,8 @@ mod race;
 #[cfg(test)]
 mod rows;
 #[cfg(test)]
-mod same_calls;
-#[cfg(test)]
-mod shared;
-#[cfg(test)]
 mod shared_rows;
 #[cfg(test)]
-mod slots;
-#[cfg(test)]
 mod words;
+#[cfg(test)]
+mod worked;

@@ -1,141 +1,270 @@
-//! A queue and those who call it by key, as one thing: so each row is written once, for plain words and for shared ones.
+//! A queue and those who call it by key, as one thing that is told with each call what the call has to answer: so each row is
+//! written once, for plain words and for shared ones, and is short to prove.
 
-use dq_core::{CallError, CoreConfig, CoreError, DelayCore, Look, Removed, Tally, Turn, VecWords};
+use dq_core::{
+    CallError, CoreConfig, CoreError, DelayCore, Desk, Look, Tally, Turn, VecWords, Words,
+};
 use dq_ticks::{EntryId, Key};
 use dq_wheel::Place;
+use dq_words::{Caller, Keeper};
 use std::alloc::Global;
+use std::process::Abort;
+use std::test::Fail;
 
-/// A queue of letters, with its owner's calls and the calls by key.
-pub trait Queue {
-    fn insert(&mut self, value: char, when: u64) -> Result<Key, CoreError>;
+/// Who makes the calls by key.
+pub trait Calls<W: Words> {
+    fn extend_by(
+        &mut self,
+        core: &mut DelayCore<char, W>,
+        key: &Key,
+        when: u64,
+    ) -> Result<u64, CallError>;
 
-    fn reset(&mut self, entry: &EntryId, when: u64) -> Result<Key, CoreError>;
+    fn cancel_by(&mut self, core: &mut DelayCore<char, W>, key: &Key) -> Result<u64, CallError>;
 
-    fn remove(&mut self, entry: &EntryId) -> Result<Removed<char>, CoreError>;
-
-    fn deadline(&mut self, entry: &EntryId) -> Result<u64, CoreError>;
-
-    fn poll(&mut self, tick: u64) -> Result<Turn<char>, CoreError>;
-
-    fn sweep(&mut self) -> usize;
-
-    fn clear(&mut self) -> usize;
-
-    fn peek(&self) -> Option<Key>;
-
-    fn place(&self, entry: &EntryId) -> Option<Place>;
-
-    fn filed(&self, entry: &EntryId) -> Option<u64>;
-
-    fn next_wake(&self) -> Option<u64>;
-
-    fn tick(&self) -> u64;
-
-    fn len(&self) -> usize;
-
-    fn worn(&self) -> usize;
-
-    fn tally(&self) -> Tally;
-
-    fn extend(&mut self, key: &Key, when: u64) -> Result<u64, CallError>;
-
-    fn cancel(&mut self, key: &Key) -> Result<u64, CallError>;
-
-    fn look(&mut self, key: &Key) -> Result<Look, CallError>;
+    fn look_by(&mut self, core: &mut DelayCore<char, W>, key: &Key) -> Result<Look, CallError>;
 }
 
-/// A queue over plain words.
+/// Over plain words the queue's owner makes them.
 #[derive(Drop)]
-pub struct Plain {
-    core: DelayCore<char, VecWords>,
-}
+pub struct Owner;
 
-impl Plain {
-    /// A fresh queue.
-    pub fn new(alloc: Global, capacity: usize, last_stamp: u32) -> Result<Plain, CoreError> {
-        let words = VecWords::new(alloc, capacity)?;
-        let config = CoreConfig {
-            shard: 0,
-            capacity,
-            last_stamp,
-        };
-        match DelayCore::new(alloc, config, words) {
-            Ok(core) => Ok(Plain { core }),
-            Err((error, _)) => Err(error),
-        }
+impl Calls<VecWords> for Owner {
+    fn extend_by(
+        &mut self,
+        core: &mut DelayCore<char, VecWords>,
+        key: &Key,
+        when: u64,
+    ) -> Result<u64, CallError> {
+        core.extend(key, when)
+    }
+
+    fn cancel_by(
+        &mut self,
+        core: &mut DelayCore<char, VecWords>,
+        key: &Key,
+    ) -> Result<u64, CallError> {
+        core.cancel(key)
+    }
+
+    fn look_by(
+        &mut self,
+        core: &mut DelayCore<char, VecWords>,
+        key: &Key,
+    ) -> Result<Look, CallError> {
+        core.look(key)
     }
 }
 
-impl Queue for Plain {
-    fn insert(&mut self, value: char, when: u64) -> Result<Key, CoreError> {
+/// Over shared words a caller does.
+impl Calls<Keeper> for Caller {
+    fn extend_by(
+        &mut self,
+        _core: &mut DelayCore<char, Keeper>,
+        key: &Key,
+        when: u64,
+    ) -> Result<u64, CallError> {
+        self.extend(key, when)
+    }
+
+    fn cancel_by(
+        &mut self,
+        _core: &mut DelayCore<char, Keeper>,
+        key: &Key,
+    ) -> Result<u64, CallError> {
+        self.cancel(key)
+    }
+
+    fn look_by(
+        &mut self,
+        _core: &mut DelayCore<char, Keeper>,
+        key: &Key,
+    ) -> Result<Look, CallError> {
+        self.look(key)
+    }
+}
+
+/// What a poll answered.
+#[derive(Clone, Copy, Debug, PartialEq, Eq)]
+pub enum Seen {
+    Out {
+        value: char,
+        deadline: u64,
+        noted: u64,
+    },
+    Waits(u64),
+    Empty,
+}
+
+/// A queue of letters of shard 0, and the one who calls it by key.
+#[derive(Drop)]
+pub struct Queue<W: Words, C> {
+    pub core: DelayCore<char, W>,
+    pub calls: C,
+}
+
+/// A fresh queue over plain words.
+pub fn plain(
+    alloc: Global,
+    capacity: usize,
+    last_stamp: u32,
+) -> Result<Queue<VecWords, Owner>, Fail> {
+    let words = VecWords::new(alloc, capacity)?;
+    let config = CoreConfig {
+        shard: 0,
+        capacity,
+        last_stamp,
+    };
+    match DelayCore::new(alloc, config, words) {
+        Ok(core) => Ok(Queue { core, calls: Owner }),
+        Err((error, _)) => Err(error.into()),
+    }
+}
+
+/// A fresh queue over shared words, whose caller is issued through the core.
+pub fn shared(
+    alloc: Global,
+    capacity: usize,
+    last_stamp: u32,
+) -> Result<Queue<Keeper, Caller>, Fail> {
+    let words = Keeper::new(alloc, capacity)?;
+    let config = CoreConfig {
+        shard: 0,
+        capacity,
+        last_stamp,
+    };
+    let mut core = match DelayCore::new(alloc, config, words) {
+        Ok(core) => core,
+        Err((error, _)) => return Err(error.into()),
+    };
+    let calls = core.issue()?;
+    Ok(Queue { core, calls })
+}
+
+impl<W: Words, C: Calls<W>> Queue<W, C> {
+    /// An insert that is accepted.
+    pub fn insert(&mut self, value: char, when: u64) -> Result<Key, CoreError> {
         self.core.insert(value, when).map_err(|refused| refused.0)
     }
 
-    fn reset(&mut self, entry: &EntryId, when: u64) -> Result<Key, CoreError> {
-        self.core.reset(entry, when)
+    pub fn refuses_insert(&mut self, rt: &impl Abort, when: u64, error: CoreError) {
+        assert_eq!(rt; self.core.insert('z', when), Err((error, 'z')));
     }
 
-    fn remove(&mut self, entry: &EntryId) -> Result<Removed<char>, CoreError> {
-        self.core.remove(entry)
+    pub fn resets(
+        &mut self,
+        rt: &impl Abort,
+        entry: &EntryId,
+        when: u64,
+        answer: Result<Key, CoreError>,
+    ) {
+        assert_eq!(rt; self.core.reset(entry, when), answer);
     }
 
-    fn deadline(&mut self, entry: &EntryId) -> Result<u64, CoreError> {
-        self.core.deadline(entry)
+    pub fn refuses_remove(&mut self, rt: &impl Abort, entry: &EntryId, error: CoreError) {
+        match self.core.remove(entry) {
+            Ok(_removed) => assert!(rt; false, "it was removed"),
+            Err(refusal) => assert_eq!(rt; refusal, error),
+        }
     }
 
-    fn poll(&mut self, tick: u64) -> Result<Turn<char>, CoreError> {
-        self.core.poll(tick)
+    pub fn deadline_is(
+        &mut self,
+        rt: &impl Abort,
+        entry: &EntryId,
+        answer: Result<u64, CoreError>,
+    ) {
+        assert_eq!(rt; self.core.deadline(entry), answer);
     }
 
-    fn sweep(&mut self) -> usize {
-        self.core.sweep()
+    pub fn poll(&mut self, tick: u64) -> Result<Seen, CoreError> {
+        Ok(match self.core.poll(tick)? {
+            Turn::Out(out) => Seen::Out {
+                value: out.value,
+                deadline: out.deadline,
+                noted: out.noted,
+            },
+            Turn::Waiting { next } => Seen::Waits(next),
+            Turn::Idle => Seen::Empty,
+        })
     }
 
-    fn clear(&mut self) -> usize {
-        self.core.clear()
+    pub fn polls(&mut self, rt: &impl Abort, tick: u64, seen: Seen) {
+        assert_eq!(rt; self.poll(tick), Ok(seen));
     }
 
-    fn peek(&self) -> Option<Key> {
-        self.core.peek()
+    pub fn refuses_poll(&mut self, rt: &impl Abort, tick: u64, error: CoreError) {
+        assert_eq!(rt; self.poll(tick), Err(error));
     }
 
-    fn place(&self, entry: &EntryId) -> Option<Place> {
-        self.core.place(entry)
+    /// A poll at which an entry comes out at its deadline, which is the tick: the stamp of its key, and its value.
+    pub fn gives(&mut self, rt: &impl Abort, tick: u64, stamp: u32, value: char) {
+        match self.core.poll(tick) {
+            Ok(Turn::Out(out)) => assert_eq!(rt;
+                (out.key.stamp(), out.deadline, out.value),
+                (stamp, tick, value)
+            ),
+            _ => assert!(rt; false, "nothing came out at {tick}"),
+        }
     }
 
-    fn filed(&self, entry: &EntryId) -> Option<u64> {
-        self.core.filed(entry)
+    pub fn sweeps(&mut self, rt: &impl Abort, count: usize) {
+        assert_eq!(rt; self.core.sweep(), count);
     }
 
-    fn next_wake(&self) -> Option<u64> {
-        self.core.next_wake()
+    pub fn clears(&mut self, rt: &impl Abort, count: usize) {
+        assert_eq!(rt; self.core.clear(), count);
     }
 
-    fn tick(&self) -> u64 {
-        self.core.tick()
+    pub fn peeks(&self, rt: &impl Abort, key: Key) {
+        assert_eq!(rt; self.core.peek(), Some(key));
     }
 
-    fn len(&self) -> usize {
-        self.core.len()
+    /// The place of an entry.
+    pub fn stands(&self, rt: &impl Abort, entry: &EntryId, level: usize, slot: usize) {
+        assert_eq!(rt; self.core.place(entry), Some(Place::InSlot { level, slot }));
     }
 
-    fn worn(&self) -> usize {
-        self.core.worn()
+    pub fn filed_at(&self, rt: &impl Abort, entry: &EntryId, tick: u64) {
+        assert_eq!(rt; self.core.filed(entry), Some(tick));
     }
 
-    fn tally(&self) -> Tally {
-        self.core.tally()
+    pub fn wakes_at(&self, rt: &impl Abort, tick: u64) {
+        assert_eq!(rt; self.core.next_wake(), Some(tick));
     }
 
-    fn extend(&mut self, key: &Key, when: u64) -> Result<u64, CallError> {
-        self.core.extend(key, when)
+    pub fn tick_is(&self, rt: &impl Abort, tick: u64) {
+        assert_eq!(rt; self.core.tick(), tick);
     }
 
-    fn cancel(&mut self, key: &Key) -> Result<u64, CallError> {
-        self.core.cancel(key)
+    /// How many entries are linked, and how many slots are worn.
+    pub fn counts(&self, rt: &impl Abort, linked: usize, worn: usize) {
+        assert_eq!(rt; (self.core.len(), self.core.worn()), (linked, worn));
     }
 
-    fn look(&mut self, key: &Key) -> Result<Look, CallError> {
-        self.core.look(key)
+    pub fn tallies(&self, rt: &impl Abort, tally: Tally) {
+        assert_eq!(rt; self.core.tally(), tally);
+    }
+
+    pub fn moved(&self, rt: &impl Abort, moves: u64) {
+        assert_eq!(rt; self.core.tally().moves, moves);
+    }
+
+    pub fn extends(
+        &mut self,
+        rt: &impl Abort,
+        key: &Key,
+        when: u64,
+        answer: Result<u64, CallError>,
+    ) {
+        assert_eq!(rt; self.calls.extend_by(&mut self.core, key, when), answer);
+    }
+
+    pub fn cancels(&mut self, rt: &impl Abort, key: &Key, answer: Result<u64, CallError>) {
+        assert_eq!(rt; self.calls.cancel_by(&mut self.core, key), answer);
+    }
+
+    pub fn looks(&mut self, rt: &impl Abort, key: &Key, answer: Result<Look, CallError>) {
+        assert_eq!(rt; self.calls.look_by(&mut self.core, key), answer);
     }
 }

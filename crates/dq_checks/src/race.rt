@@ -1,7 +1,9 @@
 // A caller that extends, a caller that cancels and the keeper's own queue, each in a thread of its own.
-use dq_core::{CoreConfig, DelayCore, Turn};
+use dq_core::{CoreConfig, CoreError, DelayCore, Turn};
 use dq_ticks::{Key, LAST_STAMP};
 use dq_words::{Caller, Keeper};
+use std::alloc::Global;
+use std::process::Abort;
 use std::test::Fail;
 use std::thread::join;
 
@@ -9,6 +11,8 @@ const ENTRIES: usize = 200;
 
 // By the deadline that an entry was inserted with: the deadline of an answer, 0 where there is none.
 type Answers = [u64; ENTRIES + 1];
+
+type Core = DelayCore<usize, Keeper>;
 
 // Extends each entry of an even deadline by 1000.
 fn extend_even(caller: &mut Caller, keys: &[Key]) -> Answers {
@@ -33,7 +37,7 @@ fn cancel_fifths(caller: &mut Caller, keys: &[Key]) -> Answers {
 }
 
 // Polls at 2000 until nothing is linked. An entry's value is the deadline that it was inserted with.
-fn poll_all(core: &mut DelayCore<usize, Keeper>) -> Option<Answers> {
+fn poll_all(core: &mut Core) -> Option<Answers> {
     let mut answers = [0; ENTRIES + 1];
     for _ in 0..100_000_000u64 {
         match core.poll(2000).ok()? {
@@ -47,21 +51,72 @@ fn poll_all(core: &mut DelayCore<usize, Keeper>) -> Option<Answers> {
     None
 }
 
-#[test]
-fn extends_and_cancels_race_with_polls(rt: HostRuntime) -> Result<(), Fail> {
-    let mut keeper = Keeper::new(rt.alloc(), 256)?;
-    let mut extender = keeper.issue()?;
-    let mut canceller = keeper.issue()?;
+// An empty queue. Its capacity is a parameter, or the proof counts the slots one by one.
+fn queue(alloc: Global, capacity: usize) -> Result<Core, Fail> {
+    let keeper = Keeper::new(alloc, capacity)?;
     let config = CoreConfig {
         shard: 0,
-        capacity: 256,
+        capacity,
         last_stamp: LAST_STAMP,
     };
-    let mut core = DelayCore::new(rt.alloc(), config, keeper).map_err(|(error, _)| error)?;
-    let mut keys = Vec::new(rt.alloc());
-    for deadline in 1..=ENTRIES {
-        keys.push(core.insert(deadline, deadline as u64)?)?;
+    match DelayCore::new(alloc, config, keeper) {
+        Ok(core) => Ok(core),
+        Err((error, _)) => Err(error.into()),
     }
+}
+
+// The key of a new entry of a deadline, which is its value too.
+fn insert_at(core: &mut Core, deadline: usize) -> Result<Key, CoreError> {
+    core.insert(deadline, deadline as u64)
+        .map_err(|refused| refused.0)
+}
+
+// An entry at each deadline from 1 to 200, and their keys in that order.
+fn fill(core: &mut Core, keys: &mut Vec<Key>) -> Result<(), Fail> {
+    for deadline in 1..=ENTRIES {
+        let key = insert_at(core, deadline)?;
+        keys.push(key)?;
+    }
+    Ok(())
+}
+
+// An entry whose extend was answered came out at the deadline that it was extended to, one whose cancel was answered gave up
+// that deadline and didn't come out.
+fn agree(rt: &impl Abort, extended: &Answers, cancelled: &Answers, expired: &Answers) {
+    for deadline in 1..=ENTRIES {
+        let own = deadline as u64;
+        let due = if extended[deadline] > 0 {
+            own + 1000
+        } else {
+            own
+        };
+        let answers = if cancelled[deadline] > 0 {
+            (0, due)
+        } else {
+            (due, 0)
+        };
+        assert_eq!(rt; (expired[deadline], cancelled[deadline]), answers);
+    }
+}
+
+// Nothing is live, and what was inserted expired or was cancelled.
+fn adds_up(rt: &impl Abort, core: &mut Core, cancels: u64) {
+    assert_eq!(rt; core.returned(), Ok(cancels));
+    let tally = core.tally();
+    assert_eq!(rt;
+        (tally.inserted, tally.removed, tally.cancelled, tally.linked),
+        (200, 0, cancels, 0)
+    );
+    assert_eq!(rt; tally.expired.checked_add(cancels), Some(200));
+}
+
+#[test]
+fn extends_and_cancels_race_with_polls(rt: HostRuntime) -> Result<(), Fail> {
+    let mut core = queue(rt.alloc(), 256)?;
+    let mut extender = core.issue()?;
+    let mut canceller = core.issue()?;
+    let mut keys = Vec::with_capacity(rt.alloc(), ENTRIES)?;
+    fill(&mut core, &mut keys)?;
     let all = keys.as_slice();
     let ((extended, cancelled), expired) = join(
         &rt,
@@ -77,28 +132,9 @@ fn extends_and_cancels_race_with_polls(rt: HostRuntime) -> Result<(), Fail> {
     let Some(expired) = expired else {
         panic!(rt; "the polls came to no end, or an entry came out before its deadline")
     };
-    for deadline in 1..=ENTRIES {
-        let own = deadline as u64;
-        let due = if extended[deadline] > 0 {
-            own + 1000
-        } else {
-            own
-        };
-        if cancelled[deadline] > 0 {
-            assert_eq!(rt; (expired[deadline], cancelled[deadline]), (0, due));
-        } else {
-            assert_eq!(rt; expired[deadline], due);
-        }
-    }
+    agree(&rt, &extended, &cancelled, &expired);
     let cancels = cancelled.iter().filter(|answer| **answer > 0).count() as u64;
     assert_eq!(rt; (canceller.give_back(), extender.give_back()), (cancels, 0));
-    assert_eq!(rt; core.returned(), Ok(cancels));
-    let tally = core.tally();
-    assert_eq!(rt;
-        (tally.inserted, tally.removed, tally.cancelled),
-        (200, 0, cancels)
-    );
-    assert_eq!(rt; tally.expired.checked_add(cancels), Some(200));
-    assert_eq!(rt; tally.linked, 0);
+    adds_up(&rt, &mut core, cancels);
     Ok(())
 }

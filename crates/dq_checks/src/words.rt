@@ -2,6 +2,7 @@ use dq_core::{CallError, Look, Settled, Words};
 use dq_ticks::{EntryId, Key};
 use dq_words::{CAPACITY_LIMIT, Caller, HANDLE_LIMIT, Keeper, WordsError};
 use linked_list_allocator::LocalHeap;
+use std::process::Abort;
 use std::test::Fail;
 
 // The key of an entry of shard 0 that was born at stamp 1.
@@ -13,32 +14,32 @@ const TOO_FAR: CallError = CallError::TooFar {
     limit: 4398046511103,
 };
 
-#[test]
-fn words_first_pass(rt: HostRuntime) -> Result<(), Fail> {
-    let mut keeper = Keeper::new(rt.alloc(), 1)?;
-    let mut caller = keeper.issue()?;
-    let first = key(0, 1);
-    keeper.begin(0, 1, 10);
-    assert_eq!(rt; caller.extend(&first, 50), Ok(50));
-    let Settled::Later(later) = keeper.settle(0, 1, 10) else {
-        panic!(rt; "the extend was lost")
-    };
-    assert_eq!(rt; later, 50);
-    let Settled::SettledExpired = keeper.settle(0, 1, later) else {
-        panic!(rt; "it was due")
-    };
-    assert_eq!(rt; caller.look(&first), Ok(Look::LookExpired(50)));
-    let ended = CallError::Ended {
-        how: Look::LookExpired(50),
-    };
-    assert_eq!(rt; caller.extend(&first, 4), Err(ended));
-    keeper.begin(0, 2, 60);
+fn extends(
+    rt: &impl Abort,
+    caller: &mut Caller,
+    key: &Key,
+    when: u64,
+    answer: Result<u64, CallError>,
+) {
+    assert_eq!(rt; caller.extend(key, when), answer);
+}
+
+fn looks(rt: &impl Abort, caller: &mut Caller, key: &Key, answer: Result<Look, CallError>) {
+    assert_eq!(rt; caller.look(key), answer);
+}
+
+// Of a keeper of one slot at stamp 2.
+fn refuses_other_keys(rt: &impl Abort, caller: &mut Caller) {
     let stale = CallError::Stale { seen: 2 };
-    assert_eq!(rt; caller.look(&first), Err(stale));
-    assert_eq!(rt; caller.extend(&first, 99), Err(stale));
-    assert_eq!(rt; caller.extend(&key(9, 1), 50), Err(CallError::Unknown));
-    assert_eq!(rt; caller.extend(&key(0, 0), 50), Err(CallError::Unknown));
-    assert_eq!(rt; caller.extend(&key(9, 1), 4398046511104), Err(TOO_FAR));
+    looks(rt, caller, &key(0, 1), Err(stale));
+    extends(rt, caller, &key(0, 1), 99, Err(stale));
+    extends(rt, caller, &key(9, 1), 50, Err(CallError::Unknown));
+    extends(rt, caller, &key(0, 0), 50, Err(CallError::Unknown));
+    extends(rt, caller, &key(9, 1), 4398046511104, Err(TOO_FAR));
+}
+
+// Of a keeper that issued one caller.
+fn issues_to_the_limit(rt: &impl Abort, keeper: &mut Keeper) -> Result<(), Fail> {
     for _ in 1..HANDLE_LIMIT {
         keeper.issue()?;
     }
@@ -46,6 +47,44 @@ fn words_first_pass(rt: HostRuntime) -> Result<(), Fail> {
     assert!(rt; matches!(&refused, Err(WordsError::TooManyHandles { limit: 1024 })));
     assert_eq!(rt; keeper.out(), 1024);
     Ok(())
+}
+
+#[test]
+fn words_first_pass(rt: HostRuntime) -> Result<(), Fail> {
+    let mut keeper = Keeper::new(rt.alloc(), 1)?;
+    let mut caller = keeper.issue()?;
+    keeper.begin(0, 1, 10);
+    extends(&rt, &mut caller, &key(0, 1), 50, Ok(50));
+    let Settled::Later(later) = keeper.settle(0, 1, 10) else {
+        panic!(rt; "the extend was lost")
+    };
+    assert_eq!(rt; later, 50);
+    let Settled::SettledExpired = keeper.settle(0, 1, later) else {
+        panic!(rt; "it was due")
+    };
+    looks(&rt, &mut caller, &key(0, 1), Ok(Look::LookExpired(50)));
+    let how = Look::LookExpired(50);
+    extends(
+        &rt,
+        &mut caller,
+        &key(0, 1),
+        4,
+        Err(CallError::Ended { how }),
+    );
+    keeper.begin(0, 2, 60);
+    refuses_other_keys(&rt, &mut caller);
+    issues_to_the_limit(&rt, &mut keeper)
+}
+
+// How many callers are out, and what is returned.
+fn is_out(rt: &impl Abort, keeper: &mut Keeper, out: u64, returned: Result<u64, u64>) {
+    assert_eq!(rt; keeper.out(), out);
+    assert_eq!(rt; keeper.returned(), returned);
+}
+
+fn gives_back(rt: &impl Abort, caller: Caller, cancels: u64) {
+    assert_eq!(rt; caller.cancels(), cancels);
+    assert_eq!(rt; caller.give_back(), cancels);
 }
 
 #[test]
@@ -57,8 +96,13 @@ fn words_second_pass(rt: HostRuntime) -> Result<(), Fail> {
         panic!(rt; "it was live")
     };
     assert_eq!(rt; before, 10);
-    let stale = CallError::Stale { seen: 2 };
-    assert_eq!(rt; caller.extend(&key(0, 1), 50), Err(stale));
+    extends(
+        &rt,
+        &mut caller,
+        &key(0, 1),
+        50,
+        Err(CallError::Stale { seen: 2 }),
+    );
     assert_eq!(rt; caller.cancel(&key(0, 2)), Ok(5));
     let None = keeper.renew(0, 2, 9) else {
         panic!(rt; "it was cancelled")
@@ -67,13 +111,10 @@ fn words_second_pass(rt: HostRuntime) -> Result<(), Fail> {
         panic!(rt; "it was cancelled")
     };
     assert_eq!(rt; keeper.settle(0, 2, 5), Settled::SettledCancelled);
-    assert_eq!(rt; caller.look(&key(0, 2)), Ok(Look::LookCancelled));
-    assert_eq!(rt; keeper.out(), 1);
-    assert_eq!(rt; keeper.returned(), Err(1));
-    assert_eq!(rt; caller.cancels(), 1);
-    assert_eq!(rt; caller.give_back(), 1);
-    assert_eq!(rt; keeper.out(), 0);
-    assert_eq!(rt; keeper.returned(), Ok(1));
+    looks(&rt, &mut caller, &key(0, 2), Ok(Look::LookCancelled));
+    is_out(&rt, &mut keeper, 1, Err(1));
+    gives_back(&rt, caller, 1);
+    is_out(&rt, &mut keeper, 0, Ok(1));
     Ok(())
 }
 
@@ -88,6 +129,24 @@ fn bad_configs(rt: HostRuntime) -> Result<(), Fail> {
     Ok(())
 }
 
+// Whether a keeper is made over that heap. Its callers take no memory.
+fn is_made(rt: &impl Abort, heap: &LocalHeap) -> Result<bool, Fail> {
+    match Keeper::new(heap, 4) {
+        Ok(mut keeper) => {
+            let used = heap.used();
+            let caller: Caller<&LocalHeap> = keeper.issue()?;
+            assert_eq!(rt; heap.used(), used);
+            assert_eq!(rt; caller.give_back(), 0);
+            assert_eq!(rt; keeper.returned(), Ok(0));
+            Ok(true)
+        }
+        Err(error) => {
+            assert_eq!(rt; error, WordsError::NoMemory);
+            Ok(false)
+        }
+    }
+}
+
 // Over a heap that grows by a block each time, each allocation is refused in turn: the row of zeros, the words, the table's
 // own block.
 #[test]
@@ -96,22 +155,11 @@ fn keeper_refused_memory(rt: HostRuntime) -> Result<(), Fail> {
     let mut made = false;
     for size in 0..64 {
         let heap = LocalHeap::new(rt.alloc(), 16 * size)?;
-        match Keeper::new(&heap, 4) {
-            Ok(mut keeper) => {
-                made = true;
-                let used = heap.used();
-                let caller: Caller<&LocalHeap> = keeper.issue()?;
-                assert_eq!(rt; heap.used(), used);
-                assert_eq!(rt; caller.give_back(), 0);
-                assert_eq!(rt; keeper.returned(), Ok(0));
-            }
-            Err(e) => {
-                assert!(rt; !made);
-                assert_eq!(rt; e, WordsError::NoMemory);
-                refused = true;
-            }
-        }
+        let is_made = is_made(&rt, &heap)?;
         assert_eq!(rt; heap.used(), 0);
+        assert!(rt; is_made || !made);
+        made = is_made;
+        refused = refused || !is_made;
     }
     assert!(rt; made && refused);
     Ok(())

@@ -24,7 +24,7 @@ const SPANS: [(u64, u64); 5] = [
 ];
 
 /// A linked entry.
-#[derive(Clone, Copy, Debug, PartialEq, Eq)]
+#[derive(Clone, Copy)]
 pub struct Linked {
     pub id: EntryId,
     pub value: u64,
@@ -32,14 +32,14 @@ pub struct Linked {
 }
 
 // The word of a slot.
-#[derive(Clone, Copy, Debug, PartialEq, Eq)]
+#[derive(Clone, Copy)]
 struct Word {
     stamp: u32,
     look: Look,
 }
 
 /// What a poll may answer.
-#[derive(Clone, Copy, Debug, PartialEq, Eq)]
+#[derive(Drop)]
 pub enum Expected {
     /// One of the entries that are live at the tick.
     SomeDue,
@@ -50,7 +50,7 @@ pub enum Expected {
 }
 
 /// How many entries came and went.
-#[derive(Clone, Copy, Debug, PartialEq, Eq)]
+#[derive(Clone, Copy)]
 pub struct Totals {
     pub inserted: u64,
     pub expired: u64,
@@ -476,32 +476,41 @@ mod tests {
         is_same && slow.tick == plain.tick() && slow.noted == plain.noted()
     }
 
+    // The model and the plain queue answer an insert alike. The model is told a free slot, and has one where neither is full.
+    fn insert_both(
+        slow: &mut SlowQueue,
+        plain: &mut PlainQueue<u64>,
+        value: u64,
+        when: u64,
+    ) -> bool {
+        let answer = plain.insert(value, when);
+        if let Some(error) = slow.insert_refusal(when) {
+            return answer == Err((error, value));
+        }
+        let mut free = 0u32;
+        for index in 0..16u32 {
+            if slow.at(index).is_none() {
+                free = index;
+            }
+        }
+        answer == Ok(when.max(slow.tick)) && slow.insert(free, value, when).is_some()
+    }
+
     #[test]
     fn the_model_agrees_with_the_plain_queue(rt: HostRuntime) -> Result<(), Fail> {
         let mut slow = SlowQueue::new(rt.alloc(), 0, 16, 1048575)?;
         let mut plain = PlainQueue::new(rt.alloc(), 16)?;
         let mut draw = Draw::new(7);
-        let mut free = 0u32;
         for turn in 0..300u64 {
             if draw.below(2) == 0 {
                 let when = slow.noted.saturating_add(draw.below(137438953472));
-                let refused = slow.insert_refusal(when);
-                let answer = plain.insert(turn, when);
-                match refused {
-                    Some(error) => assert_eq!(rt; answer, Err((error, turn))),
-                    None => {
-                        for index in 0..16u32 {
-                            if slow.at(index).is_none() {
-                                free = index;
-                            }
-                        }
-                        assert_eq!(rt; answer, Ok(when.max(slow.tick)));
-                        assert!(rt; slow.insert(free, turn, when).is_some());
-                    }
-                }
+                assert!(rt;
+                    insert_both(&mut slow, &mut plain, turn, when),
+                    "call {turn}"
+                );
             } else {
                 let tick = slow.noted.saturating_add(draw.below(17179869184));
-                assert!(rt; poll_both(&mut slow, &mut plain, tick));
+                assert!(rt; poll_both(&mut slow, &mut plain, tick), "call {turn}");
             }
             assert_eq!(rt; slow.len(), plain.len());
         }

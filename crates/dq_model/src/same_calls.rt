@@ -3,6 +3,8 @@
 use crate::model::{Draw, Expected, LAST, SlowQueue};
 use dq_core::{CoreConfig, DelayCore, PlainQueue, PlainTurn, Turn, VecWords};
 use dq_ticks::{EntryId, Key};
+use std::alloc::Global;
+use std::process::Abort;
 use std::test::Fail;
 
 // A queue, its model, and the keys that were given out, the eldest of them forgotten.
@@ -172,6 +174,42 @@ impl Both {
     }
 }
 
+fn queue(
+    alloc: Global,
+    shard: u32,
+    capacity: usize,
+    last_stamp: u32,
+) -> Result<DelayCore<u64, VecWords>, Fail> {
+    let config = CoreConfig {
+        shard,
+        capacity,
+        last_stamp,
+    };
+    let words = VecWords::new(alloc, capacity)?;
+    match DelayCore::new(alloc, config, words) {
+        Ok(core) => Ok(core),
+        Err((error, _)) => Err(error.into()),
+    }
+}
+
+// 2,000 calls on a fresh queue and on its model.
+fn agree_at(rt: &impl Abort, alloc: Global, capacity: usize, last_stamp: u32) -> Result<(), Fail> {
+    let mut both = Both {
+        core: queue(alloc, 5, capacity, last_stamp)?,
+        slow: SlowQueue::new(alloc, 5, capacity, last_stamp)?,
+        keys: Vec::with_capacity(alloc, 96)?,
+    };
+    let mut draw = Draw::new(11);
+    for turn in 0..2000u64 {
+        assert!(rt;
+            both.call(turn, &mut draw),
+            "call {turn} at capacity {capacity}"
+        );
+        assert!(rt; both.agree(), "after call {turn} at capacity {capacity}");
+    }
+    Ok(())
+}
+
 #[test]
 fn the_queue_agrees_with_its_model(rt: HostRuntime) -> Result<(), Fail> {
     for (capacity, last_stamp) in [
@@ -182,29 +220,7 @@ fn the_queue_agrees_with_its_model(rt: HostRuntime) -> Result<(), Fail> {
         (3, 1048575),
         (64, 1048575),
     ] {
-        let config = CoreConfig {
-            shard: 5,
-            capacity,
-            last_stamp,
-        };
-        let words = VecWords::new(rt.alloc(), capacity)?;
-        let Ok(core) = DelayCore::new(rt.alloc(), config, words) else {
-            assert!(rt; false, "no queue of capacity {capacity}");
-            return Ok(());
-        };
-        let mut both = Both {
-            core,
-            slow: SlowQueue::new(rt.alloc(), 5, capacity, last_stamp)?,
-            keys: Vec::with_capacity(rt.alloc(), 96)?,
-        };
-        let mut draw = Draw::new(11);
-        for turn in 0..2000u64 {
-            assert!(rt;
-                both.call(turn, &mut draw),
-                "call {turn} at capacity {capacity}"
-            );
-            assert!(rt; both.agree(), "after call {turn} at capacity {capacity}");
-        }
+        agree_at(&rt, rt.alloc(), capacity, last_stamp)?;
     }
     Ok(())
 }
@@ -239,42 +255,40 @@ fn poll_twice(core: &mut DelayCore<u64, VecWords>, plain: &mut PlainQueue<u64>, 
         && core.len() == plain.len()
 }
 
+// The queue and its plain twin are given one insert or one poll.
+fn call_twice(
+    core: &mut DelayCore<u64, VecWords>,
+    plain: &mut PlainQueue<u64>,
+    turn: u64,
+    draw: &mut Draw,
+) -> bool {
+    let noted = plain.noted();
+    if draw.below(2) == 0 {
+        let far = match draw.below(3) {
+            0 => draw.below(100),
+            1 => draw.below(20000),
+            _ => draw.below(2147483648).saturating_mul(64),
+        };
+        insert_twice(core, plain, turn, noted.saturating_add(far))
+    } else {
+        let far = match draw.below(4) {
+            0 => draw.below(2147483648).saturating_mul(4),
+            _ => draw.below(9000),
+        };
+        poll_twice(core, plain, noted.saturating_add(far))
+    }
+}
+
 #[test]
 fn the_queue_agrees_with_its_plain_twin(rt: HostRuntime) -> Result<(), Fail> {
-    let config = CoreConfig {
-        shard: 0,
-        capacity: 16,
-        last_stamp: 1048575,
-    };
-    let words = VecWords::new(rt.alloc(), 16)?;
-    let Ok(mut core) = DelayCore::new(rt.alloc(), config, words) else {
-        assert!(rt; false, "no queue");
-        return Ok(());
-    };
+    let mut core = queue(rt.alloc(), 0, 16, 1048575)?;
     let mut plain = PlainQueue::new(rt.alloc(), 16)?;
     let mut draw = Draw::new(5);
     for turn in 0..300u64 {
-        let noted = plain.noted();
-        if draw.below(2) == 0 {
-            let far = match draw.below(3) {
-                0 => draw.below(100),
-                1 => draw.below(20000),
-                _ => draw.below(2147483648).saturating_mul(64),
-            };
-            assert!(rt;
-                insert_twice(&mut core, &mut plain, turn, noted.saturating_add(far)),
-                "call {turn}"
-            );
-        } else {
-            let far = match draw.below(4) {
-                0 => draw.below(2147483648).saturating_mul(4),
-                _ => draw.below(9000),
-            };
-            assert!(rt;
-                poll_twice(&mut core, &mut plain, noted.saturating_add(far)),
-                "call {turn}"
-            );
-        }
+        assert!(rt;
+            call_twice(&mut core, &mut plain, turn, &mut draw),
+            "call {turn}"
+        );
     }
     Ok(())
 }

@@ -97,21 +97,22 @@ fn moved<T: Send>(value: T) -> T {
     value
 }
 
-#[test]
-fn queue_and_words_move_to_a_thread(rt: HostRuntime) -> Result<(), Fail> {
-    let words = VecWords::new(rt.alloc(), 1)?;
+fn queue_of_one(alloc: Global) -> Result<DelayCore<char, VecWords>, CoreError> {
     let config = CoreConfig {
         shard: 0,
         capacity: 1,
         last_stamp: 1,
     };
-    match DelayCore::new(rt.alloc(), config, words) {
-        Ok(queue) => {
-            let mut queue = moved(queue);
-            queue.insert('v', 0)?;
-        }
-        Err((error, _words)) => assert!(rt; false, "{error}"),
+    match DelayCore::new(alloc, config, VecWords::new(alloc, 1)?) {
+        Ok(queue) => Ok(queue),
+        Err((error, _words)) => Err(error),
     }
+}
+
+#[test]
+fn queue_and_words_move_to_a_thread(rt: HostRuntime) -> Result<(), Fail> {
+    let mut queue = moved(queue_of_one(rt.alloc())?);
+    assert!(rt; queue.insert('v', 0).is_ok());
     assert_eq!(rt; moved(VecWords::new(rt.alloc(), 2)?).rows(), 2);
     Ok(())
 }
