@@ -458,48 +458,25 @@ fn reports(rt: HostRuntime) {
 }
 
 #[test]
-fn reports_each_kind(rt: HostRuntime) {
+fn reports_each_kind(rt: HostRuntime) -> Result<(), Fail> {
     for (kind, text) in [
-        (
-            FaultKind::TooManyLines,
-            b"delay-replay: line 7: too many lines\n".as_slice(),
-        ),
-        (
-            FaultKind::LineTooLong,
-            b"delay-replay: line 7: line too long\n".as_slice(),
-        ),
-        (
-            FaultKind::UnfinishedLine,
-            b"delay-replay: line 7: unfinished line\n".as_slice(),
-        ),
-        (
-            FaultKind::BadHeader,
-            b"delay-replay: line 7: bad header\n".as_slice(),
-        ),
-        (
-            FaultKind::UnknownCommand,
-            b"delay-replay: line 7: unknown command\n".as_slice(),
-        ),
-        (
-            FaultKind::BadShape,
-            b"delay-replay: line 7: wrong number of words\n".as_slice(),
-        ),
-        (
-            FaultKind::BadName,
-            b"delay-replay: line 7: bad name\n".as_slice(),
-        ),
-        (
-            FaultKind::BadNumber,
-            b"delay-replay: line 7: bad number\n".as_slice(),
-        ),
+        (FaultKind::TooManyLines, b"too many lines\n".as_slice()),
+        (FaultKind::LineTooLong, b"line too long\n".as_slice()),
+        (FaultKind::UnfinishedLine, b"unfinished line\n".as_slice()),
+        (FaultKind::BadHeader, b"bad header\n".as_slice()),
+        (FaultKind::UnknownCommand, b"unknown command\n".as_slice()),
+        (FaultKind::BadShape, b"wrong number of words\n".as_slice()),
+        (FaultKind::BadName, b"bad name\n".as_slice()),
+        (FaultKind::BadNumber, b"bad number\n".as_slice()),
     ] {
+        let mut line = Vec::from_slice(rt.alloc(), b"delay-replay: line 7: ".as_slice())?;
+        line.extend_from_slice(text)?;
         let mut told = Vec::new(rt.alloc());
-        assert_eq!(rt;
-            report(&ReplayFault::Script { line: 7, kind }, &mut told),
-            1
-        );
-        assert!(rt; told.as_slice() == text);
+        let fault = ReplayFault::Script { line: 7, kind };
+        assert_eq!(rt; report(&fault, &mut told), 1);
+        assert!(rt; told.as_slice() == line.as_slice());
     }
+    Ok(())
 }
 
 #[test]
