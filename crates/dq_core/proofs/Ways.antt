@@ -115,8 +115,8 @@ no_callers : {T : Type 0} (last : ℕ) (m n : Machine T) (es : List (Event T)) �
 no_callers last m n [] a r = r
 no_callers last m n (e ∷ es) a r = absurd (no_caller e a.0)
 
-pub own_events_alone : (T : Type 0) → OwnEventsAlone T
-own_events_alone T last m n r = no_callers last m n r.0 r.1 r.2
+pub own_events_alone : (T : Type 0) → OwnEventsAlone false T
+own_events_alone T = (no_caller, λ last m n r. no_callers last m n r.0 r.1 r.2)
 
 -- what the keeper learns of one slot's word is an event of a caller, or none
 module _ {T : Type 0} (shared : Bool) (last tick noted : ℕ) (rows : List (Row T)) (known : List Parts) (sizes : length known ≡ length rows) (i : ℕ) (inside : i < length rows) (h : Held T) (held : (row_at rows i).held ≡ Some h) (stamp : (word_at known i).stamp ≡ (row_at rows i).stamp) where

@@ -129,6 +129,7 @@ RunOf {T} P last m n = (es : List (Event T)) × AllByRecursion P es × Run last 
 abbrev pub Callers : {T : Type 0} → Bool → ℕ → Machine T → Machine T → Type 0
 Callers shared last m n = RunOf (IsCallers shared) last m n
 
--- over words that nobody shares no step of a caller comes between
-abbrev pub OwnEventsAlone : Type 0 → Type 0
-OwnEventsAlone T = (last : ℕ) (m n : Machine T) → Callers false last m n → n ≡ m
+-- over words that nobody shares no event is a caller's, so on no way of a call one comes between
+abbrev pub OwnEventsAlone : Bool → Type 0 → Type 0
+OwnEventsAlone shared T =
+    ((e : Event T) → IsCallers shared e → ⊥) × ((last : ℕ) (m n : Machine T) → Callers shared last m n → n ≡ m)

@@ -13,9 +13,9 @@ impl<T: Drop, A: Allocator> DelayCore<T, VecWords<A>, A> {
     ghost use Rattle.dq_core.specs.Machine.{OwnEventsAlone};
     ghost use Rattle.dq_core.specs.KeyCalls.{Extends, Cancels, Shows};
 
-    /// Over plain words no step of a caller comes between: each call is a run of its own events alone.
+    /// Plain words are shared with nobody, so no step of a caller comes between: each call is a run of its own events alone.
     pub fn own_events_alone(&self)
-        ensures { OwnEventsAlone T }
+        ensures { OwnEventsAlone ⟦<VecWords<A> as crate::words::Words>⟧.shared T }
     {}
 
     /// Whether a key is of this queue's shard.
