@@ -5,9 +5,13 @@
 #[cfg(test)]
 mod limits;
 #[cfg(test)]
+mod memory;
+#[cfg(test)]
 mod model;
 #[cfg(test)]
 mod plain_queue;
+#[cfg(test)]
+mod plain_words;
 #[cfg(test)]
 mod same_calls;
 #[cfg(test)]

@@ -110,7 +110,7 @@ fn queue_of_one(alloc: Global) -> Result<DelayCore<char, VecWords>, CoreError> {
 }
 
 #[test]
-fn queue_and_words_move_to_a_thread(rt: HostRuntime) -> Result<(), Fail> {
+fn queue_and_words_are_send(rt: HostRuntime) -> Result<(), Fail> {
     let mut queue = moved(queue_of_one(rt.alloc())?);
     assert!(rt; queue.insert('v', 0).is_ok());
     assert_eq!(rt; moved(VecWords::new(rt.alloc(), 2)?).rows(), 2);

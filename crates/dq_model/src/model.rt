@@ -66,6 +66,8 @@ pub struct SlowQueue {
     pub tick: u64,
     pub noted: u64,
     pub totals: Totals,
+    /// How often entries came to a slot of a lower level.
+    pub moved: u64,
     words: Vec<Word>,
     linked: Vec<Linked>,
 }
@@ -82,6 +84,22 @@ fn wake(tick: u64, filed: u64) -> u64 {
         }
     }
     filed.saturating_sub(filed % 1073741824)
+}
+
+// How often an entry that is filed there comes to a slot of a lower level while the wheel goes from one tick to another. To
+// come due is no move.
+fn moves_on_the_way(from: u64, to: u64, filed: u64) -> u64 {
+    let mut at = from;
+    let mut moves = 0u64;
+    for _level in SPANS {
+        let start = wake(at, filed);
+        if start > to || start >= filed {
+            return moves;
+        }
+        at = start;
+        moves = one_more(moves);
+    }
+    moves
 }
 
 fn is_cancelled(words: &[Word], id: EntryId) -> bool {
@@ -114,6 +132,7 @@ impl SlowQueue {
                 removed: 0,
                 cancelled: 0,
             },
+            moved: 0,
             words: vec![in alloc; unused; capacity]?,
             linked: Vec::with_capacity(alloc, capacity)?,
         })
@@ -349,19 +368,28 @@ impl SlowQueue {
         is_due
     }
 
+    // The wheel goes on to a tick; entries move down on the way.
+    fn pass(&mut self, tick: u64) {
+        for entry in &self.linked {
+            let moves = moves_on_the_way(self.tick, tick, entry.filed);
+            self.moved = self.moved.saturating_add(moves);
+        }
+        self.tick = tick;
+    }
+
     /// Goes on until an entry is due at its deadline, or nothing is filed up to the noted tick.
     pub fn go_on(&mut self) -> Expected {
         for _turn in 0..u64::MAX {
             let Some(filed) = self.least() else {
-                self.tick = self.noted;
+                self.pass(self.noted);
                 return Expected::Empty;
             };
             if filed > self.noted {
-                self.tick = self.noted;
+                self.pass(self.noted);
                 let next = self.next_wake().unwrap_or(0);
                 return Expected::Waits { next };
             }
-            self.tick = filed;
+            self.pass(filed);
             if self.settle() {
                 return Expected::SomeDue;
             }
@@ -420,8 +448,8 @@ impl SlowQueue {
         next
     }
 
-    // The least deadline by which an entry is filed.
-    fn least(&self) -> Option<u64> {
+    /// The least tick at which an entry is filed.
+    pub fn least(&self) -> Option<u64> {
         let mut least: Option<u64> = None;
         for entry in &self.linked {
             least = Some(least.map_or(entry.filed, |filed| filed.min(entry.filed)));

@@ -31,6 +31,16 @@ impl Both {
             && tally.removed == totals.removed
             && tally.cancelled == totals.cancelled
             && tally.linked == self.slow.len() as u64
+            && tally.moves == self.slow.moved
+            && self.peeks_at_the_least()
+    }
+
+    // Whether what is peeked at is filed least, and nothing only where nothing is linked.
+    fn peeks_at_the_least(&self) -> bool {
+        match self.core.peek() {
+            Some(key) => self.core.filed(&key.entry()) == self.slow.least(),
+            None => self.slow.len() == 0,
+        }
     }
 
     // A key that was given out, mostly one of the last, or now and then one that never was.
