@@ -167,17 +167,19 @@ fn bad_capacities(rt: HostRuntime) {
     expect(&rt, rt.alloc(), 65536, FIVE_LINES, FIVE_ANSWERS, Ok(()));
 }
 
-/// A writer that takes one byte a call, up to a call that it answers by an error.
+/// A writer that takes one byte a call, up to a call from which on it answers errors, and that counts them.
 #[derive(Drop)]
 struct Slow<'a> {
     taken: &'a mut Vec<u8>,
     calls_left: usize,
+    errors: &'a mut u32,
 }
 
 impl Write for Slow<'_> {
     fn write(&mut self, buf: &[u8]) -> io::Result<usize> {
         self.calls_left = self.calls_left.saturating_sub(1);
         if self.calls_left == 0 {
+            *self.errors = self.errors.saturating_add(1);
             return Err(io::Error::from(io::ErrorKind::Interrupted));
         }
         match buf.first() {
@@ -197,24 +199,28 @@ impl Write for Slow<'_> {
 #[test]
 fn short_writes_then_error(rt: HostRuntime) {
     let mut taken = Vec::new(rt.alloc());
+    let mut errors = 0;
     let mut reader = FIVE_LINES;
     let end = {
         let mut writer = Slow {
             taken: &mut taken,
             calls_left: 10,
+            errors: &mut errors,
         };
         run(rt.alloc(), &mut reader, &mut writer, 1024)
     };
     assert_eq!(rt; end, Err(ReplayFault::Write));
     assert!(rt; taken.as_slice() == b"a at 5\nb ".as_slice());
+    assert_eq!(rt; errors, 1);
 }
 
-/// A writer that takes nothing.
+/// A writer that takes nothing, and that counts what it is asked.
 #[derive(Drop)]
-struct Full;
+struct Full<'a>(&'a mut u32);
 
-impl Write for Full {
+impl Write for Full<'_> {
     fn write(&mut self, _buf: &[u8]) -> io::Result<usize> {
+        *self.0 = self.0.saturating_add(1);
         Ok(0)
     }
 
@@ -225,9 +231,11 @@ impl Write for Full {
 
 #[test]
 fn zero_byte_write(rt: HostRuntime) {
+    let mut asked = 0;
     let mut reader = FIVE_LINES;
-    let end = run(rt.alloc(), &mut reader, &mut Full, 1024);
+    let end = run(rt.alloc(), &mut reader, &mut Full(&mut asked), 1024);
     assert_eq!(rt; end, Err(ReplayFault::Write));
+    assert_eq!(rt; asked, 1);
 }
 
 /// A writer whose flush is an error, and that counts its flushes.
@@ -333,13 +341,14 @@ fn read_error_mid_line(rt: HostRuntime) {
     }
 }
 
-/// A reader that never ends: a first line, and then one line for ever.
+/// A reader of a first line, and then of one line again and again, up to so many bytes.
 #[derive(Drop)]
-struct Endless {
+struct Again {
     given: usize,
+    end: usize,
 }
 
-impl Read for Endless {
+impl Read for Again {
     fn read(&mut self, buf: &mut [u8]) -> io::Result<usize> {
         let header = b"delay 1\n";
         let line = b"tick 0\n";
@@ -348,7 +357,7 @@ impl Read for Endless {
             None => line[(self.given - header.len()) % line.len()],
         };
         match buf.first_mut() {
-            Some(place) if self.given < 10_000_000 => {
+            Some(place) if self.given < self.end => {
                 *place = byte;
                 self.given += 1;
                 Ok(1)
@@ -376,11 +385,27 @@ impl Write for Count<'_> {
 #[test]
 fn endless_lines(rt: HostRuntime) {
     let mut count = 0;
-    let mut reader = Endless { given: 0 };
+    let mut reader = Again {
+        given: 0,
+        end: usize::MAX,
+    };
     let end = run(rt.alloc(), &mut reader, &mut Count(&mut count), 4);
     assert_eq!(rt; end, script(1_000_001, FaultKind::TooManyLines));
     assert_eq!(rt; count, 999_999 * 7);
     assert_eq!(rt; reader.given, 8 + 999_999 * 7 + 1);
+}
+
+/// A script may end behind its last possible line.
+#[test]
+fn greatest_number_of_lines(rt: HostRuntime) {
+    let mut count = 0;
+    let mut reader = Again {
+        given: 0,
+        end: 8 + 999_999 * 7,
+    };
+    let end = run(rt.alloc(), &mut reader, &mut Count(&mut count), 4);
+    assert_eq!(rt; end, Ok(()));
+    assert_eq!(rt; count, 999_999 * 7);
 }
 
 #[test]
@@ -453,7 +478,7 @@ fn reports(rt: HostRuntime) {
         let mut told = Vec::new(rt.alloc());
         assert_eq!(rt; report(&fault, &mut told), status);
         assert!(rt; told.as_slice() == text);
-        assert_eq!(rt; report(&fault, &mut Full), status);
+        assert_eq!(rt; report(&fault, &mut Full(&mut 0)), status);
     }
 }
 
@@ -522,7 +547,8 @@ const ANSWERED_THREE: [usize; 11] = [0, 7, 14, 22, 29, 36, 79, 87, 100, 108, 118
 #[test]
 fn fault_at_each_read(rt: HostRuntime) {
     let mut lines: usize = 0;
-    for read in 0..CAPACITY_THREE.len() {
+    // The last read is the one that would find the input's end.
+    for read in 0..CAPACITY_THREE.len() + 1 {
         let answered = match lines.checked_sub(1) {
             Some(last) => ANSWERED_THREE[last.min(10)],
             None => 0,
@@ -540,7 +566,7 @@ fn fault_at_each_read(rt: HostRuntime) {
         assert_eq!(rt; errors, 1);
         assert!(rt; answered <= CAPACITY_THREE_ANSWERS.len());
         assert!(rt; written.as_slice() == &CAPACITY_THREE_ANSWERS[..answered]);
-        if CAPACITY_THREE[read] == b'\n' {
+        if CAPACITY_THREE.get(read) == Some(&b'\n') {
             lines = lines.saturating_add(1);
         }
     }
@@ -550,16 +576,19 @@ fn fault_at_each_read(rt: HostRuntime) {
 fn fault_at_each_write(rt: HostRuntime) {
     for write in 0..CAPACITY_THREE_ANSWERS.len() {
         let mut taken = Vec::new(rt.alloc());
+        let mut errors = 0;
         let mut reader = CAPACITY_THREE;
         let end = {
             let mut writer = Slow {
                 taken: &mut taken,
                 calls_left: write + 1,
+                errors: &mut errors,
             };
             run(rt.alloc(), &mut reader, &mut writer, 3)
         };
         assert_eq!(rt; end, Err(ReplayFault::Write));
         assert!(rt; taken.as_slice() == &CAPACITY_THREE_ANSWERS[..write]);
+        assert_eq!(rt; errors, 1);
     }
 }
 
