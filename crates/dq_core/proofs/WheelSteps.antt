@@ -1,5 +1,5 @@
 -- Ways of a queue's wheel, one after another.
-use Rattle.std.proofs.Common.{◌≡◌, ◌≢◌, ℕ, ◌<◌, ◌≤◌, Bool, true, false, List, [], ◌∷◌, ◌++◌, Option, Some, None, MatchBool, refl, subst, inl, inr, ◌⊎◌}
+use Rattle.std.proofs.Common.{◌≡◌, ◌≢◌, ℕ, ◌<◌, ◌≤◌, Bool, true, false, List, [], ◌∷◌, ◌++◌, Some, MatchBool, refl, subst, inl, inr, ◌⊎◌}
 use Rattle.dq_wheel.specs.State.{Filing, filed_at}
 use Rattle.dq_wheel.specs.Wakes.{IsNextWake, wake_for}
 use Rattle.dq_wheel.specs.Moves.{passed}

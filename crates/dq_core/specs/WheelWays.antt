@@ -1,5 +1,5 @@
 -- The way of a queue's wheel over a poll: by whole wakes, and at a tick through the indexes that are filed there.
-use Rattle.std.specs.Prelude.{◌≡◌, ◌≢◌, ℕ, ◌<◌, ◌≤◌, ◌⊎◌, List, [], ◌∷◌, Option, Some, None}
+use Rattle.std.specs.Prelude.{◌≡◌, ◌≢◌, ℕ, ◌<◌, ◌≤◌, ◌⊎◌, List, [], ◌∷◌, Some}
 use Rattle.dq_wheel.specs.State.{Filing, filed_at, linked, unlinked}
 use Rattle.dq_wheel.specs.Wakes.{IsNextWake, wake_for}
 use Rattle.dq_wheel.specs.Moves.{passed}

@@ -13,7 +13,8 @@ impl<T: Drop, A: Allocator> DelayCore<T, VecWords<A>, A> {
     ghost use Rattle.dq_core.specs.Machine.{OwnEventsAlone};
     ghost use Rattle.dq_core.specs.KeyCalls.{Extends, Cancels, Shows};
 
-    /// Plain words are shared with nobody, so no step of a caller comes between: each call is a run of its own events alone.
+    /// Plain words are shared with nobody, so no step of a caller comes between: each call is a run of its own events
+    /// alone.
     pub fn own_events_alone(&self)
         ensures { OwnEventsAlone ⟦<VecWords<A> as crate::words::Words>⟧.shared T }
     {}
@@ -25,7 +26,10 @@ impl<T: Drop, A: Allocator> DelayCore<T, VecWords<A>, A> {
         key.entry().shard() == self.shard
     }
 
-    /// Raises the deadline in force of a live entry, and answers the deadline that is then in force.
+    /// Raises the deadline of a live entry to `when`, a tick of one millisecond, and answers the deadline that is then in
+    /// force: `when`, or a later one that it had. Refused as TooFar beyond the last tick, as Unknown where the key is of
+    /// another shard or names no stamp that its slot was given, as Stale where the slot has a later stamp, as Ended where
+    /// the entry isn't live.
     pub fn extend(&mut self, key: &Key, when: u64) -> Result<u64, CallError>
         ensures same { SameCore self.old self.new }
         ensures extends { Extends self.old key.now when result self.new }
@@ -39,7 +43,8 @@ impl<T: Drop, A: Allocator> DelayCore<T, VecWords<A>, A> {
         self.words.extend(key, when)
     }
 
-    /// Cancels a live entry, which stays linked until it is reaped, and answers the deadline that it gives up.
+    /// Cancels a live entry, which stays linked until it is reaped, and answers the deadline that it gives up. Refused as
+    /// `extend` is, but never as TooFar.
     pub fn cancel(&mut self, key: &Key) -> Result<u64, CallError>
         ensures same { SameCore self.old self.new }
         ensures cancels { Cancels self.old key.now result self.new }
@@ -50,7 +55,8 @@ impl<T: Drop, A: Allocator> DelayCore<T, VecWords<A>, A> {
         self.words.cancel(key)
     }
 
-    /// What the word that a key names shows.
+    /// What the word that a key names shows: that the entry is live, or how it ended. Refused as Unknown or as Stale, as
+    /// `extend` is.
     pub fn look(&self, key: &Key) -> Result<Look, CallError>
         ensures { Shows self.now key.now result }
     {

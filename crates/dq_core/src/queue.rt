@@ -21,7 +21,9 @@ use dq_wheel::Wheel;
 use std::alloc::{AllocError, Allocator, Global};
 use std::marker::Model;
 
-/// A queue of one owner.
+/// A delay queue of one owner: values of `T`, with their deadlines in the words `W`, in memory of `A`.
+///
+/// Ticks are of one millisecond and are handed in by the owner: no clock is read. All memory is taken by `new`.
 #[derive(Drop)]
 pub struct DelayCore<T, W: Words, A: Allocator = Global> {
     pub(crate) shard: u32,
@@ -95,7 +97,9 @@ fn filing_for(tick: u64, deadline: u64) -> u64
 impl<T: Drop, W: Words + Drop, A: Allocator + Clone> DelayCore<T, W, A> {
     ghost use Rattle.dq_core.specs.Calls.{IsMade};
 
-    /// A queue over fresh words, with nothing linked; the words come back where it is refused.
+    /// A queue over fresh words, at tick 0, with nothing linked. Refused as BadConfig where the capacity isn't 1 to
+    /// 65536, the last stamp isn't 1 to 1048575, or the words aren't as many as the slots, and else as NoMemory; the
+    /// words come back.
     pub fn new(alloc: A, config: CoreConfig, words: W) -> Result<DelayCore<T, W, A>, (CoreError, W)>
         requires { AreFresh (W.known words) (W.counts words) }
         ensures { IsMade config words (W.known words) (W.counts words) result }
@@ -148,7 +152,9 @@ impl<T: Drop, W: Words, A: Allocator> DelayCore<T, W, A> {
         self.wheel.tick()
     }
 
-    /// Puts an entry in.
+    /// Puts an entry in that is live until `when`, a tick of one millisecond, or until the wheel's tick where `when` lies
+    /// before it, and answers its key. Constant time. Refused as TooFar beyond the last tick, and else as Full where no
+    /// slot is free; the value comes back then.
     #[inline]
     pub fn insert(&mut self, value: T, when: u64) -> Result<Key, (CoreError, T)>
         ensures same { SameCore self.old self.new }
@@ -232,7 +238,9 @@ impl<T: Drop, W: Words, A: Allocator> DelayCore<T, W, A> {
         self.noted = self.noted.max(tick);
     }
 
-    /// Takes out an entry whose deadline is reached, or says when to come again.
+    /// Notes a tick of one millisecond, and takes out one entry whose deadline in force is reached by the greatest tick
+    /// noted: call again until the answer is Waiting (nothing is due; `next` is the next tick at which there is something
+    /// to do) or Idle (nothing is linked). Refused as TickTooLarge beyond the last tick, which is not noted then.
     pub fn poll(&mut self, tick: u64) -> Result<Turn<T>, CoreError>
         ensures same { SameCore self.old self.new }
         ensures polls { Polls W.shared self.old tick result self.new }
@@ -296,7 +304,8 @@ impl<T: Drop, W: Words, A: Allocator> DelayCore<T, W, A> {
         Some(index)
     }
 
-    /// The deadline in force of an entry.
+    /// The deadline in force of a live entry, a tick of one millisecond. Refused as Missing where no entry is linked with
+    /// that shard, index and birth stamp, and as WasCancelled where it is cancelled.
     pub fn deadline(&mut self, entry: &EntryId) -> Result<u64, CoreError>
         ensures same { SameCore self.old self.new }
         ensures tells { TellsDeadline W.shared self.old entry.now result self.new }
@@ -311,7 +320,8 @@ impl<T: Drop, W: Words, A: Allocator> DelayCore<T, W, A> {
         Err(CoreError::WasCancelled)
     }
 
-    /// Takes a live entry out.
+    /// Takes a live entry out, with its key, its deadline in force and its value. Constant time. Refused as `deadline`
+    /// is.
     #[inline]
     pub fn remove(&mut self, entry: &EntryId) -> Result<Removed<T>, CoreError>
         ensures same { SameCore self.old self.new }
@@ -334,7 +344,9 @@ impl<T: Drop, W: Words, A: Allocator> DelayCore<T, W, A> {
         })
     }
 
-    /// Gives a live entry another deadline, and the slot's next stamp.
+    /// Gives a live entry another deadline, earlier or later, but not before the wheel's tick, and the slot's next stamp:
+    /// keys from before are stale for callers. Answers the new key. Constant time. Refused as TooFar beyond the last
+    /// tick, then as `deadline` is, then as Worn where the slot has no stamp left.
     #[inline]
     pub fn reset(&mut self, entry: &EntryId, when: u64) -> Result<Key, CoreError>
         ensures same { SameCore self.old self.new }

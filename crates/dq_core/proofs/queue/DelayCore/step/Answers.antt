@@ -1,4 +1,4 @@
-use Rattle.std.proofs.Common.{◌≡◌, ◌<◌, ap, ◌∙◌, refl, arith}
+use Rattle.std.proofs.Common.{ap, ◌∙◌, refl, arith}
 use Rattle.dq_core.specs.Words.{settled_counts}
 use Rattle.dq_core.specs.declared.words.Settled.TheVariants.{SettledExpired}
 use Rattle.dq_core.proofs.Ways.{core_of}
