@@ -1,17 +1,19 @@
 -- What one line of a script comes to, for each way that it ends.
-use Rattle.std.proofs.Common.{◌≡◌, ℕ, ◌+◌, ◌≤◌, inl, inr, true, false, List, [], ◌∷◌, ◌++◌, take, drop, refl, arith}
+use Rattle.std.proofs.Common.{◌≡◌, ℕ, ◌+◌, ◌≤◌, inl, inr, true, false, List, [], ◌∷◌, ◌++◌, length, take, drop, refl, arith}
 use Rattle.std.specs.Prelude.{Option, Some, None, Ok, Err, IfSome, ◌==◌}
 use Rattle.std.specs.Io.KnownBytes.{Appends, IsAtEnd}
+use Rattle.std.proofs.lemmas.Bool.{le-ltb}
 use Rattle.std.proofs.lemmas.List.{append-nil, take-append-drop}
+use Rattle.dq_replay.specs.declared.command.Command.{Command}
 use Rattle.dq_replay.specs.declared.fault.ReplayFault.{ReplayFault}
 use Rattle.dq_replay.specs.declared.fault.ReplayFault.TheVariants.{BadConfig, NoMemory, Script, Read, Write}
 use Rattle.dq_replay.specs.declared.fault.FaultKind.{FaultKind}
 use Rattle.dq_replay.specs.declared.fault.FaultKind.TheVariants.{LineTooLong, UnfinishedLine, BadHeader}
 use Rattle.dq_replay.specs.declared.line.LineEnd.TheVariants.{Whole, Unfinished, Nothing, TooLong}
-use Rattle.dq_replay.specs.declared.line.TheConstants.{LAST_LINE}
-use Rattle.dq_replay.specs.Text.{lines_of}
+use Rattle.dq_replay.specs.declared.line.TheConstants.{LINE_LIMIT, LAST_LINE}
+use Rattle.dq_replay.specs.Text.{lines_of, words_of}
 use Rattle.dq_replay.specs.Lines.{HasNoEnd, TakesLine}
-use Rattle.dq_replay.specs.Script.{State, Outcome, outcome_from, ends_by, line_does, rest_fault}
+use Rattle.dq_replay.specs.Script.{State, Outcome, outcome_from, ends_by, command_of, step, line_does, rest_fault}
 use Rattle.dq_replay.specs.Replay.{Answers, StopsInLine, Ends, LineRan, IsLineFault, IsOutcome}
 use Rattle.dq_replay.proofs.Known.{appends_none}
 use Rattle.dq_replay.proofs.Outcomes.{after_line, faulty_line, last_line, last_answers, unfinished, too_long}
@@ -71,11 +73,18 @@ ends_faulty left number s kind taken faulty = record { of_taken = rw (← append
     all None = tt
     all (Some more) = rw (faulty more) (refl, refl)
 
+-- a line that says a command does something, in every state
+pub command_line : (number : ℕ) (s : State) (line : List ℕ) (command : Command) → number ≤ LAST_LINE → length line ≤ LINE_LIMIT → (number == 1) ≡ false
+    → command_of (words_of line) ≡ Ok command → IsLineFault number NoMemory (line_does number s line)
+command_line number s line command known short later says =
+    let does : line_does number s line ≡ Ok (step s command) = rw (le-ltb LAST_LINE number known, le-ltb LINE_LIMIT (length line) short, later, says) refl in
+    ((step s command).0, (step s command).1, does)
+
 pub ran_faulty : (had left held : Option (List ℕ)) (number : ℕ) (old new : State) (fault : ReplayFault) (line : List ℕ) → number ≤ LAST_LINE → TakesLine had left (Ok Whole) line
     → IsLineFault number fault (line_does number old line) → LineRan had left held held number old new (Err fault)
 ran_faulty had left held number old new (Script at kind) line known (in_line, taken) (here, does) =
     (line ++ 10 ∷ [], [], taken, appends_none held, rw here (ends_faulty left number old kind (line ++ 10 ∷ []) (λ more. faulty_line number old line more kind in_line.0 does)))
-ran_faulty had left held number old new NoMemory line known (in_line, taken) any = (
+ran_faulty had left held number old new NoMemory line known (in_line, taken) (after, text, does) = (
   line ++ 10 ∷ [],
   [],
   taken,
@@ -85,9 +94,12 @@ ran_faulty had left held number old new NoMemory line known (in_line, taken) any
     line = line;
     next = number;
     now = old;
+    after = after;
+    text = text;
     answered = answers_none number old;
     in_line = in_line;
     not_past = known;
+    does = does;
     taken_is = refl;
   }),
 )

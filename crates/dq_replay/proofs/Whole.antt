@@ -72,9 +72,12 @@ before_answer_behind first second s t taken more_taken written more_written a st
   line = stops.line;
   next = stops.next;
   now = stops.now;
+  after = stops.after;
+  text = stops.text;
   answered = answers_then first second stops.next s t stops.now taken stops.before written more_written a stops.answered;
   in_line = stops.in_line;
   not_past = stops.not_past;
+  does = stops.does;
   taken_is = ap (λ bytes. taken ++ bytes) stops.taken_is ∙ sym (append_assoc taken stops.before (stops.line ++ 10 ∷ []));
 }
 

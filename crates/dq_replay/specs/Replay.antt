@@ -9,10 +9,10 @@ use Rattle.dq_replay.specs.Text.{lines_of}
 use Rattle.dq_replay.specs.Script.{State, Outcome, outcome_from, after_answer, line_does}
 use Rattle.dq_replay.specs.Lines.{IsInLine}
 
--- the fault of a line, unless memory ran out
+-- the fault of a line; memory runs out only at a line that has none
 abbrev pub IsLineFault : ℕ → ReplayFault → Result (State × List ℕ) FaultKind → Type 0
 IsLineFault number (Script line kind) does = (line ≡ number) × (does ≡ Err kind)
-IsLineFault number NoMemory does = ⊤
+IsLineFault number NoMemory does = (after : State) × (text : List ℕ) × (does ≡ Ok (after, text))
 IsLineFault number _ does = ⊥
 
 -- what one whole line did: its answer and the state after it are what the line does
@@ -42,15 +42,18 @@ pub record StopsInLine (number : ℕ) (s : State) (taken written : List ℕ) : T
   pub none_past : LAST_LINE < next → front ≡ []
   pub taken_is : taken ≡ before ++ front
 
--- whole lines were answered, and behind them only the line in hand was taken, with its end
+-- whole lines were answered, and behind them only the line in hand was taken, with its end: it has no fault, and its answer is missing
 pub record StopsBeforeAnswer (number : ℕ) (s : State) (taken written : List ℕ) : Type 0 where
   pub before : List ℕ
   pub line : List ℕ
   pub next : ℕ
   pub now : State
+  pub after : State
+  pub text : List ℕ
   pub answered : Answers number s before written next now
   pub in_line : IsInLine line
   pub not_past : next ≤ LAST_LINE
+  pub does : line_does next now line ≡ Ok (after, text)
   pub taken_is : taken ≡ before ++ (line ++ 10 ∷ [])
 
 -- whole lines were answered, and behind them only the line in hand was taken, with its end, and the front of its answer written
@@ -81,7 +84,7 @@ pub record Ends {T : Type 0} (number : ℕ) (s : State) (left : Option (List ℕ
 
 -- From line `number` on and the state before it: these bytes were taken, the rest was left, and these were written.
 -- At the script's end and at a script's fault the written bytes are the answers of all bytes, taken or not.
--- A read fault comes in the line in hand, and so does want of memory, or behind it.
+-- A read fault comes in the line in hand, and so does want of memory, or behind it where that line has no fault.
 -- A write fault comes in the answer of the line in hand, or behind all answers.
 abbrev pub Runs : {T : Type 0} → ℕ → State → Option (List ℕ) → Result T ReplayFault → List ℕ → List ℕ → Type 0
 Runs number s left (Ok x) taken written = Ends number s left (Ok x) taken written
