@@ -14,8 +14,6 @@ mod output;
 mod replay;
 mod session;
 mod status;
-#[cfg(test)]
-mod tests;
 mod texts;
 
 pub use fault::{FaultKind, ReplayFault};

@@ -1,6 +1,6 @@
 //! Whole scripts, readers and writers that fail, refused memory.
 
-use crate::{CAPACITY_LIMIT, FaultKind, ReplayFault, report, run};
+use dq_replay::{CAPACITY_LIMIT, FaultKind, ReplayFault, report, run};
 use linked_list_allocator::LocalHeap;
 use std::alloc::{AllocError, Global};
 use std::io;
