@@ -14,6 +14,7 @@ mod sample;
 use anyhow::{Result, bail};
 use asked::{Asked, ROWS, Timed};
 use load::{Load, Row};
+use plan::SplitMix64;
 use queues::{Issues, Owned, Queue, Shared};
 use sample::Sample;
 use std::env;
@@ -56,6 +57,7 @@ fn small<R>(rt: &R) -> Result<()>
 where
     R: Clock + Print + AllocGlobal + Threads + Wait + Clone + Drop + Send + 'static,
 {
+    print_draws(rt)?;
     for (name, row) in ROWS {
         small_row(rt, "ours-owned", name, row, Owned::new(rt.alloc(), SMALL)?)?;
         small_row(rt, "ours", name, row, Shared::new(rt.alloc(), SMALL)?)?;
@@ -77,6 +79,16 @@ where
         ..
     } = sample;
     println!(rt; "ours callers {SMALL} {SMALL_CALLERS} {operations} {counts}")?;
+    Ok(())
+}
+
+/// The first numbers of the generator from 1234567, to be compared with those that its authors' C code prints.
+fn print_draws<R: Print + AllocGlobal>(rt: &R) -> Result<()> {
+    let mut draws = SplitMix64::new(1_234_567);
+    for _ in 0..5 {
+        let drawn = draws.draw();
+        println!(rt; "drawn from 1234567: {drawn}")?;
+    }
     Ok(())
 }
 
