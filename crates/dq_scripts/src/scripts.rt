@@ -2,6 +2,7 @@
 
 use dq_replay::{CAPACITY_LIMIT, FaultKind, ReplayFault, report, run};
 use linked_list_allocator::LocalHeap;
+use refusing_heap::RefusingHeap;
 use std::alloc::{AllocError, Global};
 use std::io;
 use std::io::{Read, Write};
@@ -416,29 +417,52 @@ fn endless_line(rt: HostRuntime) {
     assert!(rt; written.is_empty());
 }
 
-/// A heap too small, then one a little larger, until a run meets no refusal.
+/// Runs a script again and again, each time with the next of its allocations refused, until none is. A refused run ends
+/// between two answers; how often it ended elsewhere than the run before is told.
+fn refuse_each_allocation<R: Abort>(
+    rt: &R,
+    alloc: Global,
+    capacity: usize,
+    input: &[u8],
+    answers: &[u8],
+) -> Result<usize, Fail> {
+    let mut ends = 0;
+    let mut answered = 0;
+    for grants in 0..1000 {
+        let all = LocalHeap::new(alloc, 1 << 16)?;
+        let heap = RefusingHeap::new(&all, grants);
+        let mut reader = input;
+        let mut written = Vec::new(alloc);
+        let end = run(&heap, &mut reader, &mut written, capacity);
+        assert_eq!(rt; all.used(), 0);
+        assert!(rt; answers.starts_with(&written));
+        if !heap.has_refused() {
+            assert_eq!(rt; end, Ok(()));
+            assert!(rt; written.len() == answers.len());
+            return Ok(ends);
+        }
+        assert_eq!(rt; end, Err(ReplayFault::NoMemory));
+        assert!(rt; written.is_empty() || written.ends_with(b"\n"));
+        if grants == 0 || written.len() > answered {
+            ends = ends.saturating_add(1);
+        }
+        answered = written.len();
+    }
+    assert!(rt; false, "each run was refused");
+    Ok(ends)
+}
+
+/// Each of the eight commands' answers is refused once, so the refused runs end behind each answer but the last.
 #[test]
 fn refused_memory(rt: HostRuntime) -> Result<(), Fail> {
     let input =
         b"delay 1\ninsert a 5\ninsert aaaaaaaaaaaaaaaaaaaaaaaaaaaaaaaa 5\ninsert b 3\ninsert c 4\ninsert d 4\ninsert e 4\ntick 4\ntick 9\n";
     let answers =
-        b"a at 5\naaaaaaaaaaaaaaaaaaaaaaaaaaaaaaaa at 5\nb at 3\nc at 4\nd at 4\ne at 4\nb expired 3\nc expired 4\nd expired 4\ne expired 4\ntick 4\na expired 5\naaaaaaaaaaaaaaaaaaaaaaaaaaaaaaaa expired 5\ntick 9\n".as_slice();
-    for size in 0..4000 {
-        let heap = LocalHeap::new(rt.alloc(), 16 * size)?;
-        let mut reader = input.as_slice();
-        let mut written = Vec::new(rt.alloc());
-        let end = run(&heap, &mut reader, &mut written, 6);
-        assert_eq!(rt; heap.used(), 0);
-        if end == Ok(()) {
-            assert!(rt; written.as_slice() == answers);
-            assert!(rt; size > 10);
-            return Ok(());
-        }
-        assert_eq!(rt; end, Err(ReplayFault::NoMemory));
-        assert!(rt; answers.starts_with(&written));
-        assert!(rt; written.is_empty() || written.ends_with(b"\n"));
-    }
-    assert!(rt; false, "no heap was large enough");
+        b"a at 5\naaaaaaaaaaaaaaaaaaaaaaaaaaaaaaaa at 5\nb at 3\nc at 4\nd at 4\ne at 4\nb expired 3\nc expired 4\nd expired 4\ne expired 4\ntick 4\na expired 5\naaaaaaaaaaaaaaaaaaaaaaaaaaaaaaaa expired 5\ntick 9\n";
+    assert_eq!(rt;
+        refuse_each_allocation(&rt, rt.alloc(), 6, input, answers)?,
+        8
+    );
     Ok(())
 }
 
@@ -626,26 +650,16 @@ fn every_command_in_both_editions(rt: HostRuntime) -> Result<(), Fail> {
     Ok(())
 }
 
-/// A heap too small for every command, then one a little larger, until a run meets no refusal.
+/// Each of the 25 commands' answers is refused once, in both editions.
 #[test]
 fn refused_memory_at_every_command(rt: HostRuntime) -> Result<(), Fail> {
-    let mut input = Vec::from_slice(rt.alloc(), b"delay 2\n".as_slice())?;
-    input.extend_from_slice(EVERY_COMMAND)?;
-    for size in 0..4000 {
-        let heap = LocalHeap::new(rt.alloc(), 16 * size)?;
-        let mut reader = input.as_slice();
-        let mut written = Vec::new(rt.alloc());
-        let end = run(&heap, &mut reader, &mut written, 2);
-        assert_eq!(rt; heap.used(), 0);
-        if end == Ok(()) {
-            assert!(rt; written.as_slice() == EVERY_ANSWER);
-            assert!(rt; size > 10);
-            return Ok(());
-        }
-        assert_eq!(rt; end, Err(ReplayFault::NoMemory));
-        assert!(rt; EVERY_ANSWER.starts_with(&written));
-        assert!(rt; written.is_empty() || written.ends_with(b"\n"));
+    for header in [b"delay 1\n".as_slice(), b"delay 2\n".as_slice()] {
+        let mut input = Vec::from_slice(rt.alloc(), header)?;
+        input.extend_from_slice(EVERY_COMMAND)?;
+        assert_eq!(rt;
+            refuse_each_allocation(&rt, rt.alloc(), 2, &input, EVERY_ANSWER)?,
+            25
+        );
     }
-    assert!(rt; false, "no heap was large enough");
     Ok(())
 }
