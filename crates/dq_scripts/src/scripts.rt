@@ -418,7 +418,7 @@ fn endless_line(rt: HostRuntime) {
 }
 
 /// Runs a script again and again, each time with the next of its allocations refused, until none is. A refused run ends
-/// between two answers; how often it ended elsewhere than the run before is told.
+/// between two answers; answers how often it ended later than the run before, the first run counted too.
 fn refuse_each_allocation<R: Abort>(
     rt: &R,
     alloc: Global,
@@ -452,7 +452,7 @@ fn refuse_each_allocation<R: Abort>(
     Ok(ends)
 }
 
-/// Each of the eight commands' answers is refused once, so the refused runs end behind each answer but the last.
+/// Each of the eight commands takes memory, so the refused runs end before the first answer and behind each but the last.
 #[test]
 fn refused_memory(rt: HostRuntime) -> Result<(), Fail> {
     let input =
@@ -650,7 +650,7 @@ fn every_command_in_both_editions(rt: HostRuntime) -> Result<(), Fail> {
     Ok(())
 }
 
-/// Each of the 25 commands' answers is refused once, in both editions.
+/// Each of the 25 commands takes memory, in both editions.
 #[test]
 fn refused_memory_at_every_command(rt: HostRuntime) -> Result<(), Fail> {
     for header in [b"delay 1\n".as_slice(), b"delay 2\n".as_slice()] {

@@ -15,6 +15,7 @@ module _ (Z : Al) where
   abbrev pub receiver : Slot 2
   receiver = RefOf (0 ∷ []) tt (plain (λ _. heap.the_row (param 0 Z.row))) (λ _. tt)
 
+  -- where the fields lie: `inner` first, and behind it `grants`, which is aligned to 8 since it holds a u64
   abbrev pub inner_at : ℕ × ℕ → ℕ × ℕ
   inner_at p = (p.0, p.1 + up (align (α Z)) 0)
 
@@ -27,5 +28,6 @@ number = plain (λ _. usize)
 abbrev pub pointer : Slot 2
 pointer = plain (λ _. RawPtr)
 
+-- the size and the alignment that a request names are those of a type
 abbrev pub Asked : Ty → ℕ → ℕ → Type 0
 Asked τ n a = (capped (size τ) ≡ n) × (capped (align τ) ≡ a)

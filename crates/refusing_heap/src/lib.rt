@@ -8,7 +8,7 @@ use std::cell::Cell;
 /// How many allocations are granted before one is refused.
 #[derive(Drop)]
 struct Grants {
-    /// Nothing behind the refusal.
+    /// `None` once an allocation was refused.
     left: Cell<Option<u64>>,
 }
 
