@@ -2,7 +2,7 @@
 //! written once, for plain words and for shared ones, and is short to prove.
 
 use dq_core::{
-    CallError, CoreConfig, CoreError, DelayCore, Desk, Look, Tally, Turn, VecWords, Words,
+    CallError, CoreConfig, CoreError, DelayCore, Look, SharedWords, Tally, Turn, VecWords, Words,
 };
 use dq_ticks::{EntryId, Key};
 use dq_wheel::Place;

@@ -1,7 +1,7 @@
 use crate::queues::{Queue, shared};
 use crate::rows;
 use crate::worked::{Row, over_plain, over_shared};
-use dq_core::{CallError, Desk, Look};
+use dq_core::{CallError, Look, SharedWords};
 use dq_ticks::LAST_STAMP;
 use dq_words::{Caller, Keeper};
 use std::process::Abort;

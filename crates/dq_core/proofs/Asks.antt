@@ -8,19 +8,19 @@ use Rattle.dq_wheel.specs.Places.{place_for}
 use Rattle.dq_core.specs.declared.slots.Held.{Held}
 use Rattle.dq_core.specs.Words.{word_at}
 use Rattle.dq_core.specs.Slots.{Row, row_at, IsBorn}
-use Rattle.dq_core.specs.Machine.{Entry, slot_at, Has}
+use Rattle.dq_core.specs.Machine.{Entry, table_at, Has}
 use Rattle.dq_core.specs.Core.{Core, machine, IsLawfulCore, due_by, entry_of}
 use Rattle.dq_core.specs.Calls.{IsFound, IsLinked}
 use Rattle.dq_core.specs.Readers.{TellsLeast, TellsPlace, TellsFiled}
 use Rattle.dq_core.proofs.Law.{filed_is}
-use Rattle.dq_core.proofs.Ways.{slot_is, length-slots}
+use Rattle.dq_core.proofs.Ways.{table_row_is, length-table}
 use Rattle.dq_core.proofs.Finds.{found_filed}
 
 -- the entry at a held slot
-entry_at : {T W : Type 0} (b : Core T W) → IsLawfulCore b → (i : ℕ) (h : Held T) → i < length b.shelf.rows → (row_at b.shelf.rows i).held ≡ Some h → (e : Entry T) × Has (machine b) i e × (e.born ≡ h.born)
+entry_at : {T W : Type 0} (b : Core T W) → IsLawfulCore b → (i : ℕ) (h : Held T) → i < length b.slots.rows → (row_at b.slots.rows i).held ≡ Some h → (e : Entry T) × Has (machine b) i e × (e.born ≡ h.born)
 entry_at b l i h inside held =
     let w = word_at b.known i in
-    (record { born = h.born; value = h.value; due = due_by w.mark w.field }, (omega (arith, length-slots b.shelf.rows b.known l.as_known, inside), ap (λ s. s.entry) (slot_is b.shelf.rows b.known l.as_known i) ∙ ap (λ o. entry_of o w) held), refl)
+    (record { born = h.born; value = h.value; due = due_by w.mark w.field }, (omega (arith, length-table b.slots.rows b.known l.as_known, inside), ap (λ s. s.entry) (table_row_is b.slots.rows b.known l.as_known i) ∙ ap (λ o. entry_of o w) held), refl)
 
 -- an entry that is found is linked
 pub linked_of : {T W : Type 0} (b : Core T W) → IsLawfulCore b → (id : EntryId) (i : ℕ) → IsFound b id i → IsLinked b id
@@ -39,14 +39,14 @@ tells_filed b l id i None found is =
     absurd (cc)
 tells_filed b l id i (Some f) found is = (linked_of b l id i found, ap (λ n. filed_at b.wheel.filing.filed n) (sym found.1) ∙ sym is)
 
-pub tells_least : {T W : Type 0} (b : Core T W) → IsLawfulCore b → (i born stamp : ℕ) (id : EntryId) (k : Key) → IsLeast b.wheel.filing.filed i → IsBorn (row_at b.shelf.rows i) (Some born) → stamp ≡ (row_at b.shelf.rows i).stamp → id ≡ record { shard = b.shard; index = i; born = born } → k ≡ record { entry = id; stamp = stamp } → TellsLeast b (Some k)
+pub tells_least : {T W : Type 0} (b : Core T W) → IsLawfulCore b → (i born stamp : ℕ) (id : EntryId) (k : Key) → IsLeast b.wheel.filing.filed i → IsBorn (row_at b.slots.rows i) (Some born) → stamp ≡ (row_at b.slots.rows i).stamp → id ≡ record { shard = b.shard; index = i; born = born } → k ≡ record { entry = id; stamp = stamp } → TellsLeast b (Some k)
 tells_least {T} b l i born stamp id k least held es eid ek =
     let at = filed_is l i least.0 least.2 in
     let entry = entry_at b l i held.0 at.inside held.1 in
     let ki : k.entry.index ≡ i = ap (λ x. x.entry.index) ek ∙ ap (λ x. x.index) eid in
     let kb : k.entry.born ≡ born = ap (λ x. x.entry.born) ek ∙ ap (λ x. x.born) eid in
     let ks : k.entry.shard ≡ b.shard = ap (λ x. x.entry.shard) ek ∙ ap (λ x. x.shard) eid in
-    let stamps : (slot_at (machine b) i).stamp ≡ k.stamp = ap (λ s. s.stamp) (slot_is b.shelf.rows b.known l.as_known i) ∙ sym es ∙ sym (ap (λ x. x.stamp) ek) in
+    let stamps : (table_at (machine b) i).stamp ≡ k.stamp = ap (λ s. s.stamp) (table_row_is b.slots.rows b.known l.as_known i) ∙ sym es ∙ sym (ap (λ x. x.stamp) ek) in
     rw (ki, kb, ks) ((refl, (entry.0, entry.1, entry.2 ∙ held.2)), stamps, least)
 
 -- a birth stamp that is told

@@ -9,12 +9,12 @@ use Rattle.dq_core.specs.declared.slots.Held.{Held}
 use Rattle.dq_core.specs.Words.{Counts, word_at, Learned, IsChanged, live, cancelled, removed, finished_counts}
 use Rattle.dq_core.specs.Slots.{Row, unused, row_at, is_held, vacated}
 use Rattle.dq_core.specs.Machine.{Machine, Event, Note, Pass, Insert, Reset, Extend, Cancel, Remove, Reap, Expire, Step, Callers, IsCallers, IsClearing, removes}
-use Rattle.dq_core.specs.Core.{Core, machine, entry_of, slots_of, IsLawfulCore}
+use Rattle.dq_core.specs.Core.{Core, machine, entry_of, table_of, IsLawfulCore}
 use Rattle.dq_core.specs.Calls.{SameCore}
 use Rattle.dq_core.specs.Sweeps.{removed_counts, RunOfClear, IsCleared, AreEnded, IsEmptied, Clears}
 use Rattle.dq_core.proofs.Law.{Filed}
 use Rattle.dq_core.proofs.Ways.{run_more, all_more, all_into, callers_clearing}
-use Rattle.dq_core.proofs.Leaving.{IsGone, gone, out_more, out_none, out_one, vacated_here, row_other, word_other, past_slots, same_more}
+use Rattle.dq_core.proofs.Leaving.{IsGone, gone, out_more, out_none, out_one, vacated_here, row_other, word_other, past_table, same_more}
 
 -- how many of two lists of events are removals
 removes_more : {T : Type 0} (es fs : List (Event T)) → removes (es ++ fs) ≡ removes es + removes fs
@@ -54,25 +54,25 @@ clear_callers shared last m n a =
     (a.0, all_into (IsCallers shared) (IsClearing shared) (callers_clearing shared) a.0 a.1, a.2, removes_none shared a.0 a.1)
 
 -- one held slot, whose word was finished
-module _ {T W : Type 0} (shared : Bool) (b c : Core T W) (l : IsLawfulCore b) (i f : ℕ) (at : Filed b.wheel.filing.tick b.shelf.last_stamp b.shelf.rows b.known b.wheel.filing.filed i f) (stamp : ℕ) (es : stamp ≡ (row_at b.shelf.rows i).stamp) (ew : c.wheel.filing ≡ unlinked b.wheel.filing i) (eh : c.shelf ≡ vacated b.shelf i) (ek : c.known ≡ set b.known i (word_at c.known i)) (en : c.noted ≡ b.noted) where
+module _ {T W : Type 0} (shared : Bool) (b c : Core T W) (l : IsLawfulCore b) (i f : ℕ) (at : Filed b.wheel.filing.tick b.slots.last_stamp b.slots.rows b.known b.wheel.filing.filed i f) (stamp : ℕ) (es : stamp ≡ (row_at b.slots.rows i).stamp) (ew : c.wheel.filing ≡ unlinked b.wheel.filing i) (eh : c.slots ≡ vacated b.slots i) (ek : c.known ≡ set b.known i (word_at c.known i)) (en : c.noted ≡ b.noted) where
   -- what was known of its word is changed
-  cleared : (o : Option ℕ) → IsChanged shared stamp (removed stamp) (word_at b.known i) o (word_at c.known i) → IsCleared shared (row_at b.shelf.rows i) (word_at b.known i) (word_at c.known i)
+  cleared : (o : Option ℕ) → IsChanged shared stamp (removed stamp) (word_at b.known i) o (word_at c.known i) → IsCleared shared (row_at b.slots.rows i) (word_at b.known i) (word_at c.known i)
   cleared o changed =
       let P : ℕ → Type 0 = λ s. IsChanged shared s (removed s) (word_at b.known i) o (word_at c.known i) in
-      let held : is_held (row_at b.shelf.rows i) ≡ true = ap is_some at.is_held in
+      let held : is_held (row_at b.slots.rows i) ≡ true = ap is_some at.is_held in
       (λ is. (o, subst P es changed), λ none. absurd (false≢true (sym none ∙ held)))
 
-  others : (j : ℕ) → j ≢ i → (row_at c.shelf.rows j ≡ row_at b.shelf.rows j) × (word_at c.known j ≡ word_at b.known j)
+  others : (j : ℕ) → j ≢ i → (row_at c.slots.rows j ≡ row_at b.slots.rows j) × (word_at c.known j ≡ word_at b.known j)
   others j ne = (row_other shared b c l i f at eh j ne, word_other shared b c l i f at (word_at c.known i) ek j ne)
 
-  emptied_by : (r : Bool) (v : Parts) (e : Event T) (o : Option ℕ) (g : IsGone shared b i at.held v c) → IsClearing shared e → Step b.shelf.last_stamp g.learned e (machine c) → removes (e ∷ []) ≡ cond r 1 0 → c.counts ≡ removed_counts b.counts (cond r 1 0) → IsChanged shared stamp (removed stamp) (word_at b.known i) o (word_at c.known i) → IsEmptied shared b i r c
+  emptied_by : (r : Bool) (v : Parts) (e : Event T) (o : Option ℕ) (g : IsGone shared b i at.held v c) → IsClearing shared e → Step b.slots.last_stamp g.learned e (machine c) → removes (e ∷ []) ≡ cond r 1 0 → c.counts ≡ removed_counts b.counts (cond r 1 0) → IsChanged shared stamp (removed stamp) (word_at b.known i) o (word_at c.known i) → IsEmptied shared b i r c
   emptied_by r v e o g is step size ec changed =
-      let one : RunOfClear shared b.shelf.last_stamp g.learned (cond r 1 0) (machine c) = (e ∷ [], (is, tt), (machine c, step, refl), size) in
+      let one : RunOfClear shared b.slots.last_stamp g.learned (cond r 1 0) (machine c) = (e ∷ [], (is, tt), (machine c, step, refl), size) in
       record {
         ended = (
           i ∷ [],
           record {
-            run = clear_more shared b.shelf.last_stamp (machine b) g.learned (machine c) 0 (cond r 1 0) (cond r 1 0) (clear_callers shared b.shelf.last_stamp (machine b) g.learned g.callers) one (omega arith);
+            run = clear_more shared b.slots.last_stamp (machine b) g.learned (machine c) 0 (cond r 1 0) (cond r 1 0) (clear_callers shared b.slots.last_stamp (machine b) g.learned g.callers) one (omega arith);
             out = out_one b c i at.held at.is_held ew eh en;
             counts = ec;
           },
@@ -86,7 +86,7 @@ module _ {T W : Type 0} (shared : Bool) (b c : Core T W) (l : IsLawfulCore b) (i
   pub emptied_live : (d : ℕ) → IsChanged shared stamp (removed stamp) (word_at b.known i) (Some d) (word_at c.known i) → c.counts ≡ finished_counts b.counts (Some d) → IsEmptied shared b i true c
   emptied_live d changed ec =
       let P : ℕ → Type 0 = λ s. Learned shared (word_at b.known i) (live s d) in
-      let v = live (row_at b.shelf.rows i).stamp d in
+      let v = live (row_at b.slots.rows i).stamp d in
       let g = gone shared b c l i f at v (word_at c.known i) (subst P es changed.0) ew eh ek en in
       emptied_by true v (Remove i at.held.born) (Some d) g tt (record { born = at.held.born; value = at.held.value; due = Some d }, d, g.has, refl, refl, g.put) refl ec changed
 
@@ -94,7 +94,7 @@ module _ {T W : Type 0} (shared : Bool) (b c : Core T W) (l : IsLawfulCore b) (i
   pub emptied_cancelled : IsChanged shared stamp (removed stamp) (word_at b.known i) None (word_at c.known i) → c.counts ≡ finished_counts b.counts None → IsEmptied shared b i false c
   emptied_cancelled changed ec =
       let P : ℕ → Type 0 = λ s. Learned shared (word_at b.known i) (cancelled s) in
-      let v = cancelled (row_at b.shelf.rows i).stamp in
+      let v = cancelled (row_at b.slots.rows i).stamp in
       let g = gone shared b c l i f at v (word_at c.known i) (subst P es changed.0) ew eh ek en in
       let none : c.counts ≡ removed_counts b.counts 0 = ec ∙ ap (λ n. let x : Counts = record { begins = b.counts.begins; expiries = b.counts.expiries; removals = n } in x) (omega arith) in
       emptied_by false v (Reap i at.held.born) None g tt (record { born = at.held.born; value = at.held.value; due = None }, g.has, refl, refl, g.put) refl none changed
@@ -104,9 +104,9 @@ pub record IsOnClear {T W : Type 0} (shared : Bool) (b : Core T W) (i n : ℕ) (
   pub same : SameCore b c
   pub few : n ≤ i
   pub ended : (is : List ℕ) × AreEnded shared b is n c
-  pub words : (j : ℕ) → j < i → IsCleared shared (row_at b.shelf.rows j) (word_at b.known j) (word_at c.known j)
-  pub none : (j : ℕ) → j < i → (row_at c.shelf.rows j).held ≡ None
-  pub rest : (j : ℕ) → i ≤ j → (row_at c.shelf.rows j ≡ row_at b.shelf.rows j) × (word_at c.known j ≡ word_at b.known j)
+  pub words : (j : ℕ) → j < i → IsCleared shared (row_at b.slots.rows j) (word_at b.known j) (word_at c.known j)
+  pub none : (j : ℕ) → j < i → (row_at c.slots.rows j).held ≡ None
+  pub rest : (j : ℕ) → i ≤ j → (row_at c.slots.rows j ≡ row_at b.slots.rows j) × (word_at c.known j ≡ word_at b.known j)
 
 counts_none : (c : Counts) → c ≡ removed_counts c 0
 counts_none c = ap (λ n. let x : Counts = record { begins = c.begins; expiries = c.expiries; removals = n } in x) (omega arith)
@@ -130,7 +130,7 @@ ended_more : {T W : Type 0} (shared : Bool) (a b c : Core T W) (is js : List ℕ
 ended_more shared a b c is js n m k same x y e =
     let P : ℕ → Type 0 = λ s. RunOfClear shared s (machine b) m (machine c) in
     record {
-      run = clear_more shared a.shelf.last_stamp (machine a) (machine b) (machine c) n m k x.run (subst P same.1 y.run) e;
+      run = clear_more shared a.slots.last_stamp (machine a) (machine b) (machine c) n m k x.run (subst P same.1 y.run) e;
       out = out_more a b c is js x.out y.out;
       counts = counts_more a.counts b.counts c.counts n m k x.counts y.counts e;
     }
@@ -145,17 +145,17 @@ clear_on shared b cur c i n m r to same emptied em few =
           elim (cases_eq j i) [
             | inl eq ↦
                 let was = to.rest i (omega arith) in
-                let P : ℕ → Type 0 = λ k. IsCleared shared (row_at b.shelf.rows k) (word_at b.known k) (word_at c.known k) in
+                let P : ℕ → Type 0 = λ k. IsCleared shared (row_at b.slots.rows k) (word_at b.known k) (word_at c.known k) in
                 let Q : Row _ → Type 0 = λ x. IsCleared shared x (word_at b.known i) (word_at c.known i) in
-                let R : Parts → Type 0 = λ x. IsCleared shared (row_at cur.shelf.rows i) x (word_at c.known i) in
+                let R : Parts → Type 0 = λ x. IsCleared shared (row_at cur.slots.rows i) x (word_at c.known i) in
                 subst P (sym eq) (subst Q was.0 (subst R was.1 emptied.word))
             | inr ne ↦
-                let P : Parts → Type 0 = λ x. IsCleared shared (row_at b.shelf.rows j) (word_at b.known j) x in
+                let P : Parts → Type 0 = λ x. IsCleared shared (row_at b.slots.rows j) (word_at b.known j) x in
                 subst P (sym (emptied.other j ne).1) (to.words j (omega arith))
           ];
       none = λ j less.
           elim (cases_eq j i) [
-            | inl eq ↦ let P : ℕ → Type 0 = λ k. (row_at c.shelf.rows k).held ≡ None in subst P (sym eq) emptied.here
+            | inl eq ↦ let P : ℕ → Type 0 = λ k. (row_at c.slots.rows k).held ≡ None in subst P (sym eq) emptied.here
             | inr ne ↦ ap (λ x. x.held) (emptied.other j ne).0 ∙ to.none j (omega arith)
           ];
       rest = λ j more.
@@ -170,13 +170,13 @@ entry_empty None w e = refl
 entry_empty (Some h) w e = absurd (cc)
 
 -- where nothing is held, nothing is linked
-slot_empty : {T : Type 0} (rows : List (Row T)) (known : List Parts) (i : ℕ) → (row_at rows i).held ≡ None → (get_or (slots_of rows known) i (record { stamp = 0; entry = None })).entry ≡ None
-slot_empty [] ws i e = refl
-slot_empty (r ∷ rs) [] i e = refl
-slot_empty (r ∷ rs) (w ∷ ws) zero e = entry_empty r.held w e
-slot_empty (r ∷ rs) (w ∷ ws) (suc i) e = slot_empty rs ws i e
+table_empty : {T : Type 0} (rows : List (Row T)) (known : List Parts) (i : ℕ) → (row_at rows i).held ≡ None → (get_or (table_of rows known) i (record { stamp = 0; entry = None })).entry ≡ None
+table_empty [] ws i e = refl
+table_empty (r ∷ rs) [] i e = refl
+table_empty (r ∷ rs) (w ∷ ws) zero e = entry_empty r.held w e
+table_empty (r ∷ rs) (w ∷ ws) (suc i) e = table_empty rs ws i e
 
-pub clear_ends : {T W : Type 0} (shared : Bool) (b c : Core T W) (i n : ℕ) → IsOnClear shared b i n c → length b.shelf.rows ≤ i → Clears shared b n c
+pub clear_ends : {T W : Type 0} (shared : Bool) (b c : Core T W) (i n : ℕ) → IsOnClear shared b i n c → length b.slots.rows ≤ i → Clears shared b n c
 clear_ends shared b c i n to past =
     record {
       ended = to.ended;
@@ -184,12 +184,12 @@ clear_ends shared b c i n to past =
           elim (cases_lt j i) [
             | inl less ↦ to.words j less
             | inr more ↦
-                let gone : row_at b.shelf.rows j ≡ unused = get_or_past b.shelf.rows j unused (omega arith) in
+                let gone : row_at b.slots.rows j ≡ unused = get_or_past b.slots.rows j unused (omega arith) in
                 (λ is. absurd (false≢true (sym (ap is_held gone) ∙ is)), λ is. (to.rest j more).1)
           ];
       none = λ j.
           elim (cases_lt j i) [
-            | inl less ↦ slot_empty c.shelf.rows c.known j (to.none j less)
-            | inr more ↦ let size = to.same.2 in past_slots c j (omega arith)
+            | inl less ↦ table_empty c.slots.rows c.known j (to.none j less)
+            | inr more ↦ let size = to.same.2 in past_table c j (omega arith)
           ];
     }

@@ -12,7 +12,7 @@ use Rattle.dq_ticks.specs.Units.{lap}
 use Rattle.dq_wheel.specs.State.{Filing, filed_at, unlinked}
 use Rattle.dq_core.specs.declared.slots.Held.{Held}
 use Rattle.dq_core.specs.Words.{Counts, word_at, never, IsOver, IsInForce, Learned, live, cancelled}
-use Rattle.dq_core.specs.Slots.{Row, Shelf, unused, row_at, is_held, vacated, vacated_row}
+use Rattle.dq_core.specs.Slots.{Row, SlotRows, unused, row_at, is_held, vacated, vacated_row}
 use Rattle.dq_core.proofs.Slotwise.{changed_set, slots_change, count_set, stamps_set, one_held, one}
 use Rattle.dq_core.specs.Core.{IsPlaced, IsSlot, IsLawful}
 
@@ -20,14 +20,14 @@ few_by : (n last begins : ℕ) → begins ≤ n * last → n ≤ 65536 → last 
 few_by n last begins h small low = grind arith
 
 -- too few entries were begun to overflow
-pub few : {T : Type 0} {noted : ℕ} {wheel : Filing} {shelf : Shelf T} {known : List Parts} {counts : Counts} → IsLawful noted wheel shelf known counts → counts.begins ≤ 65536 * LAST_STAMP
-few {T} {noted} {wheel} {shelf} {known} {counts} l =
-    let bound : sum_by (λ r. r.stamp) shelf.rows ≤ length shelf.rows * shelf.last_stamp =
-    sum_by-le (λ r. r.stamp) shelf.last_stamp shelf.rows (All-from_get_or (λ r. r.stamp ≤ shelf.last_stamp) shelf.rows unused (λ i inside. (l.slots i inside).bound)) in
+pub few : {T : Type 0} {noted : ℕ} {wheel : Filing} {slots : SlotRows T} {known : List Parts} {counts : Counts} → IsLawful noted wheel slots known counts → counts.begins ≤ 65536 * LAST_STAMP
+few {T} {noted} {wheel} {slots} {known} {counts} l =
+    let bound : sum_by (λ r. r.stamp) slots.rows ≤ length slots.rows * slots.last_stamp =
+    sum_by-le (λ r. r.stamp) slots.last_stamp slots.rows (All-from_get_or (λ r. r.stamp ≤ slots.last_stamp) slots.rows unused (λ i inside. (l.each i inside).bound)) in
     let size = l.capacity in
     let last = l.last_bound in
     let stamps = l.stamps in
-    few_by (length shelf.rows) shelf.last_stamp counts.begins (omega (arith, bound, stamps)) size last
+    few_by (length slots.rows) slots.last_stamp counts.begins (omega (arith, bound, stamps)) size last
 
 -- what is filed lies in range
 pub filed_inside : (filed : List (Option ℕ)) (i f : ℕ) → get_or filed i None ≡ Some f → i < length filed
@@ -60,22 +60,22 @@ placed_held : {T : Type 0} (tick noted stamp : ℕ) (w : Parts) (o : Option ℕ)
 placed_held tick noted stamp w None h p = absurd p
 placed_held tick noted stamp w (Some f) h p = (f, refl)
 
-pub filed_is : {T : Type 0} {noted : ℕ} {wheel : Filing} {shelf : Shelf T} {known : List Parts} {counts : Counts} → IsLawful noted wheel shelf known counts → (i f : ℕ) → filed_at wheel.filed i ≡ Some f → Filed wheel.tick shelf.last_stamp shelf.rows known wheel.filed i f
-filed_is {T} {noted} {wheel} {shelf} {known} {counts} l i f e =
+pub filed_is : {T : Type 0} {noted : ℕ} {wheel : Filing} {slots : SlotRows T} {known : List Parts} {counts : Counts} → IsLawful noted wheel slots known counts → (i f : ℕ) → filed_at wheel.filed i ≡ Some f → Filed wheel.tick slots.last_stamp slots.rows known wheel.filed i f
+filed_is {T} {noted} {wheel} {slots} {known} {counts} l i f e =
     let size = l.as_filed in
     let within : i < length wheel.filed = filed_inside wheel.filed i f e in
-    let inside : i < length shelf.rows = omega arith in
-    let s = l.slots i inside in
-    let P : Option ℕ → Type 0 = λ o. IsPlaced wheel.tick noted (row_at shelf.rows i).stamp (row_at shelf.rows i).held (word_at known i) o in
-    let p = placed_some wheel.tick noted (row_at shelf.rows i).stamp (row_at shelf.rows i).held (word_at known i) f (subst P e s.placed) in
+    let inside : i < length slots.rows = omega arith in
+    let s = l.each i inside in
+    let P : Option ℕ → Type 0 = λ o. IsPlaced wheel.tick noted (row_at slots.rows i).stamp (row_at slots.rows i).held (word_at known i) o in
+    let p = placed_some wheel.tick noted (row_at slots.rows i).stamp (row_at slots.rows i).held (word_at known i) f (subst P e s.placed) in
     record { inside = inside; held = p.0; is_held = p.1; is_filed = e; in_force = p.2; ahead = p.3; near = p.4; born = p.5; stamp = s.stamp; bound = s.bound }
 
 -- the same, from what is held
-pub held_filed : {T : Type 0} {noted : ℕ} {wheel : Filing} {shelf : Shelf T} {known : List Parts} {counts : Counts} → IsLawful noted wheel shelf known counts → (i : ℕ) (h : Held T) → i < length shelf.rows → (row_at shelf.rows i).held ≡ Some h → (f : ℕ) × Filed wheel.tick shelf.last_stamp shelf.rows known wheel.filed i f
-held_filed {T} {noted} {wheel} {shelf} {known} {counts} l i h inside e =
-    let s = l.slots i inside in
-    let P : Option (Held T) → Type 0 = λ o. IsPlaced wheel.tick noted (row_at shelf.rows i).stamp o (word_at known i) (filed_at wheel.filed i) in
-    let p = placed_held wheel.tick noted (row_at shelf.rows i).stamp (word_at known i) (filed_at wheel.filed i) h (subst P e s.placed) in
+pub held_filed : {T : Type 0} {noted : ℕ} {wheel : Filing} {slots : SlotRows T} {known : List Parts} {counts : Counts} → IsLawful noted wheel slots known counts → (i : ℕ) (h : Held T) → i < length slots.rows → (row_at slots.rows i).held ≡ Some h → (f : ℕ) × Filed wheel.tick slots.last_stamp slots.rows known wheel.filed i f
+held_filed {T} {noted} {wheel} {slots} {known} {counts} l i h inside e =
+    let s = l.each i inside in
+    let P : Option (Held T) → Type 0 = λ o. IsPlaced wheel.tick noted (row_at slots.rows i).stamp o (word_at known i) (filed_at wheel.filed i) in
+    let p = placed_held wheel.tick noted (row_at slots.rows i).stamp (word_at known i) (filed_at wheel.filed i) h (subst P e s.placed) in
     (p.0, filed_is l i p.0 p.1)
 
 -- what the law says of a slot where nothing is held
@@ -83,11 +83,11 @@ placed_none : (T : Type 0) (tick noted stamp : ℕ) (w : Parts) (o : Option ℕ)
 placed_none T tick noted stamp w None p = (refl, p.0)
 placed_none T tick noted stamp w (Some f) p = absurd p
 
-pub loose_is : {T : Type 0} {noted : ℕ} {wheel : Filing} {shelf : Shelf T} {known : List Parts} {counts : Counts} → IsLawful noted wheel shelf known counts → (i : ℕ) → i < length shelf.rows → (row_at shelf.rows i).held ≡ None → (filed_at wheel.filed i ≡ None) × IsOver (word_at known i)
-loose_is {T} {noted} {wheel} {shelf} {known} {counts} l i inside e =
-    let s = l.slots i inside in
-    let P : Option (Held T) → Type 0 = λ o. IsPlaced wheel.tick noted (row_at shelf.rows i).stamp o (word_at known i) (filed_at wheel.filed i) in
-    placed_none T wheel.tick noted (row_at shelf.rows i).stamp (word_at known i) (filed_at wheel.filed i) (subst P e s.placed)
+pub loose_is : {T : Type 0} {noted : ℕ} {wheel : Filing} {slots : SlotRows T} {known : List Parts} {counts : Counts} → IsLawful noted wheel slots known counts → (i : ℕ) → i < length slots.rows → (row_at slots.rows i).held ≡ None → (filed_at wheel.filed i ≡ None) × IsOver (word_at known i)
+loose_is {T} {noted} {wheel} {slots} {known} {counts} l i inside e =
+    let s = l.each i inside in
+    let P : Option (Held T) → Type 0 = λ o. IsPlaced wheel.tick noted (row_at slots.rows i).stamp o (word_at known i) (filed_at wheel.filed i) in
+    placed_none T wheel.tick noted (row_at slots.rows i).stamp (word_at known i) (filed_at wheel.filed i) (subst P e s.placed)
 
 -- the slot at an index, where each row was written there
 pub slot_set : {T : Type 0} (tick noted last : ℕ) (rows : List (Row T)) (known : List Parts) (filed : List (Option ℕ)) (i : ℕ) (r : Row T) (w : Parts) (f : Option ℕ) → i < length rows → i < length known → i < length filed → IsSlot tick noted last r w f → IsSlot tick noted last (row_at (set rows i r) i) (word_at (set known i w) i) (get_or (set filed i f) i None)
@@ -98,12 +98,12 @@ slot_set {T} tick noted last rows known filed i r w f ri ki fi s =
     subst P (sym (get_or-set_same rows i r unused ri)) (subst Q (sym (get_or-set_same known i w never ki)) (subst R (sym (get_or-set_same filed i f None fi)) s))
 
 -- the law, where one slot changes
-pub law_change : {T : Type 0} {noted : ℕ} {wheel wheel' : Filing} {shelf shelf' : Shelf T} {known known' : List Parts} {counts counts' : Counts} → IsLawful noted wheel shelf known counts → (i : ℕ) (r : Row T) (w : Parts) (f : Option ℕ) → i < length shelf.rows → wheel'.tick ≡ wheel.tick → wheel'.filed ≡ set wheel.filed i f → shelf'.last_stamp ≡ shelf.last_stamp → shelf'.rows ≡ set shelf.rows i r → known' ≡ set known i w → IsSlot wheel.tick noted shelf.last_stamp r w f → counts'.begins ≤ sum_by (λ x. x.stamp) (set shelf.rows i r) → counts'.expiries + counts'.removals + count_by is_held (set shelf.rows i r) ≤ counts'.begins → IsLawful noted wheel' shelf' known' counts'
-law_change {T} {noted} {wheel} {wheel'} {shelf} {shelf'} {known} {known'} {counts} {counts'} l i r w f inside et ef el er ek s stamps balance =
+pub law_change : {T : Type 0} {noted : ℕ} {wheel wheel' : Filing} {slots slots' : SlotRows T} {known known' : List Parts} {counts counts' : Counts} → IsLawful noted wheel slots known counts → (i : ℕ) (r : Row T) (w : Parts) (f : Option ℕ) → i < length slots.rows → wheel'.tick ≡ wheel.tick → wheel'.filed ≡ set wheel.filed i f → slots'.last_stamp ≡ slots.last_stamp → slots'.rows ≡ set slots.rows i r → known' ≡ set known i w → IsSlot wheel.tick noted slots.last_stamp r w f → counts'.begins ≤ sum_by (λ x. x.stamp) (set slots.rows i r) → counts'.expiries + counts'.removals + count_by is_held (set slots.rows i r) ≤ counts'.begins → IsLawful noted wheel' slots' known' counts'
+law_change {T} {noted} {wheel} {wheel'} {slots} {slots'} {known} {known'} {counts} {counts'} l i r w f inside et ef el er ek s stamps balance =
     let filed_size = l.as_filed in
     let known_size = l.as_known in
-    let here = slot_set wheel.tick noted shelf.last_stamp shelf.rows known wheel.filed i r w f inside (omega arith) (omega arith) s in
-    let slots = slots_change wheel.tick noted shelf.last_stamp shelf.rows (set shelf.rows i r) known (set known i w) wheel.filed (set wheel.filed i f) i l.slots (changed_set shelf.rows i r unused) (changed_set known i w never) (changed_set wheel.filed i f None) here in
+    let here = slot_set wheel.tick noted slots.last_stamp slots.rows known wheel.filed i r w f inside (omega arith) (omega arith) s in
+    let each = slots_change wheel.tick noted slots.last_stamp slots.rows (set slots.rows i r) known (set known i w) wheel.filed (set wheel.filed i f) i l.each (changed_set slots.rows i r unused) (changed_set known i w never) (changed_set wheel.filed i f None) here in
     record {
       as_filed = rw (ef, er) (simp length-set filed_size);
       as_known = rw (ek, er) (simp length-set known_size);
@@ -111,14 +111,14 @@ law_change {T} {noted} {wheel} {wheel'} {shelf} {shelf'} {known} {known'} {count
       last_bound = rw el l.last_bound;
       tick = rw et l.tick;
       noted_bound = l.noted_bound;
-      slots = rw (et, el, er, ek, ef) slots;
+      each = rw (et, el, er, ek, ef) each;
       stamps = rw er stamps;
       balance = rw er balance;
     }
 
 -- the law, where a slot is written that holds what it held
-pub law_kept : {T : Type 0} {noted : ℕ} {wheel wheel' : Filing} {shelf shelf' : Shelf T} {known known' : List Parts} {counts : Counts} → IsLawful noted wheel shelf known counts → (i f g : ℕ) (h : Held T) (r : Row T) (w : Parts) → Filed wheel.tick shelf.last_stamp shelf.rows known wheel.filed i f → wheel'.tick ≡ wheel.tick → wheel'.filed ≡ set wheel.filed i (Some g) → shelf'.last_stamp ≡ shelf.last_stamp → shelf'.rows ≡ set shelf.rows i r → known' ≡ set known i w → r.held ≡ (row_at shelf.rows i).held → (row_at shelf.rows i).stamp ≤ r.stamp → r.stamp ≤ shelf.last_stamp → w.stamp ≡ r.stamp → IsInForce r.stamp g w → wheel.tick ≤ g → g < wheel.tick + lap → IsLawful noted wheel' shelf' known' counts
-law_kept {T} {noted} {wheel} {wheel'} {shelf} {shelf'} {known} {known'} {counts} l i f g h r w at et ef el er ek held more bound stamp force ahead near =
+pub law_kept : {T : Type 0} {noted : ℕ} {wheel wheel' : Filing} {slots slots' : SlotRows T} {known known' : List Parts} {counts : Counts} → IsLawful noted wheel slots known counts → (i f g : ℕ) (h : Held T) (r : Row T) (w : Parts) → Filed wheel.tick slots.last_stamp slots.rows known wheel.filed i f → wheel'.tick ≡ wheel.tick → wheel'.filed ≡ set wheel.filed i (Some g) → slots'.last_stamp ≡ slots.last_stamp → slots'.rows ≡ set slots.rows i r → known' ≡ set known i w → r.held ≡ (row_at slots.rows i).held → (row_at slots.rows i).stamp ≤ r.stamp → r.stamp ≤ slots.last_stamp → w.stamp ≡ r.stamp → IsInForce r.stamp g w → wheel.tick ≤ g → g < wheel.tick + lap → IsLawful noted wheel' slots' known' counts
+law_kept {T} {noted} {wheel} {wheel'} {slots} {slots'} {known} {known'} {counts} l i f g h r w at et ef el er ek held more bound stamp force ahead near =
     let inside = at.inside in
     let was = at.is_held in
     let born = at.born in
@@ -126,23 +126,23 @@ law_kept {T} {noted} {wheel} {wheel'} {shelf} {shelf'} {known} {known'} {counts}
     let balance = l.balance in
     let is : r.held ≡ Some at.held = held ∙ was in
     let P : Option (Held T) → Type 0 = λ o. IsPlaced wheel.tick noted r.stamp o w (Some g) in
-    let s : IsSlot wheel.tick noted shelf.last_stamp r w (Some g) = record { stamp = stamp; bound = bound; placed = subst P (sym is) (force, ahead, near, omega arith) } in
-    let a = count_set is_held shelf.rows i r inside in
-    let same : one (is_held r) ≡ one (is_held (row_at shelf.rows i)) = ap (λ o. one (is_some o)) held in
-    let b = stamps_set shelf.rows i r inside in
+    let s : IsSlot wheel.tick noted slots.last_stamp r w (Some g) = record { stamp = stamp; bound = bound; placed = subst P (sym is) (force, ahead, near, omega arith) } in
+    let a = count_set is_held slots.rows i r inside in
+    let same : one (is_held r) ≡ one (is_held (row_at slots.rows i)) = ap (λ o. one (is_some o)) held in
+    let b = stamps_set slots.rows i r inside in
     law_change l i r w (Some g) inside et ef el er ek s (omega (arith, b)) (omega (arith, a, same))
 
 -- the law, where what a slot held leaves it
-pub law_vacated : {T : Type 0} {noted : ℕ} {wheel wheel' : Filing} {shelf shelf' : Shelf T} {known known' : List Parts} {counts counts' : Counts} → IsLawful noted wheel shelf known counts → (i f : ℕ) (w : Parts) → Filed wheel.tick shelf.last_stamp shelf.rows known wheel.filed i f → wheel' ≡ unlinked wheel i → shelf' ≡ vacated shelf i → known' ≡ set known i w → w.stamp ≡ (row_at shelf.rows i).stamp → w.mark ≢ LiveMark → (w.mark ≡ ExpiredMark → w.field ≤ noted) → counts'.begins ≡ counts.begins → counts'.expiries + counts'.removals ≤ counts.expiries + counts.removals + 1 → IsLawful noted wheel' shelf' known' counts'
-law_vacated {T} {noted} {wheel} {wheel'} {shelf} {shelf'} {known} {known'} {counts} {counts'} l i f w at ew es ek stamp over late begins ended =
+pub law_vacated : {T : Type 0} {noted : ℕ} {wheel wheel' : Filing} {slots slots' : SlotRows T} {known known' : List Parts} {counts counts' : Counts} → IsLawful noted wheel slots known counts → (i f : ℕ) (w : Parts) → Filed wheel.tick slots.last_stamp slots.rows known wheel.filed i f → wheel' ≡ unlinked wheel i → slots' ≡ vacated slots i → known' ≡ set known i w → w.stamp ≡ (row_at slots.rows i).stamp → w.mark ≢ LiveMark → (w.mark ≡ ExpiredMark → w.field ≤ noted) → counts'.begins ≡ counts.begins → counts'.expiries + counts'.removals ≤ counts.expiries + counts.removals + 1 → IsLawful noted wheel' slots' known' counts'
+law_vacated {T} {noted} {wheel} {wheel'} {slots} {slots'} {known} {known'} {counts} {counts'} l i f w at ew es ek stamp over late begins ended =
     let inside = at.inside in
     let stamps = l.stamps in
     let balance = l.balance in
-    let r = vacated_row (row_at shelf.rows i) in
-    let s : IsSlot wheel.tick noted shelf.last_stamp r w None = record { stamp = stamp; bound = at.bound; placed = (inr over, late) } in
-    let a = count_set is_held shelf.rows i r inside in
-    let was : one (is_held (row_at shelf.rows i)) ≡ 1 = one_held (row_at shelf.rows i).held at.held at.is_held in
-    let b = stamps_set shelf.rows i r inside in
+    let r = vacated_row (row_at slots.rows i) in
+    let s : IsSlot wheel.tick noted slots.last_stamp r w None = record { stamp = stamp; bound = at.bound; placed = (inr over, late) } in
+    let a = count_set is_held slots.rows i r inside in
+    let was : one (is_held (row_at slots.rows i)) ≡ 1 = one_held (row_at slots.rows i).held at.held at.is_held in
+    let b = stamps_set slots.rows i r inside in
     law_change l i r w None inside (ap (λ x. x.tick) ew) (ap (λ x. x.filed) ew) (ap (λ x. x.last_stamp) es) (ap (λ x. x.rows) es) ek s (omega (arith, b)) (omega (arith, a, was))
 
 -- a word in force stays so where more of it is learned
@@ -176,11 +176,11 @@ force_live s f d (pos, inr is) =
     absurd (cc)
 
 -- the law, where more is learned of the word of a held slot
-pub law_learned : {T : Type 0} {noted : ℕ} {wheel : Filing} {shelf : Shelf T} {known known' : List Parts} {counts : Counts} → IsLawful noted wheel shelf known counts → (shared : Bool) (i f : ℕ) (w : Parts) → Filed wheel.tick shelf.last_stamp shelf.rows known wheel.filed i f → Learned shared (word_at known i) w → known' ≡ set known i w → IsLawful noted wheel shelf known' counts
-law_learned {T} {noted} {wheel} {shelf} {known} {known'} {counts} l shared i f w at learned ek =
-    let force = force_learned shared (row_at shelf.rows i).stamp f (word_at known i) w at.in_force learned in
+pub law_learned : {T : Type 0} {noted : ℕ} {wheel : Filing} {slots : SlotRows T} {known known' : List Parts} {counts : Counts} → IsLawful noted wheel slots known counts → (shared : Bool) (i f : ℕ) (w : Parts) → Filed wheel.tick slots.last_stamp slots.rows known wheel.filed i f → Learned shared (word_at known i) w → known' ≡ set known i w → IsLawful noted wheel slots known' counts
+law_learned {T} {noted} {wheel} {slots} {known} {known'} {counts} l shared i f w at learned ek =
+    let force = force_learned shared (row_at slots.rows i).stamp f (word_at known i) w at.in_force learned in
     let filed : wheel.filed ≡ set wheel.filed i (Some f) = sym (set-get_or wheel.filed i None) ∙ ap (λ o. set wheel.filed i o) at.is_filed in
-    law_kept l i f f at.held (row_at shelf.rows i) w at refl filed refl (sym (set-get_or shelf.rows i unused)) ek refl (omega arith) at.bound (force_stamp (row_at shelf.rows i).stamp f w force) force at.ahead at.near
+    law_kept l i f f at.held (row_at slots.rows i) w at refl filed refl (sym (set-get_or slots.rows i unused)) ek refl (omega arith) at.bound (force_stamp (row_at slots.rows i).stamp f w force) force at.ahead at.near
 
 placed_later : {T : Type 0} (tick later noted stamp : ℕ) (o : Option (Held T)) (w : Parts) (ff : Option ℕ) → tick ≤ later → IsPlaced tick noted stamp o w ff → ((f : ℕ) → ff ≡ Some f → later ≤ f) → IsPlaced later noted stamp o w ff
 placed_later tick later noted stamp None w None up p h = p
@@ -191,8 +191,8 @@ placed_later tick later noted stamp (Some x) w (Some f) up p h =
     (p.0, h f refl, omega (arith, near), p.3)
 
 -- the law at a later tick
-pub law_advanced : {T : Type 0} {noted : ℕ} {wheel wheel' : Filing} {shelf : Shelf T} {known : List Parts} {counts : Counts} → IsLawful noted wheel shelf known counts → wheel'.filed ≡ wheel.filed → wheel.tick ≤ wheel'.tick → wheel'.tick ≤ noted → ((i f : ℕ) → filed_at wheel'.filed i ≡ Some f → wheel'.tick ≤ f) → IsLawful noted wheel' shelf known counts
-law_advanced {T} {noted} {wheel} {wheel'} {shelf} {known} {counts} l ef up tick before =
+pub law_advanced : {T : Type 0} {noted : ℕ} {wheel wheel' : Filing} {slots : SlotRows T} {known : List Parts} {counts : Counts} → IsLawful noted wheel slots known counts → wheel'.filed ≡ wheel.filed → wheel.tick ≤ wheel'.tick → wheel'.tick ≤ noted → ((i f : ℕ) → filed_at wheel'.filed i ≡ Some f → wheel'.tick ≤ f) → IsLawful noted wheel' slots known counts
+law_advanced {T} {noted} {wheel} {wheel'} {slots} {known} {counts} l ef up tick before =
     record {
       as_filed = ap length ef ∙ l.as_filed;
       as_known = l.as_known;
@@ -200,11 +200,11 @@ law_advanced {T} {noted} {wheel} {wheel'} {shelf} {known} {counts} l ef up tick 
       last_bound = l.last_bound;
       tick = tick;
       noted_bound = l.noted_bound;
-      slots = λ i inside.
-          let s = l.slots i inside in
+      each = λ i inside.
+          let s = l.each i inside in
           let at : filed_at wheel'.filed i ≡ filed_at wheel.filed i = ap (λ xs. filed_at xs i) ef in
-          let P : Option ℕ → Type 0 = λ o. IsPlaced wheel.tick noted (row_at shelf.rows i).stamp (row_at shelf.rows i).held (word_at known i) o in
-          record { stamp = s.stamp; bound = s.bound; placed = placed_later wheel.tick wheel'.tick noted (row_at shelf.rows i).stamp (row_at shelf.rows i).held (word_at known i) (filed_at wheel'.filed i) up (subst P (sym at) s.placed) (λ f e. before i f e) };
+          let P : Option ℕ → Type 0 = λ o. IsPlaced wheel.tick noted (row_at slots.rows i).stamp (row_at slots.rows i).held (word_at known i) o in
+          record { stamp = s.stamp; bound = s.bound; placed = placed_later wheel.tick wheel'.tick noted (row_at slots.rows i).stamp (row_at slots.rows i).held (word_at known i) (filed_at wheel'.filed i) up (subst P (sym at) s.placed) (λ f e. before i f e) };
       stamps = l.stamps;
       balance = l.balance;
     }

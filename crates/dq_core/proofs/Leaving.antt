@@ -8,14 +8,14 @@ use Rattle.dq_ticks.specs.declared.words.Mark.TheVariants.{LiveMark, CancelledMa
 use Rattle.dq_wheel.specs.State.{Filing, filed_at, unlinked}
 use Rattle.dq_core.specs.declared.slots.Held.{Held}
 use Rattle.dq_core.specs.Words.{word_at, never, IsInForce, Learned, cancelled}
-use Rattle.dq_core.specs.Slots.{Row, Shelf, unused, row_at, is_held, vacated, vacated_row}
-use Rattle.dq_core.specs.Machine.{Entry, Slot, Machine, Reap, RunOf, Callers, IsCallers, IsReaping, Has, slot_at, put}
-use Rattle.dq_core.specs.Core.{Core, machine, machine_of, slot_of, slots_of, entry_of, due_by, IsLawful, IsLawfulCore}
+use Rattle.dq_core.specs.Slots.{Row, SlotRows, unused, row_at, is_held, vacated, vacated_row}
+use Rattle.dq_core.specs.Machine.{Entry, TableRow, Machine, Reap, RunOf, Callers, IsCallers, IsReaping, Has, table_at, put}
+use Rattle.dq_core.specs.Core.{Core, machine, machine_of, table_row_of, table_of, entry_of, due_by, IsLawful, IsLawfulCore}
 use Rattle.dq_core.specs.Calls.{LooksOver, SameCore}
 use Rattle.dq_core.specs.Sweeps.{all_unlinked, all_vacated, AreOut, NotCancelled, AreReaped, only_if, IsSwept, Sweeps}
 use Rattle.dq_core.proofs.Slotwise.{held_is, held_inside, count_set, one, one_held}
 use Rattle.dq_core.proofs.Law.{Filed, held_filed, law_vacated, force_learned, force_stamp, force_low}
-use Rattle.dq_core.proofs.Ways.{run_of_more, run_of_into, run_of_none, run_of_one, callers_reaping, Learning, learning, machine_is, vacated_of, slot_is, slots-le-rows}
+use Rattle.dq_core.proofs.Ways.{run_of_more, run_of_into, run_of_none, run_of_one, callers_reaping, Learning, learning, machine_is, vacated_of, table_row_is, table-le-rows}
 use Rattle.dq_core.proofs.Steps.{looks_none, looks_one, looks_more}
 
 -- one list of indexes after another
@@ -24,7 +24,7 @@ all_unlinked_more : (w : Filing) (is js : List ℕ) → all_unlinked w (is ++ js
 all_unlinked_more w [] js = refl
 all_unlinked_more w (i ∷ is) js = all_unlinked_more (unlinked w i) is js
 
-all_vacated_more : {T : Type 0} (s : Shelf T) (is js : List ℕ) → all_vacated s (is ++ js) ≡ all_vacated (all_vacated s is) js
+all_vacated_more : {T : Type 0} (s : SlotRows T) (is js : List ℕ) → all_vacated s (is ++ js) ≡ all_vacated (all_vacated s is) js
 all_vacated_more s [] js = refl
 all_vacated_more s (i ∷ is) js = all_vacated_more (vacated s i) is js
 
@@ -35,28 +35,28 @@ out_more a b c is js x y =
     let v = y.held in
     record {
       filed = y.filed ∙ ap (λ w. all_unlinked w js) x.filed ∙ sym (all_unlinked_more a.wheel.filing is js);
-      shelf = y.shelf ∙ ap (λ s. all_vacated s js) x.shelf ∙ sym (all_vacated_more a.shelf is js);
+      slots = y.slots ∙ ap (λ s. all_vacated s js) x.slots ∙ sym (all_vacated_more a.slots is js);
       held = omega (arith, size, u, v);
       noted = y.noted ∙ x.noted;
     }
 
-pub out_none : {T W : Type 0} (b c : Core T W) → c.wheel.filing ≡ b.wheel.filing → c.shelf ≡ b.shelf → c.noted ≡ b.noted → AreOut b [] c
+pub out_none : {T W : Type 0} (b c : Core T W) → c.wheel.filing ≡ b.wheel.filing → c.slots ≡ b.slots → c.noted ≡ b.noted → AreOut b [] c
 out_none b c ew es en =
-    record { filed = ew; shelf = es; held = ap (λ s. count_by is_held s.rows + 0) es ∙ omega arith; noted = en }
+    record { filed = ew; slots = es; held = ap (λ s. count_by is_held s.rows + 0) es ∙ omega arith; noted = en }
 
 -- the entry of one held slot leaves
-pub out_one : {T W : Type 0} (b c : Core T W) (i : ℕ) (h : Held T) → (row_at b.shelf.rows i).held ≡ Some h → c.wheel.filing ≡ unlinked b.wheel.filing i → c.shelf ≡ vacated b.shelf i → c.noted ≡ b.noted → AreOut b (i ∷ []) c
+pub out_one : {T W : Type 0} (b c : Core T W) (i : ℕ) (h : Held T) → (row_at b.slots.rows i).held ≡ Some h → c.wheel.filing ≡ unlinked b.wheel.filing i → c.slots ≡ vacated b.slots i → c.noted ≡ b.noted → AreOut b (i ∷ []) c
 out_one b c i h held ew es en =
-    let r = row_at b.shelf.rows i in
-    let a = count_set is_held b.shelf.rows i (vacated_row r) (held_inside b.shelf.rows i h held) in
+    let r = row_at b.slots.rows i in
+    let a = count_set is_held b.slots.rows i (vacated_row r) (held_inside b.slots.rows i h held) in
     let was : one (is_held r) ≡ 1 = one_held r.held h held in
-    let now : count_by is_held c.shelf.rows ≡ count_by is_held (set b.shelf.rows i (vacated_row r)) = ap (λ s. count_by is_held s.rows) es in
-    record { filed = ew; shelf = es; held = omega (arith, a, was, now); noted = en }
+    let now : count_by is_held c.slots.rows ≡ count_by is_held (set b.slots.rows i (vacated_row r)) = ap (λ s. count_by is_held s.rows) es in
+    record { filed = ew; slots = es; held = omega (arith, a, was, now); noted = en }
 
 -- a slot that is as it was
-pub slot_other : {T W : Type 0} (b c : Core T W) (j : ℕ) → length b.known ≡ length b.shelf.rows → length c.known ≡ length c.shelf.rows → row_at c.shelf.rows j ≡ row_at b.shelf.rows j → word_at c.known j ≡ word_at b.known j → slot_at (machine c) j ≡ slot_at (machine b) j
-slot_other b c j size size' er ek =
-    slot_is c.shelf.rows c.known size' j ∙ ap (λ r. slot_of r (word_at c.known j)) er ∙ ap (λ w. slot_of (row_at b.shelf.rows j) w) ek ∙ sym (slot_is b.shelf.rows b.known size j)
+pub table_other : {T W : Type 0} (b c : Core T W) (j : ℕ) → length b.known ≡ length b.slots.rows → length c.known ≡ length c.slots.rows → row_at c.slots.rows j ≡ row_at b.slots.rows j → word_at c.known j ≡ word_at b.known j → table_at (machine c) j ≡ table_at (machine b) j
+table_other b c j size size' er ek =
+    table_row_is c.slots.rows c.known size' j ∙ ap (λ r. table_row_of r (word_at c.known j)) er ∙ ap (λ w. table_row_of (row_at b.slots.rows j) w) ek ∙ sym (table_row_is b.slots.rows b.known size j)
 
 not_none : {A : Type 0} (a : A) → ◌≡◌ {A = Option A} None (Some a) → ⊥
 not_none a e = cc
@@ -76,14 +76,14 @@ entry_gone None w e none is = not_none e is
 entry_gone (Some h) w e none is = not_none h (sym none)
 
 -- where nothing is held, no entry is cancelled
-pub none_here : {T W : Type 0} (c : Core T W) (i : ℕ) → length c.known ≡ length c.shelf.rows → (row_at c.shelf.rows i).held ≡ None → NotCancelled (machine c) i
+pub none_here : {T W : Type 0} (c : Core T W) (i : ℕ) → length c.known ≡ length c.slots.rows → (row_at c.slots.rows i).held ≡ None → NotCancelled (machine c) i
 none_here c i size none e is =
-    absurd (entry_gone (row_at c.shelf.rows i).held (word_at c.known i) e none (sym (ap (λ s. s.entry) (slot_is c.shelf.rows c.known size i)) ∙ is))
+    absurd (entry_gone (row_at c.slots.rows i).held (word_at c.known i) e none (sym (ap (λ s. s.entry) (table_row_is c.slots.rows c.known size i)) ∙ is))
 
 -- nor where its word is live
-pub live_here : {T W : Type 0} (c : Core T W) (i : ℕ) → length c.known ≡ length c.shelf.rows → (word_at c.known i).mark ≡ LiveMark → NotCancelled (machine c) i
+pub live_here : {T W : Type 0} (c : Core T W) (i : ℕ) → length c.known ≡ length c.slots.rows → (word_at c.known i).mark ≡ LiveMark → NotCancelled (machine c) i
 live_here c i size alive e is =
-    entry_live (row_at c.shelf.rows i).held (word_at c.known i) e alive (sym (ap (λ s. s.entry) (slot_is c.shelf.rows c.known size i)) ∙ is)
+    entry_live (row_at c.slots.rows i).held (word_at c.known i) e alive (sym (ap (λ s. s.entry) (table_row_is c.slots.rows c.known size i)) ∙ is)
 
 -- a word in force that is seen cancelled, or isn't
 as_cancelled : (s f : ℕ) (v : Parts) → IsInForce s f v → v.mark ≡ CancelledMark → v ≡ cancelled s
@@ -99,95 +99,95 @@ as_live s f v (pos, inr is) ne = absurd (ne (ap (λ p. p.mark) is))
 -- what an entry's leaving is to the machine: after what was learned of its word
 pub record IsGone {T W : Type 0} (shared : Bool) (b : Core T W) (i : ℕ) (h : Held T) (v : Parts) (c : Core T W) : Type 0 where
   pub learned : Machine T
-  pub callers : Callers shared b.shelf.last_stamp (machine b) learned
+  pub callers : Callers shared b.slots.last_stamp (machine b) learned
   pub has : Has learned i (record { born = h.born; value = h.value; due = due_by v.mark v.field })
-  pub put : machine c ≡ put learned i (slot_at learned i).stamp None
+  pub put : machine c ≡ put learned i (table_at learned i).stamp None
 
 -- what the law says of a slot that is held
-pub held_at : {T W : Type 0} (b : Core T W) → IsLawfulCore b → (i : ℕ) → true ≡ is_held (row_at b.shelf.rows i) → (f : ℕ) × Filed b.wheel.filing.tick b.shelf.last_stamp b.shelf.rows b.known b.wheel.filing.filed i f
-held_at b l i is = let h = held_is (row_at b.shelf.rows i) (sym is) in held_filed l i h.0 (held_inside b.shelf.rows i h.0 h.1) h.1
+pub held_at : {T W : Type 0} (b : Core T W) → IsLawfulCore b → (i : ℕ) → true ≡ is_held (row_at b.slots.rows i) → (f : ℕ) × Filed b.wheel.filing.tick b.slots.last_stamp b.slots.rows b.known b.wheel.filing.filed i f
+held_at b l i is = let h = held_is (row_at b.slots.rows i) (sym is) in held_filed l i h.0 (held_inside b.slots.rows i h.0 h.1) h.1
 
 -- one held slot
-module _ {T W : Type 0} (shared : Bool) (b c : Core T W) (l : IsLawfulCore b) (i f : ℕ) (at : Filed b.wheel.filing.tick b.shelf.last_stamp b.shelf.rows b.known b.wheel.filing.filed i f) where
-  inside : i < length b.shelf.rows
+module _ {T W : Type 0} (shared : Bool) (b c : Core T W) (l : IsLawfulCore b) (i f : ℕ) (at : Filed b.wheel.filing.tick b.slots.last_stamp b.slots.rows b.known b.wheel.filing.filed i f) where
+  inside : i < length b.slots.rows
   inside = at.inside
 
   inside_known : i < length b.known
   inside_known = let size = l.as_known in let here = inside in omega arith
 
-  pub held_stamp : (v : Parts) → Learned shared (word_at b.known i) v → v.stamp ≡ (row_at b.shelf.rows i).stamp
-  held_stamp v learned = force_stamp (row_at b.shelf.rows i).stamp f v (force_learned shared (row_at b.shelf.rows i).stamp f (word_at b.known i) v at.in_force learned)
+  pub held_stamp : (v : Parts) → Learned shared (word_at b.known i) v → v.stamp ≡ (row_at b.slots.rows i).stamp
+  held_stamp v learned = force_stamp (row_at b.slots.rows i).stamp f v (force_learned shared (row_at b.slots.rows i).stamp f (word_at b.known i) v at.in_force learned)
 
-  pub held_cancelled : (v : Parts) → Learned shared (word_at b.known i) v → v.mark ≡ CancelledMark → v ≡ cancelled (row_at b.shelf.rows i).stamp
-  held_cancelled v learned = as_cancelled (row_at b.shelf.rows i).stamp f v (force_learned shared (row_at b.shelf.rows i).stamp f (word_at b.known i) v at.in_force learned)
+  pub held_cancelled : (v : Parts) → Learned shared (word_at b.known i) v → v.mark ≡ CancelledMark → v ≡ cancelled (row_at b.slots.rows i).stamp
+  held_cancelled v learned = as_cancelled (row_at b.slots.rows i).stamp f v (force_learned shared (row_at b.slots.rows i).stamp f (word_at b.known i) v at.in_force learned)
 
   pub held_live : (v : Parts) → Learned shared (word_at b.known i) v → v.mark ≢ CancelledMark → v.mark ≡ LiveMark
-  held_live v learned = as_live (row_at b.shelf.rows i).stamp f v (force_learned shared (row_at b.shelf.rows i).stamp f (word_at b.known i) v at.in_force learned)
+  held_live v learned = as_live (row_at b.slots.rows i).stamp f v (force_learned shared (row_at b.slots.rows i).stamp f (word_at b.known i) v at.in_force learned)
 
   -- its word is in force, and it is filed
-  pub held_force : (stamp : ℕ) → stamp ≡ (row_at b.shelf.rows i).stamp → IsInForce stamp 0 (word_at b.known i)
+  pub held_force : (stamp : ℕ) → stamp ≡ (row_at b.slots.rows i).stamp → IsInForce stamp 0 (word_at b.known i)
   held_force stamp e =
       let P : ℕ → Type 0 = λ s. IsInForce s 0 (word_at b.known i) in
-      subst P (sym e) (force_low (row_at b.shelf.rows i).stamp f 0 (word_at b.known i) (omega arith) at.in_force)
+      subst P (sym e) (force_low (row_at b.slots.rows i).stamp f 0 (word_at b.known i) (omega arith) at.in_force)
 
   pub held_linked : filed_at b.wheel.filing.filed i ≢ None
   held_linked e = not_none f (sym e ∙ at.is_filed)
 
-  lea : (v : Parts) → Learned shared (word_at b.known i) v → Learning shared b.shelf.last_stamp b.wheel.filing.tick b.noted b.shelf.rows b.known i at.held v
-  lea v learned = learning shared b.shelf.last_stamp b.wheel.filing.tick b.noted b.shelf.rows b.known i at.held v l.as_known inside at.is_held at.stamp (held_stamp v learned) learned
+  lea : (v : Parts) → Learned shared (word_at b.known i) v → Learning shared b.slots.last_stamp b.wheel.filing.tick b.noted b.slots.rows b.known i at.held v
+  lea v learned = learning shared b.slots.last_stamp b.wheel.filing.tick b.noted b.slots.rows b.known i at.held v l.as_known inside at.is_held at.stamp (held_stamp v learned) learned
 
   -- its entry leaves, and its word is then w
-  pub gone : (v w : Parts) → Learned shared (word_at b.known i) v → c.wheel.filing ≡ unlinked b.wheel.filing i → c.shelf ≡ vacated b.shelf i → c.known ≡ set b.known i w → c.noted ≡ b.noted → IsGone shared b i at.held v c
+  pub gone : (v w : Parts) → Learned shared (word_at b.known i) v → c.wheel.filing ≡ unlinked b.wheel.filing i → c.slots ≡ vacated b.slots i → c.known ≡ set b.known i w → c.noted ≡ b.noted → IsGone shared b i at.held v c
   gone v w learned ew es ek en =
       let le = lea v learned in
       let t = b.wheel.filing.tick in
-      let m1 = machine_of t b.noted b.shelf.rows (set b.known i v) in
+      let m1 = machine_of t b.noted b.slots.rows (set b.known i v) in
       let twice : c.known ≡ set (set b.known i v) i w = ek ∙ sym (set-set b.known i v w) in
       record {
         learned = m1;
         callers = le.way;
         has = le.has;
         put =
-            machine_is c t b.noted (set b.shelf.rows i (vacated_row (row_at b.shelf.rows i))) (set (set b.known i v) i w) (ap (λ x. x.tick) ew) en (ap (λ x. x.rows) es) twice
-            ∙ vacated_of t b.noted b.shelf.rows (set b.known i v) i w le.sizes;
+            machine_is c t b.noted (set b.slots.rows i (vacated_row (row_at b.slots.rows i))) (set (set b.known i v) i w) (ap (λ x. x.tick) ew) en (ap (λ x. x.rows) es) twice
+            ∙ vacated_of t b.noted b.slots.rows (set b.known i v) i w le.sizes;
       }
 
   -- the sizes afterwards
-  sizes : (w : Parts) → c.shelf ≡ vacated b.shelf i → c.known ≡ set b.known i w → length c.known ≡ length c.shelf.rows
+  sizes : (w : Parts) → c.slots ≡ vacated b.slots i → c.known ≡ set b.known i w → length c.known ≡ length c.slots.rows
   sizes w es ek =
       let a : length c.known ≡ length (set b.known i w) = ap length ek in
-      let d : length c.shelf.rows ≡ length (set b.shelf.rows i (vacated_row (row_at b.shelf.rows i))) = ap (λ s. length s.rows) es in
-      a ∙ length-set b.known i w ∙ l.as_known ∙ sym (d ∙ length-set b.shelf.rows i (vacated_row (row_at b.shelf.rows i)))
+      let d : length c.slots.rows ≡ length (set b.slots.rows i (vacated_row (row_at b.slots.rows i))) = ap (λ s. length s.rows) es in
+      a ∙ length-set b.known i w ∙ l.as_known ∙ sym (d ∙ length-set b.slots.rows i (vacated_row (row_at b.slots.rows i)))
 
-  pub vacated_here : c.shelf ≡ vacated b.shelf i → (row_at c.shelf.rows i).held ≡ None
-  vacated_here es = ap (λ s. (row_at s.rows i).held) es ∙ ap (λ r. r.held) (get_or-set_same b.shelf.rows i (vacated_row (row_at b.shelf.rows i)) unused inside)
+  pub vacated_here : c.slots ≡ vacated b.slots i → (row_at c.slots.rows i).held ≡ None
+  vacated_here es = ap (λ s. (row_at s.rows i).held) es ∙ ap (λ r. r.held) (get_or-set_same b.slots.rows i (vacated_row (row_at b.slots.rows i)) unused inside)
 
-  pub row_other : c.shelf ≡ vacated b.shelf i → (j : ℕ) → j ≢ i → row_at c.shelf.rows j ≡ row_at b.shelf.rows j
-  row_other es j ne = ap (λ s. row_at s.rows j) es ∙ get_or-set_other b.shelf.rows i j (vacated_row (row_at b.shelf.rows i)) unused ne
+  pub row_other : c.slots ≡ vacated b.slots i → (j : ℕ) → j ≢ i → row_at c.slots.rows j ≡ row_at b.slots.rows j
+  row_other es j ne = ap (λ s. row_at s.rows j) es ∙ get_or-set_other b.slots.rows i j (vacated_row (row_at b.slots.rows i)) unused ne
 
   pub word_other : (w : Parts) → c.known ≡ set b.known i w → (j : ℕ) → j ≢ i → word_at c.known j ≡ word_at b.known j
   word_other w ek j ne = ap (λ ws. word_at ws j) ek ∙ get_or-set_other b.known i j w never ne
 
   -- it is found cancelled, and reaped
-  pub swept_reaped : (v : Parts) → Learned shared (word_at b.known i) v → v.mark ≡ CancelledMark → c.wheel.filing ≡ unlinked b.wheel.filing i → c.shelf ≡ vacated b.shelf i → c.known ≡ set b.known i v → c.counts ≡ b.counts → c.noted ≡ b.noted → IsSwept shared b i true c
+  pub swept_reaped : (v : Parts) → Learned shared (word_at b.known i) v → v.mark ≡ CancelledMark → c.wheel.filing ≡ unlinked b.wheel.filing i → c.slots ≡ vacated b.slots i → c.known ≡ set b.known i v → c.counts ≡ b.counts → c.noted ≡ b.noted → IsSwept shared b i true c
   swept_reaped v learned mark ew es ek ec en =
       let g = gone v v learned ew es ek en in
       let none : due_by v.mark v.field ≡ None = ap (λ m. due_by m v.field) mark in
-      let reap : RunOf (IsReaping shared) b.shelf.last_stamp g.learned (machine c) =
-      run_of_one (IsReaping shared) b.shelf.last_stamp g.learned (machine c) (Reap i at.held.born) tt (record { born = at.held.born; value = at.held.value; due = due_by v.mark v.field }, g.has, refl, none, g.put) in
+      let reap : RunOf (IsReaping shared) b.slots.last_stamp g.learned (machine c) =
+      run_of_one (IsReaping shared) b.slots.last_stamp g.learned (machine c) (Reap i at.held.born) tt (record { born = at.held.born; value = at.held.value; due = due_by v.mark v.field }, g.has, refl, none, g.put) in
       let Q : List Parts → Type 0 = λ ws. LooksOver shared b.known ws in
       record {
         reaped = record {
-          run = run_of_more (IsReaping shared) b.shelf.last_stamp (machine b) g.learned (machine c) (run_of_into (IsCallers shared) (IsReaping shared) (callers_reaping shared) b.shelf.last_stamp (machine b) g.learned g.callers) reap;
+          run = run_of_more (IsReaping shared) b.slots.last_stamp (machine b) g.learned (machine c) (run_of_into (IsCallers shared) (IsReaping shared) (callers_reaping shared) b.slots.last_stamp (machine b) g.learned g.callers) reap;
           out = out_one b c i at.held at.is_held ew es en;
           looks = subst Q (sym ek) (looks_one shared b.known i v inside_known learned);
           counts = ec;
         };
         here = none_here c i (sizes v es ek) (vacated_here es);
-        other = λ j ne. slot_other b c j l.as_known (sizes v es ek) (row_other es j ne) (word_other v ek j ne);
+        other = λ j ne. table_other b c j l.as_known (sizes v es ek) (row_other es j ne) (word_other v ek j ne);
       }
 
-  pub reaped_lawful : (v : Parts) → Learned shared (word_at b.known i) v → v.mark ≡ CancelledMark → c.wheel.filing ≡ unlinked b.wheel.filing i → c.shelf ≡ vacated b.shelf i → c.known ≡ set b.known i v → c.counts ≡ b.counts → IsLawful b.noted c.wheel.filing c.shelf c.known c.counts
+  pub reaped_lawful : (v : Parts) → Learned shared (word_at b.known i) v → v.mark ≡ CancelledMark → c.wheel.filing ≡ unlinked b.wheel.filing i → c.slots ≡ vacated b.slots i → c.known ≡ set b.known i v → c.counts ≡ b.counts → IsLawful b.noted c.wheel.filing c.slots c.known c.counts
   reaped_lawful v learned mark ew es ek ec =
       let begins : c.counts.begins ≡ b.counts.begins = ap (λ n. n.begins) ec in
       let expiries : c.counts.expiries ≡ b.counts.expiries = ap (λ n. n.expiries) ec in
@@ -195,24 +195,24 @@ module _ {T W : Type 0} (shared : Bool) (b c : Core T W) (l : IsLawfulCore b) (i
       law_vacated l i f v at ew es ek (held_stamp v learned) (λ e. cc) (λ e. absurd (cc)) begins (omega (arith, expiries, removals))
 
   -- it is found live, and stays
-  pub swept_live : (v : Parts) → Learned shared (word_at b.known i) v → v.mark ≢ CancelledMark → c.wheel.filing ≡ b.wheel.filing → c.shelf ≡ b.shelf → c.known ≡ set b.known i v → c.counts ≡ b.counts → c.noted ≡ b.noted → IsSwept shared b i false c
+  pub swept_live : (v : Parts) → Learned shared (word_at b.known i) v → v.mark ≢ CancelledMark → c.wheel.filing ≡ b.wheel.filing → c.slots ≡ b.slots → c.known ≡ set b.known i v → c.counts ≡ b.counts → c.noted ≡ b.noted → IsSwept shared b i false c
   swept_live v learned mark ew es ek ec en =
       let le = lea v learned in
       let t = b.wheel.filing.tick in
-      let mc : machine c ≡ machine_of t b.noted b.shelf.rows (set b.known i v) = machine_is c t b.noted b.shelf.rows (set b.known i v) (ap (λ x. x.tick) ew) en (ap (λ x. x.rows) es) ek in
-      let P : Machine T → Type 0 = λ m. Callers shared b.shelf.last_stamp (machine b) m in
+      let mc : machine c ≡ machine_of t b.noted b.slots.rows (set b.known i v) = machine_is c t b.noted b.slots.rows (set b.known i v) (ap (λ x. x.tick) ew) en (ap (λ x. x.rows) es) ek in
+      let P : Machine T → Type 0 = λ m. Callers shared b.slots.last_stamp (machine b) m in
       let Q : List Parts → Type 0 = λ ws. LooksOver shared b.known ws in
-      let size : length c.known ≡ length c.shelf.rows = ap length ek ∙ length-set b.known i v ∙ l.as_known ∙ sym (ap (λ s. length s.rows) es) in
+      let size : length c.known ≡ length c.slots.rows = ap length ek ∙ length-set b.known i v ∙ l.as_known ∙ sym (ap (λ s. length s.rows) es) in
       let here : word_at c.known i ≡ v = ap (λ ws. word_at ws i) ek ∙ get_or-set_same b.known i v never inside_known in
       record {
         reaped = record {
-          run = run_of_into (IsCallers shared) (IsReaping shared) (callers_reaping shared) b.shelf.last_stamp (machine b) (machine c) (subst P (sym mc) le.way);
+          run = run_of_into (IsCallers shared) (IsReaping shared) (callers_reaping shared) b.slots.last_stamp (machine b) (machine c) (subst P (sym mc) le.way);
           out = out_none b c ew es en;
           looks = subst Q (sym ek) (looks_one shared b.known i v inside_known learned);
           counts = ec;
         };
         here = live_here c i size (ap (λ p. p.mark) here ∙ held_live v learned mark);
-        other = λ j ne. slot_other b c j l.as_known size (ap (λ s. row_at s.rows j) es) (word_other v ek j ne);
+        other = λ j ne. table_other b c j l.as_known size (ap (λ s. row_at s.rows j) es) (word_other v ek j ne);
       }
 
 none_by : {A : Type 0} (o : Option A) → false ≡ is_some o → o ≡ None
@@ -223,16 +223,16 @@ none_by (Some x) e = absurd (false≢true e)
 pub not_held : {T : Type 0} (r : Row T) → false ≡ is_held r → r.held ≡ None
 not_held r e = none_by r.held e
 
-pub swept_none : {T W : Type 0} (shared : Bool) (b : Core T W) (i : ℕ) → IsLawfulCore b → false ≡ is_held (row_at b.shelf.rows i) → IsSwept shared b i false b
+pub swept_none : {T W : Type 0} (shared : Bool) (b : Core T W) (i : ℕ) → IsLawfulCore b → false ≡ is_held (row_at b.slots.rows i) → IsSwept shared b i false b
 swept_none shared b i l is =
     record {
       reaped = record {
-        run = run_of_none (IsReaping shared) b.shelf.last_stamp (machine b) (machine b) refl;
+        run = run_of_none (IsReaping shared) b.slots.last_stamp (machine b) (machine b) refl;
         out = out_none b b refl refl refl;
         looks = looks_none shared b.known;
         counts = refl;
       };
-      here = none_here b i l.as_known (not_held (row_at b.shelf.rows i) is);
+      here = none_here b i l.as_known (not_held (row_at b.slots.rows i) is);
       other = λ j ne. refl;
     }
 
@@ -241,7 +241,7 @@ reaped_more : {T W : Type 0} (shared : Bool) (a b c : Core T W) (is js : List �
 reaped_more shared a b c is js same x y =
     let P : ℕ → Type 0 = λ n. RunOf (IsReaping shared) n (machine b) (machine c) in
     record {
-      run = run_of_more (IsReaping shared) a.shelf.last_stamp (machine a) (machine b) (machine c) x.run (subst P same.1 y.run);
+      run = run_of_more (IsReaping shared) a.slots.last_stamp (machine a) (machine b) (machine c) x.run (subst P same.1 y.run);
       out = out_more a b c is js x.out y.out;
       looks = looks_more shared a.known b.known c.known x.looks y.looks;
       counts = y.counts ∙ x.counts;
@@ -266,7 +266,7 @@ sweeping_from shared b =
         [],
         refl,
         record {
-          run = run_of_none (IsReaping shared) b.shelf.last_stamp (machine b) (machine b) refl;
+          run = run_of_none (IsReaping shared) b.slots.last_stamp (machine b) (machine b) refl;
           out = out_none b b refl refl refl;
           looks = looks_none shared b.known;
           counts = refl;
@@ -294,17 +294,17 @@ sweeping_on {T} shared b cur c i n m r to same swept em few =
           elim (cases_eq j i) [
             | inl eq ↦ let P : ℕ → Type 0 = λ k. NotCancelled (machine c) k in subst P (sym eq) swept.here
             | inr ne ↦
-                let P : Slot T → Type 0 = λ s. (e : Entry T) → s.entry ≡ Some e → e.due ≢ None in
+                let P : TableRow T → Type 0 = λ s. (e : Entry T) → s.entry ≡ Some e → e.due ≢ None in
                 subst P (sym (swept.other j ne)) (to.none j (omega arith))
           ];
     }
 
-pub past_slots : {T W : Type 0} (c : Core T W) (j : ℕ) → length c.shelf.rows ≤ j → (slot_at (machine c) j).entry ≡ None
-past_slots c j past =
-    let short = slots-le-rows c.shelf.rows c.known in
-    ap (λ s. s.entry) (get_or_past (slots_of c.shelf.rows c.known) j (record { stamp = 0; entry = None }) (omega (arith, short)))
+pub past_table : {T W : Type 0} (c : Core T W) (j : ℕ) → length c.slots.rows ≤ j → (table_at (machine c) j).entry ≡ None
+past_table c j past =
+    let short = table-le-rows c.slots.rows c.known in
+    ap (λ s. s.entry) (get_or_past (table_of c.slots.rows c.known) j (record { stamp = 0; entry = None }) (omega (arith, short)))
 
-pub sweeping_ends : {T W : Type 0} (shared : Bool) (b c : Core T W) (i n : ℕ) → IsSweeping shared b i n c → length b.shelf.rows ≤ i → Sweeps shared b n c
+pub sweeping_ends : {T W : Type 0} (shared : Bool) (b c : Core T W) (i n : ℕ) → IsSweeping shared b i n c → length b.slots.rows ≤ i → Sweeps shared b n c
 sweeping_ends shared b c i n to past =
     record {
       reaped = to.reaped;
@@ -313,6 +313,6 @@ sweeping_ends shared b c i n to past =
             | inl less ↦ to.none j less e is
             | inr more ↦
                 let size = to.same.2 in
-                absurd (not_none e (sym (past_slots c j (omega arith)) ∙ is))
+                absurd (not_none e (sym (past_table c j (omega arith)) ∙ is))
           ];
     }

@@ -7,7 +7,7 @@ pub mod Inserts
 pub mod Law
 pub mod Leaving
 pub mod Searches
-pub mod Shelves
+pub mod SlotRows
 pub mod Slotwise
 pub mod Steps
 pub mod Turns

@@ -8,37 +8,37 @@ use Rattle.dq_ticks.specs.declared.words.Mark.TheVariants.{LiveMark}
 use Rattle.dq_wheel.specs.State.{WheelState, filed_at}
 use Rattle.dq_core.specs.declared.slots.Held.{Held}
 use Rattle.dq_core.specs.Words.{Counts, word_at, never, Learned, live, cancelled}
-use Rattle.dq_core.specs.Slots.{Row, Shelf, unused, row_at, vacated_row, raised_row}
-use Rattle.dq_core.specs.Machine.{Entry, Slot, Machine, Event, Note, Pass, Insert, Reset, Extend, Cancel, Remove, Reap, Expire, slot_at, put, Has, NoneLiveBefore, with_due, Step, Run, RunOf, IsCallers, IsOnTheWay, IsReaping, IsClearing, Callers, due, is_due_entry, is_due_by, OwnEventsAlone}
-use Rattle.dq_core.specs.Core.{Core, due_by, entry_of, slot_of, slots_of, machine_of, machine, IsPlaced, AreSlots}
+use Rattle.dq_core.specs.Slots.{Row, SlotRows, unused, row_at, vacated_row, raised_row}
+use Rattle.dq_core.specs.Machine.{Entry, TableRow, Machine, Event, Note, Pass, Insert, Reset, Extend, Cancel, Remove, Reap, Expire, table_at, put, Has, NoneLiveBefore, with_due, Step, Run, RunOf, IsCallers, IsOnTheWay, IsReaping, IsClearing, Callers, due, is_due_entry, is_due_by, OwnEventsAlone}
+use Rattle.dq_core.specs.Core.{Core, due_by, entry_of, table_row_of, table_of, machine_of, machine, IsPlaced, AreSlots}
 
-pub length-slots : {T : Type 0} (rows : List (Row T)) (known : List Parts) → length known ≡ length rows → length (slots_of rows known) ≡ length rows
-length-slots [] ws e = refl
-length-slots (r ∷ rs) [] e = absurd (omega arith)
-length-slots (r ∷ rs) (w ∷ ws) e = ap suc (length-slots rs ws (omega arith))
+pub length-table : {T : Type 0} (rows : List (Row T)) (known : List Parts) → length known ≡ length rows → length (table_of rows known) ≡ length rows
+length-table [] ws e = refl
+length-table (r ∷ rs) [] e = absurd (omega arith)
+length-table (r ∷ rs) (w ∷ ws) e = ap suc (length-table rs ws (omega arith))
 
-pub slots-le-rows : {T : Type 0} (rows : List (Row T)) (known : List Parts) → length (slots_of rows known) ≤ length rows
-slots-le-rows [] ws = omega arith
-slots-le-rows (r ∷ rs) [] = omega arith
-slots-le-rows (r ∷ rs) (w ∷ ws) = let h = slots-le-rows rs ws in omega (arith, h)
+pub table-le-rows : {T : Type 0} (rows : List (Row T)) (known : List Parts) → length (table_of rows known) ≤ length rows
+table-le-rows [] ws = omega arith
+table-le-rows (r ∷ rs) [] = omega arith
+table-le-rows (r ∷ rs) (w ∷ ws) = let h = table-le-rows rs ws in omega (arith, h)
 
 -- the machine's slot is made of what is held there and of the known word, past the row's end too
-pub slot_is : {T : Type 0} (rows : List (Row T)) (known : List Parts) → length known ≡ length rows → (i : ℕ) → get_or (slots_of rows known) i (record { stamp = 0; entry = None }) ≡ slot_of (row_at rows i) (word_at known i)
-slot_is [] [] e i = refl
-slot_is [] (w ∷ ws) e i = absurd (omega arith)
-slot_is (r ∷ rs) [] e i = absurd (omega arith)
-slot_is (r ∷ rs) (w ∷ ws) e zero = refl
-slot_is (r ∷ rs) (w ∷ ws) e (suc i) = slot_is rs ws (omega arith) i
+pub table_row_is : {T : Type 0} (rows : List (Row T)) (known : List Parts) → length known ≡ length rows → (i : ℕ) → get_or (table_of rows known) i (record { stamp = 0; entry = None }) ≡ table_row_of (row_at rows i) (word_at known i)
+table_row_is [] [] e i = refl
+table_row_is [] (w ∷ ws) e i = absurd (omega arith)
+table_row_is (r ∷ rs) [] e i = absurd (omega arith)
+table_row_is (r ∷ rs) (w ∷ ws) e zero = refl
+table_row_is (r ∷ rs) (w ∷ ws) e (suc i) = table_row_is rs ws (omega arith) i
 
-pub slots_set : {T : Type 0} (rows : List (Row T)) (known : List Parts) (i : ℕ) (r : Row T) (w : Parts) → slots_of (set rows i r) (set known i w) ≡ set (slots_of rows known) i (slot_of r w)
-slots_set [] ws i r w = refl
-slots_set (x ∷ rs) [] zero r w = refl
-slots_set (x ∷ rs) [] (suc i) r w = refl
-slots_set (x ∷ rs) (y ∷ ws) zero r w = refl
-slots_set (x ∷ rs) (y ∷ ws) (suc i) r w = ap (λ s. slot_of x y ∷ s) (slots_set rs ws i r w)
+pub table_set : {T : Type 0} (rows : List (Row T)) (known : List Parts) (i : ℕ) (r : Row T) (w : Parts) → table_of (set rows i r) (set known i w) ≡ set (table_of rows known) i (table_row_of r w)
+table_set [] ws i r w = refl
+table_set (x ∷ rs) [] zero r w = refl
+table_set (x ∷ rs) [] (suc i) r w = refl
+table_set (x ∷ rs) (y ∷ ws) zero r w = refl
+table_set (x ∷ rs) (y ∷ ws) (suc i) r w = ap (λ s. table_row_of x y ∷ s) (table_set rs ws i r w)
 
-pub slots_set_known : {T : Type 0} (rows : List (Row T)) (known : List Parts) (i : ℕ) (w : Parts) → slots_of rows (set known i w) ≡ set (slots_of rows known) i (slot_of (row_at rows i) w)
-slots_set_known rows known i w = ap (λ rs. slots_of rs (set known i w)) (sym (set-get_or rows i unused)) ∙ slots_set rows known i (row_at rows i) w
+pub table_set_known : {T : Type 0} (rows : List (Row T)) (known : List Parts) (i : ℕ) (w : Parts) → table_of rows (set known i w) ≡ set (table_of rows known) i (table_row_of (row_at rows i) w)
+table_set_known rows known i w = ap (λ rs. table_of rs (set known i w)) (sym (set-get_or rows i unused)) ∙ table_set rows known i (row_at rows i) w
 
 -- the slots of a learned word
 pub run_more : {T : Type 0} (last : ℕ) (m k n : Machine T) (es fs : List (Event T)) → Run last m es k → Run last k fs n → Run last m (es ++ fs) n
@@ -121,21 +121,21 @@ own_events_alone T = (no_caller, λ last m n r. no_callers last m n r.0 r.1 r.2)
 -- what the keeper learns of one slot's word is an event of a caller, or none
 module _ {T : Type 0} (shared : Bool) (last tick noted : ℕ) (rows : List (Row T)) (known : List Parts) (sizes : length known ≡ length rows) (i : ℕ) (inside : i < length rows) (h : Held T) (held : (row_at rows i).held ≡ Some h) (stamp : (word_at known i).stamp ≡ (row_at rows i).stamp) where
   -- the slot of a held entry by some word
-  held_slot : (w : Parts) → slot_of (row_at rows i) w ≡ record { stamp = (row_at rows i).stamp; entry = Some (record { born = h.born; value = h.value; due = due_by w.mark w.field }) }
-  held_slot w = ap (λ o. let s : Slot T = record { stamp = (row_at rows i).stamp; entry = entry_of o w } in s) held
+  held_row : (w : Parts) → table_row_of (row_at rows i) w ≡ record { stamp = (row_at rows i).stamp; entry = Some (record { born = h.born; value = h.value; due = due_by w.mark w.field }) }
+  held_row w = ap (λ o. let s : TableRow T = record { stamp = (row_at rows i).stamp; entry = entry_of o w } in s) held
 
-  pub has_slot : slot_at (machine_of tick noted rows known) i ≡ record { stamp = (row_at rows i).stamp; entry = Some (record { born = h.born; value = h.value; due = due_by (word_at known i).mark (word_at known i).field }) }
-  has_slot = slot_is rows known sizes i ∙ held_slot (word_at known i)
+  pub has_row : table_at (machine_of tick noted rows known) i ≡ record { stamp = (row_at rows i).stamp; entry = Some (record { born = h.born; value = h.value; due = due_by (word_at known i).mark (word_at known i).field }) }
+  has_row = table_row_is rows known sizes i ∙ held_row (word_at known i)
 
   pub has : Has (machine_of tick noted rows known) i (record { born = h.born; value = h.value; due = due_by (word_at known i).mark (word_at known i).field })
-  has = (omega (arith, length-slots rows known sizes), ap (λ s. s.entry) has_slot)
+  has = (omega (arith, length-table rows known sizes), ap (λ s. s.entry) has_row)
 
-  pub has_stamp : (slot_at (machine_of tick noted rows known) i).stamp ≡ (row_at rows i).stamp
-  has_stamp = ap (λ s. s.stamp) has_slot
+  pub has_stamp : (table_at (machine_of tick noted rows known) i).stamp ≡ (row_at rows i).stamp
+  has_stamp = ap (λ s. s.stamp) has_row
 
   -- the machine with another word there
   pub with_word : (v : Parts) → machine_of tick noted rows (set known i v) ≡ put (machine_of tick noted rows known) i (row_at rows i).stamp (Some (record { born = h.born; value = h.value; due = due_by v.mark v.field }))
-  with_word v = ap (λ s. let m : Machine T = record { tick = tick; noted = noted; slots = s } in m) (slots_set_known rows known i v ∙ ap (λ s. set (slots_of rows known) i s) (held_slot v))
+  with_word v = ap (λ s. let m : Machine T = record { tick = tick; noted = noted; table = s } in m) (table_set_known rows known i v ∙ ap (λ s. set (table_of rows known) i s) (held_row v))
 
   pub live_due : (word_at known i).mark ≡ LiveMark → due_by (word_at known i).mark (word_at known i).field ≡ Some (word_at known i).field
   live_due e = ap (λ m. due_by m (word_at known i).field) e
@@ -196,10 +196,10 @@ none_before tick noted last t rows known filed sizes slots late i e d is at =
     elim (cases_lt i (length rows)) [
       | inl inside ↦
           entry_late tick noted (row_at rows i).stamp t (row_at rows i).held (word_at known i) (filed_at filed i) e d (slots i inside).placed (λ f eq. late i f eq)
-          (sym (ap (λ s. s.entry) (slot_is rows known sizes i)) ∙ is) at
+          (sym (ap (λ s. s.entry) (table_row_is rows known sizes i)) ∙ is) at
       | inr past ↦
-          let short = slots-le-rows rows known in
-          let gone : get_or (slots_of rows known) i (record { stamp = 0; entry = None }) ≡ record { stamp = 0; entry = None } = get_or_past (slots_of rows known) i (record { stamp = 0; entry = None }) (omega (arith, short)) in
+          let short = table-le-rows rows known in
+          let gone : get_or (table_of rows known) i (record { stamp = 0; entry = None }) ≡ record { stamp = 0; entry = None } = get_or_past (table_of rows known) i (record { stamp = 0; entry = None }) (omega (arith, short)) in
           absurd (none_some e (sym (ap (λ s. s.entry) gone) ∙ is))
     ]
 
@@ -215,30 +215,30 @@ filter_none p d (x ∷ xs) h =
     rw here (filter_none p d xs (λ i inside. h (suc i) (omega arith)))
 
 pub none_due : {T : Type 0} (m : Machine T) (t : ℕ) → NoneLiveBefore m (t + 1) → due m t ≡ []
-none_due {T} m t h = filter_none (λ s. is_due_entry t s.entry) (record { stamp = 0; entry = None }) m.slots (λ i inside. not_due t (slot_at m i).entry (λ e d is at. h i e d is at))
+none_due {T} m t h = filter_none (λ s. is_due_entry t s.entry) (record { stamp = 0; entry = None }) m.table (λ i inside. not_due t (table_at m i).entry (λ e d is at. h i e d is at))
 
 -- what is left of a slot's entry in the machine, once its slot is vacated
-pub vacated_of : {T : Type 0} (tick noted : ℕ) (rows : List (Row T)) (known : List Parts) (i : ℕ) (v : Parts) → length known ≡ length rows → machine_of tick noted (set rows i (vacated_row (row_at rows i))) (set known i v) ≡ put (machine_of tick noted rows known) i (slot_at (machine_of tick noted rows known) i).stamp None
+pub vacated_of : {T : Type 0} (tick noted : ℕ) (rows : List (Row T)) (known : List Parts) (i : ℕ) (v : Parts) → length known ≡ length rows → machine_of tick noted (set rows i (vacated_row (row_at rows i))) (set known i v) ≡ put (machine_of tick noted rows known) i (table_at (machine_of tick noted rows known) i).stamp None
 vacated_of {T} tick noted rows known i v sizes =
-    let at : (slot_at (machine_of tick noted rows known) i).stamp ≡ (row_at rows i).stamp = ap (λ s. s.stamp) (slot_is rows known sizes i) in
-    ap (λ ss. let m : Machine T = record { tick = tick; noted = noted; slots = ss } in m) (slots_set rows known i (vacated_row (row_at rows i)) v)
+    let at : (table_at (machine_of tick noted rows known) i).stamp ≡ (row_at rows i).stamp = ap (λ s. s.stamp) (table_row_is rows known sizes i) in
+    ap (λ ss. let m : Machine T = record { tick = tick; noted = noted; table = ss } in m) (table_set rows known i (vacated_row (row_at rows i)) v)
     ∙ ap (λ n. put (machine_of tick noted rows known) i n None) (sym at)
 
 -- what is left where its slot gets the next stamp and its word is live anew
-pub raised_of : {T : Type 0} (tick noted : ℕ) (rows : List (Row T)) (known : List Parts) (i d : ℕ) (h : Held T) → length known ≡ length rows → (row_at rows i).held ≡ Some h → machine_of tick noted (set rows i (raised_row (row_at rows i))) (set known i (live ((row_at rows i).stamp + 1) d)) ≡ put (machine_of tick noted rows known) i ((slot_at (machine_of tick noted rows known) i).stamp + 1) (Some (record { born = h.born; value = h.value; due = Some d }))
+pub raised_of : {T : Type 0} (tick noted : ℕ) (rows : List (Row T)) (known : List Parts) (i d : ℕ) (h : Held T) → length known ≡ length rows → (row_at rows i).held ≡ Some h → machine_of tick noted (set rows i (raised_row (row_at rows i))) (set known i (live ((row_at rows i).stamp + 1) d)) ≡ put (machine_of tick noted rows known) i ((table_at (machine_of tick noted rows known) i).stamp + 1) (Some (record { born = h.born; value = h.value; due = Some d }))
 raised_of {T} tick noted rows known i d h sizes held =
-    let at : (slot_at (machine_of tick noted rows known) i).stamp ≡ (row_at rows i).stamp = ap (λ s. s.stamp) (slot_is rows known sizes i) in
+    let at : (table_at (machine_of tick noted rows known) i).stamp ≡ (row_at rows i).stamp = ap (λ s. s.stamp) (table_row_is rows known sizes i) in
     let w = live ((row_at rows i).stamp + 1) d in
-    let slot : slot_of (raised_row (row_at rows i)) w ≡ record { stamp = (row_at rows i).stamp + 1; entry = Some (record { born = h.born; value = h.value; due = Some d }) } =
-    ap (λ o. let s : Slot T = record { stamp = (row_at rows i).stamp + 1; entry = entry_of o w } in s) held in
-    ap (λ ss. let m : Machine T = record { tick = tick; noted = noted; slots = ss } in m) (slots_set rows known i (raised_row (row_at rows i)) w ∙ ap (λ s. set (slots_of rows known) i s) slot)
+    let slot : table_row_of (raised_row (row_at rows i)) w ≡ record { stamp = (row_at rows i).stamp + 1; entry = Some (record { born = h.born; value = h.value; due = Some d }) } =
+    ap (λ o. let s : TableRow T = record { stamp = (row_at rows i).stamp + 1; entry = entry_of o w } in s) held in
+    ap (λ ss. let m : Machine T = record { tick = tick; noted = noted; table = ss } in m) (table_set rows known i (raised_row (row_at rows i)) w ∙ ap (λ s. set (table_of rows known) i s) slot)
     ∙ ap (λ n. put (machine_of tick noted rows known) i (n + 1) (Some (record { born = h.born; value = h.value; due = Some d }))) (sym at)
 
 -- the machine once the keeper learned more of a held slot's word
 pub record Learning {T : Type 0} (shared : Bool) (last tick noted : ℕ) (rows : List (Row T)) (known : List Parts) (i : ℕ) (h : Held T) (v : Parts) : Type 0 where
   pub way : Callers shared last (machine_of tick noted rows known) (machine_of tick noted rows (set known i v))
   pub has : Has (machine_of tick noted rows (set known i v)) i (record { born = h.born; value = h.value; due = due_by v.mark v.field })
-  pub stamp : (slot_at (machine_of tick noted rows (set known i v)) i).stamp ≡ (row_at rows i).stamp
+  pub stamp : (table_at (machine_of tick noted rows (set known i v)) i).stamp ≡ (row_at rows i).stamp
   pub sizes : length (set known i v) ≡ length rows
 
 pub learning : {T : Type 0} (shared : Bool) (last tick noted : ℕ) (rows : List (Row T)) (known : List Parts) (i : ℕ) (h : Held T) (v : Parts) → length known ≡ length rows → i < length rows → (row_at rows i).held ≡ Some h → (word_at known i).stamp ≡ (row_at rows i).stamp → v.stamp ≡ (row_at rows i).stamp → Learned shared (word_at known i) v → Learning shared last tick noted rows known i h v
@@ -256,13 +256,13 @@ learning {T} shared last tick noted rows known i h v sizes inside held stamp sta
     }
 
 -- a queue's machine, by what is the same of it
-pub machine_is : {T W : Type 0} (c : Core T W) (tick noted : ℕ) (rows : List (Row T)) (known : List Parts) → c.wheel.filing.tick ≡ tick → c.noted ≡ noted → c.shelf.rows ≡ rows → c.known ≡ known → machine c ≡ machine_of tick noted rows known
+pub machine_is : {T W : Type 0} (c : Core T W) (tick noted : ℕ) (rows : List (Row T)) (known : List Parts) → c.wheel.filing.tick ≡ tick → c.noted ≡ noted → c.slots.rows ≡ rows → c.known ≡ known → machine c ≡ machine_of tick noted rows known
 machine_is {T} {W} c tick noted rows known et en er ek =
-    ap (λ t. machine_of t c.noted c.shelf.rows c.known) et
-    ∙ ap (λ n. machine_of tick n c.shelf.rows c.known) en
+    ap (λ t. machine_of t c.noted c.slots.rows c.known) et
+    ∙ ap (λ n. machine_of tick n c.slots.rows c.known) en
     ∙ ap (λ r. machine_of tick noted r c.known) er
     ∙ ap (λ k. machine_of tick noted rows k) ek
 
 -- a queue of its parts
-abbrev pub core_of : {T W : Type 0} → ℕ → ℕ → WheelState → Shelf T → List Parts → Counts → W → Core T W
-core_of shard noted wheel shelf known counts words = record { shard = shard; noted = noted; wheel = wheel; shelf = shelf; known = known; counts = counts; words = words }
+abbrev pub core_of : {T W : Type 0} → ℕ → ℕ → WheelState → SlotRows T → List Parts → Counts → W → Core T W
+core_of shard noted wheel slots known counts words = record { shard = shard; noted = noted; wheel = wheel; slots = slots; known = known; counts = counts; words = words }

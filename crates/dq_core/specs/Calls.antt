@@ -21,13 +21,13 @@ use Rattle.dq_core.specs.declared.outcomes.Removed.{Removed}
 use Rattle.dq_core.specs.declared.words.Settled.TheVariants.{SettledExpired}
 use Rattle.dq_core.specs.Words.{Counts, Learned, live, cancelled, expired, removed, word_at, begun_counts, settled_counts, finished_counts}
 use Rattle.dq_core.specs.Slots.{is_held, is_worn, unused, row_at, filled, vacated, raised}
-use Rattle.dq_core.specs.Machine.{Entry, Machine, Note, Insert, Reset, Remove, Expire, Step, RunOf, Callers, Has, slot_at, IsOnTheWay, NoneLiveBefore, NoneLinked, due}
+use Rattle.dq_core.specs.Machine.{Entry, Machine, Note, Insert, Reset, Remove, Expire, Step, RunOf, Callers, Has, table_at, IsOnTheWay, NoneLiveBefore, NoneLinked, due}
 use Rattle.dq_core.specs.Core.{Core, machine, filing_for}
 use Rattle.dq_core.specs.WheelWays.{WheelGoes}
 
 -- what stays the same of a queue in each call
 abbrev pub SameCore : {T W : Type 0} → Core T W → Core T W → Type 0
-SameCore b c = (c.shard ≡ b.shard) × (c.shelf.last_stamp ≡ b.shelf.last_stamp) × (length c.shelf.rows ≡ length b.shelf.rows)
+SameCore b c = (c.shard ≡ b.shard) × (c.slots.last_stamp ≡ b.slots.last_stamp) × (length c.slots.rows ≡ length b.slots.rows)
 
 -- the base of an entry: the deadline that was asked for, raised to the wheel's tick
 abbrev pub base_for : {T W : Type 0} → Core T W → ℕ → ℕ
@@ -45,11 +45,11 @@ LooksOver shared old new = (length new ≡ length old) × ((i : ℕ) → Learned
 pub record IsLookedAt {T W : Type 0} (shared : Bool) (b : Core T W) (i : ℕ) (v : Parts) (c : Core T W) : Type 0 where
   pub learned : Learned shared (word_at b.known i) v
   pub known : c.known ≡ slice_set b.known i v
-  pub callers : Callers shared b.shelf.last_stamp (machine b) (machine c)
+  pub callers : Callers shared b.slots.last_stamp (machine b) (machine c)
   pub shard : c.shard ≡ b.shard
   pub noted : c.noted ≡ b.noted
   pub wheel : c.wheel ≡ b.wheel
-  pub shelf : c.shelf ≡ b.shelf
+  pub slots : c.slots ≡ b.slots
   pub counts : c.counts ≡ b.counts
 
 -- new
@@ -57,7 +57,7 @@ pub record IsLookedAt {T W : Type 0} (shared : Bool) (b : Core T W) (i : ℕ) (v
 -- a new queue: nothing is noted, no slot was used
 abbrev pub new_core : {T W : Type 0} → ℕ → ℕ → ℕ → WheelState → List Parts → Counts → W → Core T W
 new_core shard capacity last wheel known counts words =
-    record { shard = shard; noted = 0; wheel = wheel; shelf = record { last_stamp = last; rows = replicate capacity unused }; known = known; counts = counts; words = words }
+    record { shard = shard; noted = 0; wheel = wheel; slots = record { last_stamp = last; rows = replicate capacity unused }; known = known; counts = counts; words = words }
 
 -- the numbers of a configuration, for that many words
 abbrev pub IsConfig : ℕ → ℕ → ℕ → Type 0
@@ -80,12 +80,12 @@ IsMade config words known counts (Err e) = NewRefused config.capacity config.las
 -- a new entry at a free slot, under the slot's next stamp, live at its base
 pub record IsInserted {T W : Type 0} (b : Core T W) (v : T) (when : ℕ) (k : Key) (c : Core T W) : Type 0 where
   pub accepted : when ≤ LAST_TICK
-  pub step : Step b.shelf.last_stamp (machine b) (Insert k.entry.index v when) (machine c)
-  pub stamp : (slot_at (machine c) k.entry.index).stamp ≡ k.stamp
+  pub step : Step b.slots.last_stamp (machine b) (Insert k.entry.index v when) (machine c)
+  pub stamp : (table_at (machine c) k.entry.index).stamp ≡ k.stamp
   pub born : k.entry.born ≡ k.stamp
   pub shard : k.entry.shard ≡ b.shard
   pub filed : c.wheel.filing ≡ linked b.wheel.filing k.entry.index (file_for b when)
-  pub shelf : c.shelf ≡ filled b.shelf k.entry.index v
+  pub slots : c.slots ≡ filled b.slots k.entry.index v
   pub known : c.known ≡ slice_set b.known k.entry.index (live k.stamp (base_for b when))
   pub counts : c.counts ≡ begun_counts b.counts
   pub same_shard : c.shard ≡ b.shard
@@ -95,7 +95,7 @@ pub record IsInserted {T W : Type 0} (b : Core T W) (v : T) (when : ℕ) (k : Ke
 abbrev pub InsertRefused : {T W : Type 0} → Core T W → ℕ → CoreError → Type 0
 InsertRefused b when (TooFar limit) = (limit ≡ LAST_TICK) × (LAST_TICK < when)
 InsertRefused b when (Full linked worn) =
-    (when ≤ LAST_TICK) × (linked ≡ count_by is_held b.shelf.rows) × (worn ≡ count_by (is_worn b.shelf.last_stamp) b.shelf.rows) × (linked + worn ≡ length b.shelf.rows)
+    (when ≤ LAST_TICK) × (linked ≡ count_by is_held b.slots.rows) × (worn ≡ count_by (is_worn b.slots.last_stamp) b.slots.rows) × (linked + worn ≡ length b.slots.rows)
 InsertRefused b when e = ⊥
 
 -- an insert, or its refusal, which hands the value back and changes nothing
@@ -111,11 +111,11 @@ IsLinked {T} b id = (id.shard ≡ b.shard) × ((e : Entry T) × Has (machine b) 
 
 -- no entry is linked with that shard, index and birth stamp
 abbrev pub IsMissing : {T W : Type 0} → Core T W → EntryId → Type 0
-IsMissing {T} b id = id.shard ≡ b.shard → (e : Entry T) → (slot_at (machine b) id.index).entry ≡ Some e → e.born ≢ id.born
+IsMissing {T} b id = id.shard ≡ b.shard → (e : Entry T) → (table_at (machine b) id.index).entry ≡ Some e → e.born ≢ id.born
 
 -- where an entry is held
 abbrev pub IsFound : {T W : Type 0} → Core T W → EntryId → ℕ → Type 0
-IsFound {T} b id i = (id.shard ≡ b.shard) × (i ≡ id.index) × (i < length b.shelf.rows) × ((h : Held T) × ((row_at b.shelf.rows i).held ≡ Some h) × (h.born ≡ id.born))
+IsFound {T} b id i = (id.shard ≡ b.shard) × (i ≡ id.index) × (i < length b.slots.rows) × ((h : Held T) × ((row_at b.slots.rows i).held ≡ Some h) × (h.born ≡ id.born))
 
 -- a search for an entry: where it is held, none exactly where it is missing
 abbrev pub IsFind : {T W : Type 0} → Core T W → EntryId → Option ℕ → Type 0
@@ -133,13 +133,13 @@ IsLiveEntry {T} m id d = (e : Entry T) × Has m id.index e × (e.born ≡ id.bor
 -- the entry's word was looked at, and is cancelled
 pub record IsFoundCancelled {T W : Type 0} (shared : Bool) (b : Core T W) (id : EntryId) (c : Core T W) : Type 0 where
   pub shard : id.shard ≡ b.shard
-  pub looked : IsLookedAt shared b id.index (cancelled (row_at b.shelf.rows id.index).stamp) c
+  pub looked : IsLookedAt shared b id.index (cancelled (row_at b.slots.rows id.index).stamp) c
   pub entry : IsCancelledEntry (machine c) id
 
 -- the entry's word was looked at, and is live at d
 pub record IsFoundLive {T W : Type 0} (shared : Bool) (b : Core T W) (id : EntryId) (d : ℕ) (c : Core T W) : Type 0 where
   pub shard : id.shard ≡ b.shard
-  pub looked : IsLookedAt shared b id.index (live (row_at b.shelf.rows id.index).stamp d) c
+  pub looked : IsLookedAt shared b id.index (live (row_at b.slots.rows id.index).stamp d) c
   pub entry : IsLiveEntry (machine c) id d
 
 -- remove
@@ -149,13 +149,13 @@ pub record IsRemoved {T W : Type 0} (shared : Bool) (b : Core T W) (id : EntryId
   pub shard : id.shard ≡ b.shard
   pub key : x.key.entry ≡ id
   pub run :
-      (m : Machine T) × Callers shared b.shelf.last_stamp (machine b) m × Step b.shelf.last_stamp m (Remove id.index id.born) (machine c)
-      × Has m id.index (record { born = id.born; value = x.value; due = Some x.deadline }) × ((slot_at m id.index).stamp ≡ x.key.stamp)
+      (m : Machine T) × Callers shared b.slots.last_stamp (machine b) m × Step b.slots.last_stamp m (Remove id.index id.born) (machine c)
+      × Has m id.index (record { born = id.born; value = x.value; due = Some x.deadline }) × ((table_at m id.index).stamp ≡ x.key.stamp)
   pub learned : Learned shared (word_at b.known id.index) (live x.key.stamp x.deadline)
   pub known : c.known ≡ slice_set b.known id.index (removed x.key.stamp x.deadline)
   pub counts : c.counts ≡ finished_counts b.counts (Some x.deadline)
   pub filed : c.wheel.filing ≡ unlinked b.wheel.filing id.index
-  pub shelf : c.shelf ≡ vacated b.shelf id.index
+  pub slots : c.slots ≡ vacated b.slots id.index
   pub same_shard : c.shard ≡ b.shard
   pub noted : c.noted ≡ b.noted
 
@@ -177,13 +177,13 @@ pub record IsReset {T W : Type 0} (shared : Bool) (b : Core T W) (id : EntryId) 
   pub accepted : when ≤ LAST_TICK
   pub shard : id.shard ≡ b.shard
   pub key : k.entry ≡ id
-  pub run : (m : Machine T) × Callers shared b.shelf.last_stamp (machine b) m × Step b.shelf.last_stamp m (Reset id.index id.born when) (machine c)
-  pub stamp : (slot_at (machine c) id.index).stamp ≡ k.stamp
-  pub learned : (d : ℕ) × Learned shared (word_at b.known id.index) (live (row_at b.shelf.rows id.index).stamp d)
+  pub run : (m : Machine T) × Callers shared b.slots.last_stamp (machine b) m × Step b.slots.last_stamp m (Reset id.index id.born when) (machine c)
+  pub stamp : (table_at (machine c) id.index).stamp ≡ k.stamp
+  pub learned : (d : ℕ) × Learned shared (word_at b.known id.index) (live (row_at b.slots.rows id.index).stamp d)
   pub known : c.known ≡ slice_set b.known id.index (live k.stamp (base_for b when))
   pub counts : c.counts ≡ b.counts
   pub filed : c.wheel.filing ≡ linked b.wheel.filing id.index (file_for b when)
-  pub shelf : c.shelf ≡ raised b.shelf id.index
+  pub slots : c.slots ≡ raised b.slots id.index
   pub same_shard : c.shard ≡ b.shard
   pub noted : c.noted ≡ b.noted
 
@@ -192,7 +192,7 @@ abbrev pub ResetRefused : {T W : Type 0} → Bool → Core T W → EntryId → �
 ResetRefused shared b id when (TooFar limit) c = (limit ≡ LAST_TICK) × (LAST_TICK < when) × (c ≡ b)
 ResetRefused shared b id when Missing c = (when ≤ LAST_TICK) × IsMissing b id × (c ≡ b)
 ResetRefused shared b id when WasCancelled c = (when ≤ LAST_TICK) × IsFoundCancelled shared b id c
-ResetRefused shared b id when Worn c = (when ≤ LAST_TICK) × ((d : ℕ) × IsFoundLive shared b id d c) × ((row_at b.shelf.rows id.index).stamp ≡ b.shelf.last_stamp)
+ResetRefused shared b id when Worn c = (when ≤ LAST_TICK) × ((d : ℕ) × IsFoundLive shared b id d c) × ((row_at b.slots.rows id.index).stamp ≡ b.slots.last_stamp)
 ResetRefused shared b id when e c = ⊥
 
 -- a reset, or its refusal
@@ -214,7 +214,7 @@ abbrev pub IsLeft : {T : Type 0} → ℕ → Machine T → ℕ → ℕ → ℕ �
 IsLeft last m index born stamp at value n =
     Step last m (Expire index born at) n
     × Has m index (record { born = born; value = value; due = Some at })
-    × ((slot_at m index).stamp ≡ stamp)
+    × ((table_at m index).stamp ≡ stamp)
 
 -- what came out is the entry that the machine expires there
 abbrev pub IsOut : {T : Type 0} → ℕ → ℕ → Machine T → Expired T → Machine T → Type 0
@@ -253,7 +253,7 @@ IsFiledOver v old w new i =
 
 -- the way of a poll from one queue to another
 pub record IsUnderWay {T W : Type 0} (shared : Bool) (b c : Core T W) : Type 0 where
-  pub way : RunOf (IsOnTheWay shared) b.shelf.last_stamp (machine b) (machine c)
+  pub way : RunOf (IsOnTheWay shared) b.slots.last_stamp (machine b) (machine c)
   pub looks : LooksOver shared b.known c.known
   pub wheel : WheelGoes b.noted b.wheel.filing c.wheel.filing
   pub ticks : b.wheel.filing.tick ≤ c.wheel.filing.tick
@@ -262,7 +262,7 @@ pub record IsUnderWay {T W : Type 0} (shared : Bool) (b c : Core T W) : Type 0 w
 
 -- the way of a poll to an answer
 pub record IsAnswered {T W : Type 0} (shared : Bool) (b : Core T W) (turn : Turn T) (c : Core T W) : Type 0 where
-  pub run : (m : Machine T) × RunOf (IsOnTheWay shared) b.shelf.last_stamp (machine b) m × IsTurn b.shard b.shelf.last_stamp m turn (machine c) c.wheel.filing
+  pub run : (m : Machine T) × RunOf (IsOnTheWay shared) b.slots.last_stamp (machine b) m × IsTurn b.shard b.slots.last_stamp m turn (machine c) c.wheel.filing
   pub row : TurnRow shared b.known turn c.known
   pub wheel : WheelGoes b.noted b.wheel.filing c.wheel.filing
   pub ticks : b.wheel.filing.tick ≤ c.wheel.filing.tick
@@ -286,12 +286,12 @@ IsProgress shared b Rests c = (c ≡ b) × (c.wheel.filing.tick ≡ c.noted) × 
 
 -- a queue with a greater tick noted
 abbrev pub noting : {T W : Type 0} → Core T W → ℕ → Core T W
-noting c t = record { shard = c.shard; noted = max c.noted t; wheel = c.wheel; shelf = c.shelf; known = c.known; counts = c.counts; words = c.words }
+noting c t = record { shard = c.shard; noted = max c.noted t; wheel = c.wheel; slots = c.slots; known = c.known; counts = c.counts; words = c.words }
 
 -- a poll notes its tick and goes its way to its answer
 abbrev pub IsPolled : {T W : Type 0} → Bool → Core T W → ℕ → Turn T → Core T W → Type 0
 IsPolled shared b tick turn c =
-    (tick ≤ LAST_TICK) × Step b.shelf.last_stamp (machine b) (Note tick) (machine (noting b tick)) × IsAnswered shared (noting b tick) turn c × (c.noted ≡ max b.noted tick)
+    (tick ≤ LAST_TICK) × Step b.slots.last_stamp (machine b) (Note tick) (machine (noting b tick)) × IsAnswered shared (noting b tick) turn c × (c.noted ≡ max b.noted tick)
 
 -- a poll, or its refusal: exactly beyond the last tick, and then nothing changes
 abbrev pub Polls : {T W : Type 0} → Bool → Core T W → ℕ → Result (Turn T) CoreError → Core T W → Type 0

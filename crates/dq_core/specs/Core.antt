@@ -9,8 +9,8 @@ use Rattle.dq_ticks.specs.Units.{lap}
 use Rattle.dq_wheel.specs.State.{Filing, WheelState, filed_at}
 use Rattle.dq_core.specs.declared.slots.Held.{Held}
 use Rattle.dq_core.specs.Words.{Counts, word_at, IsOver, IsInForce}
-use Rattle.dq_core.specs.Slots.{Row, Shelf, row_at, is_held}
-use Rattle.dq_core.specs.Machine.{Entry, Slot, Machine}
+use Rattle.dq_core.specs.Slots.{Row, SlotRows, row_at, is_held}
+use Rattle.dq_core.specs.Machine.{Entry, TableRow, Machine}
 
 -- a queue: its number, the greatest accepted tick, the wheel, the slots, and of its words what is known, the keeper's
 -- own writes, and the words themselves
@@ -18,7 +18,7 @@ pub record Core (T W : Type 0) : Type 0 where
   pub shard : ℕ
   pub noted : ℕ
   pub wheel : WheelState
-  pub shelf : Shelf T
+  pub slots : SlotRows T
   pub known : List Parts
   pub counts : Counts
   pub words : W
@@ -35,23 +35,23 @@ abbrev pub entry_of : {T : Type 0} → Option (Held T) → Parts → Option (Ent
 entry_of None w = None
 entry_of (Some h) w = Some (record { born = h.born; value = h.value; due = due_by w.mark w.field })
 
--- a slot, with its word, as one of the machine
-abbrev pub slot_of : {T : Type 0} → Row T → Parts → Slot T
-slot_of r w = record { stamp = r.stamp; entry = entry_of r.held w }
+-- a slot, with its word, as a row of the machine's table
+abbrev pub table_row_of : {T : Type 0} → Row T → Parts → TableRow T
+table_row_of r w = record { stamp = r.stamp; entry = entry_of r.held w }
 
--- all slots, each with its word
-abbrev pub slots_of : {T : Type 0} → List (Row T) → List Parts → List (Slot T)
-slots_of [] ws = []
-slots_of (r ∷ rs) [] = []
-slots_of (r ∷ rs) (w ∷ ws) = slot_of r w ∷ slots_of rs ws
+-- the table of all slots, each with its word
+abbrev pub table_of : {T : Type 0} → List (Row T) → List Parts → List (TableRow T)
+table_of [] ws = []
+table_of (r ∷ rs) [] = []
+table_of (r ∷ rs) (w ∷ ws) = table_row_of r w ∷ table_of rs ws
 
 -- the machine by the known words
 abbrev pub machine_of : {T : Type 0} → ℕ → ℕ → List (Row T) → List Parts → Machine T
-machine_of tick noted rows known = record { tick = tick; noted = noted; slots = slots_of rows known }
+machine_of tick noted rows known = record { tick = tick; noted = noted; table = table_of rows known }
 
 -- the machine that a queue is
 abbrev pub machine : {T W : Type 0} → Core T W → Machine T
-machine c = machine_of c.wheel.filing.tick c.noted c.shelf.rows c.known
+machine c = machine_of c.wheel.filing.tick c.noted c.slots.rows c.known
 
 -- the furthest from its tick that a wheel files
 abbrev pub reach : ℕ
@@ -80,19 +80,19 @@ abbrev pub AreSlots : {T : Type 0} → ℕ → ℕ → ℕ → List (Row T) → 
 AreSlots tick noted last rows known filed = (i : ℕ) → i < length rows → IsSlot tick noted last (row_at rows i) (word_at known i) (filed_at filed i)
 
 -- the shard law
-pub record IsLawful {T : Type 0} (noted : ℕ) (wheel : Filing) (shelf : Shelf T) (known : List Parts) (counts : Counts) : Type 0 where
-  pub as_filed : length wheel.filed ≡ length shelf.rows
-  pub as_known : length known ≡ length shelf.rows
-  pub capacity : length shelf.rows ≤ 65536
-  pub last_bound : shelf.last_stamp ≤ LAST_STAMP
+pub record IsLawful {T : Type 0} (noted : ℕ) (wheel : Filing) (slots : SlotRows T) (known : List Parts) (counts : Counts) : Type 0 where
+  pub as_filed : length wheel.filed ≡ length slots.rows
+  pub as_known : length known ≡ length slots.rows
+  pub capacity : length slots.rows ≤ 65536
+  pub last_bound : slots.last_stamp ≤ LAST_STAMP
   pub tick : wheel.tick ≤ noted
   pub noted_bound : noted ≤ LAST_TICK
-  pub slots : AreSlots wheel.tick noted shelf.last_stamp shelf.rows known wheel.filed
+  pub each : AreSlots wheel.tick noted slots.last_stamp slots.rows known wheel.filed
   -- no more entries were begun than stamps were given
-  pub stamps : counts.begins ≤ sum_by (λ r. r.stamp) shelf.rows
+  pub stamps : counts.begins ≤ sum_by (λ r. r.stamp) slots.rows
   -- each that was begun is linked, or ended as expired, as removed or as cancelled
-  pub balance : counts.expiries + counts.removals + count_by is_held shelf.rows ≤ counts.begins
+  pub balance : counts.expiries + counts.removals + count_by is_held slots.rows ≤ counts.begins
 
 -- the shard law of a queue
 abbrev pub IsLawfulCore : {T W : Type 0} → Core T W → Type 0
-IsLawfulCore c = IsLawful c.noted c.wheel.filing c.shelf c.known c.counts
+IsLawfulCore c = IsLawful c.noted c.wheel.filing c.slots c.known c.counts

@@ -15,7 +15,7 @@ pub record KeepsRest {T W : Type 0} (b c : Core T W) : Type 0 where
   pub shard : c.shard ≡ b.shard
   pub noted : c.noted ≡ b.noted
   pub wheel : c.wheel ≡ b.wheel
-  pub shelf : c.shelf ≡ b.shelf
+  pub slots : c.slots ≡ b.slots
   pub counts : c.counts ≡ b.counts
 
 -- a live entry's deadline in force is raised to `when`, where it is lower, and told
@@ -25,7 +25,7 @@ pub record IsExtended {T W : Type 0} (b : Core T W) (k : Key) (when d : ℕ) (c 
   pub callable : IsCallable b.known k
   pub deadline : d ≡ max when (word_at b.known k.entry.index).field
   pub known : c.known ≡ extended b.known k d
-  pub step : Step b.shelf.last_stamp (machine b) (Extend k.entry.index k.stamp when) (machine c)
+  pub step : Step b.slots.last_stamp (machine b) (Extend k.entry.index k.stamp when) (machine c)
   pub rest : KeepsRest b c
 
 -- why a call by key is refused: first by its shard, then by its index and stamp, then by the entry's end
@@ -49,7 +49,7 @@ pub record IsGivenUp {T W : Type 0} (b : Core T W) (k : Key) (d : ℕ) (c : Core
   pub callable : IsCallable b.known k
   pub deadline : d ≡ (word_at b.known k.entry.index).field
   pub known : c.known ≡ given_up b.known k
-  pub step : Step b.shelf.last_stamp (machine b) (Cancel k.entry.index k.stamp) (machine c)
+  pub step : Step b.slots.last_stamp (machine b) (Cancel k.entry.index k.stamp) (machine c)
   pub rest : KeepsRest b c
 
 -- a cancel, or its refusal, which changes nothing

@@ -5,7 +5,7 @@ pub mod KeyCalls
 pub mod Machine
 pub mod Plain
 pub mod Readers
-pub mod Shelved
+pub mod SlotRowsKept
 pub mod Slots
 pub mod Soonest
 pub mod Sweeps

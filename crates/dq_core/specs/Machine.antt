@@ -1,4 +1,4 @@
--- The queue machine: a table of entries by slots, the wheel's tick and the noted tick, and its events.
+-- The queue machine: a table with a row for each slot, the wheel's tick and the noted tick, and its events.
 use Rattle.std.specs.Prelude.{◌≡◌, ℕ, ◌+◌, ◌<◌, ◌≤◌, max, nat_le, Bool, true, false, List, [], ◌∷◌, Option, Some, None, slice_index_or, slice_set, length, filter}
 use Rattle.std.specs.List.{AllByRecursion}
 
@@ -8,16 +8,16 @@ pub record Entry (T : Type 0) : Type 0 where
   pub value : T
   pub due : Option ℕ
 
--- a slot: its present stamp, and the entry that is linked there
-pub record Slot (T : Type 0) : Type 0 where
+-- a row of the table: a slot's present stamp, and the entry that is linked there
+pub record TableRow (T : Type 0) : Type 0 where
   pub stamp : ℕ
   pub entry : Option (Entry T)
 
--- the table by slots, the wheel's tick and the noted tick
+-- the table, the wheel's tick and the noted tick
 pub record Machine (T : Type 0) : Type 0 where
   pub tick : ℕ
   pub noted : ℕ
-  pub slots : List (Slot T)
+  pub table : List (TableRow T)
 
 -- what may come to a queue; Step says when, and what is left then
 pub data Event (T : Type 0) : Type 0 where
@@ -31,25 +31,25 @@ pub data Event (T : Type 0) : Type 0 where
   Reap : (slot born : ℕ) → Event T
   Expire : (slot born at : ℕ) → Event T
 
--- the slot at an index; past the table's end, one that was never used
-abbrev pub slot_at : {T : Type 0} → Machine T → ℕ → Slot T
-slot_at m i = slice_index_or m.slots i (record { stamp = 0; entry = None })
+-- the row of a slot; past the table's end, one that was never used
+abbrev pub table_at : {T : Type 0} → Machine T → ℕ → TableRow T
+table_at m i = slice_index_or m.table i (record { stamp = 0; entry = None })
 
 -- the machine with that stamp and entry at slot i
 abbrev pub put : {T : Type 0} → Machine T → ℕ → ℕ → Option (Entry T) → Machine T
-put m i s e = record { tick = m.tick; noted = m.noted; slots = slice_set m.slots i (record { stamp = s; entry = e }) }
+put m i s e = record { tick = m.tick; noted = m.noted; table = slice_set m.table i (record { stamp = s; entry = e }) }
 
 -- the entry e is linked at slot i
 abbrev pub Has : {T : Type 0} → Machine T → ℕ → Entry T → Type 0
-Has m i e = (i < length m.slots) × ((slot_at m i).entry ≡ Some e)
+Has m i e = (i < length m.table) × ((table_at m i).entry ≡ Some e)
 
 -- no live entry has a deadline in force before t
 abbrev pub NoneLiveBefore : {T : Type 0} → Machine T → ℕ → Type 0
-NoneLiveBefore {T} m t = (i : ℕ) (e : Entry T) (d : ℕ) → (slot_at m i).entry ≡ Some e → e.due ≡ Some d → t ≤ d
+NoneLiveBefore {T} m t = (i : ℕ) (e : Entry T) (d : ℕ) → (table_at m i).entry ≡ Some e → e.due ≡ Some d → t ≤ d
 
 -- nothing is linked
 abbrev pub NoneLinked : {T : Type 0} → Machine T → Type 0
-NoneLinked m = (i : ℕ) → (slot_at m i).entry ≡ None
+NoneLinked m = (i : ℕ) → (table_at m i).entry ≡ None
 
 -- a deadline in force is at most t; a cancelled entry has none
 abbrev pub is_due_by : ℕ → Option ℕ → Bool
@@ -61,9 +61,9 @@ abbrev pub is_due_entry : {T : Type 0} → ℕ → Option (Entry T) → Bool
 is_due_entry t None = false
 is_due_entry t (Some e) = is_due_by t e.due
 
--- the due filter: the slots with a live entry whose deadline in force is at most t
-abbrev pub due : {T : Type 0} → Machine T → ℕ → List (Slot T)
-due m t = filter (λ s. is_due_entry t s.entry) m.slots
+-- the due filter: the rows with a live entry whose deadline in force is at most t
+abbrev pub due : {T : Type 0} → Machine T → ℕ → List (TableRow T)
+due m t = filter (λ s. is_due_entry t s.entry) m.table
 
 -- the entry with another deadline in force, or cancelled
 abbrev pub with_due : {T : Type 0} → Entry T → Option ℕ → Option (Entry T)
@@ -71,21 +71,21 @@ with_due e d = Some (record { born = e.born; value = e.value; due = d })
 
 -- one event of the machine whose stamps end at last
 abbrev pub Step : {T : Type 0} → ℕ → Machine T → Event T → Machine T → Type 0
-Step last m (Note t) n = n ≡ record { tick = m.tick; noted = max m.noted t; slots = m.slots }
-Step last m (Pass t) n = (m.tick ≤ t) × (t ≤ m.noted) × NoneLiveBefore m t × (n ≡ record { tick = t; noted = m.noted; slots = m.slots })
+Step last m (Note t) n = n ≡ record { tick = m.tick; noted = max m.noted t; table = m.table }
+Step last m (Pass t) n = (m.tick ≤ t) × (t ≤ m.noted) × NoneLiveBefore m t × (n ≡ record { tick = t; noted = m.noted; table = m.table })
 Step last m (Insert i v when) n =
-    (i < length m.slots) × ((slot_at m i).entry ≡ None) × ((slot_at m i).stamp < last) × (n ≡ put m i ((slot_at m i).stamp + 1) (Some (record { born = (slot_at m i).stamp + 1; value = v; due = Some (max when m.tick) })))
+    (i < length m.table) × ((table_at m i).entry ≡ None) × ((table_at m i).stamp < last) × (n ≡ put m i ((table_at m i).stamp + 1) (Some (record { born = (table_at m i).stamp + 1; value = v; due = Some (max when m.tick) })))
 Step {T} last m (Reset i b when) n =
-    (e : Entry T) × (d : ℕ) × Has m i e × (e.born ≡ b) × (e.due ≡ Some d) × ((slot_at m i).stamp < last) × (n ≡ put m i ((slot_at m i).stamp + 1) (with_due e (Some (max when m.tick))))
+    (e : Entry T) × (d : ℕ) × Has m i e × (e.born ≡ b) × (e.due ≡ Some d) × ((table_at m i).stamp < last) × (n ≡ put m i ((table_at m i).stamp + 1) (with_due e (Some (max when m.tick))))
 Step {T} last m (Extend i s when) n =
-    (e : Entry T) × (d : ℕ) × Has m i e × ((slot_at m i).stamp ≡ s) × (e.due ≡ Some d) × (n ≡ put m i s (with_due e (Some (max when d))))
+    (e : Entry T) × (d : ℕ) × Has m i e × ((table_at m i).stamp ≡ s) × (e.due ≡ Some d) × (n ≡ put m i s (with_due e (Some (max when d))))
 Step {T} last m (Cancel i s) n =
-    (e : Entry T) × (d : ℕ) × Has m i e × ((slot_at m i).stamp ≡ s) × (e.due ≡ Some d) × (n ≡ put m i s (with_due e None))
+    (e : Entry T) × (d : ℕ) × Has m i e × ((table_at m i).stamp ≡ s) × (e.due ≡ Some d) × (n ≡ put m i s (with_due e None))
 Step {T} last m (Remove i b) n =
-    (e : Entry T) × (d : ℕ) × Has m i e × (e.born ≡ b) × (e.due ≡ Some d) × (n ≡ put m i (slot_at m i).stamp None)
-Step {T} last m (Reap i b) n = (e : Entry T) × Has m i e × (e.born ≡ b) × (e.due ≡ None) × (n ≡ put m i (slot_at m i).stamp None)
+    (e : Entry T) × (d : ℕ) × Has m i e × (e.born ≡ b) × (e.due ≡ Some d) × (n ≡ put m i (table_at m i).stamp None)
+Step {T} last m (Reap i b) n = (e : Entry T) × Has m i e × (e.born ≡ b) × (e.due ≡ None) × (n ≡ put m i (table_at m i).stamp None)
 Step {T} last m (Expire i b at) n =
-    (e : Entry T) × Has m i e × (e.born ≡ b) × (e.due ≡ Some at) × (at ≡ m.tick) × (at ≤ m.noted) × NoneLiveBefore m at × (n ≡ put m i (slot_at m i).stamp None)
+    (e : Entry T) × Has m i e × (e.born ≡ b) × (e.due ≡ Some at) × (at ≡ m.tick) × (at ≤ m.noted) × NoneLiveBefore m at × (n ≡ put m i (table_at m i).stamp None)
 
 -- a list of events, one after the other
 abbrev pub Run : {T : Type 0} → ℕ → Machine T → List (Event T) → Machine T → Type 0

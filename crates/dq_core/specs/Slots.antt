@@ -10,7 +10,7 @@ pub record Row (T : Type 0) : Type 0 where
   pub held : Option (Held T)
 
 -- the slots as their users see them: the last stamp, and each slot's stamp with what is held there
-pub record Shelf (T : Type 0) : Type 0 where
+pub record SlotRows (T : Type 0) : Type 0 where
   pub last_stamp : ℕ
   pub rows : List (Row T)
 
@@ -52,19 +52,19 @@ abbrev pub raised_row : {T : Type 0} → Row T → Row T
 raised_row r = record { stamp = r.stamp + 1; held = r.held }
 
 -- the slots with a value put in at slot i
-abbrev pub filled : {T : Type 0} → Shelf T → ℕ → T → Shelf T
+abbrev pub filled : {T : Type 0} → SlotRows T → ℕ → T → SlotRows T
 filled s i v = record { last_stamp = s.last_stamp; rows = slice_set s.rows i (filled_row (row_at s.rows i) v) }
 
 -- the slots with slot i vacated
-abbrev pub vacated : {T : Type 0} → Shelf T → ℕ → Shelf T
+abbrev pub vacated : {T : Type 0} → SlotRows T → ℕ → SlotRows T
 vacated s i = record { last_stamp = s.last_stamp; rows = slice_set s.rows i (vacated_row (row_at s.rows i)) }
 
 -- the slots with slot i under its next stamp
-abbrev pub raised : {T : Type 0} → Shelf T → ℕ → Shelf T
+abbrev pub raised : {T : Type 0} → SlotRows T → ℕ → SlotRows T
 raised s i = record { last_stamp = s.last_stamp; rows = slice_set s.rows i (raised_row (row_at s.rows i)) }
 
 -- a value goes to a free slot, under that slot's next stamp; it comes back, and nothing changes, exactly where no slot is free
-abbrev pub IsFilled : {T : Type 0} → Shelf T → T → Result ℕ T → Shelf T → Type 0
+abbrev pub IsFilled : {T : Type 0} → SlotRows T → T → Result ℕ T → SlotRows T → Type 0
 IsFilled s v (Ok i) t = (i < length s.rows) × (is_free s.last_stamp (row_at s.rows i) ≡ true) × (t ≡ filled s i v)
 IsFilled s v (Err back) t = (count_by (is_free s.last_stamp) s.rows ≡ 0) × (back ≡ v) × (t ≡ s)
 
@@ -74,7 +74,7 @@ pub record IsRow {T : Type 0} (last : ℕ) (r : Row T) : Type 0 where
   pub birth : (h : Held T) → r.held ≡ Some h → (0 < h.born) × (h.born ≤ r.stamp)
 
 -- a row of slots in good order
-pub record IsShelf {T : Type 0} (s : Shelf T) : Type 0 where
+pub record IsSlotRows {T : Type 0} (s : SlotRows T) : Type 0 where
   pub used : 0 < s.last_stamp
   pub bound : s.last_stamp ≤ LAST_STAMP
   pub size : length s.rows ≤ 65536

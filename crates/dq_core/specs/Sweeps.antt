@@ -4,8 +4,8 @@ use Rattle.std.specs.List.{count_by, AllByRecursion}
 use Rattle.dq_ticks.specs.declared.words.Parts.{Parts}
 use Rattle.dq_wheel.specs.State.{Filing, unlinked}
 use Rattle.dq_core.specs.Words.{Counts, removed, word_at, IsChanged}
-use Rattle.dq_core.specs.Slots.{Row, Shelf, is_held, row_at, vacated}
-use Rattle.dq_core.specs.Machine.{Entry, Machine, Event, Run, RunOf, slot_at, IsReaping, IsClearing, removes, NoneLinked}
+use Rattle.dq_core.specs.Slots.{Row, SlotRows, is_held, row_at, vacated}
+use Rattle.dq_core.specs.Machine.{Entry, Machine, Event, Run, RunOf, table_at, IsReaping, IsClearing, removes, NoneLinked}
 use Rattle.dq_core.specs.Core.{Core, machine}
 use Rattle.dq_core.specs.Calls.{LooksOver}
 
@@ -15,20 +15,20 @@ all_unlinked w [] = w
 all_unlinked w (i ∷ is) = all_unlinked (unlinked w i) is
 
 -- slots of which each of those is vacated, in turn
-abbrev pub all_vacated : {T : Type 0} → Shelf T → List ℕ → Shelf T
+abbrev pub all_vacated : {T : Type 0} → SlotRows T → List ℕ → SlotRows T
 all_vacated s [] = s
 all_vacated s (i ∷ is) = all_vacated (vacated s i) is
 
 -- the entries at those slots, one at each, and no others, left the wheel and the slots
 pub record AreOut {T W : Type 0} (b : Core T W) (is : List ℕ) (c : Core T W) : Type 0 where
   pub filed : c.wheel.filing ≡ all_unlinked b.wheel.filing is
-  pub shelf : c.shelf ≡ all_vacated b.shelf is
-  pub held : count_by is_held c.shelf.rows + length is ≡ count_by is_held b.shelf.rows
+  pub slots : c.slots ≡ all_vacated b.slots is
+  pub held : count_by is_held c.slots.rows + length is ≡ count_by is_held b.slots.rows
   pub noted : c.noted ≡ b.noted
 
 -- no cancelled entry is linked at the slot
 abbrev pub NotCancelled : {T : Type 0} → Machine T → ℕ → Type 0
-NotCancelled {T} m i = (e : Entry T) → (slot_at m i).entry ≡ Some e → e.due ≢ None
+NotCancelled {T} m i = (e : Entry T) → (table_at m i).entry ≡ Some e → e.due ≢ None
 
 -- no cancelled entry is linked
 abbrev pub NoneCancelled : {T : Type 0} → Machine T → Type 0
@@ -36,7 +36,7 @@ NoneCancelled m = (i : ℕ) → NotCancelled m i
 
 -- the entries at those slots were found cancelled and were reaped
 pub record AreReaped {T W : Type 0} (shared : Bool) (b : Core T W) (is : List ℕ) (c : Core T W) : Type 0 where
-  pub run : RunOf (IsReaping shared) b.shelf.last_stamp (machine b) (machine c)
+  pub run : RunOf (IsReaping shared) b.slots.last_stamp (machine b) (machine c)
   pub out : AreOut b is c
   pub looks : LooksOver shared b.known c.known
   pub counts : c.counts ≡ b.counts
@@ -50,7 +50,7 @@ only_if false i = []
 pub record IsSwept {T W : Type 0} (shared : Bool) (b : Core T W) (i : ℕ) (found : Bool) (c : Core T W) : Type 0 where
   pub reaped : AreReaped shared b (only_if found i) c
   pub here : NotCancelled (machine c) i
-  pub other : (j : ℕ) → j ≢ i → slot_at (machine c) j ≡ slot_at (machine b) j
+  pub other : (j : ℕ) → j ≢ i → table_at (machine c) j ≡ table_at (machine b) j
 
 -- a sweep reaps n entries, and leaves none linked that is known as cancelled
 pub record Sweeps {T W : Type 0} (shared : Bool) (b : Core T W) (n : ℕ) (c : Core T W) : Type 0 where
@@ -73,19 +73,19 @@ IsCleared shared r w v =
 
 -- entries at those slots were ended, n of them as removed
 pub record AreEnded {T W : Type 0} (shared : Bool) (b : Core T W) (is : List ℕ) (n : ℕ) (c : Core T W) : Type 0 where
-  pub run : RunOfClear shared b.shelf.last_stamp (machine b) n (machine c)
+  pub run : RunOfClear shared b.slots.last_stamp (machine b) n (machine c)
   pub out : AreOut b is c
   pub counts : c.counts ≡ removed_counts b.counts n
 
 -- one slot was cleared, and the other slots and words are as they were
 pub record IsEmptied {T W : Type 0} (shared : Bool) (b : Core T W) (i : ℕ) (removed : Bool) (c : Core T W) : Type 0 where
   pub ended : (is : List ℕ) × AreEnded shared b is (cond removed 1 0) c
-  pub here : (row_at c.shelf.rows i).held ≡ None
-  pub word : IsCleared shared (row_at b.shelf.rows i) (word_at b.known i) (word_at c.known i)
-  pub other : (j : ℕ) → j ≢ i → (row_at c.shelf.rows j ≡ row_at b.shelf.rows j) × (word_at c.known j ≡ word_at b.known j)
+  pub here : (row_at c.slots.rows i).held ≡ None
+  pub word : IsCleared shared (row_at b.slots.rows i) (word_at b.known i) (word_at c.known i)
+  pub other : (j : ℕ) → j ≢ i → (row_at c.slots.rows j ≡ row_at b.slots.rows j) × (word_at c.known j ≡ word_at b.known j)
 
 -- a clear ends each linked entry, n of them as removed
 pub record Clears {T W : Type 0} (shared : Bool) (b : Core T W) (n : ℕ) (c : Core T W) : Type 0 where
   pub ended : (is : List ℕ) × AreEnded shared b is n c
-  pub words : (i : ℕ) → IsCleared shared (row_at b.shelf.rows i) (word_at b.known i) (word_at c.known i)
+  pub words : (i : ℕ) → IsCleared shared (row_at b.slots.rows i) (word_at b.known i) (word_at c.known i)
   pub none : NoneLinked (machine c)

@@ -2,6 +2,7 @@
 ghost use Rattle.std.specs.Prelude.{◌≡◌};
 ghost use Rattle.dq_core.specs.declared.errors.CoreError.TheVariants.{NoMemory};
 
+use dq_ticks::LAST_STAMP;
 use std::alloc::AllocError;
 use thiserror::Error;
 
@@ -37,8 +38,8 @@ pub enum CoreError {
         /// The last tick.
         limit: u64,
     },
-    /// A number of the configuration is out of its range.
-    #[error("a number of the configuration is out of its range")]
+    /// The capacity or the last stamp is out of its range, or the words are not as many as the slots.
+    #[error("the capacity isn't 1 to 65536, the last stamp isn't 1 to {LAST_STAMP}, or there isn't one word for each slot")]
     BadConfig,
     /// Memory was refused.
     #[error("out of memory")]

@@ -9,7 +9,7 @@
 //! [`PlainQueue`] is the slow twin: a plain list, which is short enough to be read and has the same answers.
 #![tactic(auto)]
 
-mod desk;
+mod callers;
 pub mod errors;
 mod key_calls;
 mod outcomes;
@@ -27,4 +27,4 @@ pub use plain::{Pending, PlainQueue, PlainTurn};
 pub use queue::DelayCore;
 pub use slots::{Held, Slots};
 pub use vec_words::VecWords;
-pub use words::{CallError, Desk, Look, Settled, Words};
+pub use words::{CallError, Look, Settled, SharedWords, Words};

@@ -42,7 +42,7 @@ impl<T, W: Words, A: Allocator> Model for DelayCore<T, W, A> {
 
     ghost Value = { Core T W };
 
-    ghost view = { λ a. record { shard = a.shard; noted = a.noted; wheel = a.wheel; shelf = a.slots; known = W.known a.words; counts = W.counts a.words; words = a.words } };
+    ghost view = { λ a. record { shard = a.shard; noted = a.noted; wheel = a.wheel; slots = a.slots; known = W.known a.words; counts = W.counts a.words; words = a.words } };
 
     ghost invariant = { λ a. IsLawful a.noted a.wheel.filing a.slots (W.known a.words) (W.counts a.words) × (W.counts a.words ≡ record { begins = a.inserted; expiries = a.expired; removals = a.removed }) };
 }
@@ -264,21 +264,21 @@ impl<T: Drop, W: Words, A: Allocator> DelayCore<T, W, A> {
 
     /// The number of linked entries.
     pub fn len(&self) -> usize
-        ensures { result ≡ count_by is_held self.now.shelf.rows }
+        ensures { result ≡ count_by is_held self.now.slots.rows }
     {
         self.slots.linked()
     }
 
     /// Whether nothing is linked.
     pub fn is_empty(&self) -> bool
-        ensures { IsTrue result ↔ (count_by is_held self.now.shelf.rows ≡ 0) }
+        ensures { IsTrue result ↔ (count_by is_held self.now.slots.rows ≡ 0) }
     {
         self.slots.linked() == 0
     }
 
     /// The number of slots.
     pub fn capacity(&self) -> usize
-        ensures { result ≡ length self.now.shelf.rows }
+        ensures { result ≡ length self.now.slots.rows }
     {
         self.slots.capacity()
     }

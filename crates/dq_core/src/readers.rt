@@ -16,7 +16,7 @@ impl<T: Drop, W: Words, A: Allocator> DelayCore<T, W, A> {
 
     /// The number of worn slots, which hold nothing and have no stamp left.
     pub fn worn(&self) -> usize
-        ensures { result ≡ count_by (is_worn self.now.shelf.last_stamp) self.now.shelf.rows }
+        ensures { result ≡ count_by (is_worn self.now.slots.last_stamp) self.now.slots.rows }
     {
         self.slots.worn()
     }

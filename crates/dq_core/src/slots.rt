@@ -116,18 +116,18 @@ pub struct Slots<T, A: Allocator = Global> {
 
 impl<T, A: Allocator> Model for Slots<T, A> {
     ghost use Rattle.std.specs.Prelude.{vec_capacity};
-    ghost use Rattle.dq_core.specs.Slots.{Shelf};
-    ghost use Rattle.dq_core.specs.Shelved.{IsShelved};
+    ghost use Rattle.dq_core.specs.Slots.{SlotRows};
+    ghost use Rattle.dq_core.specs.SlotRowsKept.{IsSlotRowsKept};
 
-    ghost Value = { Shelf T };
+    ghost Value = { SlotRows T };
 
     ghost view = { λ a. record { last_stamp = a.last; rows = a.cells.items } };
 
-    ghost invariant = { λ a. IsShelved a.last a.cells.items a.free.items a.taken (vec_capacity a.free) };
+    ghost invariant = { λ a. IsSlotRowsKept a.last a.cells.items a.free.items a.taken (vec_capacity a.free) };
 }
 
 impl<T: Drop, A: Allocator + Clone> Slots<T, A> {
-    ghost use Rattle.dq_core.specs.Slots.{Shelf, unused};
+    ghost use Rattle.dq_core.specs.Slots.{SlotRows, unused};
     ghost use Rattle.dq_ticks.specs.declared.TheConstants.{LAST_STAMP};
 
     /// A row of slots that were never used.
@@ -154,11 +154,11 @@ impl<T: Drop, A: Allocator + Clone> Slots<T, A> {
 }
 
 impl<T: Drop, A: Allocator> Slots<T, A> {
-    ghost use Rattle.dq_core.specs.Slots.{Shelf, row_at, is_free, is_held, is_worn, vacated, raised, unused, IsBorn, IsFilled, IsShelf};
+    ghost use Rattle.dq_core.specs.Slots.{SlotRows, row_at, is_free, is_held, is_worn, vacated, raised, unused, IsBorn, IsFilled, IsSlotRows};
 
     /// The row is in good order.
     pub fn law(&self)
-        ensures { IsShelf self.now }
+        ensures { IsSlotRows self.now }
     {
         let _ = &self.last;
     }

@@ -14,7 +14,7 @@ use std::alloc::Allocator;
 impl<T: Drop, W: Words, A: Allocator> DelayCore<T, W, A> {
     /// Reaps the entry at a slot where it is found cancelled.
     fn reap_at(&mut self, index: usize) -> bool
-        requires { index < length self.old.shelf.rows }
+        requires { index < length self.old.slots.rows }
         ensures same { SameCore self.old self.new }
         ensures swept { IsSwept W.shared self.old index result self.new }
     {
@@ -47,7 +47,7 @@ impl<T: Drop, W: Words, A: Allocator> DelayCore<T, W, A> {
 
     /// Ends the entry at a slot: as removed where it is live, and else it is reaped.
     fn clear_at(&mut self, index: usize) -> bool
-        requires { index < length self.old.shelf.rows }
+        requires { index < length self.old.slots.rows }
         ensures same { SameCore self.old self.new }
         ensures emptied { IsEmptied W.shared self.old index result self.new }
     {

@@ -9,6 +9,7 @@ ghost use Rattle.dq_ticks.specs.declared.words.Parts.{Parts};
 ghost use Rattle.dq_core.specs.Words.{Counts, live, removed, word_at, IsOver, IsInForce, Learned, IsSettled, IsChanged, begun_counts, settled_counts, finished_counts};
 
 use dq_ticks::{LAST_STAMP, LAST_TICK, Parts};
+use std::fmt;
 use thiserror::Error;
 
 /// How a due entry was settled.
@@ -35,6 +36,20 @@ pub enum Look {
     LookRemoved(u64),
 }
 
+impl fmt::Display for Look {
+    fn fmt<W: fmt::Write>(&self, f: &mut fmt::Formatter<W>) -> fmt::Result {
+        match self {
+            Look::StillLive(deadline) => write!(f, "the entry is live until {deadline}"),
+            Look::LookCancelled => write!(f, "the entry was cancelled"),
+            Look::LookExpired(deadline) => write!(f, "the entry expired at {deadline}"),
+            Look::LookRemoved(deadline) => write!(
+                f,
+                "the entry was removed, its deadline was {deadline}"
+            ),
+        }
+    }
+}
+
 /// Why a call by key is refused.
 #[derive(Clone, Copy, Debug, PartialEq, Eq, Drop, Error)]
 pub enum CallError {
@@ -48,7 +63,7 @@ pub enum CallError {
     #[error("the key is stale, its slot has stamp {seen}")]
     Stale { seen: u32 },
     /// The entry has ended, as `how` shows.
-    #[error("the entry has ended: {how:?}")]
+    #[error("{how}")]
     Ended { how: Look },
 }
 
@@ -117,7 +132,7 @@ pub trait Words {
 }
 
 /// Words whose callers are issued and given back.
-pub trait Desk: Words {
+pub trait SharedWords: Words {
     /// What may extend and cancel words without the keeper.
     type Caller;
 

@@ -7,9 +7,9 @@ use Rattle.dq_ticks.specs.Keys.{KeyName}
 use Rattle.dq_ticks.specs.declared.TheConstants.{LAST_STAMP}
 use Rattle.dq_core.specs.Words.{never}
 use Rattle.dq_core.specs.Slots.{unused}
-use Rattle.dq_core.specs.Machine.{Slot, Machine, Event, slot_at, put, Note, Pass, Insert, Reset, Extend, Cancel, Remove, Reap, Expire, Step, Run, IsClearing}
+use Rattle.dq_core.specs.Machine.{TableRow, Machine, Event, table_at, put, Note, Pass, Insert, Reset, Extend, Cancel, Remove, Reap, Expire, Step, Run, IsClearing}
 use Rattle.dq_core.specs.Machine.{Entry as Linked}
-use Rattle.dq_core.specs.Core.{Core, machine, slots_of}
+use Rattle.dq_core.specs.Core.{Core, machine, table_of}
 use Rattle.dq_core.specs.Calls.{SameCore}
 use Rattle.dq_core.specs.Sweeps.{Clears}
 use Rattle.dq_replay.specs.declared.session.Entry.{Entry}
@@ -36,8 +36,8 @@ module _ {W : Type 0} (b c : Core (List ℕ) W) (t u : NameTable) (given : ℕ) 
       let below = l.stamps k.entry.index in
       let one = one_key t name k at in
       let count = l.count in
-      let sizes = key_moved_size b c t u given (given + 1) ((slot_at (machine b) k.entry.index).stamp + 1) (Some (live_entry k.entry.born name (max when (machine b).tick))) name d k l at live reset.0 (max when (machine b).tick) refl in
-      key_put b c t u given (given + 1) ((slot_at (machine b) k.entry.index).stamp + 1) (Some (live_entry k.entry.born name (max when (machine b).tick))) name d k l at live reset.0 (omega arith) (omega (arith, below))
+      let sizes = key_moved_size b c t u given (given + 1) ((table_at (machine b) k.entry.index).stamp + 1) (Some (live_entry k.entry.born name (max when (machine b).tick))) name d k l at live reset.0 (max when (machine b).tick) refl in
+      key_put b c t u given (given + 1) ((table_at (machine b) k.entry.index).stamp + 1) (Some (live_entry k.entry.born name (max when (machine b).tick))) name d k l at live reset.0 (omega arith) (omega (arith, below))
       (inr (k.entry.born, max when (machine b).tick, refl, put_in_same t u name (Some new) put_in ∙ ap Some (reset.1 ∙ ap (λ m. key_at b.shard m k.entry.index k.entry.born) reset.0.machine_is)))
       (put_in_other t u name (Some new) put_in)
       (omega (arith, size, one, count, sizes))
@@ -50,9 +50,9 @@ module _ {W : Type 0} (b c : Core (List ℕ) W) (t u : NameTable) (given : ℕ) 
         within,
         is,
         leased_path c (given + 1) (moved_lease (leased b given) name when (given + 1)) reset.0.same.rows
-            (changed_tick b c k.entry.index ((slot_at (machine b) k.entry.index).stamp + 1) (Some (live_entry k.entry.born name (max when (machine b).tick))) reset.0)
-            (changed_noted b c k.entry.index ((slot_at (machine b) k.entry.index).stamp + 1) (Some (live_entry k.entry.born name (max when (machine b).tick))) reset.0) refl
-            (key_moved b c t u given (given + 1) ((slot_at (machine b) k.entry.index).stamp + 1) (Some (live_entry k.entry.born name (max when (machine b).tick))) name d k l at live reset.0 when
+            (changed_tick b c k.entry.index ((table_at (machine b) k.entry.index).stamp + 1) (Some (live_entry k.entry.born name (max when (machine b).tick))) reset.0)
+            (changed_noted b c k.entry.index ((table_at (machine b) k.entry.index).stamp + 1) (Some (live_entry k.entry.born name (max when (machine b).tick))) reset.0) refl
+            (key_moved b c t u given (given + 1) ((table_at (machine b) k.entry.index).stamp + 1) (Some (live_entry k.entry.born name (max when (machine b).tick))) name d k l at live reset.0 when
             (ap (λ z. Some (live_entry k.entry.born name z)) here)),
       )
 
@@ -62,9 +62,9 @@ module _ {W : Type 0} (b c : Core (List ℕ) W) (t : NameTable) (given : ℕ) (n
   pub extend_tied : IsLeased c t given
   extend_tied =
       let below = l.stamps k.entry.index in
-      let s : ℕ = (slot_at (machine b) k.entry.index).stamp in
+      let s : ℕ = (table_at (machine b) k.entry.index).stamp in
       let e : Option (Linked (List ℕ)) = Some (live_entry k.entry.born name x) in
-      let stamp : (slot_at (machine b) k.entry.index).stamp ≡ (slot_at (put (machine b) k.entry.index s e) k.entry.index).stamp = ap (λ z. z.stamp) (sym (put_here (machine b) k.entry.index s e extended.1.inside)) in
+      let stamp : (table_at (machine b) k.entry.index).stamp ≡ (table_at (put (machine b) k.entry.index s e) k.entry.index).stamp = ap (λ z. z.stamp) (sym (put_here (machine b) k.entry.index s e extended.1.inside)) in
       let count = l.count in
       let sizes = key_moved_size b c t t given given s e name d k l at live extended.1 x refl in
       key_put b c t t given given s e name d k l at live extended.1 (omega arith) below
@@ -79,21 +79,21 @@ module _ {W : Type 0} (b c : Core (List ℕ) W) (t : NameTable) (given : ℕ) (n
     within,
     extended.0,
     leased_path c given (moved_lease (leased b given) name x given) extended.1.same.rows
-        (changed_tick b c k.entry.index (slot_at (machine b) k.entry.index).stamp (Some (live_entry k.entry.born name x)) extended.1)
-        (changed_noted b c k.entry.index (slot_at (machine b) k.entry.index).stamp (Some (live_entry k.entry.born name x)) extended.1) refl
-        (key_moved b c t t given given (slot_at (machine b) k.entry.index).stamp (Some (live_entry k.entry.born name x)) name d k l at live extended.1 x refl),
+        (changed_tick b c k.entry.index (table_at (machine b) k.entry.index).stamp (Some (live_entry k.entry.born name x)) extended.1)
+        (changed_noted b c k.entry.index (table_at (machine b) k.entry.index).stamp (Some (live_entry k.entry.born name x)) extended.1) refl
+        (key_moved b c t t given given (table_at (machine b) k.entry.index).stamp (Some (live_entry k.entry.born name x)) name d k l at live extended.1 x refl),
   )
 
 -- the end of a live name: as cancelled, or as removed
 module _ {W : Type 0} (b c : Core (List ℕ) W) (t u : NameTable) (given : ℕ) (e : Option (Linked (List ℕ))) (name : List ℕ) (d x : ℕ) (k : KeyName) (l : IsLeased b t given) (at : found_in t name ≡ Some k) (live : IsLiveKey b k name d)
-    (told : x ≡ d) (changed : IsChangedAt b k.entry.index (slot_at (machine b) k.entry.index).stamp e c) (none : lease_of e ≡ None) where
+    (told : x ≡ d) (changed : IsChangedAt b k.entry.index (table_at (machine b) k.entry.index).stamp e c) (none : lease_of e ≡ None) where
   pub end_tied : IsPutIn t name None u → length u.entries + one_if (found_in t name) ≡ length t.entries → IsLeased c u given
   end_tied put_in size =
       let below = l.stamps k.entry.index in
       let one = one_key t name k at in
       let count = l.count in
-      let sizes = key_ended_size b c t u given given (slot_at (machine b) k.entry.index).stamp e name d k l at live changed none in
-      key_put b c t u given given (slot_at (machine b) k.entry.index).stamp e name d k l at live changed (omega arith) below
+      let sizes = key_ended_size b c t u given given (table_at (machine b) k.entry.index).stamp e name d k l at live changed none in
+      key_put b c t u given given (table_at (machine b) k.entry.index).stamp e name d k l at live changed (omega arith) below
       (inl (none, put_in_same t u name None put_in))
       (put_in_other t u name None put_in)
       (omega (arith, size, one, count, sizes))
@@ -102,9 +102,9 @@ module _ {W : Type 0} (b c : Core (List ℕ) W) (t u : NameTable) (given : ℕ) 
   end_shown = (
     key_deadline b t given name d k l live ∙ ap Some (sym told),
     leased_path c given (without_lease (leased b given) name) changed.same.rows
-        (changed_tick b c k.entry.index (slot_at (machine b) k.entry.index).stamp e changed)
-        (changed_noted b c k.entry.index (slot_at (machine b) k.entry.index).stamp e changed) refl
-        (key_ended b c t u given given (slot_at (machine b) k.entry.index).stamp e name d k l at live changed none),
+        (changed_tick b c k.entry.index (table_at (machine b) k.entry.index).stamp e changed)
+        (changed_noted b c k.entry.index (table_at (machine b) k.entry.index).stamp e changed) refl
+        (key_ended b c t u given given (table_at (machine b) k.entry.index).stamp e name d k l at live changed none),
   )
 
 -- the machine as it was
@@ -112,47 +112,47 @@ pub same_tied : {W : Type 0} (b c : Core (List ℕ) W) (t : NameTable) (given : 
 same_tied b c t given l is same = record {
   last = same.last ∙ l.last;
   keyed = subst (λ m. AreKeyed c.shard m (found_in t)) (sym is) (subst (λ s. AreKeyed s (machine b) (found_in t)) (sym same.shard) l.keyed);
-  count = l.count ∙ ap (λ m. length (live_of m.slots)) (sym is);
-  stamps = λ i. subst (λ m. (slot_at m i).stamp ≤ given) (sym is) (l.stamps i);
+  count = l.count ∙ ap (λ m. length (live_of m.table)) (sym is);
+  stamps = λ i. subst (λ m. (table_at m i).stamp ≤ given) (sym is) (l.stamps i);
 }
 
 pub same_shown : {W : Type 0} (b c : Core (List ℕ) W) (given : ℕ) → machine c ≡ machine b → IsSameQueue b c → leased c given ≡ leased b given
-same_shown b c given is same = leased_path c given (leased b given) same.rows (ap (λ m. m.tick) is) (ap (λ m. m.noted) is) refl (ap (λ m. live_of m.slots) is)
+same_shown b c given is same = leased_path c given (leased b given) same.rows (ap (λ m. m.tick) is) (ap (λ m. m.noted) is) refl (ap (λ m. live_of m.table) is)
 
 -- clear
 
-none_linked_live : (ss : List (Slot (List ℕ))) → ((i : ℕ) → (get_or ss i vacant).entry ≡ None) → live_of ss ≡ []
+none_linked_live : (ss : List (TableRow (List ℕ))) → ((i : ℕ) → (get_or ss i vacant).entry ≡ None) → live_of ss ≡ []
 none_linked_live [] h = refl
 none_linked_live (s ∷ ss) h = ap (λ o. with_lease (lease_of o) (live_of ss)) (h 0) ∙ none_linked_live ss (λ i. h (suc i))
 
 no_names : (t : NameTable) → t.entries ≡ [] → (name : List ℕ) → found_in t name ≡ None
 no_names t empty name = ap (λ es. found_in (record { entries = es; spare = 0 }) name) empty
 
-empty_keyed : (shard : ℕ) (m : Machine (List ℕ)) (t : NameTable) → ((i : ℕ) → (slot_at m i).entry ≡ None) → t.entries ≡ [] → AreKeyed shard m (found_in t)
+empty_keyed : (shard : ℕ) (m : Machine (List ℕ)) (t : NameTable) → ((i : ℕ) → (table_at m i).entry ≡ None) → t.entries ≡ [] → AreKeyed shard m (found_in t)
 empty_keyed shard m t none empty = record {
   found = λ i born name d is. absurd (none_some (live_entry born name d) (sym (none i) ∙ is));
   live = λ name k is. absurd (none_some k (sym (no_names t empty name) ∙ is));
 }
 
-put_stamp : (m : Machine (List ℕ)) (i j : ℕ) → i < length m.slots → (slot_at (put m i (slot_at m i).stamp None) j).stamp ≡ (slot_at m j).stamp
+put_stamp : (m : Machine (List ℕ)) (i j : ℕ) → i < length m.table → (table_at (put m i (table_at m i).stamp None) j).stamp ≡ (table_at m j).stamp
 put_stamp m i j inside = elim (cases_eq j i) [
-  | inl q ↦ ap (λ z. (slot_at (put m i (slot_at m i).stamp None) z).stamp) q ∙ (ap (λ s. s.stamp) (put_here m i (slot_at m i).stamp None inside) ∙ ap (λ z. (slot_at m z).stamp) (sym q))
-  | inr away ↦ ap (λ s. s.stamp) (put_there m i (slot_at m i).stamp None j away)
+  | inl q ↦ ap (λ z. (table_at (put m i (table_at m i).stamp None) z).stamp) q ∙ (ap (λ s. s.stamp) (put_here m i (table_at m i).stamp None inside) ∙ ap (λ z. (table_at m z).stamp) (sym q))
+  | inr away ↦ ap (λ s. s.stamp) (put_there m i (table_at m i).stamp None j away)
 ]
 
-cleared_event : (last : ℕ) (m n : Machine (List ℕ)) (e : Event (List ℕ)) → IsClearing false e → Step last m e n → ((i : ℕ) → (slot_at n i).stamp ≡ (slot_at m i).stamp) × (n.tick ≡ m.tick)
+cleared_event : (last : ℕ) (m n : Machine (List ℕ)) (e : Event (List ℕ)) → IsClearing false e → Step last m e n → ((i : ℕ) → (table_at n i).stamp ≡ (table_at m i).stamp) × (n.tick ≡ m.tick)
 cleared_event last m n (Note t) h s = absurd h
 cleared_event last m n (Pass t) h s = absurd h
 cleared_event last m n (Insert i v w) h s = absurd h
 cleared_event last m n (Reset i b w) h s = absurd h
 cleared_event last m n (Extend i b w) h s = cc
 cleared_event last m n (Cancel i b) h s = cc
-cleared_event last m n (Remove i b) h (x, d, has, born, dues, is) = (λ j. ap (λ z. (slot_at z j).stamp) is ∙ put_stamp m i j has.0, ap (λ z. z.tick) is)
-cleared_event last m n (Reap i b) h (x, has, born, none, is) = (λ j. ap (λ z. (slot_at z j).stamp) is ∙ put_stamp m i j has.0, ap (λ z. z.tick) is)
+cleared_event last m n (Remove i b) h (x, d, has, born, dues, is) = (λ j. ap (λ z. (table_at z j).stamp) is ∙ put_stamp m i j has.0, ap (λ z. z.tick) is)
+cleared_event last m n (Reap i b) h (x, has, born, none, is) = (λ j. ap (λ z. (table_at z j).stamp) is ∙ put_stamp m i j has.0, ap (λ z. z.tick) is)
 cleared_event last m n (Expire i b at) h s = absurd h
 
-cleared_run : (last : ℕ) (m n : Machine (List ℕ)) (es : List (Event (List ℕ))) → AllByRecursion (IsClearing false) es → Run last m es n → ((i : ℕ) → (slot_at n i).stamp ≡ (slot_at m i).stamp) × (n.tick ≡ m.tick)
-cleared_run last m n [] a r = (λ i. ap (λ z. (slot_at z i).stamp) r, ap (λ z. z.tick) r)
+cleared_run : (last : ℕ) (m n : Machine (List ℕ)) (es : List (Event (List ℕ))) → AllByRecursion (IsClearing false) es → Run last m es n → ((i : ℕ) → (table_at n i).stamp ≡ (table_at m i).stamp) × (n.tick ≡ m.tick)
+cleared_run last m n [] a r = (λ i. ap (λ z. (table_at z i).stamp) r, ap (λ z. z.tick) r)
 cleared_run last m n (e ∷ es) a (k, step, rest) =
     let one = cleared_event last m k e a.0 step in
     let more = cleared_run last k n es a.1 rest in
@@ -161,19 +161,19 @@ cleared_run last m n (e ∷ es) a (k, step, rest) =
 pub cleared_tied : {W : Type 0} (b c : Core (List ℕ) W) (t u : NameTable) (given n : ℕ) → IsLeased b t given → SameCore b c → Clears false b n c → u.entries ≡ [] → IsLeased c u given
 cleared_tied b c t u given n l same cl empty =
     let run = cl.ended.1.run in
-    let way = cleared_run b.shelf.last_stamp (machine b) (machine c) run.0 run.1 run.2 in
+    let way = cleared_run b.slots.last_stamp (machine b) (machine c) run.0 run.1 run.2 in
     record {
       last = same.1 ∙ l.last;
       keyed = empty_keyed c.shard (machine c) u cl.none empty;
-      count = ap length empty ∙ sym (ap length (none_linked_live (machine c).slots cl.none));
+      count = ap length empty ∙ sym (ap length (none_linked_live (machine c).table cl.none));
       stamps = λ i. subst (λ s. s ≤ given) (sym (way.0 i)) (l.stamps i);
     }
 
-pub cleared_shown : {W : Type 0} (b c : Core (List ℕ) W) (given n : ℕ) → SameCore b c → Clears false b n c → leased c given ≡ record { capacity = length b.shelf.rows; tick = b.wheel.filing.tick; noted = b.noted; given = given; live = [] }
+pub cleared_shown : {W : Type 0} (b c : Core (List ℕ) W) (given n : ℕ) → SameCore b c → Clears false b n c → leased c given ≡ record { capacity = length b.slots.rows; tick = b.wheel.filing.tick; noted = b.noted; given = given; live = [] }
 cleared_shown b c given n same cl =
     let run = cl.ended.1.run in
-    let way = cleared_run b.shelf.last_stamp (machine b) (machine c) run.0 run.1 run.2 in
-    leased_path c given (record { capacity = length b.shelf.rows; tick = b.wheel.filing.tick; noted = b.noted; given = given; live = [] }) same.2 way.1 cl.ended.1.out.noted refl (none_linked_live (machine c).slots cl.none)
+    let way = cleared_run b.slots.last_stamp (machine b) (machine c) run.0 run.1 run.2 in
+    leased_path c given (record { capacity = length b.slots.rows; tick = b.wheel.filing.tick; noted = b.noted; given = given; live = [] }) same.2 way.1 cl.ended.1.out.noted refl (none_linked_live (machine c).table cl.none)
 
 -- polls
 
@@ -187,7 +187,7 @@ rest_tied b c t given now l r = record {
 
 pub rest_shown : {W : Type 0} (b c : Core (List ℕ) W) (given now : ℕ) → IsResting b now c → ExpiresLease (leased b given) now None (leased c given)
 rest_shown b c given now r = (
-  leased_path c given (record { capacity = length b.shelf.rows; tick = now; noted = now; given = given; live = live_of (machine b).slots }) r.same.rows r.tick r.noted refl r.kept.live,
+  leased_path c given (record { capacity = length b.slots.rows; tick = now; noted = now; given = given; live = live_of (machine b).table }) r.same.rows r.tick r.noted refl r.kept.live,
   subst (NoneDue now) r.kept.live r.none_due,
 )
 
@@ -198,18 +198,18 @@ module _ {W : Type 0} (b c : Core (List ℕ) W) (t : NameTable) (given now : ℕ
   gone_at : found_in t x.name ≡ Some (key_at b.shard gone.way.0 gone.way.1 gone.way.2)
   gone_at = gone_keyed.found gone.way.1 gone.way.2 x.name x.deadline gone.way.4
 
-  gone_inside : gone.way.1 < length gone.way.0.slots
+  gone_inside : gone.way.1 < length gone.way.0.table
   gone_inside = inside_slots gone.way.0 gone.way.1 (live_entry gone.way.2 x.name x.deadline) gone.way.4
 
-  gone_rest : live_of (machine c).slots ≡ live_of (set gone.way.0.slots gone.way.1 vacant)
-  gone_rest = ap (λ m. live_of m.slots) gone.way.5 ∙ live_set gone.way.0.slots gone.way.1 (record { stamp = (slot_at gone.way.0 gone.way.1).stamp; entry = None }) gone_inside
+  gone_rest : live_of (machine c).table ≡ live_of (set gone.way.0.table gone.way.1 vacant)
+  gone_rest = ap (λ m. live_of m.table) gone.way.5 ∙ live_set gone.way.0.table gone.way.1 (record { stamp = (table_at gone.way.0 gone.way.1).stamp; entry = None }) gone_inside
 
-  gone_live : live_of (machine b).slots ≡ with_entry x (live_of (machine c).slots)
+  gone_live : live_of (machine b).table ≡ with_entry x (live_of (machine c).table)
   gone_live =
-      sym gone.way.3.live ∙ (live_here gone.way.0.slots gone.way.1 gone_inside ∙ (ap (λ o. with_lease (lease_of o) (live_of (set gone.way.0.slots gone.way.1 vacant))) gone.way.4 ∙ ap (with_entry x) (sym gone_rest)))
+      sym gone.way.3.live ∙ (live_here gone.way.0.table gone.way.1 gone_inside ∙ (ap (λ o. with_lease (lease_of o) (live_of (set gone.way.0.table gone.way.1 vacant))) gone.way.4 ∙ ap (with_entry x) (sym gone_rest)))
 
-  gone_size : length (live_of (machine b).slots) ≡ suc (length (live_of (machine c).slots))
-  gone_size = ap length gone_live ∙ length-with_entry x (live_of (machine c).slots)
+  gone_size : length (live_of (machine b).table) ≡ suc (length (live_of (machine c).table))
+  gone_size = ap length gone_live ∙ length-with_entry x (live_of (machine c).table)
 
   pub gone_shown : ExpiresLease (leased b given) now (Some x) (leased c given)
   gone_shown = (gone_live, gone.due, gone.noted, gone.same.rows, refl)
@@ -218,7 +218,7 @@ module _ {W : Type 0} (b c : Core (List ℕ) W) (t : NameTable) (given now : ℕ
   gone_tied u put_in size =
       let m : Machine (List ℕ) = gone.way.0 in
       let i : ℕ = gone.way.1 in
-      let s : ℕ = (slot_at m i).stamp in
+      let s : ℕ = (table_at m i).stamp in
       let put_keyed : AreKeyed b.shard (put m i s None) (found_in u) = keyed_put b.shard m (found_in t) (found_in u) i s None x.name gone_inside gone_keyed
       (λ born name d is. name_of gone.way.2 born x.name name x.deadline d (sym gone.way.4 ∙ is))
       (λ z at. ap (λ y. y.entry.index) (key_same z (key_at b.shard m i gone.way.2) (sym at ∙ gone_at)))
@@ -232,7 +232,7 @@ module _ {W : Type 0} (b c : Core (List ℕ) W) (t : NameTable) (given now : ℕ
         last = gone.same.last ∙ l.last;
         keyed = subst (λ z. AreKeyed z (machine c) (found_in u)) (sym gone.same.shard) (subst (λ z. AreKeyed b.shard z (found_in u)) (sym gone.way.5) put_keyed);
         count = omega (arith, size, one, count, sizes);
-        stamps = λ j. subst (λ z. (slot_at z j).stamp ≤ given) (sym gone.way.5) (subst (λ z. z ≤ given) (sym (put_stamp m i j gone_inside)) (subst (λ z. z ≤ given) (sym (gone.way.3.stamps j)) (l.stamps j)));
+        stamps = λ j. subst (λ z. (table_at z j).stamp ≤ given) (sym gone.way.5) (subst (λ z. z ≤ given) (sym (put_stamp m i j gone_inside)) (subst (λ z. z ≤ given) (sym (gone.way.3.stamps j)) (l.stamps j)));
       }
     where
       name_of : (a e : ℕ) (o n : List ℕ) (d f : ℕ) → ◌≡◌ {A = Option (Linked (List ℕ))} (Some (live_entry a o d)) (Some (live_entry e n f)) → n ≡ o
@@ -243,31 +243,31 @@ module _ {W : Type 0} (b c : Core (List ℕ) W) (t : NameTable) (given now : ℕ
 
 -- a fresh queue
 
-fresh_slots : (n : ℕ) (i : ℕ) → get_or (slots_of (replicate n (unused {T = List ℕ})) (replicate n never)) i vacant ≡ vacant
+fresh_slots : (n : ℕ) (i : ℕ) → get_or (table_of (replicate n (unused {T = List ℕ})) (replicate n never)) i vacant ≡ vacant
 fresh_slots zero i = refl
 fresh_slots (suc n) zero = refl
 fresh_slots (suc n) (suc i) = fresh_slots n i
 
-pub fresh_tied : {W : Type 0} (c : Core (List ℕ) W) (t : NameTable) (n : ℕ) → c.shelf ≡ record { last_stamp = LAST_STAMP; rows = replicate n unused } → c.known ≡ replicate n never → t.entries ≡ [] → IsLeased c t 0
-fresh_tied c t n shelf known empty =
-    let slots : (machine c).slots ≡ slots_of (replicate n unused) (replicate n never) = λ j. slots_of (shelf j).rows (known j) in
-    let at : (i : ℕ) → slot_at (machine c) i ≡ vacant = λ i. ap (λ ss. get_or ss i vacant) slots ∙ fresh_slots n i in
-    let none : (i : ℕ) → (slot_at (machine c) i).entry ≡ None = λ i. ap (λ s. s.entry) (at i) in
+pub fresh_tied : {W : Type 0} (c : Core (List ℕ) W) (t : NameTable) (n : ℕ) → c.slots ≡ record { last_stamp = LAST_STAMP; rows = replicate n unused } → c.known ≡ replicate n never → t.entries ≡ [] → IsLeased c t 0
+fresh_tied c t n slots known empty =
+    let table : (machine c).table ≡ table_of (replicate n unused) (replicate n never) = λ j. table_of (slots j).rows (known j) in
+    let at : (i : ℕ) → table_at (machine c) i ≡ vacant = λ i. ap (λ ss. get_or ss i vacant) table ∙ fresh_slots n i in
+    let none : (i : ℕ) → (table_at (machine c) i).entry ≡ None = λ i. ap (λ s. s.entry) (at i) in
     record {
-      last = ap (λ s. s.last_stamp) shelf;
+      last = ap (λ s. s.last_stamp) slots;
       keyed = empty_keyed c.shard (machine c) t none empty;
-      count = ap length empty ∙ sym (ap length (none_linked_live (machine c).slots none));
-      stamps = λ i. let z : (slot_at (machine c) i).stamp ≡ 0 = ap (λ s. s.stamp) (at i) in omega (arith, z);
+      count = ap length empty ∙ sym (ap length (none_linked_live (machine c).table none));
+      stamps = λ i. let z : (table_at (machine c) i).stamp ≡ 0 = ap (λ s. s.stamp) (at i) in omega (arith, z);
     }
 
 length-replicate : {A : Type 0} (n : ℕ) (x : A) → length (replicate n x) ≡ n
 length-replicate zero x = refl
 length-replicate (suc n) x = ap suc (length-replicate n x)
 
-pub fresh_shown : {W : Type 0} (c : Core (List ℕ) W) (n : ℕ) → c.shelf ≡ record { last_stamp = LAST_STAMP; rows = replicate n unused } → c.known ≡ replicate n never → c.wheel.filing.tick ≡ 0 → c.noted ≡ 0
+pub fresh_shown : {W : Type 0} (c : Core (List ℕ) W) (n : ℕ) → c.slots ≡ record { last_stamp = LAST_STAMP; rows = replicate n unused } → c.known ≡ replicate n never → c.wheel.filing.tick ≡ 0 → c.noted ≡ 0
     → leased c 0 ≡ record { capacity = n; tick = 0; noted = 0; given = 0; live = [] }
-fresh_shown c n shelf known tick noted =
-    let slots : (machine c).slots ≡ slots_of (replicate n unused) (replicate n never) = λ j. slots_of (shelf j).rows (known j) in
-    let at : (i : ℕ) → slot_at (machine c) i ≡ vacant = λ i. ap (λ ss. get_or ss i vacant) slots ∙ fresh_slots n i in
-    leased_path c 0 (record { capacity = n; tick = 0; noted = 0; given = 0; live = [] }) (ap (λ s. length s.rows) shelf ∙ length-replicate n unused) tick noted refl
-    (none_linked_live (machine c).slots (λ i. ap (λ s. s.entry) (at i)))
+fresh_shown c n slots known tick noted =
+    let table : (machine c).table ≡ table_of (replicate n unused) (replicate n never) = λ j. table_of (slots j).rows (known j) in
+    let at : (i : ℕ) → table_at (machine c) i ≡ vacant = λ i. ap (λ ss. get_or ss i vacant) table ∙ fresh_slots n i in
+    leased_path c 0 (record { capacity = n; tick = 0; noted = 0; given = 0; live = [] }) (ap (λ s. length s.rows) slots ∙ length-replicate n unused) tick noted refl
+    (none_linked_live (machine c).table (λ i. ap (λ s. s.entry) (at i)))

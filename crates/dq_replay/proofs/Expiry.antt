@@ -5,7 +5,7 @@ use Rattle.std.specs.List.{AllByRecursion}
 use Rattle.std.specs.List.Sorted.{IsPermutation, IsSorted}
 use Rattle.std.proofs.lemmas.Bool.{cases_Bool, le-leb, lt-leb, le-ltb, lt-ltb, cases_lt}
 use Rattle.std.proofs.lemmas.List.Elements.{filter-append}
-use Rattle.dq_core.specs.Machine.{Slot}
+use Rattle.dq_core.specs.Machine.{TableRow}
 use Rattle.dq_replay.specs.declared.session.Entry.{Entry}
 use Rattle.dq_replay.specs.Script.{comes_before, with_entry}
 use Rattle.dq_replay.specs.Order.{entry_cmp, IsLined}
@@ -15,7 +15,7 @@ use Rattle.dq_replay.proofs.Ordered.{in_order, with_first, with_later, with_comm
 use Rattle.dq_replay.proofs.Sorted.{sorted_is}
 
 -- the live names of slots are in order
-pub live_lined : (ss : List (Slot (List ℕ))) → IsLined (live_of ss)
+pub live_lined : (ss : List (TableRow (List ℕ))) → IsLined (live_of ss)
 live_lined [] = tt
 live_lined (s ∷ ss) = by (lease_of s.entry) (live_lined ss)
   where

@@ -5,7 +5,7 @@ use Rattle.std.specs.List.{list_any}
 use Rattle.std.proofs.lemmas.List.{get_or-set_same, get_or-set_other, get_or_past}
 use Rattle.std.proofs.lemmas.Bool.{true≢false, cases_Bool, cases_lt}
 use Rattle.std.proofs.lemmas.Slice.Eq.{bytes_eq-Decides}
-use Rattle.dq_core.specs.Machine.{Slot, Machine, slot_at, put}
+use Rattle.dq_core.specs.Machine.{TableRow, Machine, table_at, put}
 use Rattle.dq_core.specs.Machine.{Entry as Linked}
 use Rattle.dq_replay.specs.declared.session.Entry.{Entry}
 use Rattle.dq_replay.specs.Script.{comes_before, with_entry, is_live, deadline_of, without}
@@ -14,29 +14,29 @@ use Rattle.dq_replay.proofs.Ordered.{with_commutes, any-with_entry, filter-with_
 
 -- slots
 
-length-put : (m : Machine (List ℕ)) (i s : ℕ) (e : Option (Linked (List ℕ))) → length (put m i s e).slots ≡ length m.slots
-length-put m i s e = length-set m.slots i (record { stamp = s; entry = e })
+length-put : (m : Machine (List ℕ)) (i s : ℕ) (e : Option (Linked (List ℕ))) → length (put m i s e).table ≡ length m.table
+length-put m i s e = length-set m.table i (record { stamp = s; entry = e })
   where
     length-set : {A : Type 0} (xs : List A) (j : ℕ) (x : A) → length (set xs j x) ≡ length xs
     length-set [] j x = refl
     length-set (y ∷ ys) zero x = refl
     length-set (y ∷ ys) (suc j) x = ap suc (length-set ys j x)
 
-pub put_here : (m : Machine (List ℕ)) (i s : ℕ) (e : Option (Linked (List ℕ))) → i < length m.slots → slot_at (put m i s e) i ≡ record { stamp = s; entry = e }
-put_here m i s e h = get_or-set_same m.slots i (record { stamp = s; entry = e }) (record { stamp = 0; entry = None }) h
+pub put_here : (m : Machine (List ℕ)) (i s : ℕ) (e : Option (Linked (List ℕ))) → i < length m.table → table_at (put m i s e) i ≡ record { stamp = s; entry = e }
+put_here m i s e h = get_or-set_same m.table i (record { stamp = s; entry = e }) (record { stamp = 0; entry = None }) h
 
-pub put_there : (m : Machine (List ℕ)) (i s : ℕ) (e : Option (Linked (List ℕ))) (j : ℕ) → j ≢ i → slot_at (put m i s e) j ≡ slot_at m j
-put_there m i s e j h = get_or-set_other m.slots i j (record { stamp = s; entry = e }) (record { stamp = 0; entry = None }) h
+pub put_there : (m : Machine (List ℕ)) (i s : ℕ) (e : Option (Linked (List ℕ))) (j : ℕ) → j ≢ i → table_at (put m i s e) j ≡ table_at m j
+put_there m i s e j h = get_or-set_other m.table i j (record { stamp = s; entry = e }) (record { stamp = 0; entry = None }) h
 
 none_some : {T : Type 0} (x : T) → ◌≡◌ {A = Option T} None (Some x) → ⊥
 none_some x e = cc
 
 -- past the slots there is no entry
-pub inside_slots : (m : Machine (List ℕ)) (i : ℕ) (e : Linked (List ℕ)) → (slot_at m i).entry ≡ Some e → i < length m.slots
-inside_slots m i e h = elim (cases_lt i (length m.slots)) [
+pub inside_slots : (m : Machine (List ℕ)) (i : ℕ) (e : Linked (List ℕ)) → (table_at m i).entry ≡ Some e → i < length m.table
+inside_slots m i e h = elim (cases_lt i (length m.table)) [
   | inl within ↦ within
   | inr past ↦
-      let away : slot_at m i ≡ vacant = get_or_past m.slots i vacant past in
+      let away : table_at m i ≡ vacant = get_or_past m.table i vacant past in
       absurd (none_some e (ap (λ s. s.entry) (sym away) ∙ h))
 ]
 
@@ -48,20 +48,20 @@ lease_commutes (Some a) None xs = refl
 lease_commutes (Some a) (Some b) xs = with_commutes a b xs
 
 -- a slot's lease, and those of the other slots
-pub live_set : (ss : List (Slot (List ℕ))) (i : ℕ) (x : Slot (List ℕ)) → i < length ss → live_of (set ss i x) ≡ with_lease (lease_of x.entry) (live_of (set ss i vacant))
+pub live_set : (ss : List (TableRow (List ℕ))) (i : ℕ) (x : TableRow (List ℕ)) → i < length ss → live_of (set ss i x) ≡ with_lease (lease_of x.entry) (live_of (set ss i vacant))
 live_set [] i x h = absurd (omega arith)
 live_set (s ∷ ss) zero x h = refl
 live_set (s ∷ ss) (suc i) x h =
     ap (with_lease (lease_of s.entry)) (live_set ss i x (omega arith)) ∙ lease_commutes (lease_of s.entry) (lease_of x.entry) (live_of (set ss i vacant))
 
-pub live_here : (ss : List (Slot (List ℕ))) (i : ℕ) → i < length ss → live_of ss ≡ with_lease (lease_of (get_or ss i vacant).entry) (live_of (set ss i vacant))
+pub live_here : (ss : List (TableRow (List ℕ))) (i : ℕ) → i < length ss → live_of ss ≡ with_lease (lease_of (get_or ss i vacant).entry) (live_of (set ss i vacant))
 live_here [] i h = absurd (omega arith)
 live_here (s ∷ ss) zero h = refl
 live_here (s ∷ ss) (suc i) h =
     ap (with_lease (lease_of s.entry)) (live_here ss i (omega arith)) ∙ lease_commutes (lease_of s.entry) (lease_of (get_or ss i vacant).entry) (live_of (set ss i vacant))
 
 -- none of the live names passes a test, where no slot's does
-pub none_live : (t : Entry → Bool) (ss : List (Slot (List ℕ))) → ((i : ℕ) (x : Entry) → lease_of (get_or ss i vacant).entry ≡ Some x → t x ≡ false) → list_any t (live_of ss) ≡ false
+pub none_live : (t : Entry → Bool) (ss : List (TableRow (List ℕ))) → ((i : ℕ) (x : Entry) → lease_of (get_or ss i vacant).entry ≡ Some x → t x ≡ false) → list_any t (live_of ss) ≡ false
 none_live t [] h = refl
 none_live t (s ∷ ss) h = by (lease_of s.entry) (λ x e. h 0 x e) (none_live t ss (λ i x e. h (suc i) x e))
   where

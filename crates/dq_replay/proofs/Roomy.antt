@@ -14,11 +14,11 @@ use Rattle.dq_replay.specs.Leased.{IsKept, IsRoomy, IsGone, IsResting}
 use Rattle.dq_replay.proofs.Runs.{kept_same, kept_then, kept_way, kept_sweep, count_live, none_due}
 use Rattle.dq_replay.proofs.KeyCalls.{same_queue}
 
-pub swept_roomy : {W : Type 0} (b c : Core (List ℕ) W) (n : ℕ) → IsLawfulCore c → SameCore b c → Sweeps false b n c → length (live_of (machine b).slots) < length b.shelf.rows → IsRoomy b c
+pub swept_roomy : {W : Type 0} (b c : Core (List ℕ) W) (n : ℕ) → IsLawfulCore c → SameCore b c → Sweeps false b n c → length (live_of (machine b).table) < length b.slots.rows → IsRoomy b c
 swept_roomy b c n law same s few =
-    let way = kept_sweep b.shard b.shelf.last_stamp (machine b) (machine c) s.reaped.2.run in
-    let live : length (live_of (machine c).slots) ≡ count_by is_held c.shelf.rows = count_live c.shelf.rows c.known law.as_known (λ i e is. s.none i e is) in
-    let kept : length (live_of (machine c).slots) ≡ length (live_of (machine b).slots) = ap length way.0.live in
+    let way = kept_sweep b.shard b.slots.last_stamp (machine b) (machine c) s.reaped.2.run in
+    let live : length (live_of (machine c).table) ≡ count_by is_held c.slots.rows = count_live c.slots.rows c.known law.as_known (λ i e is. s.none i e is) in
+    let kept : length (live_of (machine c).table) ≡ length (live_of (machine b).table) = ap length way.0.live in
     let rows = same.2 in
     record { same = same_queue b c same; kept = way.0; tick = way.1; noted = s.reaped.2.out.noted; room = omega (arith, live, kept, few, rows) }
 
@@ -43,7 +43,7 @@ out_gone b c now x same later polled =
         m,
         x.key.entry.index,
         x.key.entry.born,
-        kept_then b.shard (machine b) (machine (noting b now)) m (noting_kept b now) (kept_way b.shard b.shelf.last_stamp (machine (noting b now)) m answered.run.1),
+        kept_then b.shard (machine b) (machine (noting b now)) m (noting_kept b now) (kept_way b.shard b.slots.last_stamp (machine (noting b now)) m answered.run.1),
         out.0.1.1,
         step.7,
       );
@@ -58,7 +58,7 @@ resting b c now m same later told kept is tick none =
     record {
       same = same_queue b c same;
       kept = subst (λ z. IsKept b.shard (machine b) z) (sym is) kept;
-      none_due = none_due now (machine c).slots (subst (λ t. due (machine c) t ≡ []) noted none);
+      none_due = none_due now (machine c).table (subst (λ t. due (machine c) t ≡ []) noted none);
       tick = tick ∙ noted;
       noted = noted;
     }
@@ -66,11 +66,11 @@ resting b c now m same later told kept is tick none =
 pub waiting_resting : {W : Type 0} (b c : Core (List ℕ) W) (now next : ℕ) → SameCore b c → b.noted ≤ now → IsPolled false b now (Waiting next) c → IsResting b now c
 waiting_resting b c now next same later polled =
     let run = polled.2.run in
-    resting b c now run.0 same later polled.3 (kept_then b.shard (machine b) (machine (noting b now)) run.0 (noting_kept b now) (kept_way b.shard b.shelf.last_stamp (machine (noting b now)) run.0 run.1))
+    resting b c now run.0 same later polled.3 (kept_then b.shard (machine b) (machine (noting b now)) run.0 (noting_kept b now) (kept_way b.shard b.slots.last_stamp (machine (noting b now)) run.0 run.1))
     run.2.0 run.2.1 run.2.2
 
 pub idle_resting : {W : Type 0} (b c : Core (List ℕ) W) (now : ℕ) → SameCore b c → b.noted ≤ now → IsPolled false b now Idle c → IsResting b now c
 idle_resting b c now same later polled =
     let run = polled.2.run in
-    resting b c now run.0 same later polled.3 (kept_then b.shard (machine b) (machine (noting b now)) run.0 (noting_kept b now) (kept_way b.shard b.shelf.last_stamp (machine (noting b now)) run.0 run.1))
+    resting b c now run.0 same later polled.3 (kept_then b.shard (machine b) (machine (noting b now)) run.0 (noting_kept b now) (kept_way b.shard b.slots.last_stamp (machine (noting b now)) run.0 run.1))
     run.2.0 run.2.1 run.2.2

@@ -8,9 +8,9 @@ use Rattle.dq_ticks.specs.declared.words.Parts.{Parts}
 use Rattle.dq_core.specs.declared.slots.Held.{Held}
 use Rattle.dq_core.specs.Slots.{Row, row_at, is_held}
 use Rattle.dq_core.specs.Words.{word_at}
-use Rattle.dq_core.specs.Machine.{Slot, Machine, Event, slot_at, put, Note, Pass, Insert, Reset, Extend, Cancel, Remove, Reap, Expire, Step, Run, RunOf, IsCallers, IsOnTheWay, IsReaping, Callers, Has, is_due_entry, is_due_by}
+use Rattle.dq_core.specs.Machine.{TableRow, Machine, Event, table_at, put, Note, Pass, Insert, Reset, Extend, Cancel, Remove, Reap, Expire, Step, Run, RunOf, IsCallers, IsOnTheWay, IsReaping, Callers, Has, is_due_entry, is_due_by}
 use Rattle.dq_core.specs.Machine.{Entry as Linked}
-use Rattle.dq_core.specs.Core.{slots_of, slot_of, entry_of, due_by}
+use Rattle.dq_core.specs.Core.{table_of, table_row_of, entry_of, due_by}
 use Rattle.dq_replay.specs.declared.session.Entry.{Entry}
 use Rattle.dq_replay.specs.Leases.{lease_by, lease_of, with_lease, live_of, vacant, live_entry}
 use Rattle.dq_replay.specs.Leased.{IsKept, NoneDue}
@@ -18,23 +18,23 @@ use Rattle.dq_replay.proofs.Ordered.{filter-with_entry_no, length-with_entry}
 use Rattle.dq_replay.proofs.LiveSlots.{put_here, put_there, live_set, live_here}
 
 -- a slot of a queue's machine, past its rows too
-pub slot_is : {T : Type 0} (rows : List (Row T)) (known : List Parts) → length known ≡ length rows → (i : ℕ) → get_or (slots_of rows known) i (record { stamp = 0; entry = None }) ≡ slot_of (row_at rows i) (word_at known i)
+pub slot_is : {T : Type 0} (rows : List (Row T)) (known : List Parts) → length known ≡ length rows → (i : ℕ) → get_or (table_of rows known) i (record { stamp = 0; entry = None }) ≡ table_row_of (row_at rows i) (word_at known i)
 slot_is [] [] e i = refl
 slot_is [] (w ∷ ws) e i = absurd (omega arith)
 slot_is (r ∷ rs) [] e i = absurd (omega arith)
 slot_is (r ∷ rs) (w ∷ ws) e zero = refl
 slot_is (r ∷ rs) (w ∷ ws) e (suc i) = slot_is rs ws (omega arith) i
 
-pub length-slots : {T : Type 0} (rows : List (Row T)) (known : List Parts) → length known ≡ length rows → length (slots_of rows known) ≡ length rows
+pub length-slots : {T : Type 0} (rows : List (Row T)) (known : List Parts) → length known ≡ length rows → length (table_of rows known) ≡ length rows
 length-slots [] ws e = refl
 length-slots (r ∷ rs) [] e = absurd (omega arith)
 length-slots (r ∷ rs) (w ∷ ws) e = ap suc (length-slots rs ws (omega arith))
 
 -- kept
 
-pub kept_same : (shard : ℕ) (m n : Machine (List ℕ)) → n.slots ≡ m.slots → IsKept shard m n
+pub kept_same : (shard : ℕ) (m n : Machine (List ℕ)) → n.table ≡ m.table → IsKept shard m n
 kept_same shard m n slots =
-    let at : (i : ℕ) → slot_at n i ≡ slot_at m i = λ i. ap (λ ss. get_or ss i vacant) slots in
+    let at : (i : ℕ) → table_at n i ≡ table_at m i = λ i. ap (λ ss. get_or ss i vacant) slots in
     record {
       live = ap live_of slots;
       keyed = λ keys tied. record {
@@ -63,29 +63,29 @@ lease_none : (e : Linked (List ℕ)) → e.due ≡ None → lease_of (Some e) �
 lease_none e h = ap (lease_by e.value) h
 
 -- a cancelled entry is reaped
-pub kept_reap : (shard : ℕ) (m : Machine (List ℕ)) (i : ℕ) (e : Linked (List ℕ)) → Has m i e → e.due ≡ None → IsKept shard m (put m i (slot_at m i).stamp None)
+pub kept_reap : (shard : ℕ) (m : Machine (List ℕ)) (i : ℕ) (e : Linked (List ℕ)) → Has m i e → e.due ≡ None → IsKept shard m (put m i (table_at m i).stamp None)
 kept_reap shard m i e has none =
-    let n : Machine (List ℕ) = put m i (slot_at m i).stamp None in
-    let here : slot_at n i ≡ record { stamp = (slot_at m i).stamp; entry = None } = put_here m i (slot_at m i).stamp None has.0 in
-    let there : (j : ℕ) → (j ≡ i → ⊥) → slot_at n j ≡ slot_at m j = λ j away. put_there m i (slot_at m i).stamp None j away in
+    let n : Machine (List ℕ) = put m i (table_at m i).stamp None in
+    let here : table_at n i ≡ record { stamp = (table_at m i).stamp; entry = None } = put_here m i (table_at m i).stamp None has.0 in
+    let there : (j : ℕ) → (j ≡ i → ⊥) → table_at n j ≡ table_at m j = λ j away. put_there m i (table_at m i).stamp None j away in
     record {
-      live = live_set m.slots i (record { stamp = (slot_at m i).stamp; entry = None }) has.0
-          ∙ sym (live_here m.slots i has.0 ∙ ap (λ o. with_lease o (live_of (set m.slots i vacant))) (ap lease_of has.1 ∙ lease_none e none));
+      live = live_set m.table i (record { stamp = (table_at m i).stamp; entry = None }) has.0
+          ∙ sym (live_here m.table i has.0 ∙ ap (λ o. with_lease o (live_of (set m.table i vacant))) (ap lease_of has.1 ∙ lease_none e none));
       keyed = λ keys tied. record {
         found = λ j born name d is. elim (cases_eq j i) [
           | inl q ↦
-              let gone : ◌≡◌ {A = Option (Linked (List ℕ))} None (Some (live_entry born name d)) = ap (λ s. s.entry) (sym here) ∙ (ap (λ z. (slot_at n z).entry) (sym q) ∙ is) in
+              let gone : ◌≡◌ {A = Option (Linked (List ℕ))} None (Some (live_entry born name d)) = ap (λ s. s.entry) (sym here) ∙ (ap (λ z. (table_at n z).entry) (sym q) ∙ is) in
               absurd (none_entry (live_entry born name d) gone)
           | inr away ↦ tied.found j born name d (ap (λ s. s.entry) (sym (there j away)) ∙ is)
               ∙ ap (λ s. Some (record { entry = record { shard = shard; index = j; born = born }; stamp = s.stamp })) (sym (there j away))
         ];
         live = λ name k is.
             let was = tied.live name k is in
-            let away : k.entry.index ≡ i → ⊥ = λ q. not_live e k.entry.born name was.0 none (sym has.1 ∙ (ap (λ z. (slot_at m z).entry) (sym q) ∙ was.1)) in
+            let away : k.entry.index ≡ i → ⊥ = λ q. not_live e k.entry.born name was.0 none (sym has.1 ∙ (ap (λ z. (table_at m z).entry) (sym q) ∙ was.1)) in
             (was.0, ap (λ s. s.entry) (there k.entry.index away) ∙ was.1, was.2 ∙ ap (λ s. record { entry = record { shard = shard; index = k.entry.index; born = k.entry.born }; stamp = s.stamp }) (sym (there k.entry.index away)));
       };
       stamps = λ j. elim (cases_eq j i) [
-        | inl q ↦ ap (λ z. (slot_at n z).stamp) q ∙ (ap (λ s. s.stamp) here ∙ ap (λ z. (slot_at m z).stamp) (sym q))
+        | inl q ↦ ap (λ z. (table_at n z).stamp) q ∙ (ap (λ s. s.stamp) here ∙ ap (λ z. (table_at m z).stamp) (sym q))
         | inr away ↦ ap (λ s. s.stamp) (there j away)
       ];
     }
@@ -96,7 +96,7 @@ kept_reap shard m i e has none =
 -- one event on the way of a poll
 kept_on_the_way : (shard last : ℕ) (m n : Machine (List ℕ)) (e : Event (List ℕ)) → IsOnTheWay false e → Step last m e n → IsKept shard m n
 kept_on_the_way shard last m n (Note t) h s = absurd h
-kept_on_the_way shard last m n (Pass t) h s = kept_same shard m n (ap (λ x. x.slots) s.3)
+kept_on_the_way shard last m n (Pass t) h s = kept_same shard m n (ap (λ x. x.table) s.3)
 kept_on_the_way shard last m n (Insert i v w) h s = absurd h
 kept_on_the_way shard last m n (Reset i b w) h s = absurd h
 kept_on_the_way shard last m n (Extend i b w) h s = cc
@@ -173,13 +173,13 @@ held_by r w (Some x) live h = by (due_by w.mark w.field) refl
     by None is = absurd (h (record { born = x.born; value = x.value; due = due_by w.mark w.field }) refl is)
     by (Some d) is = rw is (length-with_entry (record { name = x.value; deadline = d }) live ∙ (omega arith))
 
-pub count_live : (rows : List (Row (List ℕ))) (known : List Parts) → length known ≡ length rows → ((i : ℕ) (e : Linked (List ℕ)) → (get_or (slots_of rows known) i (record { stamp = 0; entry = None })).entry ≡ Some e → e.due ≢ None)
-    → length (live_of (slots_of rows known)) ≡ count_by is_held rows
+pub count_live : (rows : List (Row (List ℕ))) (known : List Parts) → length known ≡ length rows → ((i : ℕ) (e : Linked (List ℕ)) → (get_or (table_of rows known) i (record { stamp = 0; entry = None })).entry ≡ Some e → e.due ≢ None)
+    → length (live_of (table_of rows known)) ≡ count_by is_held rows
 count_live [] ws e h = refl
 count_live (r ∷ rs) [] e h = absurd (omega arith)
 count_live (r ∷ rs) (w ∷ ws) e h =
     let rest = count_live rs ws (omega arith) (λ i x is. h (suc i) x is) in
-    held_by r w r.held (live_of (slots_of rs ws)) (λ x is. h 0 x is) ∙ (ap (λ n. cond (is_some r.held) 1 0 + n) rest ∙ sym (count-cons is_held r rs))
+    held_by r w r.held (live_of (table_of rs ws)) (λ x is. h 0 x is) ∙ (ap (λ n. cond (is_some r.held) 1 0 + n) rest ∙ sym (count-cons is_held r rs))
 
 -- what is due of the slots is due of the live names
 
@@ -193,7 +193,7 @@ not_due_lease now (Some e) live h = by e.due refl
         let late : nat_le d now ≡ false = sym (ap (is_due_by now) is) ∙ h in
         rw is (filter-with_entry_no (λ x. nat_le x.deadline now) (record { name = e.value; deadline = d }) live late)
 
-pub none_due : (now : ℕ) (ss : List (Slot (List ℕ))) → filter (λ s. is_due_entry now s.entry) ss ≡ [] → NoneDue now (live_of ss)
+pub none_due : (now : ℕ) (ss : List (TableRow (List ℕ))) → filter (λ s. is_due_entry now s.entry) ss ≡ [] → NoneDue now (live_of ss)
 none_due now [] h = refl
 none_due now (s ∷ ss) h = by (is_due_entry now s.entry) refl h (none_due now ss)
   where

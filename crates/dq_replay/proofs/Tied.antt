@@ -4,7 +4,7 @@ use Rattle.std.specs.Prelude.{Option, Some, None, bytes_eq, is_some}
 use Rattle.std.proofs.lemmas.List.{get_or-set_same, get_or-set_other}
 use Rattle.std.proofs.lemmas.Bool.{true≢false, cases_eq}
 use Rattle.dq_ticks.specs.Keys.{KeyName}
-use Rattle.dq_core.specs.Machine.{Machine, slot_at, put}
+use Rattle.dq_core.specs.Machine.{Machine, table_at, put}
 use Rattle.dq_core.specs.Machine.{Entry as Linked}
 use Rattle.dq_core.specs.Core.{Core, machine}
 use Rattle.dq_replay.specs.declared.session.Entry.{Entry}
@@ -40,53 +40,53 @@ index_same : (a b : KeyName) → ◌≡◌ {A = Option KeyName} (Some a) (Some b
 index_same a b q = let same : a ≡ b = cc in ap (λ k. k.entry.index) same
 
 -- a live name stands once
-pub lease_at : (shard : ℕ) (m : Machine (List ℕ)) (keys : List ℕ → Option KeyName) → AreKeyed shard m keys → (i born : ℕ) (name : List ℕ) (d : ℕ) → (slot_at m i).entry ≡ Some (live_entry born name d)
-    → IsLease (live_of m.slots) name d (live_of (set m.slots i vacant))
+pub lease_at : (shard : ℕ) (m : Machine (List ℕ)) (keys : List ℕ → Option KeyName) → AreKeyed shard m keys → (i born : ℕ) (name : List ℕ) (d : ℕ) → (table_at m i).entry ≡ Some (live_entry born name d)
+    → IsLease (live_of m.table) name d (live_of (set m.table i vacant))
 lease_at shard m keys tied i born name d is =
-    let inside : i < length m.slots = inside_slots m i (live_entry born name d) is in
+    let inside : i < length m.table = inside_slots m i (live_entry born name d) is in
     record {
-      is = live_here m.slots i inside ∙ ap (λ o. with_lease (lease_of o) (live_of (set m.slots i vacant))) is;
-      once = none_live (λ e. bytes_eq e.name name) (set m.slots i vacant) (λ j x at. elim (cases_eq j i) [
+      is = live_here m.table i inside ∙ ap (λ o. with_lease (lease_of o) (live_of (set m.table i vacant))) is;
+      once = none_live (λ e. bytes_eq e.name name) (set m.table i vacant) (λ j x at. elim (cases_eq j i) [
         | inl q ↦
-            let gone : get_or (set m.slots i vacant) j vacant ≡ vacant = rw q (get_or-set_same m.slots i vacant vacant inside) in
+            let gone : get_or (set m.table i vacant) j vacant ≡ vacant = rw q (get_or-set_same m.table i vacant vacant inside) in
             absurd (none_some x (ap (λ s. lease_of s.entry) (sym gone) ∙ at))
         | inr away ↦
-            let stays : get_or (set m.slots i vacant) j vacant ≡ slot_at m j = get_or-set_other m.slots i j vacant vacant away in
-            let other = lease_entry (slot_at m j).entry x (ap (λ s. lease_of s.entry) (sym stays) ∙ at) in
+            let stays : get_or (set m.table i vacant) j vacant ≡ table_at m j = get_or-set_other m.table i j vacant vacant away in
+            let other = lease_entry (table_at m j).entry x (ap (λ s. lease_of s.entry) (sym stays) ∙ at) in
             name_other x.name name (λ q. away (index_same (key_at shard m j other.0) (key_at shard m i born)
             (sym (tied.found j other.0 x.name x.deadline other.1) ∙ (ap keys q ∙ tied.found i born name d is))))
       ]);
     }
 
 -- a name without a key isn't live, and the other way round
-pub no_key : (shard : ℕ) (m : Machine (List ℕ)) (keys : List ℕ → Option KeyName) → AreKeyed shard m keys → (name : List ℕ) → keys name ≡ None → is_live name (live_of m.slots) ≡ false
-no_key shard m keys tied name none = none_live (λ e. bytes_eq e.name name) m.slots (λ j x at.
-    let other = lease_entry (slot_at m j).entry x at in
+pub no_key : (shard : ℕ) (m : Machine (List ℕ)) (keys : List ℕ → Option KeyName) → AreKeyed shard m keys → (name : List ℕ) → keys name ≡ None → is_live name (live_of m.table) ≡ false
+no_key shard m keys tied name none = none_live (λ e. bytes_eq e.name name) m.table (λ j x at.
+    let other = lease_entry (table_at m j).entry x at in
     name_other x.name name (λ q. none_some (key_at shard m j other.0) (sym none ∙ (ap keys (sym q) ∙ tied.found j other.0 x.name x.deadline other.1))))
 
-pub key_live : (shard : ℕ) (m : Machine (List ℕ)) (keys : List ℕ → Option KeyName) → AreKeyed shard m keys → (name : List ℕ) (k : KeyName) → keys name ≡ Some k → is_live name (live_of m.slots) ≡ true
+pub key_live : (shard : ℕ) (m : Machine (List ℕ)) (keys : List ℕ → Option KeyName) → AreKeyed shard m keys → (name : List ℕ) (k : KeyName) → keys name ≡ Some k → is_live name (live_of m.table) ≡ true
 key_live shard m keys tied name k at =
     let was = tied.live name k at in
-    live_is (live_of m.slots) name was.0 (live_of (set m.slots k.entry.index vacant)) (lease_at shard m keys tied k.entry.index k.entry.born name was.0 was.1)
+    live_is (live_of m.table) name was.0 (live_of (set m.table k.entry.index vacant)) (lease_at shard m keys tied k.entry.index k.entry.born name was.0 was.1)
 
-pub not_live_no_key : (shard : ℕ) (m : Machine (List ℕ)) (keys : List ℕ → Option KeyName) → AreKeyed shard m keys → (name : List ℕ) → is_live name (live_of m.slots) ≡ false → keys name ≡ None
+pub not_live_no_key : (shard : ℕ) (m : Machine (List ℕ)) (keys : List ℕ → Option KeyName) → AreKeyed shard m keys → (name : List ℕ) → is_live name (live_of m.table) ≡ false → keys name ≡ None
 not_live_no_key shard m keys tied name none = by (keys name) refl
   where
     by : (o : Option KeyName) → keys name ≡ o → keys name ≡ None
     by None is = is
     by (Some k) is = absurd (true≢false (sym (key_live shard m keys tied name k is) ∙ none))
 
-pub live_by_key : (shard : ℕ) (m : Machine (List ℕ)) (keys : List ℕ → Option KeyName) → AreKeyed shard m keys → (name : List ℕ) → is_some (keys name) ≡ is_live name (live_of m.slots)
+pub live_by_key : (shard : ℕ) (m : Machine (List ℕ)) (keys : List ℕ → Option KeyName) → AreKeyed shard m keys → (name : List ℕ) → is_some (keys name) ≡ is_live name (live_of m.table)
 live_by_key shard m keys tied name = by (keys name) refl
   where
-    by : (o : Option KeyName) → keys name ≡ o → is_some (keys name) ≡ is_live name (live_of m.slots)
+    by : (o : Option KeyName) → keys name ≡ o → is_some (keys name) ≡ is_live name (live_of m.table)
     by None is = ap is_some is ∙ sym (no_key shard m keys tied name is)
     by (Some k) is = ap is_some is ∙ sym (key_live shard m keys tied name k is)
 
 -- leases
 
-pub leased_path : {W : Type 0} (c : Core (List ℕ) W) (given : ℕ) (x : Leased) → length c.shelf.rows ≡ x.capacity → c.wheel.filing.tick ≡ x.tick → c.noted ≡ x.noted → given ≡ x.given
-    → live_of (machine c).slots ≡ x.live → leased c given ≡ x
+pub leased_path : {W : Type 0} (c : Core (List ℕ) W) (given : ℕ) (x : Leased) → length c.slots.rows ≡ x.capacity → c.wheel.filing.tick ≡ x.tick → c.noted ≡ x.noted → given ≡ x.given
+    → live_of (machine c).table ≡ x.live → leased c given ≡ x
 leased_path c given x p q r s t = λ i. record { capacity = p i; tick = q i; noted = r i; given = s i; live = t i }
 
 -- the same names in another table
@@ -109,27 +109,27 @@ roomy_leased b c t given r l = record {
 
 -- one slot changed, for one name
 pub put_leased : {W : Type 0} (b c : Core (List ℕ) W) (t u : NameTable) (given more i s : ℕ) (e : Option (Linked (List ℕ))) (n : List ℕ) → IsLeased b t given → IsChangedAt b i s e c → given ≤ more → s ≤ more
-    → ((born : ℕ) (name : List ℕ) (d : ℕ) → (slot_at (machine b) i).entry ≡ Some (live_entry born name d) → name ≡ n)
+    → ((born : ℕ) (name : List ℕ) (d : ℕ) → (table_at (machine b) i).entry ≡ Some (live_entry born name d) → name ≡ n)
     → ((k : KeyName) → found_in t n ≡ Some k → k.entry.index ≡ i)
     → IsPut b.shard (put (machine b) i s e) i n e (found_in u n)
     → ((q : List ℕ) → (q ≡ n → ⊥) → found_in u q ≡ found_in t q)
-    → length u.entries ≡ length (live_of (machine c).slots)
+    → length u.entries ≡ length (live_of (machine c).table)
     → IsLeased c u more
 put_leased b c t u given more i s e n l changed up fits only nowhere here others size = record {
   last = changed.same.last ∙ l.last;
   keyed = subst (λ z. AreKeyed z (machine c) (found_in u)) (sym changed.same.shard) (subst (λ m. AreKeyed b.shard m (found_in u)) (sym changed.machine_is)
       (keyed_put b.shard (machine b) (found_in t) (found_in u) i s e n changed.inside l.keyed only nowhere here others));
   count = size;
-  stamps = λ j. subst (λ m. (slot_at m j).stamp ≤ more) (sym changed.machine_is) (stamp_by j (cases_eq j i));
+  stamps = λ j. subst (λ m. (table_at m j).stamp ≤ more) (sym changed.machine_is) (stamp_by j (cases_eq j i));
 }
   where
-    stamp_by : (j : ℕ) → (j ≡ i) ⊎ (j ≡ i → ⊥) → (slot_at (put (machine b) i s e) j).stamp ≤ more
-    stamp_by j (inl q) = subst (λ z. (slot_at (put (machine b) i s e) z).stamp ≤ more) (sym q) (subst (λ x. x.stamp ≤ more) (sym (put_here (machine b) i s e changed.inside)) fits)
+    stamp_by : (j : ℕ) → (j ≡ i) ⊎ (j ≡ i → ⊥) → (table_at (put (machine b) i s e) j).stamp ≤ more
+    stamp_by j (inl q) = subst (λ z. (table_at (put (machine b) i s e) z).stamp ≤ more) (sym q) (subst (λ x. x.stamp ≤ more) (sym (put_here (machine b) i s e changed.inside)) fits)
     stamp_by j (inr away) = let below = l.stamps j in subst (λ x. x.stamp ≤ more) (sym (put_there (machine b) i s e j away)) (omega (arith, below, up))
 
 -- the live names after a slot changed
-pub put_live : {W : Type 0} (b c : Core (List ℕ) W) (i s : ℕ) (e : Option (Linked (List ℕ))) → IsChangedAt b i s e c → live_of (machine c).slots ≡ with_lease (lease_of e) (live_of (set (machine b).slots i vacant))
-put_live b c i s e changed = ap (λ m. live_of m.slots) changed.machine_is ∙ live_set (machine b).slots i (record { stamp = s; entry = e }) changed.inside
+pub put_live : {W : Type 0} (b c : Core (List ℕ) W) (i s : ℕ) (e : Option (Linked (List ℕ))) → IsChangedAt b i s e c → live_of (machine c).table ≡ with_lease (lease_of e) (live_of (set (machine b).table i vacant))
+put_live b c i s e changed = ap (λ m. live_of m.table) changed.machine_is ∙ live_set (machine b).table i (record { stamp = s; entry = e }) changed.inside
 
 pub put_in_other : (t u : NameTable) (n : List ℕ) (key : Option KeyName) → IsPutIn t n key u → (q : List ℕ) → (q ≡ n → ⊥) → found_in u q ≡ found_in t q
 put_in_other t u n key put q other = put q ∙ rw (name_other n q (λ w. other (sym w))) refl

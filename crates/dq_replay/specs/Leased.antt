@@ -4,7 +4,7 @@ use Rattle.std.specs.List.{count_by}
 use Rattle.dq_ticks.specs.Keys.{KeyName}
 use Rattle.dq_ticks.specs.declared.TheConstants.{LAST_STAMP}
 use Rattle.dq_core.specs.Slots.{is_held}
-use Rattle.dq_core.specs.Machine.{Machine, slot_at, put}
+use Rattle.dq_core.specs.Machine.{Machine, table_at, put}
 use Rattle.dq_core.specs.Machine.{Entry as Linked}
 use Rattle.dq_core.specs.Core.{Core, machine}
 use Rattle.dq_replay.specs.declared.session.Entry.{Entry}
@@ -23,18 +23,18 @@ pub record Leased : Type 0 where
 
 -- what a queue of names and a bound on its stamps show
 abbrev pub leased : {W : Type 0} → Core (List ℕ) W → ℕ → Leased
-leased c given = record { capacity = length c.shelf.rows; tick = c.wheel.filing.tick; noted = c.noted; given = given; live = live_of (machine c).slots }
+leased c given = record { capacity = length c.slots.rows; tick = c.wheel.filing.tick; noted = c.noted; given = given; live = live_of (machine c).table }
 
 -- each live name has the key of its entry, no stamp is beyond the bound, and only the last stamp of all is the last
 pub record IsLeased {W : Type 0} (c : Core (List ℕ) W) (names : NameTable) (given : ℕ) : Type 0 where
-  pub last : c.shelf.last_stamp ≡ LAST_STAMP
+  pub last : c.slots.last_stamp ≡ LAST_STAMP
   pub keyed : AreKeyed c.shard (machine c) (found_in names)
-  pub count : length names.entries ≡ length (live_of (machine c).slots)
-  pub stamps : (i : ℕ) → (slot_at (machine c) i).stamp ≤ given
+  pub count : length names.entries ≡ length (live_of (machine c).table)
+  pub stamps : (i : ℕ) → (table_at (machine c) i).stamp ≤ given
 
 -- the key of a live name, whose deadline in force is d
 abbrev pub IsLiveKey : {W : Type 0} → Core (List ℕ) W → KeyName → List ℕ → ℕ → Type 0
-IsLiveKey c k name d = ((slot_at (machine c) k.entry.index).entry ≡ Some (live_entry k.entry.born name d)) × (k ≡ key_at c.shard (machine c) k.entry.index k.entry.born)
+IsLiveKey c k name d = ((table_at (machine c) k.entry.index).entry ≡ Some (live_entry k.entry.born name d)) × (k ≡ key_at c.shard (machine c) k.entry.index k.entry.born)
 
 -- a key of some live name
 abbrev pub IsSomeKey : {W : Type 0} → Core (List ℕ) W → KeyName → Type 0
@@ -47,40 +47,40 @@ OfLiveKey b k P = (name : List ℕ) (d : ℕ) → IsLiveKey b k name d → P nam
 -- what each change of a queue leaves as it was
 pub record IsSameQueue {V W : Type 0} (b : Core (List ℕ) V) (c : Core (List ℕ) W) : Type 0 where
   pub shard : c.shard ≡ b.shard
-  pub last : c.shelf.last_stamp ≡ b.shelf.last_stamp
-  pub rows : length c.shelf.rows ≡ length b.shelf.rows
+  pub last : c.slots.last_stamp ≡ b.slots.last_stamp
+  pub rows : length c.slots.rows ≡ length b.slots.rows
 
 -- one slot of the queue has another stamp and entry, and all else of its machine is as it was
 pub record IsChangedAt {W : Type 0} (b : Core (List ℕ) W) (i s : ℕ) (e : Option (Linked (List ℕ))) (c : Core (List ℕ) W) : Type 0 where
   pub same : IsSameQueue b c
-  pub inside : i < length (machine b).slots
+  pub inside : i < length (machine b).table
   pub machine_is : machine c ≡ put (machine b) i s e
 
 -- a new name is live at the greater of what was asked and the tick
 pub record IsNewLease {W : Type 0} (b : Core (List ℕ) W) (name : List ℕ) (when : ℕ) (k : KeyName) (c : Core (List ℕ) W) : Type 0 where
-  pub free : (slot_at (machine b) k.entry.index).entry ≡ None
-  pub changed : IsChangedAt b k.entry.index ((slot_at (machine b) k.entry.index).stamp + 1) (Some (live_entry k.entry.born name (max when (machine b).tick))) c
+  pub free : (table_at (machine b) k.entry.index).entry ≡ None
+  pub changed : IsChangedAt b k.entry.index ((table_at (machine b) k.entry.index).stamp + 1) (Some (live_entry k.entry.born name (max when (machine b).tick))) c
   pub key : k ≡ key_at b.shard (machine c) k.entry.index k.entry.born
 
 -- a live name's entry has the next stamp, and the greater of what was asked and the tick as its deadline
 abbrev pub IsResetTo : {W : Type 0} → Core (List ℕ) W → KeyName → ℕ → KeyName → Core (List ℕ) W → List ℕ → Type 0
 IsResetTo b k when new c name =
-    IsChangedAt b k.entry.index ((slot_at (machine b) k.entry.index).stamp + 1) (Some (live_entry k.entry.born name (max when (machine b).tick))) c
+    IsChangedAt b k.entry.index ((table_at (machine b) k.entry.index).stamp + 1) (Some (live_entry k.entry.born name (max when (machine b).tick))) c
     × (new ≡ key_at b.shard (machine c) k.entry.index k.entry.born)
 
 -- a live name's entry is live at the greater of what was asked and its deadline
 abbrev pub IsExtendedTo : {W : Type 0} → Core (List ℕ) W → KeyName → ℕ → ℕ → Core (List ℕ) W → List ℕ → ℕ → Type 0
 IsExtendedTo b k when result c name d =
-    (result ≡ max when d) × IsChangedAt b k.entry.index (slot_at (machine b) k.entry.index).stamp (Some (live_entry k.entry.born name result)) c
+    (result ≡ max when d) × IsChangedAt b k.entry.index (table_at (machine b) k.entry.index).stamp (Some (live_entry k.entry.born name result)) c
 
 -- a live name's entry is cancelled, and its deadline is told
 abbrev pub IsCancelledAt : {W : Type 0} → Core (List ℕ) W → KeyName → ℕ → Core (List ℕ) W → List ℕ → ℕ → Type 0
 IsCancelledAt b k result c name d =
-    (result ≡ d) × IsChangedAt b k.entry.index (slot_at (machine b) k.entry.index).stamp (Some (record { born = k.entry.born; value = name; due = None })) c
+    (result ≡ d) × IsChangedAt b k.entry.index (table_at (machine b) k.entry.index).stamp (Some (record { born = k.entry.born; value = name; due = None })) c
 
 -- a live name's entry leaves the queue, and its deadline is told
 abbrev pub IsRemovedAt : {W : Type 0} → Core (List ℕ) W → KeyName → ℕ → Core (List ℕ) W → List ℕ → ℕ → Type 0
-IsRemovedAt b k result c name d = (result ≡ d) × IsChangedAt b k.entry.index (slot_at (machine b) k.entry.index).stamp None c
+IsRemovedAt b k result c name d = (result ≡ d) × IsChangedAt b k.entry.index (table_at (machine b) k.entry.index).stamp None c
 
 -- the deadline of a live name is told, and nothing changes
 abbrev pub IsToldOf : {W : Type 0} → Core (List ℕ) W → KeyName → ℕ → Core (List ℕ) W → List ℕ → ℕ → Type 0
@@ -88,9 +88,9 @@ IsToldOf b k result c name d = (result ≡ d) × (machine c ≡ machine b) × Is
 
 -- a machine with the same live names, tied to the same keys, and the same stamps
 pub record IsKept (shard : ℕ) (m n : Machine (List ℕ)) : Type 0 where
-  pub live : live_of n.slots ≡ live_of m.slots
+  pub live : live_of n.table ≡ live_of m.table
   pub keyed : (keys : List ℕ → Option KeyName) → AreKeyed shard m keys → AreKeyed shard n keys
-  pub stamps : (i : ℕ) → (slot_at n i).stamp ≡ (slot_at m i).stamp
+  pub stamps : (i : ℕ) → (table_at n i).stamp ≡ (table_at m i).stamp
 
 -- room was made, and the live names are kept
 pub record IsRoomy {W : Type 0} (b c : Core (List ℕ) W) : Type 0 where
@@ -98,7 +98,7 @@ pub record IsRoomy {W : Type 0} (b c : Core (List ℕ) W) : Type 0 where
   pub kept : IsKept b.shard (machine b) (machine c)
   pub tick : c.wheel.filing.tick ≡ b.wheel.filing.tick
   pub noted : c.noted ≡ b.noted
-  pub room : count_by is_held c.shelf.rows < length c.shelf.rows
+  pub room : count_by is_held c.slots.rows < length c.slots.rows
 
 -- none of the names is due
 abbrev pub NoneDue : ℕ → List Entry → Type 0
@@ -107,7 +107,7 @@ NoneDue now live = filter (λ e. nat_le e.deadline now) live ≡ []
 -- a live name left the queue, whose deadline in force is at most `now`
 pub record IsGone {W : Type 0} (b : Core (List ℕ) W) (now : ℕ) (x : Entry) (c : Core (List ℕ) W) : Type 0 where
   pub same : IsSameQueue b c
-  pub way : (m : Machine (List ℕ)) × (i : ℕ) × (born : ℕ) × IsKept b.shard (machine b) m × ((slot_at m i).entry ≡ Some (live_entry born x.name x.deadline)) × (machine c ≡ put m i (slot_at m i).stamp None)
+  pub way : (m : Machine (List ℕ)) × (i : ℕ) × (born : ℕ) × IsKept b.shard (machine b) m × ((table_at m i).entry ≡ Some (live_entry born x.name x.deadline)) × (machine c ≡ put m i (table_at m i).stamp None)
   pub due : x.deadline ≤ now
   pub noted : c.noted ≡ now
 
@@ -115,7 +115,7 @@ pub record IsGone {W : Type 0} (b : Core (List ℕ) W) (now : ℕ) (x : Entry) (
 pub record IsResting {W : Type 0} (b : Core (List ℕ) W) (now : ℕ) (c : Core (List ℕ) W) : Type 0 where
   pub same : IsSameQueue b c
   pub kept : IsKept b.shard (machine b) (machine c)
-  pub none_due : NoneDue now (live_of (machine c).slots)
+  pub none_due : NoneDue now (live_of (machine c).table)
   pub tick : c.wheel.filing.tick ≡ now
   pub noted : c.noted ≡ now
 

@@ -2,7 +2,7 @@
 use Rattle.std.specs.Prelude.{◌≡◌, ℕ, List, [], ◌∷◌, Option, Some, None, bytes_eq, if◌then◌else◌}
 use Rattle.std.specs.Map.{lookup}
 use Rattle.dq_ticks.specs.Keys.{KeyName}
-use Rattle.dq_core.specs.Machine.{Slot, Machine, slot_at}
+use Rattle.dq_core.specs.Machine.{TableRow, Machine, table_at}
 use Rattle.dq_core.specs.Machine.{Entry as Linked}
 use Rattle.dq_replay.specs.declared.session.Entry.{Entry}
 use Rattle.dq_replay.specs.Script.{with_entry}
@@ -21,12 +21,12 @@ with_lease None live = live
 with_lease (Some e) live = with_entry e live
 
 -- the live names of the slots, in order
-abbrev pub live_of : List (Slot (List ℕ)) → List Entry
+abbrev pub live_of : List (TableRow (List ℕ)) → List Entry
 live_of [] = []
 live_of (s ∷ ss) = with_lease (lease_of s.entry) (live_of ss)
 
 -- a slot without an entry
-abbrev pub vacant : Slot (List ℕ)
+abbrev pub vacant : TableRow (List ℕ)
 vacant = record { stamp = 0; entry = None }
 
 -- an entry that is linked and live
@@ -35,7 +35,7 @@ live_entry born name deadline = record { born = born; value = name; due = Some d
 
 -- the key of the entry that was born at that stamp at slot i, at the slot's present stamp
 abbrev pub key_at : ℕ → Machine (List ℕ) → ℕ → ℕ → KeyName
-key_at shard m i born = record { entry = record { shard = shard; index = i; born = born }; stamp = (slot_at m i).stamp }
+key_at shard m i born = record { entry = record { shard = shard; index = i; born = born }; stamp = (table_at m i).stamp }
 
 -- the key of a name among names with their keys
 abbrev pub key_of : List (List ℕ × KeyName) → List ℕ → Option KeyName
@@ -43,8 +43,8 @@ key_of names name = lookup (bytes_eq name) names
 
 -- each live name is found under the key of its entry, and no other name is found
 pub record AreKeyed (shard : ℕ) (m : Machine (List ℕ)) (keys : List ℕ → Option KeyName) : Type 0 where
-  pub found : (i born : ℕ) (name : List ℕ) (d : ℕ) → (slot_at m i).entry ≡ Some (live_entry born name d) → keys name ≡ Some (key_at shard m i born)
-  pub live : (name : List ℕ) (k : KeyName) → keys name ≡ Some k → (d : ℕ) × ((slot_at m k.entry.index).entry ≡ Some (live_entry k.entry.born name d)) × (k ≡ key_at shard m k.entry.index k.entry.born)
+  pub found : (i born : ℕ) (name : List ℕ) (d : ℕ) → (table_at m i).entry ≡ Some (live_entry born name d) → keys name ≡ Some (key_at shard m i born)
+  pub live : (name : List ℕ) (k : KeyName) → keys name ≡ Some k → (d : ℕ) × ((table_at m k.entry.index).entry ≡ Some (live_entry k.entry.born name d)) × (k ≡ key_at shard m k.entry.index k.entry.born)
 
 -- names with their keys, and for how many more there is room
 pub record NameTable : Type 0 where

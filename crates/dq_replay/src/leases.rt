@@ -2,7 +2,7 @@
 ghost use Rattle.std.specs.Prelude.{◌≡◌, ◌≢◌, ◌⊎◌, ℕ, ◌+◌, ◌<◌, ◌≤◌, List, [], length, max, false, None, Some, IfOk, OnErr, filter, nat_le, nat_lt};
 ghost use Rattle.std.specs.List.{count_by};
 ghost use Rattle.dq_core.specs.Slots.{is_held};
-ghost use Rattle.dq_core.specs.Machine.{slot_at};
+ghost use Rattle.dq_core.specs.Machine.{table_at};
 ghost use Rattle.dq_core.specs.Core.{machine};
 ghost use Rattle.dq_core.specs.Calls.{IsInserted};
 ghost use Rattle.dq_replay.specs.Script.{is_live, deadline_of};
@@ -29,7 +29,7 @@ type Queue<A> = DelayCore<Name, VecWords<A>, A>;
 
 /// Sweeps a queue that is full, though fewer names are live than it has slots.
 fn make_room<A: Allocator>(queue: &mut Queue<A>)
-    requires few { length (live_of (machine queue.old).slots) < length queue.old.shelf.rows }
+    requires few { length (live_of (machine queue.old).table) < length queue.old.slots.rows }
     ensures { IsRoomy queue.old queue.new }
 {
     queue.law();
@@ -41,8 +41,8 @@ fn make_room<A: Allocator>(queue: &mut Queue<A>)
 
 /// Links a new name where there is room.
 fn link<A: Allocator>(queue: &mut Queue<A>, name: Name, when: u64) -> Key
-    requires room { count_by is_held queue.old.shelf.rows < length queue.old.shelf.rows }
-    requires stamps { (i : ℕ) → (slot_at (machine queue.old) i).stamp < queue.old.shelf.last_stamp }
+    requires room { count_by is_held queue.old.slots.rows < length queue.old.slots.rows }
+    requires stamps { (i : ℕ) → (table_at (machine queue.old) i).stamp < queue.old.slots.last_stamp }
     requires tick { when ≤ LAST_TICK }
     ensures { IsNewLease queue.old name when result queue.new }
 {
@@ -55,7 +55,7 @@ fn link<A: Allocator>(queue: &mut Queue<A>, name: Name, when: u64) -> Key
 
 fn reset_at<A: Allocator>(queue: &mut Queue<A>, key: &Key, when: u64) -> Key
     requires live { IsSomeKey queue.old key.now }
-    requires stamps { (i : ℕ) → (slot_at (machine queue.old) i).stamp < queue.old.shelf.last_stamp }
+    requires stamps { (i : ℕ) → (table_at (machine queue.old) i).stamp < queue.old.slots.last_stamp }
     requires tick { when ≤ LAST_TICK }
     ensures { OfLiveKey queue.old key.now (λ name d. IsResetTo queue.old key.now when result queue.new name) }
 {

@@ -14,7 +14,7 @@ use crate::parts::{ONE_CANCEL, expired, field, is_live, live, removed};
 use crate::plays::{Expire, Hear, Issue, Learn, Remove, Renew, Start};
 use crate::rule::{Board, Place, WordsRule};
 use atomic_table::Table;
-use dq_core::{Desk, Settled, Words};
+use dq_core::{Settled, SharedWords, Words};
 use dq_ticks::{Parts, unpack};
 use std::alloc::{AllocError, Allocator, Global};
 use std::marker::Model;
@@ -284,7 +284,7 @@ impl<A: Allocator> Words for Keeper<A> {
     }
 }
 
-impl<A: Allocator> Desk for Keeper<A> {
+impl<A: Allocator> SharedWords for Keeper<A> {
     type Caller = Caller<A>;
 
     type Fault = WordsError;

@@ -1,5 +1,5 @@
 use Rattle.std.proofs.Common.{arith, ap}
-use Rattle.dq_core.proofs.Shelves.{top_is, free_is, filled_is, read_is}
+use Rattle.dq_core.proofs.SlotRows.{top_is, free_is, filled_is, read_is}
 use Rattle.dq_core.proofs.slots.Slots.fill.Goals as goal
 
 pub index_mut-cell-requires : goal.index_mut-cell-requires
@@ -13,7 +13,7 @@ fill-requires g c =
     let t = top_is c.self.invariant c.pop.new.self.items c.in-Some.top e in
     let r = read_is c.self.inside.cells.items c.in-Some.top c.index_mut-cell.result.now t.0 c.index_mut-cell.ensures.value in
     let f = free_is c.self.inside.last _ t.1 in
-    let b = c.self.invariant.shelf.bound in
+    let b = c.self.invariant.slots.bound in
     let same = ap (λ r. r.stamp) r in
     omega arith
 

@@ -1,5 +1,5 @@
 use Rattle.std.proofs.Common.{◌≡◌, arith}
-use Rattle.dq_core.proofs.Shelves.{new_is}
+use Rattle.dq_core.proofs.SlotRows.{new_is}
 use Rattle.dq_core.proofs.slots.Slots.new.Goals as goal
 
 pub invariant_of-result : goal.invariant_of-result

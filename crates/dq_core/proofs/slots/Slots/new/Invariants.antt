@@ -1,6 +1,6 @@
 use Rattle.std.proofs.Common.{◌≡◌, ◌≤◌, replicate, vec_capacity}
 use Rattle.dq_core.specs.Slots.{unused}
-use Rattle.dq_core.proofs.Shelves.{IsNewStack}
+use Rattle.dq_core.proofs.SlotRows.{IsNewStack}
 use Rattle.dq_core.proofs.slots.Slots.new.Given as goal
 
 abbrev pub invariant-loop-turn : goal.invariant-loop-turn

@@ -1,6 +1,6 @@
 use Rattle.std.proofs.Common.{◌≡◌, ◌<◌, true, ap}
 use Rattle.dq_core.specs.Slots.{is_held, row_at}
-use Rattle.dq_core.proofs.Shelves.{raised_is, read_is, held_inside}
+use Rattle.dq_core.proofs.SlotRows.{raised_is, read_is, held_inside}
 use Rattle.dq_core.proofs.slots.Slots.raise.Goals as goal
 
 pub invariant_of-self : goal.invariant_of-self

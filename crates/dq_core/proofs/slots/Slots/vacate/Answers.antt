@@ -1,6 +1,6 @@
 use Rattle.std.proofs.Common.{◌≡◌, true, arith, ap}
 use Rattle.dq_core.specs.Slots.{is_held, row_at}
-use Rattle.dq_core.proofs.Shelves.{has_room, freed_is, worn_is, held_inside, read_is}
+use Rattle.dq_core.proofs.SlotRows.{has_room, freed_is, worn_is, held_inside, read_is}
 use Rattle.dq_core.proofs.slots.Slots.vacate.Goals as goal
 use Rattle.dq_core.proofs.slots.Slots.vacate.Goals.{then-stamp-self, else-stamp-self}
 

@@ -1,5 +1,5 @@
 use Rattle.std.proofs.Common.{arith}
-use Rattle.dq_core.proofs.Shelves.{worn_count}
+use Rattle.dq_core.proofs.SlotRows.{worn_count}
 use Rattle.dq_core.proofs.slots.Slots.worn.Goals as goal
 
 pub overflow_sub-result-2 : goal.overflow_sub-result-2

@@ -6,8 +6,8 @@ use Rattle.std.proofs.lemmas.List.Elements.{All-set, All-get_or, All-replicate}
 use Rattle.std.proofs.lemmas.Bool.{and_parts, and_left, and_right, cases_eq, cases_lt, eq-eqb, ne_eqb, lt-ltb, le-ltb, ltb-true, le-leb, lt-leb}
 use Rattle.dq_core.specs.declared.slots.Held.{Held}
 use Rattle.dq_ticks.specs.declared.TheConstants.{LAST_STAMP}
-use Rattle.dq_core.specs.Slots.{Row, Shelf, unused, row_at, is_held, is_free, is_worn, IsRow, IsShelf, filled_row, vacated_row, raised_row}
-use Rattle.dq_core.specs.Shelved.{times, is_open, IsShelved}
+use Rattle.dq_core.specs.Slots.{Row, SlotRows, unused, row_at, is_held, is_free, is_worn, IsRow, IsSlotRows, filled_row, vacated_row, raised_row}
+use Rattle.dq_core.specs.SlotRowsKept.{times, is_open, IsSlotRowsKept}
 
 -- one where the test holds
 abbrev one : Bool → ℕ
@@ -53,7 +53,7 @@ open_parts last rows i n true is e = let p = and_parts _ _ is in (ltb-true _ _ (
 open_parts last rows i n false is e = absurd (omega arith)
 
 -- the top of the stack is a free slot, and stands nowhere below
-pub top_is : {T : Type 0} {last : ℕ} {rows : List (Row T)} {stack : List ℕ} {taken space : ℕ} → IsShelved last rows stack taken space → (rest : List ℕ) (top : ℕ) → stack ≡ rest ++ top ∷ [] → (top < length rows) × (is_free last (row_at rows top) ≡ true) × (times top rest ≡ 0)
+pub top_is : {T : Type 0} {last : ℕ} {rows : List (Row T)} {stack : List ℕ} {taken space : ℕ} → IsSlotRowsKept last rows stack taken space → (rest : List ℕ) (top : ℕ) → stack ≡ rest ++ top ∷ [] → (top < length rows) × (is_free last (row_at rows top) ≡ true) × (times top rest ≡ 0)
 top_is {last = last} {rows = rows} s rest top e =
     open_parts last rows top (times top rest) (is_open last rows top) refl (sym (times_push_same top rest) ∙ ap (times top) (sym e) ∙ s.stacked top)
 
@@ -97,12 +97,12 @@ held_inside (r ∷ rows) zero is = omega arith
 held_inside (r ∷ rows) (suc i) is = let h = held_inside rows i is in omega arith
 
 -- the slot at an index of the row is in good order
-pub row_is : {T : Type 0} {s : Shelf T} → IsShelf s → (i : ℕ) → i < length s.rows → IsRow s.last_stamp (row_at s.rows i)
+pub row_is : {T : Type 0} {s : SlotRows T} → IsSlotRows s → (i : ℕ) → i < length s.rows → IsRow s.last_stamp (row_at s.rows i)
 row_is {s = s} g i inside = All-get_or (IsRow s.last_stamp) s.rows i unused inside g.each
 
 -- a row stays in good order where one slot changes to one in good order
-shelf_set : {T : Type 0} {last : ℕ} {rows : List (Row T)} → IsShelf (record { last_stamp = last; rows = rows }) → (i : ℕ) (r : Row T) → IsRow last r → IsShelf (record { last_stamp = last; rows = set rows i r })
-shelf_set {last = last} {rows = rows} g i r good =
+slot_rows_set : {T : Type 0} {last : ℕ} {rows : List (Row T)} → IsSlotRows (record { last_stamp = last; rows = rows }) → (i : ℕ) (r : Row T) → IsRow last r → IsSlotRows (record { last_stamp = last; rows = set rows i r })
+slot_rows_set {last = last} {rows = rows} g i r good =
     record { used = g.used; bound = g.bound; size = rw (length-set rows i r) g.size; each = All-set (IsRow last) rows i r good g.each }
 
 filled_good : {T : Type 0} (last : ℕ) (r : Row T) (v : T) → r.stamp < last → IsRow last (filled_row r v)
@@ -114,7 +114,7 @@ filled_good last r v left =
     born_of (Some h) = h.born
 
 -- after the top of the stack was filled
-pub filled_is : {T : Type 0} {last : ℕ} {rows : List (Row T)} {stack : List ℕ} {taken space : ℕ} → IsShelved last rows stack taken space → (rest : List ℕ) (top : ℕ) (v : T) → stack ≡ rest ++ top ∷ [] → IsShelved last (set rows top (filled_row (row_at rows top) v)) rest (taken + 1) space
+pub filled_is : {T : Type 0} {last : ℕ} {rows : List (Row T)} {stack : List ℕ} {taken space : ℕ} → IsSlotRowsKept last rows stack taken space → (rest : List ℕ) (top : ℕ) (v : T) → stack ≡ rest ++ top ∷ [] → IsSlotRowsKept last (set rows top (filled_row (row_at rows top) v)) rest (taken + 1) space
 filled_is {T = T} {last = last} {rows = rows} {stack = stack} {taken = taken} s rest top v e =
     let t = top_is s rest top e in
     let r : Row T = row_at rows top in
@@ -125,7 +125,7 @@ filled_is {T = T} {last = last} {rows = rows} {stack = stack} {taken = taken} s 
     let was_held : one (is_held r) ≡ 0 = ap (λ o. one (is_some o)) f.0 in
     let size : length stack ≡ length rest + 1 = ap length e ∙ length_push rest top in
     record {
-      shelf = shelf_set s.shelf top (filled_row r v) (filled_good last r v f.1);
+      slots = slot_rows_set s.slots top (filled_row r v) (filled_good last r v f.1);
       stacked = λ i. ⊎_elim
           (λ same. subst (λ j. times j rest ≡ one (is_open last (set rows top (filled_row r v)) j)) (sym same) (t.2 ∙ sym (ap one (open_same last rows top (filled_row r v) t.0))))
           (λ ne. sym (times_push_other i rest top ne) ∙ ap (times i) (sym e) ∙ s.stacked i ∙ sym (ap one (open_other last rows top (filled_row r v) i ne)))
@@ -136,17 +136,17 @@ filled_is {T = T} {last = last} {rows = rows} {stack = stack} {taken = taken} s 
     }
 
 -- where a slot is held, another write that leaves it held changes neither stack nor counts
-pub raised_is : {T : Type 0} {last : ℕ} {rows : List (Row T)} {stack : List ℕ} {taken space : ℕ} → IsShelved last rows stack taken space → (i : ℕ) → is_held (row_at rows i) ≡ true → (row_at rows i).stamp < last → IsShelved last (set rows i (raised_row (row_at rows i))) stack taken space
+pub raised_is : {T : Type 0} {last : ℕ} {rows : List (Row T)} {stack : List ℕ} {taken space : ℕ} → IsSlotRowsKept last rows stack taken space → (i : ℕ) → is_held (row_at rows i) ≡ true → (row_at rows i).stamp < last → IsSlotRowsKept last (set rows i (raised_row (row_at rows i))) stack taken space
 raised_is {T = T} {last = last} {rows = rows} {stack = stack} {taken = taken} s i held left =
     let inside = held_inside rows i held in
     let r : Row T = row_at rows i in
-    let good = row_is s.shelf i inside in
+    let good = row_is s.slots i inside in
     let frees = count_set (is_free last) rows i (raised_row r) inside in
     let helds = count_set is_held rows i (raised_row r) inside in
     let was_free : one (is_free last r) ≡ 0 = ap one (held_not_free last r held) in
     let now_free : one (is_free last (raised_row r)) ≡ 0 = ap one (held_not_free last (raised_row r) held) in
     record {
-      shelf = shelf_set s.shelf i (raised_row r) (record { bound = omega arith; birth = λ h e. let b = good.birth h e in (b.0, omega arith) });
+      slots = slot_rows_set s.slots i (raised_row r) (record { bound = omega arith; birth = λ h e. let b = good.birth h e in (b.0, omega arith) });
       stacked = λ j. ⊎_elim
           (λ same. subst (λ k. times k stack ≡ one (is_open last (set rows i (raised_row r)) k)) (sym same) (s.stacked i ∙ ap one (and_right (ltb i (length rows)) _ (held_not_free last r held)) ∙ sym now_free ∙ sym (ap one (open_same last rows i (raised_row r) inside))))
           (λ ne. s.stacked j ∙ sym (ap one (open_other last rows i (raised_row r) j ne)))
@@ -160,7 +160,7 @@ vacated_good : {T : Type 0} (last : ℕ) (r : Row T) → IsRow last r → IsRow 
 vacated_good last r good = record { bound = good.bound; birth = λ h e. cc }
 
 -- a held slot that is vacated at the last stamp is worn
-pub worn_is : {T : Type 0} {last : ℕ} {rows : List (Row T)} {stack : List ℕ} {taken space : ℕ} → IsShelved last rows stack taken space → (i : ℕ) → is_held (row_at rows i) ≡ true → last ≤ (row_at rows i).stamp → IsShelved last (set rows i (vacated_row (row_at rows i))) stack (taken - 1) space
+pub worn_is : {T : Type 0} {last : ℕ} {rows : List (Row T)} {stack : List ℕ} {taken space : ℕ} → IsSlotRowsKept last rows stack taken space → (i : ℕ) → is_held (row_at rows i) ≡ true → last ≤ (row_at rows i).stamp → IsSlotRowsKept last (set rows i (vacated_row (row_at rows i))) stack (taken - 1) space
 worn_is {T = T} {last = last} {rows = rows} {stack = stack} {taken = taken} s i held over =
     let inside = held_inside rows i held in
     let r : Row T = row_at rows i in
@@ -170,7 +170,7 @@ worn_is {T = T} {last = last} {rows = rows} {stack = stack} {taken = taken} s i 
     let was_held : one (is_held r) ≡ 1 = ap one held in
     let now_free : one (is_free last (vacated_row r)) ≡ 0 = ap one (le-ltb r.stamp last over) in
     record {
-      shelf = shelf_set s.shelf i (vacated_row r) (vacated_good last r (row_is s.shelf i inside));
+      slots = slot_rows_set s.slots i (vacated_row r) (vacated_good last r (row_is s.slots i inside));
       stacked = λ j. ⊎_elim
           (λ same. subst (λ k. times k stack ≡ one (is_open last (set rows i (vacated_row r)) k)) (sym same) (s.stacked i ∙ ap one (and_right (ltb i (length rows)) _ (held_not_free last r held)) ∙ sym now_free ∙ sym (ap one (open_same last rows i (vacated_row r) inside))))
           (λ ne. s.stacked j ∙ sym (ap one (open_other last rows i (vacated_row r) j ne)))
@@ -181,7 +181,7 @@ worn_is {T = T} {last = last} {rows = rows} {stack = stack} {taken = taken} s i 
     }
 
 -- a held slot that is vacated below the last stamp is free
-pub freed_is : {T : Type 0} {last : ℕ} {rows : List (Row T)} {stack : List ℕ} {taken space : ℕ} → IsShelved last rows stack taken space → (i : ℕ) → is_held (row_at rows i) ≡ true → (row_at rows i).stamp < last → IsShelved last (set rows i (vacated_row (row_at rows i))) (stack ++ i ∷ []) (taken - 1) space
+pub freed_is : {T : Type 0} {last : ℕ} {rows : List (Row T)} {stack : List ℕ} {taken space : ℕ} → IsSlotRowsKept last rows stack taken space → (i : ℕ) → is_held (row_at rows i) ≡ true → (row_at rows i).stamp < last → IsSlotRowsKept last (set rows i (vacated_row (row_at rows i))) (stack ++ i ∷ []) (taken - 1) space
 freed_is {T = T} {last = last} {rows = rows} {stack = stack} {taken = taken} s i held left =
     let inside = held_inside rows i held in
     let r : Row T = row_at rows i in
@@ -192,7 +192,7 @@ freed_is {T = T} {last = last} {rows = rows} {stack = stack} {taken = taken} s i
     let now_free : one (is_free last (vacated_row r)) ≡ 1 = ap one (lt-ltb r.stamp last left) in
     let before : times i stack ≡ 0 = s.stacked i ∙ ap one (and_right (ltb i (length rows)) _ (held_not_free last r held)) in
     record {
-      shelf = shelf_set s.shelf i (vacated_row r) (vacated_good last r (row_is s.shelf i inside));
+      slots = slot_rows_set s.slots i (vacated_row r) (vacated_good last r (row_is s.slots i inside));
       stacked = λ j. ⊎_elim
           (λ same. subst (λ k. times k (stack ++ i ∷ []) ≡ one (is_open last (set rows i (vacated_row r)) k)) (sym same) (times_push_same i stack ∙ ap (λ n. n + 1) before ∙ sym now_free ∙ sym (ap one (open_same last rows i (vacated_row r) inside))))
           (λ ne. times_push_other j stack i ne ∙ s.stacked j ∙ sym (ap one (open_other last rows i (vacated_row r) j ne)))
@@ -203,7 +203,7 @@ freed_is {T = T} {last = last} {rows = rows} {stack = stack} {taken = taken} s i
     }
 
 -- while a slot is held, the stack has room for it
-pub has_room : {T : Type 0} {last : ℕ} {rows : List (Row T)} {stack : List ℕ} {taken space : ℕ} → IsShelved last rows stack taken space → (i : ℕ) → is_held (row_at rows i) ≡ true → length stack < space
+pub has_room : {T : Type 0} {last : ℕ} {rows : List (Row T)} {stack : List ℕ} {taken space : ℕ} → IsSlotRowsKept last rows stack taken space → (i : ℕ) → is_held (row_at rows i) ≡ true → length stack < space
 has_room {last = last} {rows = rows} s i held =
     let inside = held_inside rows i held in
     let some : one (is_held (row_at rows i)) ≤ count_by is_held rows = get_or-le-sum_by (λ x. cond (is_held x) 1 0) rows i unused inside in
@@ -214,7 +214,7 @@ has_room {last = last} {rows = rows} s i held =
     omega arith
 
 -- the slots that are worn are those that are neither held nor free
-pub worn_count : {T : Type 0} {last : ℕ} {rows : List (Row T)} {stack : List ℕ} {taken space : ℕ} → IsShelved last rows stack taken space → (length stack + taken ≤ length rows) × (length rows - taken - length stack ≡ count_by (is_worn last) rows)
+pub worn_count : {T : Type 0} {last : ℕ} {rows : List (Row T)} {stack : List ℕ} {taken space : ℕ} → IsSlotRowsKept last rows stack taken space → (length stack + taken ≤ length rows) × (length rows - taken - length stack ≡ count_by (is_worn last) rows)
 worn_count {last = last} {rows = rows} s =
     let all = parted last rows in
     let a = s.spare in
@@ -268,13 +268,13 @@ unused_at {T = T} n i =
     (cases_lt i n)
 
 -- a new row
-pub new_is : {T : Type 0} (last n space : ℕ) (rows : List (Row T)) (stack : List ℕ) → 0 < last → last ≤ LAST_STAMP → n ≤ 65536 → rows ≡ replicate n unused → IsNewStack n n stack → n ≤ space → IsShelved last rows stack 0 space
+pub new_is : {T : Type 0} (last n space : ℕ) (rows : List (Row T)) (stack : List ℕ) → 0 < last → last ≤ LAST_STAMP → n ≤ 65536 → rows ≡ replicate n unused → IsNewStack n n stack → n ≤ space → IsSlotRowsKept last rows stack 0 space
 new_is {T = T} last n space rows stack used bound size are s room =
     let left : is_free last (unused {T = T}) ≡ true = lt-ltb 0 last used in
     let good : IsRow last (unused {T = T}) = record { bound = omega arith; birth = λ h e. cc } in
-    subst (λ rs. IsShelved last rs stack 0 space) (sym are)
+    subst (λ rs. IsSlotRowsKept last rs stack 0 space) (sym are)
     (record {
-      shelf = record { used = used; bound = bound; size = rw (length-replicate n (unused {T = T})) size; each = All-replicate (IsRow last) n unused good };
+      slots = record { used = used; bound = bound; size = rw (length-replicate n (unused {T = T})) size; each = All-replicate (IsRow last) n unused good };
       stacked = λ i. s.stacked i ∙ rw (length-replicate n (unused {T = T}), unused_at {T = T} n i, left, le-leb (n - n) i (omega arith));
       spare = let a = s.size in let b = count_replicate (is_free last) (unused {T = T}) 1 (ap one left) n in omega arith;
       counted = let b = count_replicate is_held (unused {T = T}) 0 refl n in omega arith;

@@ -3,10 +3,10 @@
 ghost use Rattle.std.specs.Prelude.{◌≡◌, ◌+◌, ◌≤◌, IfOk};
 
 use crate::queue::DelayCore;
-use crate::words::Desk;
+use crate::words::SharedWords;
 use std::alloc::Allocator;
 
-impl<T: Drop, W: Desk, A: Allocator> DelayCore<T, W, A> {
+impl<T: Drop, W: SharedWords, A: Allocator> DelayCore<T, W, A> {
     ghost use Rattle.dq_core.specs.Readers.{with_words};
 
     /// Issues a caller of the words.
