@@ -13,6 +13,7 @@ impl<T: Drop, W: SharedWords, A: Allocator> DelayCore<T, W, A> {
     pub fn issue(&mut self) -> Result<W::Caller, W::Fault>
         ensures issued { W.issues self.old.words result self.new.words }
         ensures same { self.new ≡ with_words self.old self.new.words }
+        ensures home { W.home self.new.words ≡ W.home self.old.words }
     {
         self.words.issue()
     }
@@ -21,6 +22,7 @@ impl<T: Drop, W: SharedWords, A: Allocator> DelayCore<T, W, A> {
     pub fn out(&mut self) -> u64
         ensures told { W.tells self.old.words result self.new.words }
         ensures same { self.new ≡ with_words self.old self.new.words }
+        ensures home { W.home self.new.words ≡ W.home self.old.words }
     {
         self.words.out()
     }
@@ -29,6 +31,7 @@ impl<T: Drop, W: SharedWords, A: Allocator> DelayCore<T, W, A> {
     pub fn returned(&mut self) -> Result<u64, u64>
         ensures returned { W.returns self.old.words result self.new.words }
         ensures same { self.new ≡ with_words self.old self.new.words }
+        ensures home { W.home self.new.words ≡ W.home self.old.words }
         ensures counts { self.new.counts ≡ W.counts self.new.words }
         ensures audit { IfOk result (λ c. W.audited self.new.words c × (self.new.counts.expiries + self.new.counts.removals + c ≤ self.new.counts.begins)) }
     {

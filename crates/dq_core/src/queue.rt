@@ -134,8 +134,10 @@ impl<T: Drop, W: Words, A: Allocator> DelayCore<T, W, A> {
         ensures shard { IsLawfulCore self.now }
         ensures wheel { IsLawfulWheel self.now.wheel }
         ensures words { (self.now.known ≡ W.known self.now.words) × (self.now.counts ≡ W.counts self.now.words) }
+        ensures keeper { W.keeps self.now.words }
     {
         self.wheel.law();
+        self.words.law();
     }
 
     /// The greatest accepted tick.
@@ -158,6 +160,7 @@ impl<T: Drop, W: Words, A: Allocator> DelayCore<T, W, A> {
     #[inline]
     pub fn insert(&mut self, value: T, when: u64) -> Result<Key, (CoreError, T)>
         ensures same { SameCore self.old self.new }
+        ensures home { W.home self.new.words ≡ W.home self.old.words }
         ensures inserts { Inserts self.old value when result self.new }
     {
         if when > LAST_TICK {
@@ -188,6 +191,7 @@ impl<T: Drop, W: Words, A: Allocator> DelayCore<T, W, A> {
     #[inline]
     fn step(&mut self) -> Progress<T>
         ensures same { SameCore self.old self.new }
+        ensures home { W.home self.new.words ≡ W.home self.old.words }
         ensures noted { self.new.noted ≡ self.old.noted }
         ensures progress { IsProgress W.shared self.old result self.new }
     {
@@ -243,6 +247,7 @@ impl<T: Drop, W: Words, A: Allocator> DelayCore<T, W, A> {
     /// to do) or Idle (nothing is linked). Refused as TickTooLarge beyond the last tick, which is not noted then.
     pub fn poll(&mut self, tick: u64) -> Result<Turn<T>, CoreError>
         ensures same { SameCore self.old self.new }
+        ensures home { W.home self.new.words ≡ W.home self.old.words }
         ensures polls { Polls W.shared self.old tick result self.new }
     {
         if tick > LAST_TICK {
@@ -308,6 +313,7 @@ impl<T: Drop, W: Words, A: Allocator> DelayCore<T, W, A> {
     /// that shard, index and birth stamp, and as WasCancelled where it is cancelled.
     pub fn deadline(&mut self, entry: &EntryId) -> Result<u64, CoreError>
         ensures same { SameCore self.old self.new }
+        ensures home { W.home self.new.words ≡ W.home self.old.words }
         ensures tells { TellsDeadline W.shared self.old entry.now result self.new }
     {
         let Some(index) = self.find(entry) else {
@@ -325,6 +331,7 @@ impl<T: Drop, W: Words, A: Allocator> DelayCore<T, W, A> {
     #[inline]
     pub fn remove(&mut self, entry: &EntryId) -> Result<Removed<T>, CoreError>
         ensures same { SameCore self.old self.new }
+        ensures home { W.home self.new.words ≡ W.home self.old.words }
         ensures removes { Removes W.shared self.old entry.now result self.new }
     {
         let Some(index) = self.find(entry) else {
@@ -350,6 +357,7 @@ impl<T: Drop, W: Words, A: Allocator> DelayCore<T, W, A> {
     #[inline]
     pub fn reset(&mut self, entry: &EntryId, when: u64) -> Result<Key, CoreError>
         ensures same { SameCore self.old self.new }
+        ensures home { W.home self.new.words ≡ W.home self.old.words }
         ensures resets { Resets W.shared self.old entry.now when result self.new }
     {
         if when > LAST_TICK {

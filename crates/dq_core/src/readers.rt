@@ -14,6 +14,13 @@ use std::alloc::Allocator;
 impl<T: Drop, W: Words, A: Allocator> DelayCore<T, W, A> {
     ghost use Rattle.dq_core.specs.Readers.{IsTally, TellsLeast, TellsPlace, TellsFiled};
 
+    /// The number of the shard, which the queue's keys carry.
+    pub fn shard(&self) -> u32
+        ensures { result ≡ self.now.shard }
+    {
+        self.shard
+    }
+
     /// The number of worn slots, which hold nothing and have no stamp left.
     pub fn worn(&self) -> usize
         ensures { result ≡ count_by (is_worn self.now.slots.last_stamp) self.now.slots.rows }

@@ -16,6 +16,7 @@ impl<T: Drop, W: Words, A: Allocator> DelayCore<T, W, A> {
     fn reap_at(&mut self, index: usize) -> bool
         requires { index < length self.old.slots.rows }
         ensures same { SameCore self.old self.new }
+        ensures home { W.home self.new.words ≡ W.home self.old.words }
         ensures swept { IsSwept W.shared self.old index result self.new }
     {
         if !self.slots.is_held(index) {
@@ -34,6 +35,7 @@ impl<T: Drop, W: Words, A: Allocator> DelayCore<T, W, A> {
     /// are free for others, or worn. It looks at every slot.
     pub fn sweep(&mut self) -> usize
         ensures same { SameCore self.old self.new }
+        ensures home { W.home self.new.words ≡ W.home self.old.words }
         ensures sweeps { Sweeps W.shared self.old result self.new }
     {
         let mut reaped = 0;
@@ -49,6 +51,7 @@ impl<T: Drop, W: Words, A: Allocator> DelayCore<T, W, A> {
     fn clear_at(&mut self, index: usize) -> bool
         requires { index < length self.old.slots.rows }
         ensures same { SameCore self.old self.new }
+        ensures home { W.home self.new.words ≡ W.home self.old.words }
         ensures emptied { IsEmptied W.shared self.old index result self.new }
     {
         if !self.slots.is_held(index) {
@@ -71,6 +74,7 @@ impl<T: Drop, W: Words, A: Allocator> DelayCore<T, W, A> {
     /// It answers how many it ended as removed, and goes over every slot.
     pub fn clear(&mut self) -> usize
         ensures same { SameCore self.old self.new }
+        ensures home { W.home self.new.words ≡ W.home self.old.words }
         ensures clears { Clears W.shared self.old result self.new }
     {
         let mut removed = 0;

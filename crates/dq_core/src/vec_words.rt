@@ -2,7 +2,7 @@
 
 ghost use Rattle.std.specs.Prelude.{◌≡◌, ℕ, ◌+◌, ◌<◌, ◌≤◌, length, slice_set, replicate, false, max, MatchResult};
 ghost use Rattle.dq_core.specs.Words.{Counts, word_at, look_by};
-ghost use Rattle.dq_core.specs.WordRows.{IsMadeRow, IsNamed, IsCalled, IsExtend, IsCancel, IsLook};
+ghost use Rattle.dq_core.specs.WordRows.{IsMadeRow, IsWordRow, IsNamed, IsCalled, IsExtend, IsCancel, IsLook};
 
 use crate::errors::CoreError;
 use crate::words::{CallError, Look, Settled, Words};
@@ -146,6 +146,16 @@ impl<A: Allocator> Words for VecWords<A> {
     ghost counts = { λ w. w.counts };
 
     ghost shared = { false };
+
+    ghost keeps = { λ w. IsWordRow w.known w.counts };
+
+    ghost Home = { Unit {0} };
+
+    ghost home = { λ w. tt };
+
+    fn law(&self) {
+        let _ = &self.row;
+    }
 
     fn rows(&self) -> usize {
         self.row.len()

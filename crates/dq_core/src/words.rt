@@ -78,6 +78,19 @@ pub trait Words {
     /// Others may change the words.
     ghost shared: { Bool };
 
+    /// What its keeper keeps, whatever others do.
+    ghost keeps: { Self → Type 0 };
+
+    /// What tells one row of words from another.
+    ghost Home: { Type 0 };
+
+    /// Which row of words it is: no call changes that.
+    ghost home: { Self → Home };
+
+    /// What its keeper keeps.
+    fn law(&self)
+        ensures { keeps self.now };
+
     /// The number of words.
     fn rows(&self) -> usize
         ensures { result ≡ length (known self.now) };
@@ -90,14 +103,16 @@ pub trait Words {
         requires last { stamp ≤ LAST_STAMP }
         requires tick { when ≤ LAST_TICK }
         ensures known { known self.new ≡ slice_set (known self.old) index (live stamp when) }
-        ensures counts { counts self.new ≡ begun_counts (counts self.old) };
+        ensures counts { counts self.new ≡ begun_counts (counts self.old) }
+        ensures home { home self.new ≡ home self.old };
 
     /// Looks at a word.
     fn look(&mut self, index: usize) -> Parts
         requires { index < length (known self.old) }
         ensures learned { Learned shared (word_at (known self.old) index) result }
         ensures known { known self.new ≡ slice_set (known self.old) index result }
-        ensures counts { counts self.new ≡ counts self.old };
+        ensures counts { counts self.new ≡ counts self.old }
+        ensures home { home self.new ≡ home self.old };
 
     /// Ends a word that is live at exactly `at` as expired, or tells the later deadline or the cancellation that it found.
     fn settle(&mut self, index: usize, stamp: u32, at: u64) -> Settled
@@ -107,7 +122,8 @@ pub trait Words {
         requires tick { at ≤ LAST_TICK }
         ensures settled { IsSettled shared stamp at (word_at (known self.old) index) result (word_at (known self.new) index) }
         ensures known { known self.new ≡ slice_set (known self.old) index (word_at (known self.new) index) }
-        ensures counts { counts self.new ≡ settled_counts (counts self.old) result };
+        ensures counts { counts self.new ≡ settled_counts (counts self.old) result }
+        ensures home { home self.new ≡ home self.old };
 
     /// Makes a live word live at the next stamp and at a deadline, and answers the deadline that was in force;
     /// None for a word that was cancelled, which stays.
@@ -118,7 +134,8 @@ pub trait Words {
         requires tick { when ≤ LAST_TICK }
         ensures changed { IsChanged shared stamp (λ d. live (stamp + 1) when) (word_at (known self.old) index) result (word_at (known self.new) index) }
         ensures known { known self.new ≡ slice_set (known self.old) index (word_at (known self.new) index) }
-        ensures counts { counts self.new ≡ counts self.old };
+        ensures counts { counts self.new ≡ counts self.old }
+        ensures home { home self.new ≡ home self.old };
 
     /// Makes a live word removed, and answers the deadline that was in force; None for a word that was cancelled,
     /// which stays.
@@ -128,7 +145,8 @@ pub trait Words {
         requires last { stamp ≤ LAST_STAMP }
         ensures changed { IsChanged shared stamp (removed stamp) (word_at (known self.old) index) result (word_at (known self.new) index) }
         ensures known { known self.new ≡ slice_set (known self.old) index (word_at (known self.new) index) }
-        ensures counts { counts self.new ≡ finished_counts (counts self.old) result };
+        ensures counts { counts self.new ≡ finished_counts (counts self.old) result }
+        ensures home { home self.new ≡ home self.old };
 }
 
 /// Words whose callers are issued and given back.
@@ -154,16 +172,19 @@ pub trait SharedWords: Words {
     /// One caller more.
     fn issue(&mut self) -> Result<Self::Caller, Self::Fault>
         ensures issued { issues self.old result self.new }
-        ensures same { (Self.known self.new ≡ Self.known self.old) × (Self.counts self.new ≡ Self.counts self.old) };
+        ensures same { (Self.known self.new ≡ Self.known self.old) × (Self.counts self.new ≡ Self.counts self.old) }
+        ensures home { Self.home self.new ≡ Self.home self.old };
 
     /// The issued callers that are not given back.
     fn out(&mut self) -> u64
         ensures told { tells self.old result self.new }
-        ensures same { (Self.known self.new ≡ Self.known self.old) × (Self.counts self.new ≡ Self.counts self.old) };
+        ensures same { (Self.known self.new ≡ Self.known self.old) × (Self.counts self.new ≡ Self.counts self.old) }
+        ensures home { Self.home self.new ≡ Self.home self.old };
 
     /// The accepted cancels of all callers, where none is out; else the number of callers that are out.
     fn returned(&mut self) -> Result<u64, u64>
         ensures returned { returns self.old result self.new }
         ensures same { (Self.known self.new ≡ Self.known self.old) × (Self.counts self.new ≡ Self.counts self.old) }
+        ensures home { Self.home self.new ≡ Self.home self.old }
         ensures audit { IfOk result (λ c. audited self.new c × ((Self.counts self.new).expiries + (Self.counts self.new).removals + c ≤ (Self.counts self.new).begins)) };
 }

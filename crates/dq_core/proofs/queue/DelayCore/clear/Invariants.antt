@@ -3,4 +3,4 @@ use Rattle.dq_core.proofs.Clearing.{IsOnClear}
 use Rattle.dq_core.proofs.queue.DelayCore.clear.Given as goal
 
 abbrev pub invariant-loop-index : goal.invariant-loop-index
-invariant-loop-index g l = (l.index-end ≡ length l.fn.self.slots.rows) × IsOnClear g.W.Words.shared l.fn.self l.index l.removed l.self
+invariant-loop-index g l = (l.index-end ≡ length l.fn.self.slots.rows) × IsOnClear g.W.Words.shared l.fn.self l.index l.removed l.self × (g.W.Words.home l.self.words ≡ g.W.Words.home l.fn.self.words)

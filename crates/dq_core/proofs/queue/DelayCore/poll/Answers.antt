@@ -1,18 +1,21 @@
+use Rattle.std.proofs.Common.{◌∙◌}
 use Rattle.dq_core.proofs.Steps.{on_way_more, polled_out, polled_waiting, polled_idle}
 use Rattle.dq_core.proofs.queue.DelayCore.poll.Goals as goal
 
 pub returns-in-Gave-clause-polls : goal.returns-in-Gave-clause-polls
 returns-in-Gave-clause-polls g c =
-    polled_out g.W.Words.shared c.args.self.now c.steps.self c.step.new.self c.args.tick c.in-Gave.expired c.steps.invariant c.in-Gave.ensures.progress c.in-Gave.ensures.noted
+    polled_out g.W.Words.shared c.args.self.now c.steps.self c.step.new.self c.args.tick c.in-Gave.expired c.steps.invariant.0 c.in-Gave.ensures.progress c.in-Gave.ensures.noted
 
 pub steps-preserved : goal.steps-preserved
-steps-preserved g c =
-    on_way_more g.W.Words.shared c.args.self.now c.steps.self c.step.new.self c.args.tick c.steps.invariant c.in-Went.ensures.same c.in-Went.ensures.noted c.in-Went.ensures.progress.0
+steps-preserved g c = (
+  on_way_more g.W.Words.shared c.args.self.now c.steps.self c.step.new.self c.args.tick c.steps.invariant.0 c.in-Went.ensures.same c.in-Went.ensures.noted c.in-Went.ensures.progress.0,
+  c.in-Went.ensures.home ∙ c.steps.invariant.1,
+)
 
 pub returns-in-Some-clause-polls : goal.returns-in-Some-clause-polls
 returns-in-Some-clause-polls g c =
-    polled_waiting g.W.Words.shared c.args.self.now c.steps.self c.step.new.self c.args.tick c.in-Some.next c.steps.invariant c.in-Rests.ensures.progress c.in-Some.ensures
+    polled_waiting g.W.Words.shared c.args.self.now c.steps.self c.step.new.self c.args.tick c.in-Some.next c.steps.invariant.0 c.in-Rests.ensures.progress c.in-Some.ensures
 
 pub returns-in-None-clause-polls : goal.returns-in-None-clause-polls
 returns-in-None-clause-polls g c =
-    polled_idle g.W.Words.shared c.args.self.now c.steps.self c.step.new.self c.args.tick c.steps.invariant c.in-Rests.ensures.progress c.in-None.ensures
+    polled_idle g.W.Words.shared c.args.self.now c.steps.self c.step.new.self c.args.tick c.steps.invariant.0 c.in-Rests.ensures.progress c.in-None.ensures

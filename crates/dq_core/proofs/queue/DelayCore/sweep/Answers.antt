@@ -1,4 +1,4 @@
-use Rattle.std.proofs.Common.{arith}
+use Rattle.std.proofs.Common.{◌∙◌, arith}
 use Rattle.dq_core.proofs.Leaving.{sweeping_on, sweeping_ends}
 use Rattle.dq_core.proofs.queue.DelayCore.sweep.Goals.{then-reap_at, else-reap_at}
 use Rattle.dq_core.proofs.queue.DelayCore.sweep.Goals as goal
@@ -10,10 +10,10 @@ loop-index-preserved g c =
     elim c.if-reap_at.branch [
       | then-reap_at w ↦
           let up = w.reaped-is in
-          (c.loop-index.invariant.0, sweeping_on g.W.Words.shared c.args.self.now c.loop-index.self c.reap_at.new.self c.loop-index.index c.loop-index.reaped c.if-reap_at.reaped c.reap_at.result to c.reap_at.ensures.same c.reap_at.ensures.swept (rw w.if-reap_at.true up) (omega (arith, up, few)))
+          (c.loop-index.invariant.0, sweeping_on g.W.Words.shared c.args.self.now c.loop-index.self c.reap_at.new.self c.loop-index.index c.loop-index.reaped c.if-reap_at.reaped c.reap_at.result to c.reap_at.ensures.same c.reap_at.ensures.swept (rw w.if-reap_at.true up) (omega (arith, up, few)), c.reap_at.ensures.home ∙ c.loop-index.invariant.2)
       | else-reap_at w ↦
           let up = w.reaped-is in
-          (c.loop-index.invariant.0, sweeping_on g.W.Words.shared c.args.self.now c.loop-index.self c.reap_at.new.self c.loop-index.index c.loop-index.reaped c.if-reap_at.reaped c.reap_at.result to c.reap_at.ensures.same c.reap_at.ensures.swept (rw w.if-reap_at.false (omega (arith, up))) (omega (arith, up, few)))
+          (c.loop-index.invariant.0, sweeping_on g.W.Words.shared c.args.self.now c.loop-index.self c.reap_at.new.self c.loop-index.index c.loop-index.reaped c.if-reap_at.reaped c.reap_at.result to c.reap_at.ensures.same c.reap_at.ensures.swept (rw w.if-reap_at.false (omega (arith, up))) (omega (arith, up, few)), c.reap_at.ensures.home ∙ c.loop-index.invariant.2)
     ]
 
 pub returns-clause-sweeps : goal.returns-clause-sweeps

@@ -3,4 +3,4 @@ use Rattle.dq_core.proofs.Leaving.{IsSweeping}
 use Rattle.dq_core.proofs.queue.DelayCore.sweep.Given as goal
 
 abbrev pub invariant-loop-index : goal.invariant-loop-index
-invariant-loop-index g l = (l.index-end ≡ length l.fn.self.slots.rows) × IsSweeping g.W.Words.shared l.fn.self l.index l.reaped l.self
+invariant-loop-index g l = (l.index-end ≡ length l.fn.self.slots.rows) × IsSweeping g.W.Words.shared l.fn.self l.index l.reaped l.self × (g.W.Words.home l.self.words ≡ g.W.Words.home l.fn.self.words)
