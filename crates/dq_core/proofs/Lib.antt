@@ -6,6 +6,8 @@ pub mod Finds
 pub mod Inserts
 pub mod Law
 pub mod Leaving
+pub mod RunsEnding
+pub mod RunsKept
 pub mod RunsMoves
 pub mod RunsOrdered
 pub mod Searches

@@ -1,6 +1,6 @@
 -- Runs one after the other, and the order in which a run's entries come out.
-use Rattle.std.proofs.Common.{◌≡◌, ℕ, ◌≤◌, List, [], ◌∷◌, ◌++◌, subst, sym, ap, arith}
-use Rattle.dq_core.specs.Machine.{Machine, Event, Note, Pass, Insert, Reset, Extend, Cancel, Remove, Reap, Expire, NoneLiveBefore, Step, Run}
+use Rattle.std.proofs.Common.{◌≡◌, ℕ, ◌≤◌, List, [], ◌∷◌, subst, ap, arith}
+use Rattle.dq_core.specs.Machine.{Machine, Event, Note, Pass, Insert, Reset, Extend, Cancel, Remove, Reap, Expire, Step, Run}
 use Rattle.dq_core.specs.Runs.{RunsJoin, outs, RiseFrom, OutsComeInOrder}
 
 pub runs_join : (T : Type 0) → RunsJoin T
