@@ -9,6 +9,7 @@ pub mod Leaving
 pub mod RunsEnding
 pub mod RunsKept
 pub mod RunsMoves
+pub mod RunsOfCalls
 pub mod RunsOrdered
 pub mod Searches
 pub mod SlotRows

@@ -6,6 +6,7 @@ pub mod Machine
 pub mod Plain
 pub mod Readers
 pub mod Runs
+pub mod RunsOfCalls
 pub mod SlotRowsKept
 pub mod Slots
 pub mod Soonest
