@@ -6,6 +6,8 @@ pub mod Finds
 pub mod Inserts
 pub mod Law
 pub mod Leaving
+pub mod Looks
+pub mod Rests
 pub mod Searches
 pub mod SlotRows
 pub mod Slotwise

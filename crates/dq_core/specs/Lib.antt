@@ -5,6 +5,7 @@ pub mod KeyCalls
 pub mod Machine
 pub mod Plain
 pub mod Readers
+pub mod Rests
 pub mod SlotRowsKept
 pub mod Slots
 pub mod Soonest
