@@ -16,7 +16,7 @@ use Rattle.dq_core.specs.Sweeps.{all_unlinked, all_vacated, AreOut, NotCancelled
 use Rattle.dq_core.proofs.Slotwise.{held_is, held_inside, count_set, one, one_held}
 use Rattle.dq_core.proofs.Law.{Filed, held_filed, law_vacated, force_learned, force_stamp, force_low}
 use Rattle.dq_core.proofs.Ways.{run_of_more, run_of_into, run_of_none, run_of_one, callers_reaping, Learning, learning, machine_is, vacated_of, table_row_is, table-le-rows}
-use Rattle.dq_core.proofs.Steps.{looks_none, looks_one, looks_more}
+use Rattle.dq_core.proofs.Looks.{looks_none, looks_one, looks_more}
 
 -- one list of indexes after another
 

@@ -11,6 +11,8 @@ pub mod RunsKept
 pub mod RunsMoves
 pub mod RunsOfCalls
 pub mod RunsOrdered
+pub mod Looks
+pub mod Rests
 pub mod Searches
 pub mod SlotRows
 pub mod Slotwise

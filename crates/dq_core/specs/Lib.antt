@@ -7,6 +7,7 @@ pub mod Plain
 pub mod Readers
 pub mod Runs
 pub mod RunsOfCalls
+pub mod Rests
 pub mod SlotRowsKept
 pub mod Slots
 pub mod Soonest

@@ -18,6 +18,7 @@ use crate::slots::Slots;
 use crate::words::{Settled, Words};
 use dq_ticks::{EntryId, Key, LAST_STAMP, LAST_TICK, Mark};
 use dq_wheel::Wheel;
+use dq_wheel::wheel::wakes_are_ahead;
 use std::alloc::{AllocError, Allocator, Global};
 use std::marker::Model;
 
@@ -126,7 +127,7 @@ impl<T: Drop, W: Words + Drop, A: Allocator + Clone> DelayCore<T, W, A> {
 impl<T: Drop, W: Words, A: Allocator> DelayCore<T, W, A> {
     ghost use Rattle.dq_wheel.specs.Lawful.{IsLawfulWheel};
     ghost use Rattle.dq_core.specs.Core.{Core, machine, IsLawfulCore};
-    ghost use Rattle.dq_core.specs.Calls.{SameCore, Inserts, IsProgress, noting, Polls, TellsWake, IsFind, TellsDeadline, Removes, Resets};
+    ghost use Rattle.dq_core.specs.Calls.{SameCore, Inserts, IsProgress, noting, Polls, TellsWake, WakesAhead, IsFind, TellsDeadline, Removes, Resets};
 
     /// The shard law, what the wheel's own law says of this queue's wheel, and that what is known and counted is what
     /// the words' keeper knows and has counted.
@@ -227,10 +228,15 @@ impl<T: Drop, W: Words, A: Allocator> DelayCore<T, W, A> {
         }
     }
 
-    /// The next wake: the tick at which the queue has something to do, none where nothing is linked.
+    /// The next wake: the tick at which the queue has something to do, none where nothing is linked. It is after the
+    /// wheel's tick where nothing is filed there.
     pub fn next_wake(&self) -> Option<u64>
-        ensures { TellsWake self.now result }
+        ensures wake { TellsWake self.now result }
+        ensures ahead { WakesAhead self.now result }
     {
+        // That a wake is ahead is a law of the digits of what is filed, which the wheel keeps within its reach.
+        wakes_are_ahead();
+        self.wheel.law();
         self.wheel.next_wake()
     }
 
