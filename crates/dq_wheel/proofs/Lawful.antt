@@ -12,6 +12,7 @@ use Rattle.dq_wheel.specs.Homes.{list_number}
 use Rattle.dq_wheel.specs.Lawful.{IsAt, IsHome, IsLawful, IsWithin}
 use Rattle.dq_wheel.proofs.Links.{same_or_not}
 use Rattle.dq_wheel.proofs.Numbers.{number_apart}
+use Rattle.dq_ticks.specs.declared.TheConstants.{CAPACITY_LIMIT}
 
 abbrev pub filing_of : ℕ → List (Option ℕ) → List ℕ → ℕ → Filing
 filing_of tick filed moves moved = record { tick = tick; filed = filed; moves = moves; moved = moved }
@@ -122,7 +123,7 @@ loose_rows n =
     get_or-map filed_by (replicate n 18446744073709551615) i 0 None (rw (length-replicate {A = ℕ} n 18446744073709551615) i_low)
     ∙ (ap filed_by (get_or-replicate {A = ℕ} n i 18446744073709551615 0 i_low) ∙ sym (get_or-replicate {A = Option ℕ} n i None None i_low)))
 
-pub lawful_fresh : (n : ℕ) (words moves homes : List ℕ) → 0 < n → n ≤ 65536 → words ≡ replicate n 18446744073709551615 → moves ≡ replicate n 0 →
+pub lawful_fresh : (n : ℕ) (words moves homes : List ℕ) → 0 < n → n ≤ CAPACITY_LIMIT → words ≡ replicate n 18446744073709551615 → moves ≡ replicate n 0 →
     homes ≡ replicate n 0 → IsLawful 0 (deadlines words) moves homes
 lawful_fresh n words moves homes large small words_is moves_is homes_is =
     let size : length homes ≡ n = rw homes_is (length-replicate n 0) in

@@ -6,6 +6,7 @@ use Rattle.dq_wheel.specs.Lists.{IsWalk, StandsIn, times}
 use Rattle.dq_wheel.proofs.Links.{same_or_not}
 use Rattle.dq_wheel.proofs.Rows.{first_stands, capacity_is, seen_home}
 use Rattle.dq_wheel.proofs.Walks.{times_same, times_other, walked, walked_le, walked_met}
+use Rattle.dq_wheel.specs.declared.TheConstants.{LISTS}
 
 -- how many of the numbers below n stand in xs, each as often as it does
 total : ℕ → List ℕ → ℕ
@@ -72,17 +73,17 @@ no_length (y ∷ ys) e = absurd (omega arith)
 pub record IsLeastSoFar (cap : ℕ) (next homes keys : List ℕ) (p turn at best : ℕ) : Type 0 where
   pub best_in : best < cap
   pub best_home : get_or homes best 0 ≡ p + 1
-  pub at_in : at < cap + 384
+  pub at_in : at < cap + LISTS
   pub at_home : get_or homes at 0 ≡ p + 1
   pub rest : List ℕ
   pub walk : IsWalk cap (λ x. get_or next x 0) (cap + p) at rest
   pub fuel : length rest + turn ≤ cap
   pub least : (i : ℕ) → i < cap → get_or homes i 0 ≡ p + 1 → times i rest ≡ 0 → get_or keys best 0 ≤ get_or keys i 0
 
-module _ (cap : ℕ) (next prev homes : List ℕ) (r : IsRings cap next prev homes) (keys : List ℕ) (p : ℕ) (p_in : p < 384) where
+module _ (cap : ℕ) (next prev homes : List ℕ) (r : IsRings cap next prev homes) (keys : List ℕ) (p : ℕ) (p_in : p < LISTS) where
   pub least_init : (first : ℕ) → first ≡ get_or next (cap + p) 0 → first < cap → IsLeastSoFar cap next homes keys p 0 first first
   least_init first first_is first_in =
-      let w = walked cap 384 _ _ _ r.rank r.ring p p_in in
+      let w = walked cap LISTS _ _ _ r.rank r.ring p p_in in
       let stands : get_or homes first 0 ≡ p + 1 = rw first_is (first_stands cap next prev homes r p p_in) in
       record {
         best_in = first_in;
@@ -93,10 +94,10 @@ module _ (cap : ℕ) (next prev homes : List ℕ) (r : IsRings cap next prev hom
         walk = rw first_is w.1;
         fuel =
             let len : length w.0 ≡ total cap w.0 = length_total cap (cap + p) _ _ w.0 w.1 in
-            let le : total cap w.0 ≤ cap = total_le cap w.0 (λ i i_in. walked_le cap 384 _ _ _ r.rank r.ring p p_in i i_in) in
+            let le : total cap w.0 ≤ cap = total_le cap w.0 (λ i i_in. walked_le cap LISTS _ _ _ r.rank r.ring p p_in i i_in) in
             omega arith;
         least = λ i i_in h none.
-            let met : times i w.0 ≡ 1 = walked_met cap 384 _ _ _ r.rank r.ring p p_in i i_in h in
+            let met : times i w.0 ≡ 1 = walked_met cap LISTS _ _ _ r.rank r.ring p p_in i i_in h in
             absurd (omega arith);
       }
 
@@ -107,7 +108,7 @@ module _ (cap : ℕ) (next prev homes : List ℕ) (r : IsRings cap next prev hom
   least_more turn at best better s at_low either best_le at_le =
       let step = walk_step cap (cap + p) _ at s.rest (omega arith) at_low s.walk in
       let at_home : get_or homes at 0 ≡ p + 1 = s.at_home in
-      let node : Node (cap + 384) (λ x. get_or next x 0) (λ x. get_or prev x 0) (λ x. get_or homes x 0) at = r.ring.node at s.at_in (omega arith) in
+      let node : Node (cap + LISTS) (λ x. get_or next x 0) (λ x. get_or prev x 0) (λ x. get_or homes x 0) at = r.ring.node at s.at_in (omega arith) in
       let len : length s.rest ≡ suc (length step.0) = ap length step.1 in
       let fuel : length s.rest + turn ≤ cap = s.fuel in
       record {

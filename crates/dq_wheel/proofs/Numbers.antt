@@ -5,12 +5,13 @@ use Rattle.dq_ticks.specs.Digits.{digit_of, level, start, IsAhead}
 use Rattle.dq_ticks.proofs.Laws.{at_level, digit_below, start_low}
 use Rattle.dq_ticks.proofs.Levels.{IsLevel, above_zero, above_suc, digits_make, level_same, level_small}
 use Rattle.dq_wheel.specs.Homes.{list_number}
+use Rattle.dq_wheel.specs.declared.TheConstants.{LISTS}
 
 -- what is filed at the tick is seen at level 0
 pub level_due : (e f : ℕ) → e ≡ f → level e f ≡ 0
 level_due e f same = ap (λ t. level e t) (sym same) ∙ level_same e
 
-pub number_low : (e f : ℕ) → list_number e f < 384
+pub number_low : (e f : ℕ) → list_number e f < LISTS
 number_low e f = omega (arith, level_small e f, digit_below f (level e f))
 
 -- the due list has what is filed at the tick

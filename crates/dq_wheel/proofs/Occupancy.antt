@@ -7,6 +7,7 @@ use Rattle.std.proofs.lemmas.List.{get_or-set_same, get_or-set_other}
 use Rattle.dq_wheel.specs.Lists.{IsEmpty}
 use Rattle.dq_wheel.specs.Occupied.{bit_of, IsFilled, IsOccupiedAt, IsOccupied, IsOccupiedBut, IsEarlier}
 use Rattle.dq_wheel.proofs.Links.{same_or_not}
+use Rattle.dq_wheel.specs.declared.TheConstants.{LISTS}
 
 -- an index that goes to list p fills it
 filled_there : (homes : List ℕ) (i p : ℕ) → i < length homes → IsFilled (set homes i (p + 1)) p
@@ -109,13 +110,13 @@ occupied_without words homes after ok p none others L k L_in k_in =
 
 module _ (words homes : List ℕ) (ok : IsOccupied words homes) where
   -- an index leaves a list
-  pub bit_was : (i p : ℕ) → i < length homes → get_or homes i 0 ≡ p + 1 → p < 384 → bit_of words p ≡ 1
+  pub bit_was : (i p : ℕ) → i < length homes → get_or homes i 0 ≡ p + 1 → p < LISTS → bit_of words p ≡ 1
   bit_was i p i_in stands p_in = ok.shown p p_in tt (i, (i_in, stands))
 
   -- what the first bit says of the lists
-  pub first_filled : (own q : ℕ) → (q < 384) × (bit_of words q ≡ 1) × ((p : ℕ) → p < 384 → bit_of words p ≡ 1 → IsEarlier own q p) →
-      (q < 384) × IsFilled homes q × ((p : ℕ) → p < 384 → IsFilled homes p → IsEarlier own q p)
+  pub first_filled : (own q : ℕ) → (q < LISTS) × (bit_of words q ≡ 1) × ((p : ℕ) → p < LISTS → bit_of words p ≡ 1 → IsEarlier own q p) →
+      (q < LISTS) × IsFilled homes q × ((p : ℕ) → p < LISTS → IsFilled homes p → IsEarlier own q p)
   first_filled own q found = (found.0, ok.filled q found.0 tt found.1, λ p p_in full. found.2 p p_in (ok.shown p p_in tt full))
 
-  pub none_filled : ((p : ℕ) → p < 384 → bit_of words p ≢ 1) → (p : ℕ) → p < 384 → IsEmpty homes p
+  pub none_filled : ((p : ℕ) → p < LISTS → bit_of words p ≢ 1) → (p : ℕ) → p < LISTS → IsEmpty homes p
   none_filled none p p_in x x_in h = none p p_in (ok.shown p p_in tt (x, (x_in, h)))

@@ -21,6 +21,7 @@ use Rattle.dq_wheel.proofs.Numbers.{number_same}
 use Rattle.dq_wheel.proofs.Opening.{rehomed_there, rehomed_elsewhere, recounted_due, recounted_moved, recounted_elsewhere}
 use Rattle.dq_wheel.proofs.Lawful.{filing_of}
 use Rattle.dq_wheel.proofs.Wakes.{ahead, some_at, home_stable, still_there, start_here, start_later, opens_after, opens_in_range, later_all, wake_other, lawful_stable, next_wake, due_stands, due_least, least_all, none_filed}
+use Rattle.dq_wheel.specs.declared.TheConstants.{LISTS}
 
 -- the counts of a row
 counted_size : (e n : ℕ) (filed : List (Option ℕ)) (moves : List ℕ) → length moves ≡ length filed → length (counted e n filed moves) ≡ length filed
@@ -175,8 +176,8 @@ module _ (e w f h m list : ℕ) (at : IsAt e f h m) (later : e < f) (here : star
       ]
 
 -- the wheel goes to the start of the first slot and opens it
-module _ (e : ℕ) (words moves homes : List ℕ) (ok : IsLawful e (deadlines words) moves homes) (list : ℕ) (list_in : list < 384)
-    (filled : IsFilled homes list) (first : (p : ℕ) → p < 384 → IsFilled homes p → IsEarlier (digit_of e 5) list p)
+module _ (e : ℕ) (words moves homes : List ℕ) (ok : IsLawful e (deadlines words) moves homes) (list : ℕ) (list_in : list < LISTS)
+    (filled : IsFilled homes list) (first : (p : ℕ) → p < LISTS → IsFilled homes p → IsEarlier (digit_of e 5) list p)
     (later : (i f : ℕ) → filed_at (deadlines words) i ≡ Some f → e < f) where
   abbrev opening : ℕ
   opening = start e (list / 64) (list % 64)
@@ -338,8 +339,8 @@ module _ (e : ℕ) (words moves homes : List ℕ) (ok : IsLawful e (deadlines wo
   still_lawful n after in_range early = lawful_stable e (deadlines words) moves homes ok n (rw tick_is after) in_range early
 
   -- the first slot starts by then
-  pub seen_opening : (list : ℕ) → list < 384 → (filled : IsFilled homes list) →
-      ((p : ℕ) → p < 384 → IsFilled homes p → IsEarlier (digit_of e 5) list p) →
+  pub seen_opening : (list : ℕ) → list < LISTS → (filled : IsFilled homes list) →
+      ((p : ℕ) → p < LISTS → IsFilled homes p → IsEarlier (digit_of e 5) list p) →
       ((i f : ℕ) → filed_at (deadlines words) i ≡ Some f → e < f) →
       (homes2 moves2 : List ℕ) (made limit : ℕ) → IsOpened (start e (list / 64) (list % 64)) list words homes moves homes2 moves2 made →
       start e (list / 64) (list % 64) ≤ limit →
@@ -353,8 +354,8 @@ module _ (e : ℕ) (words moves homes : List ℕ) (ok : IsLawful e (deadlines wo
   )
 
   -- and is of level 0
-  pub seen_arrival : (list : ℕ) → list < 384 → (filled : IsFilled homes list) →
-      ((p : ℕ) → p < 384 → IsFilled homes p → IsEarlier (digit_of e 5) list p) →
+  pub seen_arrival : (list : ℕ) → list < LISTS → (filled : IsFilled homes list) →
+      ((p : ℕ) → p < LISTS → IsFilled homes p → IsEarlier (digit_of e 5) list p) →
       ((i f : ℕ) → filed_at (deadlines words) i ≡ Some f → e < f) → list < 64 → moved ≤ 18446744073709551615 →
       (limit : ℕ) → start e (list / 64) (list % 64) ≤ limit →
       (w : ℕ) × IsNextWake now.tick now.filed w × (w ≤ limit)
@@ -375,8 +376,8 @@ module _ (e : ℕ) (words moves homes : List ℕ) (ok : IsLawful e (deadlines wo
       let is : filed_at (deadlines words) i ≡ Some e = due_stands e (deadlines words) moves homes ok i stands in
       rw (← filed_is) (e, rw ok.filed_size stands.0, is, due_least e (deadlines words) moves homes ok i is)
 
-  pub seen_least : (list : ℕ) → list < 384 → (filled : IsFilled homes list) →
-      ((p : ℕ) → p < 384 → IsFilled homes p → IsEarlier (digit_of e 5) list p) →
+  pub seen_least : (list : ℕ) → list < LISTS → (filled : IsFilled homes list) →
+      ((p : ℕ) → p < LISTS → IsFilled homes p → IsEarlier (digit_of e 5) list p) →
       ((i f : ℕ) → filed_at (deadlines words) i ≡ Some f → e < f) → (o : Option ℕ) →
       MatchOption o (IsEmpty homes list) (λ x. StandsIn homes list x × ((y : ℕ) → StandsIn homes list y → get_or words x 0 ≤ get_or words y 0)) →
       MatchOption o ((i f : ℕ) → filed_at now.filed i ≢ Some f) (λ i. IsLeast now.filed i)
@@ -396,6 +397,6 @@ module _ (e : ℕ) (words moves homes : List ℕ) (ok : IsLawful e (deadlines wo
             omega arith),
       )
 
-  pub seen_none : ((p : ℕ) → p < 384 → IsEmpty homes p) → ((i f : ℕ) → filed_at (deadlines words) i ≡ Some f → e < f) →
+  pub seen_none : ((p : ℕ) → p < LISTS → IsEmpty homes p) → ((i f : ℕ) → filed_at (deadlines words) i ≡ Some f → e < f) →
       (i f : ℕ) → filed_at now.filed i ≡ Some f → ⊥
   seen_none empty later = rw (← filed_is) (none_filed e (deadlines words) moves homes ok empty later)

@@ -16,6 +16,7 @@ use Rattle.dq_wheel.proofs.Numbers.{number_same, number_low, number_apart}
 use Rattle.dq_wheel.proofs.Lawful.{filing_of, seen_in}
 use Rattle.dq_wheel.proofs.Wakes.{filed_home, in_reach, list_level, list_digit}
 use Rattle.dq_wheel.proofs.Walks.{times_same}
+use Rattle.dq_wheel.specs.declared.TheConstants.{LISTS}
 
 slot_list : (e p : ℕ) → p ≢ digit_of e 0 → place_of_list e p ≡ InSlot (p / 64) (p % 64)
 slot_list e p d = grind arith
@@ -138,8 +139,8 @@ first_met cap head next x [] w some = absurd (some refl)
 first_met cap head next x (y ∷ ys) w some = (y, w.1, λ none. let met : times y (y ∷ ys) ≡ 1 + times y ys = times_same y y ys refl in omega arith)
 
 module _ (e : ℕ) (filed : List (Option ℕ)) (moves homes next words : List ℕ) (ok : IsLawful e filed moves homes) (bits : IsOccupied words homes)
-    (lists : (p : ℕ) → p < 384 → IsListOf next homes p) where
-  lawful_list : (p : ℕ) → p < 384 → IsLawfulList e filed next words p
+    (lists : (p : ℕ) → p < LISTS → IsListOf next homes p) where
+  lawful_list : (p : ℕ) → p < LISTS → IsLawfulList e filed next words p
   lawful_list p p_in =
       let l : IsListOf next homes p = lists p p_in in
       let met : (i : ℕ) → i < length homes → get_or homes i 0 ≡ p + 1 → times i l.list ≡ 1 =

@@ -15,6 +15,7 @@ use Rattle.dq_wheel.specs.Lawful.{IsAt, IsHome, IsLawful, IsWithin, WakesAreAhea
 use Rattle.dq_wheel.proofs.Links.{same_or_not, nat_le_or_lt}
 use Rattle.dq_wheel.proofs.Numbers.{number_same, number_low}
 use Rattle.dq_wheel.proofs.Lawful.{home_due}
+use Rattle.dq_wheel.specs.declared.TheConstants.{LISTS}
 
 pub wake_same : (e f : ℕ) → e ≡ f → wake_for e f ≡ e
 wake_same e f same = grind arith
@@ -158,7 +159,7 @@ module _ (e : ℕ) (filed : List (Option ℕ)) (moves homes : List ℕ) (ok : Is
       elim (same_or_not e f) [ inl same ↦ absurd (none i (is ∙ ap Some (sym same))) | inr other ↦ omega arith ]
 
   -- no slot is filled and nothing is due
-  pub none_filed : ((p : ℕ) → p < 384 → IsEmpty homes p) → ((i f : ℕ) → filed_at filed i ≡ Some f → e < f) →
+  pub none_filed : ((p : ℕ) → p < LISTS → IsEmpty homes p) → ((i f : ℕ) → filed_at filed i ≡ Some f → e < f) →
       (i f : ℕ) → filed_at filed i ≡ Some f → ⊥
   none_filed empty later i f is =
       let home = filed_home i f is in
@@ -197,8 +198,8 @@ module _ (e : ℕ) (filed : List (Option ℕ)) (moves homes : List ℕ) (ok : Is
       }
 
   -- the first slot that is filled
-  module _ (list : ℕ) (list_in : list < 384) (filled : IsFilled homes list)
-      (first : (p : ℕ) → p < 384 → IsFilled homes p → IsEarlier (digit_of e 5) list p) (later : (i f : ℕ) → filed_at filed i ≡ Some f → e < f) where
+  module _ (list : ℕ) (list_in : list < LISTS) (filled : IsFilled homes list)
+      (first : (p : ℕ) → p < LISTS → IsFilled homes p → IsEarlier (digit_of e 5) list p) (later : (i f : ℕ) → filed_at filed i ≡ Some f → e < f) where
     abbrev pub opens : ℕ
     opens = start e (list / 64) (list % 64)
 

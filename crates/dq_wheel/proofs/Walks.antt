@@ -5,6 +5,7 @@ use Rattle.dq_wheel.specs.Ring.{Node, Ring, IsRings}
 use Rattle.dq_wheel.specs.Lists.{IsWalk, IsListOf, times}
 use Rattle.dq_wheel.proofs.Links.{same_or_not, nat_le_or_lt, first_home, first_in, head_is, before_entry}
 use Rattle.dq_wheel.proofs.Rows.{capacity_is, seen_home}
+use Rattle.dq_wheel.specs.declared.TheConstants.{LISTS}
 
 pub times_same : (i y : ℕ) (ys : List ℕ) → y ≡ i → times i (y ∷ ys) ≡ 1 + times i ys
 times_same i y ys e = grind arith
@@ -149,14 +150,14 @@ module _ (cap lists : ℕ) (next prev home rank : ℕ → ℕ) (ring : Ring cap 
         | inr d ↦ omega (arith, walked_once i i_in ∙ none_at (home i) (p + 1) d)
       ]
 
-pub list_of_rings : (cap : ℕ) (next prev homes now : List ℕ) → IsRings cap next prev homes → take cap homes ≡ now → (p : ℕ) → p < 384 → IsListOf next now p
+pub list_of_rings : (cap : ℕ) (next prev homes now : List ℕ) → IsRings cap next prev homes → take cap homes ≡ now → (p : ℕ) → p < LISTS → IsListOf next now p
 list_of_rings cap next prev homes now r now_is p p_in =
     let len : length now ≡ cap = capacity_is cap homes now (omega (arith, r.homes_len)) now_is in
-    let w = walked cap 384 _ _ _ r.rank r.ring p p_in in
+    let w = walked cap LISTS _ _ _ r.rank r.ring p p_in in
     record {
       list = w.0;
       walk = rw len w.1;
       once = λ i i_in.
           let i_cap : i < cap = omega arith in
-          walked_once cap 384 _ _ _ r.rank r.ring p p_in i i_cap ∙ ap (λ h. cond (eqb h (p + 1)) 1 0) (sym (seen_home cap homes now i now_is i_cap));
+          walked_once cap LISTS _ _ _ r.rank r.ring p p_in i i_cap ∙ ap (λ h. cond (eqb h (p + 1)) 1 0) (sym (seen_home cap homes now i now_is i_cap));
     }

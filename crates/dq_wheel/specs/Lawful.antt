@@ -12,6 +12,8 @@ use Rattle.dq_wheel.specs.Occupied.{bit_of}
 use Rattle.dq_wheel.specs.Homes.{list_number}
 use Rattle.dq_wheel.specs.declared.wheel.Place.{Place}
 use Rattle.dq_wheel.specs.declared.wheel.Place.TheVariants.{Loose, Due, InSlot}
+use Rattle.dq_ticks.specs.declared.TheConstants.{CAPACITY_LIMIT}
+use Rattle.dq_wheel.specs.declared.TheConstants.{LISTS}
 
 -- the place whose list it is at tick e: the slot of the tick's own digit at level 0 is the due list
 abbrev pub place_of_list : ℕ → ℕ → Place
@@ -39,12 +41,12 @@ pub record IsWithin (e f : ℕ) : Type 0 where
 -- what holds of every wheel
 pub record IsLawfulWheel (w : WheelState) : Type 0 where
   pub large : 0 < length w.filing.filed
-  pub small : length w.filing.filed ≤ 65536
+  pub small : length w.filing.filed ≤ CAPACITY_LIMIT
   pub moves_size : length w.filing.moves ≡ length w.filing.filed
   pub in_range : w.filing.tick < tick_limit
-  pub lists : (p : ℕ) → p < 384 → IsLawfulList w.filing.tick w.filing.filed w.next w.words p
+  pub lists : (p : ℕ) → p < LISTS → IsLawfulList w.filing.tick w.filing.filed w.next w.words p
   pub placed : (i f : ℕ) → filed_at w.filing.filed i ≡ Some f →
-      (p : ℕ) × (p < 384) × (place_for w.filing.tick (Some f) ≡ place_of_list w.filing.tick p)
+      (p : ℕ) × (p < LISTS) × (place_for w.filing.tick (Some f) ≡ place_of_list w.filing.tick p)
   pub within : (i f : ℕ) → filed_at w.filing.filed i ≡ Some f → IsWithin w.filing.tick f
   pub moves : (i : ℕ) → i < length w.filing.filed →
       MovesFit (place_for w.filing.tick (filed_at w.filing.filed i)) (slice_index w.filing.moves i)
@@ -66,7 +68,7 @@ IsHome e (Some f) home moves = IsAt e f home moves
 -- what a wheel keeps of its tick and rows
 pub record IsLawful (tick : ℕ) (filed : List (Option ℕ)) (moves homes : List ℕ) : Type 0 where
   pub large : 0 < length homes
-  pub small : length homes ≤ 65536
+  pub small : length homes ≤ CAPACITY_LIMIT
   pub filed_size : length filed ≡ length homes
   pub moves_size : length moves ≡ length homes
   pub in_range : tick < tick_limit

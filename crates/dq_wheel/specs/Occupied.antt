@@ -3,6 +3,7 @@
 use Rattle.std.specs.Prelude.{◌≡◌, ◌≢◌, ℕ, ◌+◌, ◌-◌, ◌/◌, ◌%◌, ◌<◌, ◌≤◌, ◌⊎◌, ◌==◌, if◌then◌else◌, List, slice_index}
 use Rattle.std.specs.Int.{bit_at}
 use Rattle.dq_wheel.specs.Lists.{StandsIn}
+use Rattle.dq_wheel.specs.declared.TheConstants.{LISTS}
 
 -- the bit of list p
 abbrev pub bit_of : List ℕ → ℕ → ℕ
@@ -14,8 +15,8 @@ IsFilled homes p = (i : ℕ) × StandsIn homes p i
 
 -- the bit of each list that meets the test is 1 exactly where the list isn't empty
 pub record IsOccupiedAt (Where : ℕ → Type 0) (words homes : List ℕ) : Type 0 where
-  pub filled : (p : ℕ) → p < 384 → Where p → bit_of words p ≡ 1 → IsFilled homes p
-  pub shown : (p : ℕ) → p < 384 → Where p → IsFilled homes p → bit_of words p ≡ 1
+  pub filled : (p : ℕ) → p < LISTS → Where p → bit_of words p ≡ 1 → IsFilled homes p
+  pub shown : (p : ℕ) → p < LISTS → Where p → IsFilled homes p → bit_of words p ≡ 1
 
 -- that of each list
 abbrev pub IsOccupied : List ℕ → List ℕ → Type 0

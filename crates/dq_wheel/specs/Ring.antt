@@ -1,6 +1,8 @@
 -- Circular lists of indexes, linked both ways. The numbers from 0 are entries, and the number cap + p is the head of list p.
 
 use Rattle.std.specs.Prelude.{◌≡◌, ℕ, ◌+◌, ◌<◌, ◌≤◌, List, length, slice_index}
+use Rattle.dq_ticks.specs.declared.TheConstants.{CAPACITY_LIMIT}
+use Rattle.dq_wheel.specs.declared.TheConstants.{LISTS}
 
 -- what the links of a number say that stands in a list
 pub record Node (size : ℕ) (next prev home : ℕ → ℕ) (x : ℕ) : Type 0 where
@@ -20,9 +22,9 @@ pub record Ring (cap lists : ℕ) (next prev home rank : ℕ → ℕ) : Type 0 w
 
 -- the 384 lists of a wheel over cap entries
 pub record IsRings (cap : ℕ) (next prev homes : List ℕ) : Type 0 where
-  pub small : cap ≤ 65536
-  pub next_len : length next ≡ cap + 384
-  pub prev_len : length prev ≡ cap + 384
-  pub homes_len : length homes ≡ cap + 384
+  pub small : cap ≤ CAPACITY_LIMIT
+  pub next_len : length next ≡ cap + LISTS
+  pub prev_len : length prev ≡ cap + LISTS
+  pub homes_len : length homes ≡ cap + LISTS
   pub rank : ℕ → ℕ
-  pub ring : Ring cap 384 (slice_index next) (slice_index prev) (slice_index homes) rank
+  pub ring : Ring cap LISTS (slice_index next) (slice_index prev) (slice_index homes) rank

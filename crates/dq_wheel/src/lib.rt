@@ -16,4 +16,7 @@ mod rings;
 mod slots;
 pub mod wheel;
 
-pub use wheel::{CAPACITY_LIMIT, Place, Wheel, WheelError};
+pub use wheel::{Place, Wheel, WheelError};
+
+/// The lists of a wheel, one for each slot of each level: list `64 * level + slot`.
+pub const LISTS: usize = 384;

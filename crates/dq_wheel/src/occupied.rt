@@ -4,6 +4,7 @@ ghost use Rattle.std.specs.Prelude.{◌≡◌, ◌≢◌, ℕ, ◌+◌, ◌-◌,
 ghost use Rattle.std.specs.Int.{bit_at};
 ghost use Rattle.dq_wheel.specs.Occupied.{bit_of, IsEarlier};
 
+use crate::LISTS;
 use dq_ticks::{LEVELS, SLOTS};
 
 /// A word for each level, whose bit k is slot k.
@@ -11,7 +12,7 @@ pub type Words = [u64; LEVELS];
 
 /// Sets the bit of a list.
 pub fn set_bit(words: &mut Words, list: usize)
-    requires { list < 384 }
+    requires { list < LISTS }
     ensures set { bit_of words.new list ≡ 1 }
     ensures others { (p : ℕ) → p ≢ list → bit_of words.new p ≡ bit_of words.old p }
 {
@@ -20,7 +21,7 @@ pub fn set_bit(words: &mut Words, list: usize)
 
 /// Clears the bit of a list.
 pub fn clear_bit(words: &mut Words, list: usize)
-    requires { list < 384 }
+    requires { list < LISTS }
     ensures cleared { bit_of words.new list ≡ 0 }
     ensures others { (p : ℕ) → p ≢ list → bit_of words.new p ≡ bit_of words.old p }
 {
@@ -58,8 +59,8 @@ fn first_after(word: u64, own: usize) -> Option<usize>
 pub fn first_list(words: &Words, own: usize) -> Option<usize>
     requires { own < 64 }
     ensures { MatchOption result
-        ((p : ℕ) → p < 384 → bit_of words.now p ≢ 1)
-        (λ q. (q < 384) × (bit_of words.now q ≡ 1) × ((p : ℕ) → p < 384 → bit_of words.now p ≡ 1 → IsEarlier own q p)) }
+        ((p : ℕ) → p < LISTS → bit_of words.now p ≢ 1)
+        (λ q. (q < LISTS) × (bit_of words.now q ≡ 1) × ((p : ℕ) → p < LISTS → bit_of words.now p ≡ 1 → IsEarlier own q p)) }
 {
     for level in 0..LEVELS - 1 {
         if let Some(slot) = lowest_bit(words[level]) {

@@ -7,9 +7,10 @@ ghost use Rattle.dq_wheel.specs.Occupied.{bit_of, IsEarlier, IsFilled, IsOccupie
 ghost use Rattle.dq_ticks.specs.Digits.{digit_of, level, start};
 ghost use Rattle.dq_wheel.specs.Homes.{list_number, CanGo, IsOpened};
 
+use crate::LISTS;
 use crate::occupied::{Words, clear_bit, first_list, set_bit};
 use crate::rings::Rings;
-use dq_ticks::{LAST_TICK, LEVELS, SLOTS, digit, level_of, slot_start};
+use dq_ticks::{CAPACITY_LIMIT, LAST_TICK, LEVELS, SLOTS, digit, level_of, slot_start};
 use std::alloc::{AllocError, Allocator, Global};
 use std::marker::Model;
 
@@ -45,7 +46,7 @@ pub fn list_of(tick: u64, when: u64) -> usize
     requires ordered { tick ≤ when }
     requires in_range { when ≤ LAST_TICK }
     ensures value { result ≡ list_number tick when }
-    ensures small { result < 384 }
+    ensures small { result < LISTS }
 {
     let level = match level_of(tick, when) {
         Some(level) => level,
@@ -57,7 +58,7 @@ pub fn list_of(tick: u64, when: u64) -> usize
 /// The tick at which the slot of a list starts. Level 0 comes nearly every time, and is the shortest way.
 pub fn start_of(tick: u64, list: usize) -> u64
     requires in_range { tick ≤ LAST_TICK }
-    requires list_in { list < 384 }
+    requires list_in { list < LISTS }
     ensures { result ≡ start tick (list / 64) (list % 64) }
 {
     if list < SLOTS {
@@ -73,7 +74,7 @@ fn list_from(list: usize, tick: u64, when: u64) -> usize
     requires in_range { when ≤ LAST_TICK }
     requires low { list < 128 → level tick when ≡ 0 }
     ensures value { result ≡ list_number tick when }
-    ensures small { result < 384 }
+    ensures small { result < LISTS }
 {
     if list < 2 * SLOTS {
         digit(when, 0) as usize
@@ -84,7 +85,7 @@ fn list_from(list: usize, tick: u64, when: u64) -> usize
 
 /// Clears the bit of a list that its last index has left.
 fn clear_if_empty<A: Allocator>(rings: &Rings<A>, words: &mut Words, list: usize)
-    requires list_in { list < 384 }
+    requires list_in { list < LISTS }
     requires others { IsOccupiedBut list words.old rings.now.homes }
     requires was_filled { bit_of words.old list ≡ 1 }
     ensures { IsOccupied words.new rings.now.homes }
@@ -104,8 +105,8 @@ fn empty_slot<A: Allocator>(
     filed: &[u64],
     moves: &mut [u8],
 ) -> u64
-    requires list_in { list < 384 }
-    requires small { length rings.old.homes ≤ 65536 }
+    requires list_in { list < LISTS }
+    requires small { length rings.old.homes ≤ CAPACITY_LIMIT }
     requires filed_all { length filed.now ≡ length rings.old.homes }
     requires moves_all { length moves.old ≡ length rings.old.homes }
     requires occupied { IsOccupied words.old rings.old.homes }
@@ -131,7 +132,7 @@ fn empty_slot<A: Allocator>(
 impl<A: Allocator> Slots<A> {
     /// No index stands in a list.
     pub fn new(alloc: A, capacity: usize) -> Result<Slots<A>, AllocError>
-        requires { capacity ≤ 65536 }
+        requires { capacity ≤ CAPACITY_LIMIT }
         ensures { IfOk result (λ r. r.homes ≡ replicate capacity 0) }
     {
         let rings = Rings::new(alloc, capacity)?;
@@ -144,7 +145,7 @@ impl<A: Allocator> Slots<A> {
     /// Each list, walked along its links from its head, has once each index whose home it is, and no other; and each
     /// bit is 1 exactly where its list isn't empty.
     pub fn law(&self)
-        ensures lists { (p : ℕ) → p < 384 → IsListOf self.now.next self.now.homes p }
+        ensures lists { (p : ℕ) → p < LISTS → IsListOf self.now.next self.now.homes p }
         ensures bits { IsOccupied self.now.words self.now.homes }
     {
         self.rings.law();
@@ -153,7 +154,7 @@ impl<A: Allocator> Slots<A> {
     /// The number of indexes.
     pub fn capacity(&self) -> usize
         ensures value { result ≡ length self.now.homes }
-        ensures small { length self.now.homes ≤ 65536 }
+        ensures small { length self.now.homes ≤ CAPACITY_LIMIT }
     {
         self.rings.capacity()
     }
@@ -162,14 +163,14 @@ impl<A: Allocator> Slots<A> {
     pub fn home(&self, index: usize) -> u16
         requires { index < length self.now.homes }
         ensures value { result ≡ slice_index self.now.homes index }
-        ensures small { result ≤ 384 }
+        ensures small { result ≤ LISTS }
     {
         self.rings.home(index)
     }
 
     /// The first index of a list.
     pub fn first(&self, list: usize) -> Option<usize>
-        requires { list < 384 }
+        requires { list < LISTS }
         ensures { MatchOption result (IsEmpty self.now.homes list) (λ x. StandsIn self.now.homes list x) }
     {
         match self.rings.first(list) {
@@ -180,7 +181,7 @@ impl<A: Allocator> Slots<A> {
 
     /// An index of a list whose key is least there.
     pub fn least_in(&self, list: usize, keys: &[u64]) -> Option<usize>
-        requires list_in { list < 384 }
+        requires list_in { list < LISTS }
         requires same_length { length keys.now ≡ length self.now.homes }
         ensures { MatchOption result
             (IsEmpty self.now.homes list)
@@ -193,7 +194,7 @@ impl<A: Allocator> Slots<A> {
     /// The occupancy word of a level, in which a list shows as empty.
     pub fn word_without(&self, level: usize, list: usize) -> u64
         requires level_in { level < LEVELS }
-        requires list_in { list < 384 }
+        requires list_in { list < LISTS }
         ensures { (k : ℕ) → k < 64 →
             (bit_at result k ≡ 1) ↔ ((64 * level + k ≢ list) × IsFilled self.now.homes (64 * level + k)) }
     {
@@ -206,9 +207,9 @@ impl<A: Allocator> Slots<A> {
     pub fn first_filled(&self, own: usize) -> Option<usize>
         requires { own < 64 }
         ensures { MatchOption result
-            ((p : ℕ) → p < 384 → IsEmpty self.now.homes p)
-            (λ q. (q < 384) × IsFilled self.now.homes q
-            × ((p : ℕ) → p < 384 → IsFilled self.now.homes p → IsEarlier own q p)) }
+            ((p : ℕ) → p < LISTS → IsEmpty self.now.homes p)
+            (λ q. (q < LISTS) × IsFilled self.now.homes q
+            × ((p : ℕ) → p < LISTS → IsFilled self.now.homes p → IsEarlier own q p)) }
     {
         match first_list(&self.words, own) {
             Some(list) => Some(list),
@@ -219,7 +220,7 @@ impl<A: Allocator> Slots<A> {
     /// Puts a loose index at the end of a list.
     pub fn link(&mut self, index: usize, list: usize)
         requires index_in { index < length self.old.homes }
-        requires list_in { list < 384 }
+        requires list_in { list < LISTS }
         requires loose { slice_index self.old.homes index ≡ 0 }
         ensures { self.new.homes ≡ slice_set self.old.homes index (list + 1) }
     {
@@ -240,7 +241,7 @@ impl<A: Allocator> Slots<A> {
 
     /// Takes the first index out of a list.
     pub fn take_first(&mut self, list: usize) -> Option<usize>
-        requires { list < 384 }
+        requires { list < LISTS }
         ensures { MatchOption result
             (IsEmpty self.old.homes list × (self.new ≡ self.old))
             (λ x. StandsIn self.old.homes list x × (self.new.homes ≡ slice_set self.old.homes x 0)) }
@@ -254,7 +255,7 @@ impl<A: Allocator> Slots<A> {
 
     /// Opens a slot: each of its indexes is placed again by the new tick. Gives how many of them aren't due yet.
     pub fn open(&mut self, list: usize, tick: u64, filed: &[u64], moves: &mut [u8]) -> u64
-        requires list_in { list < 384 }
+        requires list_in { list < LISTS }
         requires filed_all { length filed.now ≡ length self.old.homes }
         requires moves_all { length moves.old ≡ length self.old.homes }
         requires can_go { (i : ℕ) → StandsIn self.old.homes list i → CanGo tick list (slice_index filed.now i) (slice_index moves.old i) }

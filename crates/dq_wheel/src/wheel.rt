@@ -2,7 +2,6 @@
 
 ghost use Rattle.std.specs.Prelude.{◌≡◌, ◌≢◌, ◌⊎◌, ℕ, ◌+◌, ◌<◌, ◌≤◌, ◌↔◌, length, slice_index, IfSome, MatchBool, MatchOption, MatchResult};
 ghost use Rattle.std.specs.Int.{bit_at};
-ghost use Rattle.dq_ticks.specs.Units.{lap};
 ghost use Rattle.dq_wheel.specs.State.{filed_at, IsLeast, fresh_filing, linked, unlinked};
 ghost use Rattle.dq_wheel.specs.Places.{place_for, IsSlotFilled};
 ghost use Rattle.dq_wheel.specs.Moves.{passed};
@@ -10,14 +9,12 @@ ghost use Rattle.dq_wheel.specs.Wakes.{wake_for, IsNextWake};
 ghost use Rattle.dq_wheel.specs.Filed.{filed_by};
 ghost use Rattle.dq_wheel.specs.Lawful.{place_of_home, IsLawfulWheel, IsWithin, WakesAreAhead};
 
+use crate::LISTS;
 use crate::slots::{Slots, due_list, list_of, start_of};
-use dq_ticks::{LAST_TICK, LEVELS, SLOTS, digit};
+use dq_ticks::{CAPACITY_LIMIT, LAST_TICK, LEVELS, REACH, SLOTS, digit};
 use std::alloc::{AllocError, Allocator, Global};
 use std::marker::Model;
 use thiserror::Error;
-
-/// The most indexes that a wheel may have.
-pub const CAPACITY_LIMIT: usize = 65536;
 
 /// Stands for the tick of an index that is loose.
 const NOT_FILED: u64 = u64::MAX;
@@ -41,7 +38,7 @@ pub enum Place {
 /// Why a wheel isn't made.
 #[derive(Clone, Copy, Debug, PartialEq, Eq, Error)]
 pub enum WheelError {
-    /// The capacity is 0 or above 65536.
+    /// The capacity is 0 or above [`CAPACITY_LIMIT`].
     #[error("bad capacity")]
     BadConfig,
     /// An allocation was refused.
@@ -96,7 +93,7 @@ fn filed_of(word: u64) -> Option<u64>
 /// The place that a home stands for.
 fn place_of(tick: u64, home: u16) -> Place
     requires in_range { tick ≤ LAST_TICK }
-    requires small { home ≤ 384 }
+    requires small { home ≤ LISTS }
     ensures { result ≡ place_of_home tick home }
 {
     if home == 0 {
@@ -114,7 +111,7 @@ fn place_of(tick: u64, home: u16) -> Place
 }
 
 impl<A: Allocator + Clone> Wheel<A> {
-    /// A wheel at tick 0 with nothing linked, over 1 to 65536 indexes. Another capacity is `BadConfig`; where an
+    /// A wheel at tick 0 with nothing linked, over 1 to [`CAPACITY_LIMIT`] indexes. Another capacity is `BadConfig`; where an
     /// allocation is refused it is `NoMemory`. No other call takes memory.
     pub fn new(alloc: A, capacity: usize) -> Result<Wheel<A>, WheelError>
         ensures { MatchResult result
@@ -241,13 +238,13 @@ impl<A: Allocator> Wheel<A> {
         self.slots.least_in(list, &self.filed)
     }
 
-    /// Files a loose index at a tick from the wheel's own on, less than `2^36` ticks ahead. It has not moved then.
+    /// Files a loose index at a tick from the wheel's own on, at most [`REACH`] ticks ahead. It has not moved then.
     pub fn link(&mut self, index: usize, filed: u64)
         requires index_in { index < length self.old.filing.filed }
         requires loose { filed_at self.old.filing.filed index ≡ None }
         requires not_before { self.old.filing.tick ≤ filed }
         requires in_range { filed ≤ LAST_TICK }
-        requires near { filed < self.old.filing.tick + lap }
+        requires near { filed ≤ self.old.filing.tick + REACH }
         ensures { self.new.filing ≡ linked self.old.filing index filed }
     {
         self.slots.link(index, list_of(self.tick, filed));

@@ -6,7 +6,7 @@ pub invariant_of-self : goal.invariant_of-self
 invariant_of-self g c =
     rw (c.link.ensures, c.list_of.ensures.value)
     (lawful_linked _ _ _ _ _ _ c.self.invariant (ap (λ w. w.filing) c.self.view_is) _ _
-    c.requires.index_in c.requires.not_before (omega (arith, c.requires.in_range)) c.requires.near)
+    c.requires.index_in c.requires.not_before (omega (arith, c.requires.in_range)) (omega (arith, c.requires.near)))
 
 pub returns : goal.returns
 returns g c = seen_linked _ _ _ _ _ (ap (λ w. w.filing) c.self.view_is) _ _ (omega (arith, c.requires.in_range))
