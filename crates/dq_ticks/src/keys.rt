@@ -1,5 +1,5 @@
 //! The names of entries and of their lives. Making one checks nothing: the calls that take a key do.
-ghost use Rattle.std.specs.Prelude.{◌≡◌};
+ghost use Rattle.std.specs.Prelude.{◌≡◌, ◌↔◌, IsTrue};
 
 use std::fmt;
 use std::fmt::{Debug, Formatter};
@@ -64,6 +64,15 @@ impl EntryId {
     {
         self.born as u32
     }
+}
+
+/// Whether two entries are one: the same shard, the same index there and the same birth. The derived `==` says the same,
+/// but under no contract.
+#[inline]
+pub fn is_same_entry(one: EntryId, other: EntryId) -> bool
+    ensures { IsTrue result ↔ (one ≡ other) }
+{
+    one.place == other.place && one.born == other.born
 }
 
 impl Debug for EntryId {
@@ -136,6 +145,15 @@ impl Key {
     }
 }
 
+/// Whether two keys are one: the same entry, meant at the same stamp. The derived `==` says the same, but under no
+/// contract.
+#[inline]
+pub fn is_same_key(one: Key, other: Key) -> bool
+    ensures { IsTrue result ↔ (one ≡ other) }
+{
+    one.place == other.place && one.stamps == other.stamps
+}
+
 impl Debug for Key {
     fn fmt<W: fmt::Write>(&self, f: &mut Formatter<W>) -> fmt::Result {
         f.debug_struct("Key")
@@ -168,14 +186,25 @@ mod tests {
     #[test]
     fn keys_differ_by_each_part(rt: HostRuntime) {
         let key = Key::new(EntryId::new(1, 2, 3), 4);
-        assert_eq!(rt; key, Key::new(EntryId::new(1, 2, 3), 4));
-        for other in [
-            Key::new(EntryId::new(9, 2, 3), 4),
-            Key::new(EntryId::new(1, 9, 3), 4),
-            Key::new(EntryId::new(1, 2, 9), 4),
-            Key::new(EntryId::new(1, 2, 3), 9),
+        for (shard, index, born, stamp, same_entry, same_key) in [
+            (1, 2, 3, 4, true, true),
+            (9, 2, 3, 4, false, false),
+            (1, 9, 3, 4, false, false),
+            (1, 2, 9, 4, false, false),
+            (1, 2, 3, 9, true, false),
         ] {
-            assert_ne!(rt; key, other);
+            let other = Key::new(EntryId::new(shard, index, born), stamp);
+            assert_eq!(rt;
+                (is_same_key(key, other), key == other),
+                (same_key, same_key)
+            );
+            assert_eq!(rt;
+                (
+                    is_same_entry(key.entry(), other.entry()),
+                    key.entry() == other.entry()
+                ),
+                (same_entry, same_entry)
+            );
         }
     }
 

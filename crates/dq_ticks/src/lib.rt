@@ -24,7 +24,7 @@ pub mod keys;
 pub mod words;
 
 pub use digits::{digit, level_of, slot_start, span};
-pub use keys::{EntryId, Key};
+pub use keys::{EntryId, Key, is_same_entry, is_same_key};
 pub use words::{Mark, Parts, pack, unpack};
 
 /// The levels of a wheel, one for each base-64 digit of a lap.
