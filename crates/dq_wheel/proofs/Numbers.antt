@@ -38,7 +38,7 @@ number_apart e f a same =
     let digit : digit_of f 0 ≡ digit_of e 0 = omega arith in
     digits_apart e f (rw flat at (at_level e f a)) digit
 
--- a slot of level 0 starts at its own tick
+-- a list of level 0 starts at its own tick
 pub start_lowest : (e list : ℕ) → list < 64 → e / 64 * 64 + list ≡ start e (list / 64) (list % 64)
 start_lowest e list low =
     let level_zero : list / 64 ≡ 0 = omega arith in

@@ -6,7 +6,7 @@
 ghost use Rattle.std.specs.Prelude.{◌≡◌, ◌⊎◌, ℕ, ◌+◌, ◌<◌, ◌≤◌, length, slice_index, slice_set, replicate, IfOk, MatchOption};
 ghost use Rattle.dq_wheel.specs.Rows.{nexts, prevs, homes, AreAlone};
 ghost use Rattle.dq_wheel.specs.Ring.{IsRings};
-ghost use Rattle.dq_wheel.specs.Lists.{IsEmpty, IsListOf, StandsIn};
+ghost use Rattle.dq_wheel.specs.Lists.{IsLeastIn, IsListEmpty, IsListOf, StandsIn};
 
 use crate::LISTS;
 use dq_ticks::CAPACITY_LIMIT;
@@ -39,9 +39,13 @@ impl<A: Allocator> Model for Rings<A> {
 
     ghost use Rattle.dq_wheel.specs.Rows.{nexts, prevs, homes};
 
-    ghost view = { λ a. record { homes = take a.capacity (homes a.rows.items); next = nexts a.rows.items } };
+    ghost view = { λ a. record {
+      homes = take a.capacity (homes a.rows.items);
+      next = nexts a.rows.items;
+    } };
 
-    ghost invariant = { λ a. IsRings a.capacity (nexts a.rows.items) (prevs a.rows.items) (homes a.rows.items) };
+    ghost invariant = { λ a.
+        IsRings a.capacity (nexts a.rows.items) (prevs a.rows.items) (homes a.rows.items) };
 }
 
 /// Writes what follows a number.
@@ -215,8 +219,9 @@ impl<A: Allocator> Rings<A> {
     pub fn first(&self, list: usize) -> Option<usize>
         requires { list < LISTS }
         ensures { MatchOption result
-            (IsEmpty self.now.homes list)
-            (λ x. StandsIn self.now.homes list x × (x ≡ slice_index self.now.next (length self.now.homes + list))) }
+            (IsListEmpty self.now.homes list)
+            (λ x. StandsIn self.now.homes list x
+            × (x ≡ slice_index self.now.next (length self.now.homes + list))) }
     {
         let first = row_at(&self.rows, self.capacity + list).next as usize;
         if first < self.capacity {
@@ -231,9 +236,8 @@ impl<A: Allocator> Rings<A> {
         requires list_in { list < LISTS }
         requires same_length { length keys.now ≡ length self.now.homes }
         ensures { MatchOption result
-            (IsEmpty self.now.homes list)
-            (λ x. StandsIn self.now.homes list x
-            × ((y : ℕ) → StandsIn self.now.homes list y → slice_index keys.now x ≤ slice_index keys.now y)) }
+            (IsListEmpty self.now.homes list)
+            (λ x. IsLeastIn self.now.homes keys.now list x) }
     {
         let Some(first) = self.first(list) else {
             return None;
@@ -273,8 +277,9 @@ impl<A: Allocator> Rings<A> {
     pub fn take_first(&mut self, list: usize) -> Option<usize>
         requires { list < LISTS }
         ensures { MatchOption result
-            (IsEmpty self.old.homes list × (self.new ≡ self.old))
-            (λ x. StandsIn self.old.homes list x × (self.new.homes ≡ slice_set self.old.homes x 0)) }
+            (IsListEmpty self.old.homes list × (self.new ≡ self.old))
+            (λ x. StandsIn self.old.homes list x
+            × (self.new.homes ≡ slice_set self.old.homes x 0)) }
     {
         let Some(first) = self.first(list) else {
             return None;

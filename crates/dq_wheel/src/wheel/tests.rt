@@ -85,7 +85,7 @@ fn beyond_one_lap(rt: HostRuntime) -> Result<(), Fail> {
 #[test]
 fn places_by_tick(rt: HostRuntime) -> Result<(), Fail> {
     // The wheel's tick, the tick filed, the level and the slot, and the slot's start.
-    let slots = [
+    let lists = [
         (0, 63, 0, 63, 63),
         (0, 64, 1, 1, 64),
         (63, 64, 1, 1, 64),
