@@ -46,7 +46,9 @@ pub fn span(level: usize) -> u64
 pub fn level_of(now: u64, when: u64) -> Option<usize>
     requires ordered { now ≤ when }
     requires tick { when ≤ LAST_TICK }
-    ensures { MatchOption result (now ≡ when) (λ n. (now ≢ when) × (n < LEVELS) × (n ≡ level now when)) }
+    ensures { MatchOption result
+        (now ≡ when)
+        (λ n. (now ≢ when) × (n < LEVELS) × (n ≡ level now when)) }
 {
     // The highest bit in which they differ lies in the highest digit in which they differ.
     let differing = now ^ when;

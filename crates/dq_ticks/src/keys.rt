@@ -22,7 +22,11 @@ impl Model for EntryId {
 
     ghost Value = { EntryName };
 
-    ghost view = { λ a. record { shard = a.place / half_unit; index = a.place % half_unit; born = a.born } };
+    ghost view = { λ a. record {
+      shard = a.place / half_unit;
+      index = a.place % half_unit;
+      born = a.born;
+    } };
 
     ghost invariant = { λ a. (a.place < half_unit * half_unit) × (a.born < half_unit) };
 
@@ -101,11 +105,16 @@ impl Model for Key {
     ghost Value = { KeyName };
 
     ghost view = { λ a. record {
-      entry = record { shard = a.place / half_unit; index = a.place % half_unit; born = a.stamps / half_unit };
+      entry = record {
+        shard = a.place / half_unit;
+        index = a.place % half_unit;
+        born = a.stamps / half_unit;
+      };
       stamp = a.stamps % half_unit;
     } };
 
-    ghost invariant = { λ a. (a.place < half_unit * half_unit) × (a.stamps < half_unit * half_unit) };
+    ghost invariant = { λ a.
+        (a.place < half_unit * half_unit) × (a.stamps < half_unit * half_unit) };
 
     ghost inverse = { λ n. record {
       place = n.entry.shard * half_unit + n.entry.index;

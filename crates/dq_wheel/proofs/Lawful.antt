@@ -76,8 +76,14 @@ module _ (tick moved : ℕ) (numbers moves homes : List ℕ) (now : Filing) (ok 
   filed_is : filed_ticks numbers ≡ now.filed
   filed_is = ap (λ w. w.filed) now_is
 
+  moves_is : moves ≡ now.moves
+  moves_is = ap (λ w. w.moves) now_is
+
   pub seen_in : (i : ℕ) → i < length now.filed → i < length homes
   seen_in i i_in = rw (← ok.filed_size, filed_is) i_in
+
+  pub seen_moved : (i : ℕ) → i < length now.filed → i < length now.moves
+  seen_moved i i_in = rw (← moves_is, ok.moves_size) (seen_in i i_in)
 
   pub lawful_linked : (i f : ℕ) → i < length now.filed → now.tick ≤ f → f < tick_limit → f < now.tick + lap →
       IsLawfulFiling tick (filed_ticks (set numbers i f)) (set moves i 0) (set homes i (list_number tick f + 1))

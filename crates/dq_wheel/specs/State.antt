@@ -1,6 +1,6 @@
 -- What a caller sees of a wheel.
 
-use Rattle.std.specs.Prelude.{◌≡◌, ◌<◌, ◌≤◌, length, ℕ, List, Option, None, Some, replicate, slice_index_or, slice_set}
+use Rattle.std.specs.Prelude.{◌≡◌, ◌≢◌, ◌<◌, ◌≤◌, length, ℕ, List, Option, None, Some, replicate, slice_index_or, slice_set}
 
 -- the wheel's tick, the tick at which each index is filed, how often each index moved since it was
 -- linked, and the moves made in all
@@ -39,6 +39,22 @@ linked w i when =
 abbrev pub unlinked : Filing → ℕ → Filing
 unlinked w i =
     record w { filed = slice_set w.filed i None; moves = slice_set w.moves i 0 }
+
+-- each index but i is filed as before
+abbrev pub OthersStay : List (Option ℕ) → List (Option ℕ) → ℕ → Type 0
+OthersStay old new i = (j : ℕ) → j ≢ i → filed_at new j ≡ filed_at old j
+
+-- no index is filed
+abbrev pub NoneFiled : List (Option ℕ) → Type 0
+NoneFiled filed = (i f : ℕ) → filed_at filed i ≢ Some f
+
+-- no index is filed at that tick
+abbrev pub NoneFiledAt : List (Option ℕ) → ℕ → Type 0
+NoneFiledAt filed tick = (i : ℕ) → filed_at filed i ≢ Some tick
+
+-- no index is filed before that tick
+abbrev pub NoneFiledBefore : List (Option ℕ) → ℕ → Type 0
+NoneFiledBefore filed tick = (i f : ℕ) → filed_at filed i ≡ Some f → tick ≤ f
 
 -- index i is filed, and no index before it
 abbrev pub IsLeast : List (Option ℕ) → ℕ → Type 0

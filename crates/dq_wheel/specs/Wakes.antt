@@ -1,9 +1,9 @@
 -- When a wheel has to be looked at next.
 
-use Rattle.std.specs.Prelude.{◌≡◌, ◌≢◌, ℕ, ◌+◌, ◌<◌, ◌≤◌, List, Option, Some, if◌then◌else◌, ◌==◌}
+use Rattle.std.specs.Prelude.{◌≡◌, ℕ, ◌+◌, ◌<◌, ◌≤◌, List, Option, Some, if◌then◌else◌, ◌==◌}
 use Rattle.dq_ticks.specs.Digits.{start_for}
 use Rattle.dq_ticks.specs.Units.{lap, tick_limit}
-use Rattle.dq_wheel.specs.State.{filed_at}
+use Rattle.dq_wheel.specs.State.{filed_at, NoneFiledAt}
 
 -- f is a tick from e on, less than a lap after it
 pub record IsWithin (e f : ℕ) : Type 0 where
@@ -25,5 +25,5 @@ abbrev pub WakesAreAhead : Type 0
 WakesAreAhead =
     (e : ℕ) (filed : List (Option ℕ)) (w : ℕ) →
     ((i f : ℕ) → filed_at filed i ≡ Some f → IsWithin e f) →
-    ((i : ℕ) → filed_at filed i ≢ Some e) →
+    NoneFiledAt filed e →
     IsNextWake e filed w → e < w

@@ -1,11 +1,11 @@
 //! The wheel: where each index is filed, and the calls that file, move and find them.
 
-ghost use Rattle.std.specs.Prelude.{◌≡◌, ◌≢◌, ◌⊎◌, ℕ, ◌+◌, ◌<◌, ◌≤◌, ◌↔◌, length, slice_index, IfSome, MatchBool, MatchOption, MatchResult};
+ghost use Rattle.std.specs.Prelude.{◌≡◌, ◌≢◌, ◌⊎◌, ℕ, ◌+◌, ◌<◌, ◌≤◌, ◌↔◌, length, slice_index, IfNone, IfSome, MatchBool, MatchOption, MatchResult};
 ghost use Rattle.std.specs.Int.{bit_at};
-ghost use Rattle.dq_wheel.specs.State.{filed_at, IsLeast, fresh_filing, linked, unlinked};
+ghost use Rattle.dq_wheel.specs.State.{filed_at, fresh_filing, linked, unlinked, IsLeast, NoneFiled, NoneFiledAt, NoneFiledBefore, OthersStay};
 ghost use Rattle.dq_wheel.specs.Places.{place_for, IsSlotFilled};
-ghost use Rattle.dq_wheel.specs.Moves.{passed};
-ghost use Rattle.dq_wheel.specs.Wakes.{wake_for, IsNextWake, IsWithin, WakesAreAhead};
+ghost use Rattle.dq_wheel.specs.Moves.{ReachesLimit, ReachesWake};
+ghost use Rattle.dq_wheel.specs.Wakes.{IsNextWake, IsWithin, WakesAreAhead};
 ghost use Rattle.dq_wheel.specs.Filed.{filed_by};
 ghost use Rattle.dq_wheel.specs.Homes.{place_of_home};
 ghost use Rattle.dq_wheel.specs.Lawful.{IsLawfulWheel};
@@ -218,7 +218,7 @@ impl<A: Allocator> Wheel<A> {
     /// first slot that isn't empty.
     pub fn next_wake(&self) -> Option<u64>
         ensures { MatchOption result
-            ((i f : ℕ) → filed_at self.now.filing.filed i ≢ Some f)
+            (NoneFiled self.now.filing.filed)
             (λ w. IsNextWake self.now.filing.tick self.now.filing.filed w) }
     {
         match self.lists.first(due_list(self.tick)) {
@@ -236,7 +236,7 @@ impl<A: Allocator> Wheel<A> {
     /// A linked index that is filed least.
     pub fn least(&self) -> Option<usize>
         ensures { MatchOption result
-            ((i f : ℕ) → filed_at self.now.filing.filed i ≢ Some f)
+            (NoneFiled self.now.filing.filed)
             (λ i. IsLeast self.now.filing.filed i) }
     {
         if let Some(index) = self.lists.first(due_list(self.tick)) {
@@ -258,7 +258,12 @@ impl<A: Allocator> Wheel<A> {
         requires not_before { self.old.filing.tick ≤ filed }
         requires in_range { filed ≤ LAST_TICK }
         requires near { filed ≤ self.old.filing.tick + REACH }
-        ensures { self.new.filing ≡ linked self.old.filing index filed }
+        // The index is filed at just that tick, and nothing else changes.
+        ensures filed { filed_at self.new.filing.filed index ≡ Some filed }
+        ensures unmoved { slice_index self.new.filing.moves index ≡ 0 }
+        ensures others { OthersStay self.old.filing.filed self.new.filing.filed index }
+        ensures tick { self.new.filing.tick ≡ self.old.filing.tick }
+        ensures exact { self.new.filing ≡ linked self.old.filing index filed }
     {
         self.lists.link(index, list_of(self.tick, filed));
         self.filed[index] = filed;
@@ -269,7 +274,11 @@ impl<A: Allocator> Wheel<A> {
     pub fn unlink(&mut self, index: usize)
         requires index_in { index < length self.old.filing.filed }
         requires linked { filed_at self.old.filing.filed index ≢ None }
-        ensures { self.new.filing ≡ unlinked self.old.filing index }
+        // The index is loose, and nothing else changes.
+        ensures loose { filed_at self.new.filing.filed index ≡ None }
+        ensures others { OthersStay self.old.filing.filed self.new.filing.filed index }
+        ensures tick { self.new.filing.tick ≡ self.old.filing.tick }
+        ensures exact { self.new.filing ≡ unlinked self.old.filing index }
     {
         self.lists.unlink(index);
         self.filed[index] = NOT_FILED;
@@ -278,9 +287,20 @@ impl<A: Allocator> Wheel<A> {
 
     /// Takes one index off the due list, or tells that nothing is filed at the tick.
     pub fn pop_due(&mut self) -> Option<usize>
-        ensures { MatchOption result
-            ((self.new ≡ self.old) × ((i : ℕ) → filed_at self.old.filing.filed i ≢ Some self.old.filing.tick))
-            (λ i. (i < length self.old.filing.filed) × (filed_at self.old.filing.filed i ≡ Some self.old.filing.tick)
+        // What is taken was filed at the tick, and is loose.
+        ensures due { IfSome result (λ i.
+            filed_at self.old.filing.filed i ≡ Some self.old.filing.tick) }
+        ensures loose { IfSome result (λ i. filed_at self.new.filing.filed i ≡ None) }
+        // Nothing else changes, and nothing is left out.
+        ensures others { IfSome result (λ i.
+            OthersStay self.old.filing.filed self.new.filing.filed i) }
+        ensures none { IfNone result
+            (NoneFiledAt self.old.filing.filed self.old.filing.tick) }
+        ensures tick { self.new.filing.tick ≡ self.old.filing.tick }
+        ensures exact { MatchOption result
+            ((self.new ≡ self.old) × NoneFiledAt self.old.filing.filed self.old.filing.tick)
+            (λ i. (i < length self.old.filing.filed)
+            × (filed_at self.old.filing.filed i ≡ Some self.old.filing.tick)
             × (self.new.filing ≡ unlinked self.old.filing i)) }
     {
         let Some(index) = self.lists.take_first(due_list(self.tick)) else {
@@ -294,18 +314,19 @@ impl<A: Allocator> Wheel<A> {
     /// Goes on to the next wake, but not past the limit, once nothing is due. True where the wake was reached: its list
     /// is opened, and each of its indexes goes down to a lower level or is due. A way to a lower level is a move.
     pub fn advance(&mut self, limit: u64) -> bool
-        requires none_due { (i : ℕ) → filed_at self.old.filing.filed i ≢ Some self.old.filing.tick }
+        requires none_due { NoneFiledAt self.old.filing.filed self.old.filing.tick }
         requires not_before { self.old.filing.tick ≤ limit }
         requires in_range { limit ≤ LAST_TICK }
-        ensures way { MatchBool result
-            ((w : ℕ) × IsNextWake self.old.filing.tick self.old.filing.filed w × (w ≤ limit)
-            × (self.new.filing ≡ passed self.old.filing w))
-            (((i f : ℕ) → filed_at self.old.filing.filed i ≡ Some f → limit < wake_for self.old.filing.tick f)
-            × (self.new.filing ≡ passed self.old.filing limit)) }
-        ensures filed { self.new.filing.filed ≡ self.old.filing.filed }
+        // The tick goes on, to the limit at the most, and past no filed tick.
+        ensures onward { self.old.filing.tick < limit →
+            self.old.filing.tick < self.new.filing.tick }
         ensures within { self.new.filing.tick ≤ limit }
-        ensures none_before { (i f : ℕ) → filed_at self.new.filing.filed i ≡ Some f → self.new.filing.tick ≤ f }
-        ensures onward { self.old.filing.tick < limit → self.old.filing.tick < self.new.filing.tick }
+        ensures none_before { NoneFiledBefore self.new.filing.filed self.new.filing.tick }
+        // Each index stays filed at its tick.
+        ensures filed { self.new.filing.filed ≡ self.old.filing.filed }
+        ensures way { MatchBool result
+            (ReachesWake self.old.filing limit self.new.filing)
+            (ReachesLimit self.old.filing limit self.new.filing) }
     {
         let own = digit(self.tick, LEVELS - 1) as usize;
         let Some(list) = self.lists.first_filled(own) else {
