@@ -1,12 +1,12 @@
 -- The wheel's way to another tick.
 
-use Rattle.std.proofs.Common.{◌≡◌, ◌≢◌, ℕ, zero, suc, ◌+◌, ◌*◌, ◌/◌, ◌%◌, ◌<◌, ◌≤◌, List, [], ◌∷◌, length, get_or, sum, min, refl, sym, arith, ◌∙◌, ap, inl, inr, Option, None, Some, MatchOption}
+use Rattle.std.proofs.Common.{◌≡◌, ◌≢◌, ℕ, zero, suc, ◌+◌, ◌*◌, ◌/◌, ◌%◌, ◌^◌, ◌==◌, if◌then◌else◌, ◌<◌, ◌≤◌, List, [], ◌∷◌, length, get_or, sum, min, refl, sym, arith, ◌∙◌, ap, inl, inr, Option, None, Some, MatchOption}
 use Rattle.std.specs.List.{sum_by}
 use Rattle.std.proofs.lemmas.List.{length-map, get_or-map, ext_get_or}
 use Rattle.std.proofs.lemmas.List.Sums.{sum_by-cons}
 use Rattle.dq_ticks.specs.Digits.{digit_of, level, start, start_for, IsAhead}
 use Rattle.dq_ticks.specs.Units.{lap, tick_limit}
-use Rattle.dq_ticks.proofs.Laws.{start_le, start_above, start_opens, digit_below}
+use Rattle.dq_ticks.proofs.Laws.{start_floor, start_le, start_above, start_opens, digit_below}
 use Rattle.dq_ticks.proofs.Levels.{level_same}
 use Rattle.dq_wheel.specs.State.{Filing, filed_at, IsLeast}
 use Rattle.dq_wheel.specs.Moves.{moves_down, move_counts, passed}
@@ -16,7 +16,7 @@ use Rattle.dq_wheel.specs.Lists.{StandsIn, IsListEmpty, IsListFilled}
 use Rattle.dq_wheel.specs.Maps.{IsEarlier}
 use Rattle.dq_wheel.specs.Homes.{list_number, home_after, moves_after, CanGo, IsOpened, IsAt, IsHome, IsLawfulFiling}
 use Rattle.dq_wheel.proofs.Links.{same_or_not}
-use Rattle.dq_wheel.proofs.Numbers.{number_same}
+use Rattle.dq_wheel.proofs.Numbers.{number_same, second_level}
 use Rattle.dq_wheel.proofs.Opening.{home_after_there, home_after_elsewhere, moves_after_due, moves_after_moved, moves_after_elsewhere}
 use Rattle.dq_wheel.proofs.Lawful.{filing_of}
 use Rattle.dq_wheel.proofs.Wakes.{ahead, some_at, home_stable, still_there, start_here, start_later, opens_after, opens_in_range, later_all, wake_other, lawful_stable, next_wake, due_stands, due_least, least_all, none_filed}
@@ -102,6 +102,12 @@ module _ (e w f h m list : ℕ) (at : IsAt e f h m) (later : e < f) (here : star
         | inr other ↦ omega (arith, list_is, falls other)
       ]
 
+  -- from level 2 it comes to where its second digit says
+  to_second : 128 ≤ list → list < 192 → level w f ≡ (if digit_of f 1 == 0 then 0 else 1)
+  to_second from below =
+      let two : level e f ≡ 2 = omega (arith, list_is, digit_below f (level e f)) in
+      second_level w f at.in_range (sym here ∙ start_floor e f ahead_now ∙ ap (λ l. f / 64 ^ l * 64 ^ l) two)
+
   pub goes : 64 ≤ list → CanGo w list f m
   goes high =
       let few : m + level e f ≤ 5 = at.few in
@@ -118,7 +124,8 @@ module _ (e w f h m list : ℕ) (at : IsAt e f h m) (later : e < f) (here : star
               omega (arith, list_is, digit_below f (level w f), digit_below f (level e f))
         ];
         few = omega (arith, list_is, digit_below f (level e f));
-        low = to_lowest;
+        lowest = to_lowest;
+        second = to_second;
       }
 
   -- where it stood at level 0 it is due, and in the due list

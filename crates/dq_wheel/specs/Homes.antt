@@ -52,14 +52,15 @@ abbrev pub moves_after : ℕ → ℕ → ℕ → ℕ → ℕ → ℕ
 moves_after e p f home moves =
     if home == p + 1 then (if e == f then moves else moves + 1) else moves
 
--- an index that is filed at f may go from list p to the list that its tick names at tick e, and
--- from level 1 to level 0
+-- an index that is filed at f may go from list p to the list that its tick names at tick e: from
+-- level 1 to level 0, and from level 2 to level 1 or 0, as its second digit says
 pub record CanGo (e p f moves : ℕ) : Type 0 where
   pub not_before : e ≤ f
   pub in_range : f < tick_limit
   pub away : list_number e f ≢ p
   pub few : moves < 255
-  pub low : p < 128 → level e f ≡ 0
+  pub lowest : p < 128 → level e f ≡ 0
+  pub second : 128 ≤ p → p < 192 → level e f ≡ (if digit_of f 1 == 0 then 0 else 1)
 
 -- list p was opened at tick e: each of its indexes is placed again, no other is, and the moves that
 -- were made are counted

@@ -1,6 +1,6 @@
 //! The lists of six levels, of which one is the due list, with occupancy maps.
 
-ghost use Rattle.std.specs.Prelude.{◌≡◌, ◌≢◌, ℕ, ◌+◌, ◌*◌, ◌/◌, ◌%◌, ◌<◌, ◌≤◌, ◌↔◌, length, slice_index, slice_set, replicate, sum, IfOk, MatchOption};
+ghost use Rattle.std.specs.Prelude.{◌==◌, if◌then◌else◌, ◌≡◌, ◌≢◌, ℕ, ◌+◌, ◌*◌, ◌/◌, ◌%◌, ◌<◌, ◌≤◌, ◌↔◌, length, slice_index, slice_set, replicate, sum, IfOk, MatchOption};
 ghost use Rattle.std.specs.Int.{bit_at};
 ghost use Rattle.dq_wheel.specs.Lists.{IsLeastIn, IsListEmpty, IsListFilled, IsListOf, StandsIn};
 ghost use Rattle.dq_wheel.specs.Walks.{bit_of};
@@ -69,19 +69,27 @@ pub fn start_of(tick: u64, list: usize) -> u64
     }
 }
 
-/// The list to which an index goes from an opened one. What a list of level 1 spans is level 0 and no more.
+/// The list to which an index goes from an opened one. What a list of level 1 spans is level 0 and no more; what one of
+/// level 2 spans is level 1, and level 0 where the second digit is 0.
 fn list_from(list: usize, tick: u64, when: u64) -> usize
     requires ordered { tick ≤ when }
     requires in_range { when ≤ LAST_TICK }
-    requires low { list < 128 → level tick when ≡ 0 }
+    requires lowest { list < 128 → level tick when ≡ 0 }
+    requires second { 128 ≤ list → list < 192 →
+        level tick when ≡ (if digit_of when 1 == 0 then 0 else 1) }
     ensures value { result ≡ list_number tick when }
     ensures small { result < LISTS }
 {
     if list < 2 * SLOTS {
-        digit(when, 0) as usize
-    } else {
-        list_of(tick, when)
+        return digit(when, 0) as usize;
     }
+    if list < 3 * SLOTS {
+        return match digit(when, 1) as usize {
+            0 => digit(when, 0) as usize,
+            second => SLOTS + second,
+        };
+    }
+    list_of(tick, when)
 }
 
 /// Clears the bit of a list where its last index has left it.
