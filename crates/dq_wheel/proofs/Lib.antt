@@ -7,6 +7,7 @@ pub mod Occupancy
 pub mod Numbers
 pub mod Opening
 pub mod Lawful
+pub mod Changes
 pub mod Wakes
 pub mod Passing
 pub mod Places

@@ -1,3 +1,4 @@
+-- No public clause cites this module.
 -- Rows, as the three rows of numbers that they stand for, and what callers see of them.
 
 use Rattle.std.specs.Prelude.{◌≡◌, ℕ, ◌+◌, ◌-◌, ◌<◌, List, length, map, slice_index}

@@ -6,13 +6,12 @@
 ghost use Rattle.std.specs.Prelude.{◌≡◌, ◌⊎◌, ℕ, ◌+◌, ◌<◌, ◌≤◌, length, slice_index, slice_set, replicate, IfOk, MatchOption};
 ghost use Rattle.dq_wheel.specs.Rows.{nexts, prevs, homes, AreAlone};
 ghost use Rattle.dq_wheel.specs.Ring.{IsRings};
-ghost use Rattle.dq_wheel.specs.Lists.{IsEmpty, IsListOf, StandsIn};
+ghost use Rattle.dq_wheel.specs.Lists.{IsLeastIn, IsListEmpty, IsListOf, StandsIn};
 
+use crate::LISTS;
+use dq_ticks::CAPACITY_LIMIT;
 use std::alloc::{AllocError, Allocator, Global};
 use std::marker::Model;
-
-/// The number of lists.
-pub const LISTS: usize = 384;
 
 /// The links of an entry or of a list's head, and the list in which it stands.
 #[derive(Clone, Copy, Drop)]
@@ -40,9 +39,13 @@ impl<A: Allocator> Model for Rings<A> {
 
     ghost use Rattle.dq_wheel.specs.Rows.{nexts, prevs, homes};
 
-    ghost view = { λ a. record { homes = take a.capacity (homes a.rows.items); next = nexts a.rows.items } };
+    ghost view = { λ a. record {
+      homes = take a.capacity (homes a.rows.items);
+      next = nexts a.rows.items;
+    } };
 
-    ghost invariant = { λ a. IsRings a.capacity (nexts a.rows.items) (prevs a.rows.items) (homes a.rows.items) };
+    ghost invariant = { λ a.
+        IsRings a.capacity (nexts a.rows.items) (prevs a.rows.items) (homes a.rows.items) };
 }
 
 /// Writes what follows a number.
@@ -99,7 +102,7 @@ fn row_at(rows: &[Row], at: usize) -> Row
 fn append(rows: &mut [Row], capacity: usize, index: usize, list: usize)
     requires rings { IsRings capacity (nexts rows.old) (prevs rows.old) (homes rows.old) }
     requires index_in { index < capacity }
-    requires list_in { list < 384 }
+    requires list_in { list < LISTS }
     requires loose { slice_index (homes rows.old) index ≡ 0 }
     ensures rings { IsRings capacity (nexts rows.new) (prevs rows.new) (homes rows.new) }
     ensures home { homes rows.new ≡ slice_set (homes rows.old) index (list + 1) }
@@ -136,7 +139,7 @@ fn detach(rows: &mut [Row], capacity: usize, index: usize)
 /// Takes the entry that follows the head of a list out of it.
 fn detach_first(rows: &mut [Row], capacity: usize, list: usize, first: usize)
     requires rings { IsRings capacity (nexts rows.old) (prevs rows.old) (homes rows.old) }
-    requires list_in { list < 384 }
+    requires list_in { list < LISTS }
     requires first_is { first ≡ slice_index (nexts rows.old) (capacity + list) }
     requires entry { first < capacity }
     ensures rings { IsRings capacity (nexts rows.new) (prevs rows.new) (homes rows.new) }
@@ -151,8 +154,8 @@ fn detach_first(rows: &mut [Row], capacity: usize, list: usize, first: usize)
 
 /// The rows of entries and heads that stand alone.
 fn lone_rows<A: Allocator>(alloc: A, capacity: usize) -> Result<Vec<Row, A>, AllocError>
-    requires { capacity ≤ 65536 }
-    ensures { IfOk result (λ v. (length v.items ≡ capacity + 384) × AreAlone capacity v.items) }
+    requires { capacity ≤ CAPACITY_LIMIT }
+    ensures { IfOk result (λ v. (length v.items ≡ capacity + LISTS) × AreAlone capacity v.items) }
 {
     let count = (capacity + LISTS) as u32;
     let mut rows = Vec::with_capacity(alloc, capacity + LISTS)?;
@@ -181,7 +184,7 @@ fn lesser(keys: &[u64], one: usize, other: usize) -> usize
 impl<A: Allocator> Rings<A> {
     /// No index stands in a list.
     pub fn new(alloc: A, capacity: usize) -> Result<Rings<A>, AllocError>
-        requires { capacity ≤ 65536 }
+        requires { capacity ≤ CAPACITY_LIMIT }
         ensures { IfOk result (λ r. r.homes ≡ replicate capacity 0) }
     {
         let rows = lone_rows(alloc, capacity)?;
@@ -191,14 +194,14 @@ impl<A: Allocator> Rings<A> {
     /// The number of indexes.
     pub fn capacity(&self) -> usize
         ensures value { result ≡ length self.now.homes }
-        ensures small { length self.now.homes ≤ 65536 }
+        ensures small { length self.now.homes ≤ CAPACITY_LIMIT }
     {
         self.capacity
     }
 
     /// Each list, walked along its links from its head, has once each index whose home it is, and no other.
     pub fn law(&self)
-        ensures { (p : ℕ) → p < 384 → IsListOf self.now.next self.now.homes p }
+        ensures { (p : ℕ) → p < LISTS → IsListOf self.now.next self.now.homes p }
     {
         let _ = &self.rows;
     }
@@ -207,17 +210,18 @@ impl<A: Allocator> Rings<A> {
     pub fn home(&self, index: usize) -> u16
         requires { index < length self.now.homes }
         ensures value { result ≡ slice_index self.now.homes index }
-        ensures small { result ≤ 384 }
+        ensures small { result ≤ LISTS }
     {
         row_at(&self.rows, index).home
     }
 
     /// The first index of a list.
     pub fn first(&self, list: usize) -> Option<usize>
-        requires { list < 384 }
+        requires { list < LISTS }
         ensures { MatchOption result
-            (IsEmpty self.now.homes list)
-            (λ x. StandsIn self.now.homes list x × (x ≡ slice_index self.now.next (length self.now.homes + list))) }
+            (IsListEmpty self.now.homes list)
+            (λ x. StandsIn self.now.homes list x
+            × (x ≡ slice_index self.now.next (length self.now.homes + list))) }
     {
         let first = row_at(&self.rows, self.capacity + list).next as usize;
         if first < self.capacity {
@@ -229,12 +233,11 @@ impl<A: Allocator> Rings<A> {
 
     /// An index of a list whose key is least there.
     pub fn least_in(&self, list: usize, keys: &[u64]) -> Option<usize>
-        requires list_in { list < 384 }
+        requires list_in { list < LISTS }
         requires same_length { length keys.now ≡ length self.now.homes }
         ensures { MatchOption result
-            (IsEmpty self.now.homes list)
-            (λ x. StandsIn self.now.homes list x
-            × ((y : ℕ) → StandsIn self.now.homes list y → slice_index keys.now x ≤ slice_index keys.now y)) }
+            (IsListEmpty self.now.homes list)
+            (λ x. IsLeastIn self.now.homes keys.now list x) }
     {
         let Some(first) = self.first(list) else {
             return None;
@@ -254,7 +257,7 @@ impl<A: Allocator> Rings<A> {
     /// Puts a loose index at the end of a list.
     pub fn link(&mut self, index: usize, list: usize)
         requires index_in { index < length self.old.homes }
-        requires list_in { list < 384 }
+        requires list_in { list < LISTS }
         requires loose { slice_index self.old.homes index ≡ 0 }
         ensures { self.new.homes ≡ slice_set self.old.homes index (list + 1) }
     {
@@ -272,10 +275,11 @@ impl<A: Allocator> Rings<A> {
 
     /// Takes the first index out of a list.
     pub fn take_first(&mut self, list: usize) -> Option<usize>
-        requires { list < 384 }
+        requires { list < LISTS }
         ensures { MatchOption result
-            (IsEmpty self.old.homes list × (self.new ≡ self.old))
-            (λ x. StandsIn self.old.homes list x × (self.new.homes ≡ slice_set self.old.homes x 0)) }
+            (IsListEmpty self.old.homes list × (self.new ≡ self.old))
+            (λ x. StandsIn self.old.homes list x
+            × (self.new.homes ≡ slice_set self.old.homes x 0)) }
     {
         let Some(first) = self.first(list) else {
             return None;
