@@ -13,7 +13,8 @@ use Rattle.dq_core.specs.declared.outcomes.Removed.{Removed}
 use Rattle.dq_core.specs.Words.{Counts, word_at, IsInForce, Learned, IsChanged, live, cancelled, removed, finished_counts}
 use Rattle.dq_core.specs.Slots.{SlotRows, row_at, vacated, vacated_row, raised, raised_row, IsBorn}
 use Rattle.dq_core.specs.Machine.{Entry, Machine, Callers, Has, table_at, put}
-use Rattle.dq_core.specs.Core.{Core, machine, machine_of, IsLawful, IsLawfulCore, filing_for, due_by, entry_of}
+use Rattle.dq_core.specs.Core.{Core, machine, IsLawful, IsLawfulCore, filing_for, due_by, entry_of}
+use Rattle.dq_core.specs.TableRows.{machine_of}
 use Rattle.dq_core.specs.Calls.{IsLookedAt, IsFound, IsMissing, IsFoundCancelled, IsFoundLive, IsRemoved, IsReset, file_for}
 use Rattle.dq_core.proofs.Slotwise.{held_inside}
 use Rattle.dq_core.proofs.Law.{Filed, held_filed, law_kept, law_vacated, force_learned, force_low}

@@ -10,7 +10,8 @@ use Rattle.dq_core.specs.declared.slots.Held.{Held}
 use Rattle.dq_core.specs.Words.{word_at, never, IsInForce, Learned, cancelled}
 use Rattle.dq_core.specs.Slots.{Row, SlotRows, unused, row_at, is_held, vacated, vacated_row}
 use Rattle.dq_core.specs.Machine.{Entry, TableRow, Machine, Reap, RunOf, Callers, IsCallers, IsReaping, Has, table_at, put}
-use Rattle.dq_core.specs.Core.{Core, machine, machine_of, table_row_of, table_of, entry_of, due_by, IsLawful, IsLawfulCore}
+use Rattle.dq_core.specs.Core.{Core, machine, table_of, entry_of, due_by, IsLawful, IsLawfulCore}
+use Rattle.dq_core.specs.TableRows.{machine_of, table_row_of}
 use Rattle.dq_core.specs.Calls.{LooksOver, SameCore}
 use Rattle.dq_core.specs.Sweeps.{all_unlinked, all_vacated, AreOut, NotCancelled, AreReaped, only_if, IsSwept, Sweeps}
 use Rattle.dq_core.proofs.Slotwise.{held_is, held_inside, count_set, one, one_held}

@@ -1,5 +1,5 @@
 -- A poll that finds nothing due leaves nothing filed up to the noted tick.
-use Rattle.std.proofs.Common.{◌≡◌, ◌≢◌, ℕ, ◌<◌, Bool, Some, None, refl, sym, ap, ◌∙◌, inl, inr, arith}
+use Rattle.std.proofs.Common.{◌≡◌, ◌≢◌, ℕ, ◌<◌, Bool, Option, Some, None, MatchOption, IsNone, ◌↔◌, refl, sym, ap, ◌∙◌, inl, inr, arith}
 use Rattle.std.proofs.lemmas.Bool.{cases_eq, eq-eqb}
 use Rattle.dq_ticks.specs.declared.words.Parts.{Parts}
 use Rattle.dq_ticks.specs.declared.words.Mark.TheVariants.{LiveMark}
@@ -7,14 +7,14 @@ use Rattle.dq_wheel.specs.State.{filed_at}
 use Rattle.dq_wheel.specs.Wakes.{IsNextWake, wake_for}
 use Rattle.dq_core.specs.declared.outcomes.Turn.TheVariants.{Out, Waiting, Idle}
 use Rattle.dq_core.specs.Words.{word_at, Learned}
-use Rattle.dq_core.specs.Machine.{table_at}
+use Rattle.dq_core.specs.Machine.{table_at, NoneLinked}
 use Rattle.dq_core.specs.Core.{Core, machine, IsLawfulCore, due_by, entry_of}
 use Rattle.dq_core.specs.Calls.{IsFiledOver, LooksOver}
 use Rattle.dq_core.specs.Rests.{AllFiledAfter, IsCancelledAt, CancelledAreGone, RestsLeaveNoCancelled}
 use Rattle.dq_core.specs.Slots.{row_at}
 use Rattle.dq_core.proofs.Law.{filed_is, held_filed}
 use Rattle.dq_core.proofs.Slotwise.{held_inside}
-use Rattle.dq_core.proofs.Steps.{entry_none}
+use Rattle.dq_core.proofs.Steps.{entry_none, none_linked}
 use Rattle.dq_core.proofs.Ways.{table_row_is}
 
 wakes_at_once : (e f : ℕ) → f ≡ e → wake_for e f ≡ e
@@ -38,6 +38,11 @@ filed_linked c l i f at none =
     let is : (table_at (machine c) i).entry ≡ entry_of (Some here.held) (word_at c.known i) =
     ap (λ s. s.entry) (table_row_is c.slots.rows c.known l.as_known i) ∙ ap (λ o. entry_of o (word_at c.known i)) here.is_held in
     cc
+
+-- there is no wake exactly where nothing is linked
+pub wakes_none : {T W : Type 0} (b : Core T W) → IsLawfulCore b → (o : Option ℕ) → MatchOption o ((i f : ℕ) → filed_at b.wheel.filing.filed i ≡ Some f → ⊥) (λ w. IsNextWake b.wheel.filing.tick b.wheel.filing.filed w) → IsNone o ↔ NoneLinked (machine b)
+wakes_none b l None none = (λ _. none_linked b l none, λ _. refl)
+wakes_none b l (Some w) is = (λ e. absurd (cc), λ none. absurd (filed_linked b l is.some.0 is.some.1 is.some.2 (none is.some.0)))
 
 -- what isn't filed isn't linked
 unfiled_gone : {T W : Type 0} (c : Core T W) → IsLawfulCore c → (i : ℕ) → filed_at c.wheel.filing.filed i ≡ None → (table_at (machine c) i).entry ≡ None

@@ -19,7 +19,8 @@ use Rattle.dq_core.specs.declared.words.Settled.TheVariants.{SettledExpired, Lat
 use Rattle.dq_core.specs.Words.{Counts, word_at, never, IsInForce, Learned, IsSettled, settled_counts}
 use Rattle.dq_core.specs.Slots.{SlotRows, unused, row_at, vacated, vacated_row}
 use Rattle.dq_core.specs.Machine.{Machine, Reap, Pass, RunOf, IsCallers, IsOnTheWay, Has, table_at, put, NoneLiveBefore, NoneLinked}
-use Rattle.dq_core.specs.Core.{Core, machine, machine_of, IsPlaced, IsLawful, IsLawfulCore, filing_for, due_by, entry_of}
+use Rattle.dq_core.specs.Core.{Core, machine, IsPlaced, IsLawful, IsLawfulCore, filing_for, due_by, entry_of}
+use Rattle.dq_core.specs.TableRows.{machine_of}
 use Rattle.dq_core.specs.Calls.{SameCore, LooksOver, IsFiledOver, IsUnderWay, IsAnswered, IsLeft, IsOut, IsTurn, IsPolled, TurnRow, turn_counts, TellsWake, WakesAhead, cost, work, noting}
 use Rattle.dq_wheel.specs.Wakes.{IsNextWake, WakesAreAhead}
 use Rattle.dq_wheel.specs.Lawful.{IsLawfulWheel}

@@ -1,3 +1,4 @@
+pub mod AtTheCall
 pub mod Calls
 pub mod Cells
 pub mod Core
@@ -12,6 +13,7 @@ pub mod SlotRowsKept
 pub mod Slots
 pub mod Soonest
 pub mod Sweeps
+pub mod TableRows
 pub mod WheelWays
 pub mod WordRows
 pub mod Words

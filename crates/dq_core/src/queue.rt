@@ -4,7 +4,7 @@
 //! owner. The wheel files the index no later than that deadline; where an entry comes due there and its word has a later
 //! deadline, it is filed again.
 
-ghost use Rattle.std.specs.Prelude.{◌≡◌, ◌≢◌, ℕ, ◌+◌, ◌<◌, ◌≤◌, max, length, ◌↔◌, IfOk, IfErr, IfSome, IfNone, MatchOption, Some, None, List, [], ◌∷◌, Ok, Err, IsTrue, replicate};
+ghost use Rattle.std.specs.Prelude.{◌≡◌, ◌≢◌, ℕ, ◌+◌, ◌<◌, ◌≤◌, max, length, ◌↔◌, IfOk, IfErr, IfSome, IfNone, OnOk, IsErr, IsNone, MatchOption, Some, None, List, [], ◌∷◌, Ok, Err, IsTrue, replicate};
 ghost use Rattle.std.specs.List.{count_by};
 ghost use Rattle.dq_core.specs.Core.{filing_for as file_at};
 ghost use Rattle.dq_core.specs.Slots.{unused, is_held, is_worn};
@@ -127,6 +127,8 @@ impl<T: Drop, W: Words + Drop, A: Allocator + Clone> DelayCore<T, W, A> {
 impl<T: Drop, W: Words, A: Allocator> DelayCore<T, W, A> {
     ghost use Rattle.dq_wheel.specs.Lawful.{IsLawfulWheel};
     ghost use Rattle.dq_core.specs.Core.{Core, machine, IsLawfulCore};
+    ghost use Rattle.dq_core.specs.Machine.{NoneLiveBefore, NoneLinked};
+    ghost use Rattle.dq_core.specs.AtTheCall.{IfOut, IfRests};
     ghost use Rattle.dq_core.specs.Calls.{SameCore, Inserts, IsProgress, noting, Polls, TellsWake, WakesAhead, IsFind, TellsDeadline, Removes, Resets};
 
     /// The shard law, what the wheel's own law says of this queue's wheel, and that what is known and counted is what
@@ -232,6 +234,7 @@ impl<T: Drop, W: Words, A: Allocator> DelayCore<T, W, A> {
     /// wheel's tick where nothing is filed there.
     pub fn next_wake(&self) -> Option<u64>
         ensures wake { TellsWake self.now result }
+        ensures none { IsNone result ↔ NoneLinked (machine self.now) }
         ensures ahead { WakesAhead self.now result }
     {
         // That a wake is ahead is a law of the digits of what is filed, which the wheel keeps within its reach.
@@ -255,6 +258,21 @@ impl<T: Drop, W: Words, A: Allocator> DelayCore<T, W, A> {
         ensures same { SameCore self.old self.new }
         ensures home { W.home self.new.words ≡ W.home self.old.words }
         ensures polls { Polls W.shared self.old tick result self.new }
+
+        // The greater of the two ticks is noted. A tick is refused exactly beyond the last one.
+        ensures noted { OnOk result (self.new.noted ≡ max self.old.noted tick) }
+        ensures refused { IsErr result ↔ (LAST_TICK < tick) }
+
+        // What comes out is due, and no live entry has an earlier deadline.
+        ensures out { IfOut result
+            (λ x. (x.deadline ≤ self.new.noted) × NoneLiveBefore (machine self.new) x.deadline) }
+
+        // Else no live entry is due, and the tick to wait for is after the noted one. There is none
+        // exactly where nothing is linked.
+        ensures none_due { IfRests result
+            (λ next. NoneLiveBefore (machine self.new) (self.new.noted + 1)) }
+        ensures ahead { IfRests result (λ next. IfSome next (λ tick. self.new.noted < tick)) }
+        ensures idle { IfRests result (λ next. (next ≡ None) ↔ NoneLinked (machine self.new)) }
     {
         if tick > LAST_TICK {
             return Err(CoreError::TickTooLarge { limit: LAST_TICK });
