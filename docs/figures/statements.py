@@ -6,7 +6,7 @@ import textwrap
 
 from tree import CRATES, TOP, files, text_of
 
-HEAD = r"(?:pub (?:record|data) |(?:abbrev|unfoldable) pub ){}(?=[ :])"
+HEAD = r"(?:pub (?:record|data) |(?:abbrev|unfoldable) pub ){}(?=[ :]|$)"
 NAME = re.compile(r"[A-Za-z_][A-Za-z0-9_]*")
 
 
@@ -20,7 +20,7 @@ def definition(path, name, clause=None):
     while first and lines[first - 1].lstrip().startswith("--"):
         first -= 1
     last = at + 1
-    while last < len(lines) and lines[last].strip() and not lines[last].lstrip().startswith("--"):
+    while last < len(lines) and lines[last].strip():
         last += 1
     lines = textwrap.dedent("\n".join(lines[first:last])).splitlines()
     if clause is None:
