@@ -9,8 +9,10 @@ A mark is a comment that a reader of the page does not see:
     <!-- carried by FILE: FUNCTION -->  the contract of that function cites the statement above, or leads to it
     <!-- as in PATH: 14 15 -->          these numbers of the page are constants that stand in files at that path
     <!-- no figures: 1987 0.7.3 -->     these are years, versions and the like
+    <!-- names of others: Stream -->    these names in code font are no names of this repository
 """
 
+import functools
 import re
 
 import tree
@@ -22,6 +24,7 @@ QUOTE = re.compile(r"(<!-- from ([^>]*?) -->\n+```[a-z]*\n)((?:(?!```).*\n)*)(``
 CARRIER = re.compile(r"<!-- carried by (\S+): (\w+) -->")
 AS_IN = re.compile(r"<!-- as in (\S+): ([^>]*?) -->")
 NO_FIGURES = re.compile(r"<!-- no figures: ([^>]*?) -->")
+OTHERS = re.compile(r"<!-- names of others: ([^>]*?) -->")
 LINK = re.compile(r"(?<!!)\[[^\]]*\]\(([^)\s]+)\)")
 NUMBER = re.compile(r"(?<![\w.])\d[\d,]*(?:\.\d+)*")
 # What needs no source: a count of a few things, told in a sentence.
@@ -66,6 +69,26 @@ def bad_paths(page):
     """The files that a page names and that stand nowhere: below the top, docs/, bench/, crates/ or a crate."""
     roots = [TOP, TOP / "docs", TOP / "bench", tree.CRATES, *(it for it in tree.CRATES.iterdir() if it.is_dir())]
     return [it for it in PATH.findall(text_of(page)) if not any((root / it).exists() for root in roots)]
+
+
+IDENTIFIER = re.compile(r"`([A-Za-z_]\w*(?:(?:::|\.)[A-Za-z_]\w*)*)`")
+
+
+@functools.lru_cache(maxsize=None)
+def words_of_the_code():
+    """Every word of the sources, their edits and the scripts."""
+    endings = (".rt", ".antt", ".edit", ".rs", ".toml", ".lock", ".py", "")
+    paths = [*tree.files(tree.CRATES, *endings), *tree.files(TOP / "bench", *endings), TOP / "crates.txt"]
+    own = {word for it in paths for word in re.findall(r"\w+", text_of(it))}
+    return own | {it.stem for it in paths} | {it.suffix[1:] for it in paths} | set(tree.names())
+
+
+def unknown_names(text):
+    """The names of the code that a page speaks of, and that no source has; nor does the page say that they are others'."""
+    others = {it for listed in OTHERS.findall(text) for it in listed.split()}
+    text = re.sub(r"(?ms)^```.*?^```", "", text)
+    parts = {it: re.split(r"::|\.", it) for it in IDENTIFIER.findall(text)}
+    return sorted(name for name, its in parts.items() if name not in others and not set(its) <= words_of_the_code())
 
 
 def values(text):
