@@ -115,7 +115,7 @@ def excused(text):
     """The numbers that a page says are no figures, and those constants that don't stand where it says."""
     numbers, missing = set(), []
     for listed in NO_FIGURES.findall(text):
-        numbers |= set(listed.split())
+        numbers |= {it.replace(",", "") for it in listed.split()}
     for path, listed in AS_IN.findall(text):
         at = TOP / path
         if not at.exists():
