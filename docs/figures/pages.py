@@ -25,7 +25,7 @@ CARRIER = re.compile(r"<!-- carried by (\S+): (\w+) -->")
 AS_IN = re.compile(r"<!-- as in (\S+): ([^>]*?) -->")
 NO_FIGURES = re.compile(r"<!-- no figures: ([^>]*?) -->")
 OTHERS = re.compile(r"<!-- names of others: ([^>]*?) -->")
-LINK = re.compile(r"(?<!!)\[[^\]]*\]\(([^)\s]+)\)")
+LINK = re.compile(r"\[[^\]]*\]\(([^)\s]+)\)")
 NUMBER = re.compile(r"(?<![\w.])\d[\d,]*(?:\.\d+)*")
 # What needs no source: a count of a few things, told in a sentence.
 FEW = 12
