@@ -10,7 +10,7 @@ use Rattle.dq_wheel.specs.Walks.{bit_of}
 use Rattle.dq_wheel.specs.Maps.{IsOccupied, IsOccupiedBut}
 use Rattle.dq_wheel.specs.Homes.{list_number, home_after, moves_after, CanGo, IsOpened}
 use Rattle.dq_wheel.proofs.Links.{same_or_not}
-use Rattle.dq_wheel.proofs.Occupancy.{but_one, left_out, bit_linked}
+use Rattle.dq_wheel.proofs.Occupancy.{but_one, bit_linked}
 
 -- 1 where an index stands in list p
 abbrev pub waits : ℕ → ℕ → ℕ
@@ -89,7 +89,7 @@ module _ (e p : ℕ) (filed homes moves homes2 moves2 maps : List ℕ) (made : �
   pub stood : StandsIn homes p i
   stood = (rw s.size at stands.0, home_was)
 
-  moves_were : get_or moves2 i 0 ≡ get_or moves i 0
+  pub moves_were : get_or moves2 i 0 ≡ get_or moves i 0
   moves_were = elim (s.each i (rw s.size at stands.0)) [ inl w ↦ w.2 | inr w ↦ absurd (w.0 stands.1) ]
 
   -- it doesn't come back into the list
@@ -98,23 +98,19 @@ module _ (e p : ℕ) (filed homes moves homes2 moves2 maps : List ℕ) (made : �
 
   module _ (elsewhere : to ≢ p) where
     abbrev pub homes3 : List ℕ
-    homes3 = set (set homes2 i 0) i (to + 1)
+    homes3 = set homes2 i (to + 1)
 
     home_now : get_or homes3 i 0 ≡ to + 1
-    home_now = get_or-set_same (set homes2 i 0) i (to + 1) 0 (rw length-set stands.0)
+    home_now = get_or-set_same homes2 i (to + 1) 0 stands.0
 
     home_else : (j : ℕ) → j ≢ i → get_or homes3 j 0 ≡ get_or homes2 j 0
-    home_else j d = get_or-set_other (set homes2 i 0) i j (to + 1) 0 d ∙ get_or-set_other homes2 i j 0 0 d
+    home_else j d = get_or-set_other homes2 i j (to + 1) 0 d
 
     fewer : waiting p homes3 + 1 ≡ waiting p homes2
     unfolding waiting
     fewer =
-        let taken = sum_by-set (waits p) homes2 i 0 0 stands.0 in
-        let put = sum_by-set (waits p) (set homes2 i 0) i (to + 1) 0 (rw length-set stands.0) in
+        let put = sum_by-set (waits p) homes2 i (to + 1) 0 stands.0 in
         let was : waits p (get_or homes2 i 0) ≡ 1 = waits_there p _ stands.1 in
-        let between : waits p (get_or (set homes2 i 0) i 0) ≡ 0 =
-        waits_elsewhere p _ (λ h. let zero_home : get_or (set homes2 i 0) i 0 ≡ 0 = get_or-set_same homes2 i 0 0 stands.0 in omega arith) in
-        let zero_waits : waits p 0 ≡ 0 = waits_elsewhere p 0 (λ h. omega arith) in
         let now : waits p (to + 1) ≡ 0 = waits_elsewhere p (to + 1) (λ h. elsewhere (omega arith)) in
         omega arith
 
@@ -147,15 +143,12 @@ module _ (e p : ℕ) (filed homes moves homes2 moves2 maps : List ℕ) (made : �
             }
 
     -- what stands elsewhere came from elsewhere
-    from_elsewhere : (q : ℕ) → q ≢ p → get_or (set homes2 i 0) i 0 ≢ q + 1
-    from_elsewhere q d h = let zero_home : get_or (set homes2 i 0) i 0 ≡ 0 = get_or-set_same homes2 i 0 0 stands.0 in omega arith
-
-    left : IsOccupiedBut p maps (set homes2 i 0)
-    left = left_out (λ q. q ≢ p) maps homes2 s.occupied i stands.0 p stands.1 (λ q d. d)
+    from_elsewhere : (q : ℕ) → q ≢ p → get_or homes2 i 0 ≢ q + 1
+    from_elsewhere q d h = d (omega (arith, stands.1))
 
     module _ (maps3 : List ℕ) (one : bit_of maps3 to ≡ 1) (others : (q : ℕ) → q ≢ to → bit_of maps3 q ≡ bit_of maps q) where
       occupied_now : IsOccupiedBut p maps3 homes3
-      occupied_now = bit_linked (λ q. q ≢ p) maps (set homes2 i 0) left i (rw length-set stands.0) maps3 to from_elsewhere one others
+      occupied_now = bit_linked (λ q. q ≢ p) maps homes2 s.occupied i stands.0 maps3 to from_elsewhere one others
 
       -- the index is due
       pub opening_due : e ≡ get_or filed i 0 → IsOpening e p filed homes moves homes3 moves2 maps3 made

@@ -7,19 +7,19 @@ use Rattle.std.proofs.Math.Seq.{take-set-lt}
 use Rattle.std.proofs.lemmas.List.{length-take-le, get_or-take, length-take, length-map, length-replicate, get_or-replicate, ext_get_or}
 use Rattle.dq_wheel.specs.Ring.{IsRings}
 use Rattle.dq_wheel.specs.Rows.{nexts, prevs, homes, AreAlone}
-use Rattle.dq_wheel.specs.declared.rings.Row.{Row}
+use Rattle.dq_wheel.specs.declared.row.Row.{Row}
 use Rattle.dq_wheel.proofs.Links.{linked, unlinked, first_home, first_in, first_back, none_in, last_home, last_in, before_in, after_in}
 use Rattle.dq_ticks.specs.declared.TheConstants.{CAPACITY_LIMIT}
 use Rattle.dq_wheel.specs.declared.TheConstants.{LISTS}
 
 -- a row with two numbers written
-set_first : (xs : List ℕ) (i j v w : ℕ) → i < length xs → i ≢ j → get_or (set (set xs i v) j w) i 0 ≡ v
+pub set_first : (xs : List ℕ) (i j v w : ℕ) → i < length xs → i ≢ j → get_or (set (set xs i v) j w) i 0 ≡ v
 set_first xs i j v w i_in d = get_or-set_other (set xs i v) j i w 0 d ∙ get_or-set_same xs i v 0 i_in
 
-set_second : (xs : List ℕ) (i j v w : ℕ) → j < length xs → get_or (set (set xs i v) j w) j 0 ≡ w
+pub set_second : (xs : List ℕ) (i j v w : ℕ) → j < length xs → get_or (set (set xs i v) j w) j 0 ≡ w
 set_second xs i j v w j_in = get_or-set_same (set xs i v) j w 0 (rw length-set j_in)
 
-set_others : (xs : List ℕ) (i j v w x : ℕ) → x ≢ i → x ≢ j → get_or (set (set xs i v) j w) x 0 ≡ get_or xs x 0
+pub set_others : (xs : List ℕ) (i j v w x : ℕ) → x ≢ i → x ≢ j → get_or (set (set xs i v) j w) x 0 ≡ get_or xs x 0
 set_others xs i j v w x d e = get_or-set_other (set xs i v) j x w 0 e ∙ get_or-set_other xs i x v 0 d
 
 -- entry i is linked at the end of list p

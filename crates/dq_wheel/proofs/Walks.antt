@@ -18,10 +18,10 @@ occurrences_other i y ys d = grind arith
 abbrev mark : ℕ → ℕ → ℕ
 mark h q = cond (eqb h q) 1 0
 
-one_at : (h q : ℕ) → h ≡ q → mark h q ≡ 1
+pub one_at : (h q : ℕ) → h ≡ q → mark h q ≡ 1
 one_at h q e = grind arith
 
-none_at : (h q : ℕ) → h ≢ q → mark h q ≡ 0
+pub none_at : (h q : ℕ) → h ≢ q → mark h q ≡ 0
 none_at h q d = grind arith
 
 -- a bound on the ranks of the first n numbers

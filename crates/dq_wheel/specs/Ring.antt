@@ -2,8 +2,9 @@
 -- Circular lists of indexes, linked both ways. The numbers from 0 are entries, and the number
 -- cap + p is the head of list p.
 
-use Rattle.std.specs.Prelude.{◌≡◌, ℕ, ◌+◌, ◌<◌, ◌≤◌, List, length, slice_index}
+use Rattle.std.specs.Prelude.{◌≡◌, ℕ, ◌+◌, ◌<◌, ◌≤◌, ◌==◌, ◌&&◌, nat_lt, if◌then◌else◌, List, length, slice_index}
 use Rattle.dq_ticks.specs.declared.TheConstants.{CAPACITY_LIMIT}
+use Rattle.dq_wheel.specs.Walks.{IsWalk, occurrences}
 use Rattle.dq_wheel.specs.declared.TheConstants.{LISTS}
 
 -- what the links of a number say that stands in a list
@@ -31,3 +32,22 @@ pub record IsRings (cap : ℕ) (next prev homes : List ℕ) : Type 0 where
   pub homes_len : length homes ≡ cap + LISTS
   pub rank : ℕ → ℕ
   pub ring : Ring cap LISTS (slice_index next) (slice_index prev) (slice_index homes) rank
+
+-- the home of x, where an entry of list p counts as loose
+abbrev pub home_but : ℕ → ℕ → List ℕ → ℕ → ℕ
+home_but cap p homes x =
+    if nat_lt x cap && (slice_index homes x == p + 1) then 0 else slice_index homes x
+
+-- List p was taken off its head: its entries follow one another from `at` on, and end at the head.
+-- The other lists are circles.
+pub record IsTakenOff (cap p at : ℕ) (next prev homes : List ℕ) : Type 0 where
+  pub small : cap ≤ CAPACITY_LIMIT
+  pub next_len : length next ≡ cap + LISTS
+  pub prev_len : length prev ≡ cap + LISTS
+  pub homes_len : length homes ≡ cap + LISTS
+  pub rank : ℕ → ℕ
+  pub ring : Ring cap LISTS (slice_index next) (slice_index prev) (home_but cap p homes) rank
+  pub list : List ℕ
+  pub walk : IsWalk cap (slice_index next) (cap + p) at list
+  pub once : (i : ℕ) → i < cap →
+      occurrences i list ≡ (if slice_index homes i == p + 1 then 1 else 0)

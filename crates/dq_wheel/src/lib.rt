@@ -12,9 +12,12 @@
 //! occupancy maps of 64 bits; a list is opened by one step for each of its indexes.
 #![tactic(auto)]
 
+mod cascade;
+mod homes;
 mod lists;
 mod maps;
 mod rings;
+mod row;
 pub mod wheel;
 
 pub use wheel::{Place, Wheel, WheelError};

@@ -1,17 +1,16 @@
 //! The lists of six levels, of which one is the due list, with occupancy maps.
 
-ghost use Rattle.std.specs.Prelude.{◌==◌, if◌then◌else◌, ◌≡◌, ◌≢◌, ℕ, ◌+◌, ◌*◌, ◌/◌, ◌%◌, ◌<◌, ◌≤◌, ◌↔◌, length, slice_index, slice_set, replicate, sum, IfOk, MatchOption};
+ghost use Rattle.std.specs.Prelude.{◌≡◌, ◌≢◌, ℕ, ◌+◌, ◌*◌, ◌<◌, ◌≤◌, ◌↔◌, length, slice_index, slice_set, replicate, IfOk, MatchOption};
 ghost use Rattle.std.specs.Int.{bit_at};
 ghost use Rattle.dq_wheel.specs.Lists.{IsLeastIn, IsListEmpty, IsListFilled, IsListOf, StandsIn};
 ghost use Rattle.dq_wheel.specs.Walks.{bit_of};
 ghost use Rattle.dq_wheel.specs.Maps.{IsEarlier, IsOccupied, IsOccupiedBut};
-ghost use Rattle.dq_ticks.specs.Digits.{digit_of, level, start};
-ghost use Rattle.dq_wheel.specs.Homes.{list_number, CanGo, IsOpened};
+ghost use Rattle.dq_wheel.specs.Homes.{CanGo, IsOpened};
 
 use crate::LISTS;
 use crate::maps::{Maps, clear_bit, first_list, set_bit};
 use crate::rings::Rings;
-use dq_ticks::{CAPACITY_LIMIT, LAST_TICK, LEVELS, SLOTS, digit, level_of, slot_start};
+use dq_ticks::{CAPACITY_LIMIT, LEVELS};
 use std::alloc::{AllocError, Allocator, Global};
 use std::marker::Model;
 
@@ -33,65 +32,6 @@ impl<A: Allocator> Model for Lists<A> {
     ghost invariant = { λ a. IsOccupied a.maps a.rings.homes };
 }
 
-/// The list of what is filed at the tick: that of its digit at level 0.
-pub fn due_list(tick: u64) -> usize
-    requires { tick ≤ LAST_TICK }
-    ensures value { result ≡ digit_of tick 0 }
-    ensures small { result < 64 }
-{
-    digit(tick, 0) as usize
-}
-
-/// The list in which an index stands that is filed at `when`: list `64 * level + slot` is that slot.
-pub fn list_of(tick: u64, when: u64) -> usize
-    requires ordered { tick ≤ when }
-    requires in_range { when ≤ LAST_TICK }
-    ensures value { result ≡ list_number tick when }
-    ensures small { result < LISTS }
-{
-    let level = match level_of(tick, when) {
-        Some(level) => level,
-        None => 0,
-    };
-    SLOTS * level + digit(when, level) as usize
-}
-
-/// The tick at which the slot of a list starts. Level 0 comes nearly every time, and is the shortest way.
-pub fn start_of(tick: u64, list: usize) -> u64
-    requires in_range { tick ≤ LAST_TICK }
-    requires list_in { list < LISTS }
-    ensures { result ≡ start tick (list / 64) (list % 64) }
-{
-    if list < SLOTS {
-        tick / SLOTS as u64 * SLOTS as u64 + list as u64
-    } else {
-        slot_start(tick, list / SLOTS, (list % SLOTS) as u64)
-    }
-}
-
-/// The list to which an index goes from an opened one. What a list of level 1 spans is level 0 and no more; what one of
-/// level 2 spans is level 1, and level 0 where the second digit is 0.
-fn list_from(list: usize, tick: u64, when: u64) -> usize
-    requires ordered { tick ≤ when }
-    requires in_range { when ≤ LAST_TICK }
-    requires lowest { list < 128 → level tick when ≡ 0 }
-    requires second { 128 ≤ list → list < 192 →
-        level tick when ≡ (if digit_of when 1 == 0 then 0 else 1) }
-    ensures value { result ≡ list_number tick when }
-    ensures small { result < LISTS }
-{
-    if list < 2 * SLOTS {
-        return digit(when, 0) as usize;
-    }
-    if list < 3 * SLOTS {
-        return match digit(when, 1) as usize {
-            0 => digit(when, 0) as usize,
-            second => SLOTS + second,
-        };
-    }
-    list_of(tick, when)
-}
-
 /// Clears the bit of a list where its last index has left it.
 fn clear_if_empty<A: Allocator>(rings: &Rings<A>, maps: &mut Maps, list: usize)
     requires list_in { list < LISTS }
@@ -103,41 +43,6 @@ fn clear_if_empty<A: Allocator>(rings: &Rings<A>, maps: &mut Maps, list: usize)
         Some(_) => {}
         None => clear_bit(maps, list),
     }
-}
-
-/// Places each index of a list again by the new tick, and gives how many of them aren't due yet.
-fn empty_list<A: Allocator>(
-    rings: &mut Rings<A>,
-    maps: &mut Maps,
-    list: usize,
-    tick: u64,
-    filed: &[u64],
-    moves: &mut [u8],
-) -> u64
-    requires list_in { list < LISTS }
-    requires small { length rings.old.homes ≤ CAPACITY_LIMIT }
-    requires filed_all { length filed.now ≡ length rings.old.homes }
-    requires moves_all { length moves.old ≡ length rings.old.homes }
-    requires occupied { IsOccupied maps.old rings.old.homes }
-    requires can_go { (i : ℕ) → StandsIn rings.old.homes list i →
-        CanGo tick list (slice_index filed.now i) (slice_index moves.old i) }
-    ensures opened { IsOpened tick list filed.now rings.old.homes moves.old
-        rings.new.homes moves.new result }
-    ensures occupied { IsOccupied maps.new rings.new.homes }
-{
-    let mut made = 0;
-    while let Some(index) = rings.take_first(list) {
-        let when = filed[index];
-        let to = list_from(list, tick, when);
-        rings.link(index, to);
-        set_bit(maps, to);
-        if when != tick {
-            moves[index] += 1;
-            made += 1;
-        }
-    }
-    clear_bit(maps, list);
-    made
 }
 
 impl<A: Allocator> Lists<A> {
@@ -277,7 +182,6 @@ impl<A: Allocator> Lists<A> {
         ensures { IsOpened tick list filed.now self.old.homes moves.old
             self.new.homes moves.new result }
     {
-        let _ = self.capacity();
-        empty_list(&mut self.rings, &mut self.maps, list, tick, filed, moves)
+        self.rings.open(&mut self.maps, list, tick, filed, moves)
     }
 }

@@ -11,7 +11,8 @@ ghost use Rattle.dq_wheel.specs.Homes.{place_of_home};
 ghost use Rattle.dq_wheel.specs.Lawful.{IsLawfulWheel};
 
 use crate::LISTS;
-use crate::lists::{Lists, due_list, list_of, start_of};
+use crate::homes::{due_list, list_of, start_of};
+use crate::lists::Lists;
 use dq_ticks::{CAPACITY_LIMIT, LAST_TICK, LEVELS, REACH, SLOTS, digit};
 use std::alloc::{AllocError, Allocator, Global};
 use std::marker::Model;

@@ -1,8 +1,8 @@
 use Rattle.std.proofs.Common.{◌≡◌, refl, sym, ◌∙◌}
 use Rattle.dq_ticks.specs.Digits.{level}
 use Rattle.dq_wheel.proofs.Numbers.{level_due}
-use Rattle.dq_wheel.proofs.lists.list_of.Goals.{in-Some, in-None}
-use Rattle.dq_wheel.proofs.lists.list_of.Goals as goal
+use Rattle.dq_wheel.proofs.homes.list_of.Goals.{in-Some, in-None}
+use Rattle.dq_wheel.proofs.homes.list_of.Goals as goal
 
 pub returns-clause-value : goal.returns-clause-value
 returns-clause-value c =

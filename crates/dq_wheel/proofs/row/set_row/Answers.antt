@@ -1,5 +1,5 @@
 use Rattle.std.proofs.lemmas.List.{map-set}
-use Rattle.dq_wheel.proofs.rings.set_row.Goals as goal
+use Rattle.dq_wheel.proofs.row.set_row.Goals as goal
 
 pub returns-clause-next : goal.returns-clause-next
 returns-clause-next c = map-set _ _ _ _
