@@ -11,12 +11,14 @@ abbrev pub highest_differing : ℕ → ℕ → ℕ → ℕ
 highest_differing zero e f = 0
 highest_differing (suc n) e f = if digit_of e n == digit_of f n then highest_differing n e f else n
 
--- the level at which f stands, seen from e: the highest of their seven places that differs, or the top level 5
+-- the level at which f stands, seen from e: the highest of their seven places that differs, or the
+-- top level 5 where that is higher
 unfoldable pub level : ℕ → ℕ → ℕ
 level e f = min 5 (highest_differing 7 e f)
 
--- below the top level the tick e with the digit at that place set to k, and all lower digits 0; the top level is a
--- ring: there the least multiple of its slots' span that is after e and has that digit
+-- below the top level the tick e with the digit at that place set to k, and all lower digits 0; the
+-- top level is a ring: there the least multiple of its slots' span that is after e and has that
+-- digit
 unfoldable pub start : ℕ → ℕ → ℕ → ℕ
 start e place k =
     if place == 5
@@ -27,7 +29,8 @@ start e place k =
 unfoldable pub start_for : ℕ → ℕ → ℕ
 start_for e f = start e (level e f) (digit_of f (level e f))
 
--- how many slots of a level come before slot k: on the ring the slot after the tick's own comes first
+-- how many slots of a level come before slot k: on the ring the slot after the tick's own comes
+-- first
 abbrev pub turn : ℕ → ℕ → ℕ → ℕ
 turn e place k = if place == 5 then (k + 63 - digit_of e 5) % 64 else k
 

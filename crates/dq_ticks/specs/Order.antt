@@ -11,7 +11,8 @@ pub record IsInRange (p : Parts) : Type 0 where
 
 -- each word is that of the parts that it has, and they fit
 abbrev pub WordsHaveParts : Type 0
-WordsHaveParts = (n : ℕ) → n < 18446744073709551616 → IsInRange (parts_of n) × (packed (parts_of n) ≡ n)
+WordsHaveParts =
+    (n : ℕ) → n < 18446744073709551616 → IsInRange (parts_of n) × (packed (parts_of n) ≡ n)
 
 -- parts that fit are those of their word
 abbrev pub PartsComeBack : Type 0
@@ -27,7 +28,9 @@ IsPast p q = (p.stamp < q.stamp) ⊎ ((p.stamp ≡ q.stamp) × (mark_number p.ma
 
 -- stamp first, then mark, then field
 abbrev pub IsBefore : Parts → Parts → Type 0
-IsBefore p q = IsPast p q ⊎ ((p.stamp ≡ q.stamp) × (mark_number p.mark ≡ mark_number q.mark) × (p.field < q.field))
+IsBefore p q =
+    IsPast p q
+    ⊎ ((p.stamp ≡ q.stamp) × (mark_number p.mark ≡ mark_number q.mark) × (p.field < q.field))
 
 -- the order of words is that of their parts
 abbrev pub WordsAreOrdered : Type 0
@@ -43,12 +46,18 @@ cancelled s = record { stamp = s; mark = CancelledMark; field = 0 }
 
 -- an extend of a live word of its stamp gives the greater deadline
 abbrev pub ExtendsRaise : Type 0
-ExtendsRaise = (s d when : ℕ) → max (packed (live s d)) (packed (live s when)) ≡ packed (live s (max d when))
+ExtendsRaise =
+    (s d when : ℕ) →
+    max (packed (live s d)) (packed (live s when)) ≡ packed (live s (max d when))
 
 -- a cancel of a live word of its stamp gives the cancelled word
 abbrev pub CancelsEnd : Type 0
-CancelsEnd = (s d : ℕ) → IsInRange (live s d) → max (packed (live s d)) (packed (cancelled s)) ≡ packed (cancelled s)
+CancelsEnd =
+    (s d : ℕ) → IsInRange (live s d) →
+    max (packed (live s d)) (packed (cancelled s)) ≡ packed (cancelled s)
 
 -- a word that is past another stays
 abbrev pub PastWordsStay : Type 0
-PastWordsStay = (p q : Parts) → IsInRange p → IsInRange q → IsPast q p → max (packed p) (packed q) ≡ packed p
+PastWordsStay =
+    (p q : Parts) → IsInRange p → IsInRange q → IsPast q p →
+    max (packed p) (packed q) ≡ packed p

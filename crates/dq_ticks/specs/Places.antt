@@ -5,9 +5,12 @@ use Rattle.dq_ticks.specs.Units.{lap, tick_limit, top_span}
 
 -- ticks of the same seven digits are one
 abbrev pub DigitsTellTicks : Type 0
-DigitsTellTicks = (e f : ℕ) → e < tick_limit → f < tick_limit → ((i : ℕ) → i < 7 → digit_of e i ≡ digit_of f i) → e ≡ f
+DigitsTellTicks =
+    (e f : ℕ) → e < tick_limit → f < tick_limit →
+    ((i : ℕ) → i < 7 → digit_of e i ≡ digit_of f i) → e ≡ f
 
--- where some of the first n digits differ, they do so at the highest differing place, and at no higher one
+-- where some of the first n digits differ, they do so at the highest differing place, and at no
+-- higher one
 abbrev pub HighestDiffers : Type 0
 HighestDiffers =
     (n e f i : ℕ) → i < n → digit_of e i ≢ digit_of f i →
@@ -18,7 +21,8 @@ HighestDiffers =
 abbrev pub StartsByDigits : Type 0
 StartsByDigits =
     (e place k i : ℕ) → place < 5 → k < 64 →
-    digit_of (start e place k) i ≡ (if nat_lt i place then 0 else (if i == place then k else digit_of e i))
+    digit_of (start e place k) i
+    ≡ (if nat_lt i place then 0 else (if i == place then k else digit_of e i))
 
 -- a start on the ring: after e, a multiple of the span, with digit k at the top level
 pub record IsRingStart (e k s : ℕ) : Type 0 where
@@ -30,7 +34,8 @@ pub record IsRingStart (e k s : ℕ) : Type 0 where
 abbrev pub RingStartsAreLeast : Type 0
 RingStartsAreLeast =
     (e k : ℕ) → k < 64 →
-    IsRingStart e k (start e 5 k) × (start e 5 k ≤ e + lap) × ((m : ℕ) → IsRingStart e k m → start e 5 k ≤ m)
+    IsRingStart e k (start e 5 k) × (start e 5 k ≤ e + lap)
+    × ((m : ℕ) → IsRingStart e k m → start e 5 k ≤ m)
 
 -- the slot in which f stands starts after e, and no later than f
 abbrev pub SlotsStartAhead : Type 0
@@ -39,21 +44,25 @@ SlotsStartAhead = (e f : ℕ) → IsAhead e f → (e < start_for e f) × (start_
 -- a place is stable while the tick is before its slot's start
 abbrev pub PlacesAreStable : Type 0
 PlacesAreStable =
-    (e n f : ℕ) → IsAhead e f → e ≤ n → n < start_for e f → (level n f ≡ level e f) × (start_for n f ≡ start_for e f)
+    (e n f : ℕ) → IsAhead e f → e ≤ n → n < start_for e f →
+    (level n f ≡ level e f) × (start_for n f ≡ start_for e f)
 
 -- opening a slot leads to a lower level, or to due
 abbrev pub SlotsOpenDownward : Type 0
-SlotsOpenDownward = (e f : ℕ) → IsAhead e f → (start_for e f ≡ f) ⊎ (level (start_for e f) f < level e f)
+SlotsOpenDownward =
+    (e f : ℕ) → IsAhead e f → (start_for e f ≡ f) ⊎ (level (start_for e f) f < level e f)
 
 -- what stands at the lower level comes before the slot at the higher one starts
 abbrev pub LowerLevelsComeFirst : Type 0
-LowerLevelsComeFirst = (e f g : ℕ) → IsAhead e f → IsAhead e g → level e f < level e g → f < start_for e g
+LowerLevelsComeFirst =
+    (e f g : ℕ) → IsAhead e f → IsAhead e g → level e f < level e g → f < start_for e g
 
 -- within a level, what stands in the slot of the earlier turn comes before the later slot starts
 abbrev pub EarlierTurnsComeFirst : Type 0
 EarlierTurnsComeFirst =
     (e f g : ℕ) → IsAhead e f → IsAhead e g → level e f ≡ level e g →
-    turn e (level e f) (digit_of f (level e f)) < turn e (level e f) (digit_of g (level e f)) → f < start_for e g
+    turn e (level e f) (digit_of f (level e f)) < turn e (level e f) (digit_of g (level e f)) →
+    f < start_for e g
 
 -- f stands at a lower level than g, or at the same level in a slot whose turn is no later
 abbrev pub IsNoLater : ℕ → ℕ → ℕ → Type 0

@@ -30,7 +30,9 @@ mark_number RemovedMark = 3
 
 -- the mark of a number
 abbrev pub mark_by : ℕ → Mark
-mark_by m = if m == 0 then LiveMark else (if m == 1 then CancelledMark else (if m == 2 then ExpiredMark else RemovedMark))
+mark_by m =
+    if m == 0 then LiveMark
+    else (if m == 1 then CancelledMark else (if m == 2 then ExpiredMark else RemovedMark))
 
 -- the word of its parts
 abbrev pub packed : Parts → ℕ

@@ -4,11 +4,11 @@ ghost use Rattle.dq_ticks.specs.Digits.{digit_of, level, start};
 ghost use Rattle.dq_ticks.specs.Places.{DigitsTellTicks, EarlierTurnsComeFirst, HighestDiffers, LowerLevelsComeFirst, PlacesAreStable, RingStartsAreLeast, SlotsOpenDownward, SlotsStartAhead, SoonestSlotsStartFirst, StartsByDigits};
 ghost use Rattle.dq_ticks.specs.Units.{top_span};
 
-use crate::{LAST_TICK, LEVELS, SLOTS};
+use crate::{LAST_TICK, LEVELS, REACH, SLOTS};
 
 const TOP_SPAN: u64 = 1073741824;
 
-const LAP: u64 = 68719476736;
+const LAP: u64 = REACH + 1;
 
 // A digit is six bits, so a shift serves in place of a division.
 #[tactic(auto, using(crate::proofs::Bits::shifted))]
@@ -46,7 +46,9 @@ pub fn span(level: usize) -> u64
 pub fn level_of(now: u64, when: u64) -> Option<usize>
     requires ordered { now ≤ when }
     requires tick { when ≤ LAST_TICK }
-    ensures { MatchOption result (now ≡ when) (λ n. (now ≢ when) × (n < LEVELS) × (n ≡ level now when)) }
+    ensures { MatchOption result
+        (now ≡ when)
+        (λ n. (now ≢ when) × (n < LEVELS) × (n ≡ level now when)) }
 {
     // The highest bit in which they differ lies in the highest digit in which they differ.
     let differing = now ^ when;
@@ -113,7 +115,7 @@ pub fn soonest_slots_come_first()
 #[cfg(test)]
 mod tests {
     use super::*;
-    use crate::{LAST_TICK, LEVELS, SLOTS};
+    use crate::{LAST_TICK, LEVELS, REACH, SLOTS};
 
     // A tick, a later tick, and the level, the slot and the slot's start at which the second stands, seen from the first.
     const PLACES: [(u64, u64, usize, u64, u64); 13] = [

@@ -1,5 +1,5 @@
 //! The names of entries and of their lives. Making one checks nothing: the calls that take a key do.
-ghost use Rattle.std.specs.Prelude.{◌≡◌};
+ghost use Rattle.std.specs.Prelude.{◌≡◌, ◌↔◌, IsTrue};
 
 use std::fmt;
 use std::fmt::{Debug, Formatter};
@@ -22,7 +22,11 @@ impl Model for EntryId {
 
     ghost Value = { EntryName };
 
-    ghost view = { λ a. record { shard = a.place / half_unit; index = a.place % half_unit; born = a.born } };
+    ghost view = { λ a. record {
+      shard = a.place / half_unit;
+      index = a.place % half_unit;
+      born = a.born;
+    } };
 
     ghost invariant = { λ a. (a.place < half_unit * half_unit) × (a.born < half_unit) };
 
@@ -66,6 +70,15 @@ impl EntryId {
     }
 }
 
+/// Whether two entries are one: the same shard, the same index there and the same birth. The derived `==` says the same,
+/// but under no contract.
+#[inline]
+pub fn is_same_entry(one: EntryId, other: EntryId) -> bool
+    ensures { IsTrue result ↔ (one ≡ other) }
+{
+    one.place == other.place && one.born == other.born
+}
+
 impl Debug for EntryId {
     fn fmt<W: fmt::Write>(&self, f: &mut Formatter<W>) -> fmt::Result {
         f.debug_struct("EntryId")
@@ -92,11 +105,16 @@ impl Model for Key {
     ghost Value = { KeyName };
 
     ghost view = { λ a. record {
-      entry = record { shard = a.place / half_unit; index = a.place % half_unit; born = a.stamps / half_unit };
+      entry = record {
+        shard = a.place / half_unit;
+        index = a.place % half_unit;
+        born = a.stamps / half_unit;
+      };
       stamp = a.stamps % half_unit;
     } };
 
-    ghost invariant = { λ a. (a.place < half_unit * half_unit) × (a.stamps < half_unit * half_unit) };
+    ghost invariant = { λ a.
+        (a.place < half_unit * half_unit) × (a.stamps < half_unit * half_unit) };
 
     ghost inverse = { λ n. record {
       place = n.entry.shard * half_unit + n.entry.index;
@@ -136,6 +154,15 @@ impl Key {
     }
 }
 
+/// Whether two keys are one: the same entry, meant at the same stamp. The derived `==` says the same, but under no
+/// contract.
+#[inline]
+pub fn is_same_key(one: Key, other: Key) -> bool
+    ensures { IsTrue result ↔ (one ≡ other) }
+{
+    one.place == other.place && one.stamps == other.stamps
+}
+
 impl Debug for Key {
     fn fmt<W: fmt::Write>(&self, f: &mut Formatter<W>) -> fmt::Result {
         f.debug_struct("Key")
@@ -168,14 +195,25 @@ mod tests {
     #[test]
     fn keys_differ_by_each_part(rt: HostRuntime) {
         let key = Key::new(EntryId::new(1, 2, 3), 4);
-        assert_eq!(rt; key, Key::new(EntryId::new(1, 2, 3), 4));
-        for other in [
-            Key::new(EntryId::new(9, 2, 3), 4),
-            Key::new(EntryId::new(1, 9, 3), 4),
-            Key::new(EntryId::new(1, 2, 9), 4),
-            Key::new(EntryId::new(1, 2, 3), 9),
+        for (shard, index, born, stamp, same_entry, same_key) in [
+            (1, 2, 3, 4, true, true),
+            (9, 2, 3, 4, false, false),
+            (1, 9, 3, 4, false, false),
+            (1, 2, 9, 4, false, false),
+            (1, 2, 3, 9, true, false),
         ] {
-            assert_ne!(rt; key, other);
+            let other = Key::new(EntryId::new(shard, index, born), stamp);
+            assert_eq!(rt;
+                (is_same_key(key, other), key == other),
+                (same_key, same_key)
+            );
+            assert_eq!(rt;
+                (
+                    is_same_entry(key.entry(), other.entry()),
+                    key.entry() == other.entry()
+                ),
+                (same_entry, same_entry)
+            );
         }
     }
 

@@ -16,12 +16,15 @@
 //! A script of the first edition keeps an older, lesser last tick: docs/SCRIPT.md.
 #![tactic(auto)]
 
+ghost use Rattle.std.specs.Prelude.{◌≡◌, ◌+◌, ◌^◌};
+ghost use Rattle.dq_ticks.specs.Units.{lap, mark_unit, stamp_count, tick_limit};
+
 pub mod digits;
 pub mod keys;
 pub mod words;
 
 pub use digits::{digit, level_of, slot_start, span};
-pub use keys::{EntryId, Key};
+pub use keys::{EntryId, Key, is_same_entry, is_same_key};
 pub use words::{Mark, Parts, pack, unpack};
 
 /// The levels of a wheel, one for each base-64 digit of a lap.
@@ -33,8 +36,23 @@ pub const SLOTS: usize = 64;
 /// The greatest tick, `2^42 - 1` milliseconds: some 139 years.
 pub const LAST_TICK: u64 = 4398046511103;
 
-/// The greatest field of a word, `2^42 - 1`, so that each tick fits.
-pub const LAST_FIELD: u64 = 4398046511103;
+/// How far ahead of its tick a wheel files at the most: `2^36 - 1` ticks, one less than the top level spans.
+pub const REACH: u64 = 68719476735;
+
+/// The most slots that a queue may have, and indexes that a wheel may have.
+pub const CAPACITY_LIMIT: usize = 65536;
+
+/// The greatest field of a word: each tick fits.
+pub const LAST_FIELD: u64 = LAST_TICK;
 
 /// The greatest stamp of a word, `2^20 - 1`.
 pub const LAST_STAMP: u32 = 1048575;
+
+/// One past the last tick, the reach, the last field and the last stamp stand the units of ticks and words, which are
+/// powers of two.
+pub fn limits_are_powers()
+    ensures ticks { (LAST_TICK + 1 ≡ tick_limit) × (tick_limit ≡ 2 ^ 42) }
+    ensures reach { (REACH + 1 ≡ lap) × (lap ≡ 2 ^ 36) }
+    ensures fields { (LAST_FIELD + 1 ≡ mark_unit) × (mark_unit ≡ 2 ^ 42) }
+    ensures stamps { (LAST_STAMP + 1 ≡ stamp_count) × (stamp_count ≡ 2 ^ 20) }
+{}

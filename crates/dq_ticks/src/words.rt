@@ -5,9 +5,9 @@ ghost use Rattle.dq_ticks.specs.Word.{mark_by, mark_number, packed, parts_of};
 
 use crate::{LAST_FIELD, LAST_STAMP};
 
-const STAMP_UNIT: u64 = 17592186044416;
+const MARK_UNIT: u64 = LAST_FIELD + 1;
 
-const MARK_UNIT: u64 = 4398046511104;
+const STAMP_UNIT: u64 = 4 * MARK_UNIT;
 
 /// How an entry stands.
 #[derive(Clone, Copy, PartialEq, Eq, Debug)]

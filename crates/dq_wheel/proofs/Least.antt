@@ -2,15 +2,17 @@
 
 use Rattle.std.proofs.Common.{◌≡◌, ℕ, zero, suc, ◌+◌, ◌<◌, ◌≤◌, List, [], ◌∷◌, length, get_or, take, refl, sym, arith, ◌∙◌, ap, ◌⊎◌, inl, inr}
 use Rattle.dq_wheel.specs.Ring.{Node, IsRings}
-use Rattle.dq_wheel.specs.Lists.{IsWalk, StandsIn, times}
+use Rattle.dq_wheel.specs.Walks.{IsWalk, occurrences}
+use Rattle.dq_wheel.specs.Lists.{StandsIn}
 use Rattle.dq_wheel.proofs.Links.{same_or_not}
 use Rattle.dq_wheel.proofs.Rows.{first_stands, capacity_is, seen_home}
-use Rattle.dq_wheel.proofs.Walks.{times_same, times_other, walked, walked_le, walked_met}
+use Rattle.dq_wheel.proofs.Walks.{occurrences_same, occurrences_other, walked, walked_le, walked_met}
+use Rattle.dq_wheel.specs.declared.TheConstants.{LISTS}
 
 -- how many of the numbers below n stand in xs, each as often as it does
 total : ℕ → List ℕ → ℕ
 total zero xs = 0
-total (suc n) xs = times n xs + total n xs
+total (suc n) xs = occurrences n xs + total n xs
 
 total_nil : (n : ℕ) → total n [] ≡ 0
 unfolding total
@@ -21,7 +23,7 @@ total_above : (n y : ℕ) (ys : List ℕ) → n ≤ y → total n (y ∷ ys) ≡
 unfolding total
 total_above zero y ys le = refl
 total_above (suc n) y ys le =
-    let here : times n (y ∷ ys) ≡ times n ys = times_other n y ys (λ e. omega arith) in
+    let here : occurrences n (y ∷ ys) ≡ occurrences n ys = occurrences_other n y ys (λ e. omega arith) in
     let below : total n (y ∷ ys) ≡ total n ys = total_above n y ys (omega arith) in
     omega arith
 
@@ -31,20 +33,20 @@ total_below zero y ys lt = absurd (omega arith)
 total_below (suc n) y ys lt =
     elim (same_or_not y n) [
       | inl e ↦
-          let here : times n (y ∷ ys) ≡ 1 + times n ys = times_same n y ys e in
+          let here : occurrences n (y ∷ ys) ≡ 1 + occurrences n ys = occurrences_same n y ys e in
           let below : total n (y ∷ ys) ≡ total n ys = total_above n y ys (omega arith) in
           omega arith
       | inr d ↦
-          let here : times n (y ∷ ys) ≡ times n ys = times_other n y ys d in
+          let here : occurrences n (y ∷ ys) ≡ occurrences n ys = occurrences_other n y ys d in
           let below : total n (y ∷ ys) ≡ 1 + total n ys = total_below n y ys (omega arith) in
           omega arith
     ]
 
-total_le : (n : ℕ) (xs : List ℕ) → ((i : ℕ) → i < n → times i xs ≤ 1) → total n xs ≤ n
+total_le : (n : ℕ) (xs : List ℕ) → ((i : ℕ) → i < n → occurrences i xs ≤ 1) → total n xs ≤ n
 unfolding total
 total_le zero xs once = omega arith
 total_le (suc n) xs once =
-    let here : times n xs ≤ 1 = once n (omega arith) in
+    let here : occurrences n xs ≤ 1 = once n (omega arith) in
     let below : total n xs ≤ n = total_le n xs (λ i i_in. once i (omega arith)) in
     omega arith
 
@@ -72,17 +74,17 @@ no_length (y ∷ ys) e = absurd (omega arith)
 pub record IsLeastSoFar (cap : ℕ) (next homes keys : List ℕ) (p turn at best : ℕ) : Type 0 where
   pub best_in : best < cap
   pub best_home : get_or homes best 0 ≡ p + 1
-  pub at_in : at < cap + 384
+  pub at_in : at < cap + LISTS
   pub at_home : get_or homes at 0 ≡ p + 1
   pub rest : List ℕ
   pub walk : IsWalk cap (λ x. get_or next x 0) (cap + p) at rest
   pub fuel : length rest + turn ≤ cap
-  pub least : (i : ℕ) → i < cap → get_or homes i 0 ≡ p + 1 → times i rest ≡ 0 → get_or keys best 0 ≤ get_or keys i 0
+  pub least : (i : ℕ) → i < cap → get_or homes i 0 ≡ p + 1 → occurrences i rest ≡ 0 → get_or keys best 0 ≤ get_or keys i 0
 
-module _ (cap : ℕ) (next prev homes : List ℕ) (r : IsRings cap next prev homes) (keys : List ℕ) (p : ℕ) (p_in : p < 384) where
+module _ (cap : ℕ) (next prev homes : List ℕ) (r : IsRings cap next prev homes) (keys : List ℕ) (p : ℕ) (p_in : p < LISTS) where
   pub least_init : (first : ℕ) → first ≡ get_or next (cap + p) 0 → first < cap → IsLeastSoFar cap next homes keys p 0 first first
   least_init first first_is first_in =
-      let w = walked cap 384 _ _ _ r.rank r.ring p p_in in
+      let w = walked cap LISTS _ _ _ r.rank r.ring p p_in in
       let stands : get_or homes first 0 ≡ p + 1 = rw first_is (first_stands cap next prev homes r p p_in) in
       record {
         best_in = first_in;
@@ -93,10 +95,10 @@ module _ (cap : ℕ) (next prev homes : List ℕ) (r : IsRings cap next prev hom
         walk = rw first_is w.1;
         fuel =
             let len : length w.0 ≡ total cap w.0 = length_total cap (cap + p) _ _ w.0 w.1 in
-            let le : total cap w.0 ≤ cap = total_le cap w.0 (λ i i_in. walked_le cap 384 _ _ _ r.rank r.ring p p_in i i_in) in
+            let le : total cap w.0 ≤ cap = total_le cap w.0 (λ i i_in. walked_le cap LISTS _ _ _ r.rank r.ring p p_in i i_in) in
             omega arith;
         least = λ i i_in h none.
-            let met : times i w.0 ≡ 1 = walked_met cap 384 _ _ _ r.rank r.ring p p_in i i_in h in
+            let met : occurrences i w.0 ≡ 1 = walked_met cap LISTS _ _ _ r.rank r.ring p p_in i i_in h in
             absurd (omega arith);
       }
 
@@ -107,7 +109,7 @@ module _ (cap : ℕ) (next prev homes : List ℕ) (r : IsRings cap next prev hom
   least_more turn at best better s at_low either best_le at_le =
       let step = walk_step cap (cap + p) _ at s.rest (omega arith) at_low s.walk in
       let at_home : get_or homes at 0 ≡ p + 1 = s.at_home in
-      let node : Node (cap + 384) (λ x. get_or next x 0) (λ x. get_or prev x 0) (λ x. get_or homes x 0) at = r.ring.node at s.at_in (omega arith) in
+      let node : Node (cap + LISTS) (λ x. get_or next x 0) (λ x. get_or prev x 0) (λ x. get_or homes x 0) at = r.ring.node at s.at_in (omega arith) in
       let len : length s.rest ≡ suc (length step.0) = ap length step.1 in
       let fuel : length s.rest + turn ≤ cap = s.fuel in
       record {
@@ -122,7 +124,7 @@ module _ (cap : ℕ) (next prev homes : List ℕ) (r : IsRings cap next prev hom
             elim (same_or_not at i) [
               | inl e ↦ rw (← e) at_le
               | inr d ↦
-                  let before : times i s.rest ≡ 0 = ap (times i) step.1 ∙ (times_other i at step.0 d ∙ none) in
+                  let before : occurrences i s.rest ≡ 0 = ap (occurrences i) step.1 ∙ (occurrences_other i at step.0 d ∙ none) in
                   let le : get_or keys best 0 ≤ get_or keys i 0 = s.least i i_in h before in
                   omega arith
             ];
@@ -136,7 +138,7 @@ module _ (cap : ℕ) (next prev homes : List ℕ) (r : IsRings cap next prev hom
         | inl high ↦ walk_end cap (cap + p) _ at s.rest high s.walk
         | inr spent ↦ let fuel : length s.rest + turn ≤ cap = s.fuel in no_length s.rest (omega arith)
       ] in
-      s.least i i_in h (ap (times i) done)
+      s.least i i_in h (ap (occurrences i) done)
 
   -- the end, as callers see it
   pub least_seen : (now : List ℕ) → take cap homes ≡ now → (turn at best : ℕ) → IsLeastSoFar cap next homes keys p turn at best →

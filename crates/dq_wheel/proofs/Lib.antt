@@ -1,12 +1,15 @@
 pub mod Links
 pub mod Rows
 pub mod Walks
+pub mod Taken
 pub mod Least
 pub mod Bits
 pub mod Occupancy
 pub mod Numbers
 pub mod Opening
+pub mod Scattering
 pub mod Lawful
+pub mod Changes
 pub mod Wakes
 pub mod Passing
 pub mod Places

@@ -1,19 +1,21 @@
--- Occupancy words through a link and an unlink.
+-- Occupancy maps through a link and an unlink.
 
 use Rattle.std.proofs.Common.{◌≡◌, ◌≢◌, ℕ, ◌+◌, ◌*◌, ◌/◌, ◌%◌, ◌<◌, ◌↔◌, List, length, get_or, set, refl, sym, arith, ◌∙◌, inl, inr}
 use Rattle.std.specs.Int.{bit_at}
 use Rattle.std.proofs.Math.ListN.{length-set}
 use Rattle.std.proofs.lemmas.List.{get_or-set_same, get_or-set_other}
-use Rattle.dq_wheel.specs.Lists.{IsEmpty}
-use Rattle.dq_wheel.specs.Occupied.{bit_of, IsFilled, IsOccupiedAt, IsOccupied, IsOccupiedBut, IsEarlier}
+use Rattle.dq_wheel.specs.Lists.{IsListEmpty, IsListFilled}
+use Rattle.dq_wheel.specs.Walks.{bit_of}
+use Rattle.dq_wheel.specs.Maps.{IsOccupiedAt, IsOccupied, IsOccupiedBut, IsEarlier}
 use Rattle.dq_wheel.proofs.Links.{same_or_not}
+use Rattle.dq_wheel.specs.declared.TheConstants.{LISTS}
 
 -- an index that goes to list p fills it
-filled_there : (homes : List ℕ) (i p : ℕ) → i < length homes → IsFilled (set homes i (p + 1)) p
+filled_there : (homes : List ℕ) (i p : ℕ) → i < length homes → IsListFilled (set homes i (p + 1)) p
 filled_there homes i p i_in = (i, (rw length-set i_in, get_or-set_same homes i (p + 1) 0 i_in))
 
 -- the lists that it neither leaves nor enters are filled as before
-filled_before : (homes : List ℕ) (i v q : ℕ) → v ≢ q + 1 → i < length homes → IsFilled (set homes i v) q → IsFilled homes q
+filled_before : (homes : List ℕ) (i v q : ℕ) → v ≢ q + 1 → i < length homes → IsListFilled (set homes i v) q → IsListFilled homes q
 filled_before homes i v q d i_in (x, stands) =
     let x_in : x < length homes = rw length-set at stands.0 in
     elim (same_or_not x i) [
@@ -23,17 +25,17 @@ filled_before homes i v q d i_in (x, stands) =
       | inr e ↦ (x, (x_in, sym (get_or-set_other homes i x v 0 e) ∙ stands.1))
     ]
 
-filled_after : (homes : List ℕ) (i v q : ℕ) → get_or homes i 0 ≢ q + 1 → IsFilled homes q → IsFilled (set homes i v) q
+filled_after : (homes : List ℕ) (i v q : ℕ) → get_or homes i 0 ≢ q + 1 → IsListFilled homes q → IsListFilled (set homes i v) q
 filled_after homes i v q d (x, stands) =
     elim (same_or_not x i) [
       | inl e ↦ let at_i : get_or homes i 0 ≡ q + 1 = rw e at stands.1 in absurd (d at_i)
       | inr e ↦ (x, (rw length-set stands.0, get_or-set_other homes i x v 0 e ∙ stands.1))
     ]
 
-module _ (Where : ℕ → Type 0) (words homes : List ℕ) (ok : IsOccupiedAt Where words homes) (i : ℕ) (i_in : i < length homes) where
+module _ (Where : ℕ → Type 0) (maps homes : List ℕ) (ok : IsOccupiedAt Where maps homes) (i : ℕ) (i_in : i < length homes) where
   -- an index goes to list p, and its bit is set; it came from no list that meets the test
   pub bit_linked : (after : List ℕ) (p : ℕ) → ((q : ℕ) → Where q → get_or homes i 0 ≢ q + 1) → bit_of after p ≡ 1 →
-      ((q : ℕ) → q ≢ p → bit_of after q ≡ bit_of words q) → IsOccupiedAt Where after (set homes i (p + 1))
+      ((q : ℕ) → q ≢ p → bit_of after q ≡ bit_of maps q) → IsOccupiedAt Where after (set homes i (p + 1))
   bit_linked after p from one others =
       record {
         filled = λ q q_in w bit.
@@ -49,7 +51,7 @@ module _ (Where : ℕ → Type 0) (words homes : List ℕ) (ok : IsOccupiedAt Wh
       }
 
   -- an index leaves list p, of which nothing is said from then on
-  pub left_out : (p : ℕ) → get_or homes i 0 ≡ p + 1 → ((q : ℕ) → q ≢ p → Where q) → IsOccupiedBut p words (set homes i 0)
+  pub left_out : (p : ℕ) → get_or homes i 0 ≡ p + 1 → ((q : ℕ) → q ≢ p → Where q) → IsOccupiedBut p maps (set homes i 0)
   left_out p from here =
       record {
         filled = λ q q_in d bit. filled_after homes i 0 q (λ e. d (omega arith)) (ok.filled q q_in (here q d) bit);
@@ -57,9 +59,9 @@ module _ (Where : ℕ → Type 0) (words homes : List ℕ) (ok : IsOccupiedAt Wh
       }
 
 -- the list that was left out is empty, and its bit is cleared
-pub bit_cleared : (words homes after : List ℕ) (p : ℕ) → IsOccupiedBut p words homes → IsEmpty homes p → bit_of after p ≡ 0 →
-    ((q : ℕ) → q ≢ p → bit_of after q ≡ bit_of words q) → IsOccupied after homes
-bit_cleared words homes after p ok empty none others =
+pub bit_cleared : (maps homes after : List ℕ) (p : ℕ) → IsOccupiedBut p maps homes → IsListEmpty homes p → bit_of after p ≡ 0 →
+    ((q : ℕ) → q ≢ p → bit_of after q ≡ bit_of maps q) → IsOccupied after homes
+bit_cleared maps homes after p ok empty none others =
     record {
       filled = λ q q_in w bit.
           elim (same_or_not q p) [
@@ -68,14 +70,14 @@ bit_cleared words homes after p ok empty none others =
           ];
       shown = λ q q_in w full.
           elim (same_or_not q p) [
-            | inl e ↦ let stands : IsFilled homes p = rw e at full in absurd (empty stands.0 stands.1.0 stands.1.1)
+            | inl e ↦ let stands : IsListFilled homes p = rw e at full in absurd (empty stands.0 stands.1.0 stands.1.1)
             | inr d ↦ others q d ∙ ok.shown q q_in d full
           ];
     }
 
 -- the list that was left out is still filled
-pub bit_kept : (words homes : List ℕ) (p : ℕ) → IsOccupiedBut p words homes → bit_of words p ≡ 1 → IsFilled homes p → IsOccupied words homes
-bit_kept words homes p ok one full =
+pub bit_kept : (maps homes : List ℕ) (p : ℕ) → IsOccupiedBut p maps homes → bit_of maps p ≡ 1 → IsListFilled homes p → IsOccupied maps homes
+bit_kept maps homes p ok one full =
     record {
       filled = λ q q_in w bit.
           elim (same_or_not q p) [
@@ -90,14 +92,14 @@ bit_kept words homes p ok one full =
     }
 
 -- one list may be left out
-pub but_one : (words homes : List ℕ) (p : ℕ) → IsOccupied words homes → IsOccupiedBut p words homes
-but_one words homes p ok = record { filled = λ q q_in d. ok.filled q q_in tt; shown = λ q q_in d. ok.shown q q_in tt }
+pub but_one : (maps homes : List ℕ) (p : ℕ) → IsOccupied maps homes → IsOccupiedBut p maps homes
+but_one maps homes p ok = record { filled = λ q q_in d. ok.filled q q_in tt; shown = λ q q_in d. ok.shown q q_in tt }
 
--- bit k of word L, where list p shows as empty
-pub occupied_without : (words homes after : List ℕ) → IsOccupied words homes → (p : ℕ) → bit_of after p ≡ 0 →
-    ((q : ℕ) → q ≢ p → bit_of after q ≡ bit_of words q) → (L k : ℕ) → L < 6 → k < 64 →
-    (bit_at (get_or after L 0) k ≡ 1) ↔ ((64 * L + k ≢ p) × IsFilled homes (64 * L + k))
-occupied_without words homes after ok p none others L k L_in k_in =
+-- bit k of map L, where list p shows as empty
+pub occupied_without : (maps homes after : List ℕ) → IsOccupied maps homes → (p : ℕ) → bit_of after p ≡ 0 →
+    ((q : ℕ) → q ≢ p → bit_of after q ≡ bit_of maps q) → (L k : ℕ) → L < 6 → k < 64 →
+    (bit_at (get_or after L 0) k ≡ 1) ↔ ((64 * L + k ≢ p) × IsListFilled homes (64 * L + k))
+occupied_without maps homes after ok p none others L k L_in k_in =
     let high : (64 * L + k) / 64 ≡ L = omega arith in
     let low : (64 * L + k) % 64 ≡ k = omega arith in
     let same : bit_of after (64 * L + k) ≡ bit_at (get_or after L 0) k = rw (high, low) refl in (
@@ -107,15 +109,15 @@ occupied_without words homes after ok p none others L k L_in k_in =
       λ full. sym same ∙ (others (64 * L + k) full.0 ∙ ok.shown (64 * L + k) (omega arith) tt full.1),
     )
 
-module _ (words homes : List ℕ) (ok : IsOccupied words homes) where
+module _ (maps homes : List ℕ) (ok : IsOccupied maps homes) where
   -- an index leaves a list
-  pub bit_was : (i p : ℕ) → i < length homes → get_or homes i 0 ≡ p + 1 → p < 384 → bit_of words p ≡ 1
+  pub bit_was : (i p : ℕ) → i < length homes → get_or homes i 0 ≡ p + 1 → p < LISTS → bit_of maps p ≡ 1
   bit_was i p i_in stands p_in = ok.shown p p_in tt (i, (i_in, stands))
 
   -- what the first bit says of the lists
-  pub first_filled : (own q : ℕ) → (q < 384) × (bit_of words q ≡ 1) × ((p : ℕ) → p < 384 → bit_of words p ≡ 1 → IsEarlier own q p) →
-      (q < 384) × IsFilled homes q × ((p : ℕ) → p < 384 → IsFilled homes p → IsEarlier own q p)
+  pub first_filled : (own q : ℕ) → (q < LISTS) × (bit_of maps q ≡ 1) × ((p : ℕ) → p < LISTS → bit_of maps p ≡ 1 → IsEarlier own q p) →
+      (q < LISTS) × IsListFilled homes q × ((p : ℕ) → p < LISTS → IsListFilled homes p → IsEarlier own q p)
   first_filled own q found = (found.0, ok.filled q found.0 tt found.1, λ p p_in full. found.2 p p_in (ok.shown p p_in tt full))
 
-  pub none_filled : ((p : ℕ) → p < 384 → bit_of words p ≢ 1) → (p : ℕ) → p < 384 → IsEmpty homes p
+  pub none_filled : ((p : ℕ) → p < LISTS → bit_of maps p ≢ 1) → (p : ℕ) → p < LISTS → IsListEmpty homes p
   none_filled none p p_in x x_in h = none p p_in (ok.shown p p_in tt (x, (x_in, h)))

@@ -7,27 +7,29 @@ use Rattle.std.proofs.Math.Seq.{take-set-lt}
 use Rattle.std.proofs.lemmas.List.{length-take-le, get_or-take, length-take, length-map, length-replicate, get_or-replicate, ext_get_or}
 use Rattle.dq_wheel.specs.Ring.{IsRings}
 use Rattle.dq_wheel.specs.Rows.{nexts, prevs, homes, AreAlone}
-use Rattle.dq_wheel.specs.declared.rings.Row.{Row}
+use Rattle.dq_wheel.specs.declared.row.Row.{Row}
 use Rattle.dq_wheel.proofs.Links.{linked, unlinked, first_home, first_in, first_back, none_in, last_home, last_in, before_in, after_in}
+use Rattle.dq_ticks.specs.declared.TheConstants.{CAPACITY_LIMIT}
+use Rattle.dq_wheel.specs.declared.TheConstants.{LISTS}
 
 -- a row with two numbers written
-set_first : (xs : List ℕ) (i j v w : ℕ) → i < length xs → i ≢ j → get_or (set (set xs i v) j w) i 0 ≡ v
+pub set_first : (xs : List ℕ) (i j v w : ℕ) → i < length xs → i ≢ j → get_or (set (set xs i v) j w) i 0 ≡ v
 set_first xs i j v w i_in d = get_or-set_other (set xs i v) j i w 0 d ∙ get_or-set_same xs i v 0 i_in
 
-set_second : (xs : List ℕ) (i j v w : ℕ) → j < length xs → get_or (set (set xs i v) j w) j 0 ≡ w
+pub set_second : (xs : List ℕ) (i j v w : ℕ) → j < length xs → get_or (set (set xs i v) j w) j 0 ≡ w
 set_second xs i j v w j_in = get_or-set_same (set xs i v) j w 0 (rw length-set j_in)
 
-set_others : (xs : List ℕ) (i j v w x : ℕ) → x ≢ i → x ≢ j → get_or (set (set xs i v) j w) x 0 ≡ get_or xs x 0
+pub set_others : (xs : List ℕ) (i j v w x : ℕ) → x ≢ i → x ≢ j → get_or (set (set xs i v) j w) x 0 ≡ get_or xs x 0
 set_others xs i j v w x d e = get_or-set_other (set xs i v) j x w 0 e ∙ get_or-set_other xs i x v 0 d
 
 -- entry i is linked at the end of list p
-pub rings_link : (cap : ℕ) (next prev homes : List ℕ) (i p last : ℕ) → IsRings cap next prev homes → i < cap → p < 384 →
+pub rings_link : (cap : ℕ) (next prev homes : List ℕ) (i p last : ℕ) → IsRings cap next prev homes → i < cap → p < LISTS →
     get_or homes i 0 ≡ 0 → last ≡ get_or prev (cap + p) 0 →
     IsRings cap (set (set next i (cap + p)) last i) (set (set prev i last) (cap + p) i) (set homes i (p + 1))
 rings_link cap next prev homes i p last r i_in p_in loose last_is =
-    let stands : get_or homes (get_or prev (cap + p) 0) 0 ≡ p + 1 = last_home cap 384 _ _ _ r.rank r.ring p p_in in
-    let inside : get_or prev (cap + p) 0 < cap + 384 = last_in cap 384 _ _ _ r.rank r.ring p p_in in
-    let last_below : last < cap + 384 = rw last_is inside in
+    let stands : get_or homes (get_or prev (cap + p) 0) 0 ≡ p + 1 = last_home cap LISTS _ _ _ r.rank r.ring p p_in in
+    let inside : get_or prev (cap + p) 0 < cap + LISTS = last_in cap LISTS _ _ _ r.rank r.ring p p_in in
+    let last_below : last < cap + LISTS = rw last_is inside in
     let last_stands : get_or homes last 0 ≡ p + 1 = rw last_is stands in
     let apart : i ≢ last = λ e. let h : get_or homes last 0 ≡ 0 = rw e at loose in omega arith in
     record {
@@ -36,7 +38,7 @@ rings_link cap next prev homes i p last r i_in p_in loose last_is =
       prev_len = simp length-set r.prev_len;
       homes_len = simp length-set r.homes_len;
       rank = _;
-      ring = linked cap 384 (λ x. get_or next x 0) (λ x. get_or prev x 0) (λ x. get_or homes x 0) r.rank r.ring i i_in p last p_in loose last_is
+      ring = linked cap LISTS (λ x. get_or next x 0) (λ x. get_or prev x 0) (λ x. get_or homes x 0) r.rank r.ring i i_in p last p_in loose last_is
           (λ x. get_or (set (set next i (cap + p)) last i) x 0) (λ x. get_or (set (set prev i last) (cap + p) i) x 0) (λ x. get_or (set homes i (p + 1)) x 0)
           (set_first next i last (cap + p) i (omega (arith, r.next_len)) apart) (set_second next i last (cap + p) i (omega (arith, r.next_len)))
           (set_others next i last (cap + p) i)
@@ -50,15 +52,15 @@ pub rings_unlink : (cap : ℕ) (next prev homes : List ℕ) (i before after : �
     0 < get_or homes i 0 → before ≡ get_or prev i 0 → after ≡ get_or next i 0 →
     IsRings cap (set next before after) (set prev after before) (set homes i 0)
 rings_unlink cap next prev homes i before after r i_in on before_is after_is =
-    let before_below : get_or prev i 0 < cap + 384 = before_in cap 384 _ _ _ r.rank r.ring i i_in on in
-    let after_below : get_or next i 0 < cap + 384 = after_in cap 384 _ _ _ r.rank r.ring i i_in on in
+    let before_below : get_or prev i 0 < cap + LISTS = before_in cap LISTS _ _ _ r.rank r.ring i i_in on in
+    let after_below : get_or next i 0 < cap + LISTS = after_in cap LISTS _ _ _ r.rank r.ring i i_in on in
     record {
       small = r.small;
       next_len = simp length-set r.next_len;
       prev_len = simp length-set r.prev_len;
       homes_len = simp length-set r.homes_len;
       rank = _;
-      ring = unlinked cap 384 (λ x. get_or next x 0) (λ x. get_or prev x 0) (λ x. get_or homes x 0) r.rank r.ring i i_in before after on before_is after_is
+      ring = unlinked cap LISTS (λ x. get_or next x 0) (λ x. get_or prev x 0) (λ x. get_or homes x 0) r.rank r.ring i i_in before after on before_is after_is
           (λ x. get_or (set next before after) x 0) (λ x. get_or (set prev after before) x 0) (λ x. get_or (set homes i 0) x 0)
           (get_or-set_same next before after 0 (omega (arith, r.next_len))) (λ x. get_or-set_other next before x after 0)
           (get_or-set_same prev after before 0 (omega (arith, r.prev_len))) (λ x. get_or-set_other prev after x before 0)
@@ -66,32 +68,32 @@ rings_unlink cap next prev homes i before after r i_in on before_is after_is =
     }
 
 -- what follows the head of list p
-module _ (cap : ℕ) (next prev homes : List ℕ) (r : IsRings cap next prev homes) (p : ℕ) (p_in : p < 384) where
+module _ (cap : ℕ) (next prev homes : List ℕ) (r : IsRings cap next prev homes) (p : ℕ) (p_in : p < LISTS) where
   pub first_stands : get_or homes (get_or next (cap + p) 0) 0 ≡ p + 1
-  first_stands = first_home cap 384 _ _ _ r.rank r.ring p p_in
+  first_stands = first_home cap LISTS _ _ _ r.rank r.ring p p_in
 
-  pub first_below : get_or next (cap + p) 0 < cap + 384
-  first_below = first_in cap 384 _ _ _ r.rank r.ring p p_in
+  pub first_below : get_or next (cap + p) 0 < cap + LISTS
+  first_below = first_in cap LISTS _ _ _ r.rank r.ring p p_in
 
   pub first_follows : get_or prev (get_or next (cap + p) 0) 0 ≡ cap + p
-  first_follows = first_back cap 384 _ _ _ r.rank r.ring p p_in
+  first_follows = first_back cap LISTS _ _ _ r.rank r.ring p p_in
 
-  pub last_below : get_or prev (cap + p) 0 < cap + 384
-  last_below = last_in cap 384 _ _ _ r.rank r.ring p p_in
+  pub last_below : get_or prev (cap + p) 0 < cap + LISTS
+  last_below = last_in cap LISTS _ _ _ r.rank r.ring p p_in
 
   pub first_none : cap ≤ get_or next (cap + p) 0 → (x : ℕ) → x < cap → get_or homes x 0 ≡ p + 1 → ⊥
-  first_none = none_in cap 384 _ _ _ r.rank r.ring p p_in
+  first_none = none_in cap LISTS _ _ _ r.rank r.ring p p_in
 
 -- where an entry's neighbours stand
 module _ (cap : ℕ) (next prev homes : List ℕ) (r : IsRings cap next prev homes) (i : ℕ) (i_in : i < cap) (on : 0 < get_or homes i 0) where
-  pub before_below : get_or prev i 0 < cap + 384
-  before_below = before_in cap 384 _ _ _ r.rank r.ring i i_in on
+  pub before_below : get_or prev i 0 < cap + LISTS
+  before_below = before_in cap LISTS _ _ _ r.rank r.ring i i_in on
 
-  pub after_below : get_or next i 0 < cap + 384
-  after_below = after_in cap 384 _ _ _ r.rank r.ring i i_in on
+  pub after_below : get_or next i 0 < cap + LISTS
+  after_below = after_in cap LISTS _ _ _ r.rank r.ring i i_in on
 
 -- the entry that follows the head of list p is taken out of it
-pub rings_detach : (cap : ℕ) (next prev homes : List ℕ) (p i after : ℕ) → IsRings cap next prev homes → p < 384 →
+pub rings_detach : (cap : ℕ) (next prev homes : List ℕ) (p i after : ℕ) → IsRings cap next prev homes → p < LISTS →
     i ≡ get_or next (cap + p) 0 → i < cap → after ≡ get_or next i 0 →
     IsRings cap (set next (cap + p) after) (set prev after (cap + p)) (set homes i 0)
 rings_detach cap next prev homes p i after r p_in i_is i_in after_is =
@@ -115,7 +117,7 @@ pub seen_home : (cap : ℕ) (xs now : List ℕ) (i : ℕ) → take cap xs ≡ no
 seen_home cap xs now i now_is i_in = rw (← now_is) (get_or-take cap xs i 0 i_in)
 
 -- where the head of list p follows itself, callers see that it is empty
-pub empty_seen : (cap : ℕ) (next prev homes now : List ℕ) (p : ℕ) → IsRings cap next prev homes → p < 384 → take cap homes ≡ now →
+pub empty_seen : (cap : ℕ) (next prev homes now : List ℕ) (p : ℕ) → IsRings cap next prev homes → p < LISTS → take cap homes ≡ now →
     cap ≤ get_or next (cap + p) 0 → (x : ℕ) → x < length now → get_or now x 0 ≡ p + 1 → ⊥
 empty_seen cap next prev homes now p r p_in now_is high x x_in h =
     let len : length now ≡ cap = capacity_is cap homes now (omega (arith, r.homes_len)) now_is in
@@ -123,11 +125,11 @@ empty_seen cap next prev homes now p r p_in now_is high x x_in h =
     first_none cap next prev homes r p p_in high x x_cap (sym (seen_home cap homes now x now_is x_cap) ∙ h)
 
 -- rows that stand alone are rings of which each is empty
-pub rings_alone : (cap : ℕ) (rows : List Row) → cap ≤ 65536 → length rows ≡ cap + 384 → AreAlone cap rows →
+pub rings_alone : (cap : ℕ) (rows : List Row) → cap ≤ CAPACITY_LIMIT → length rows ≡ cap + LISTS → AreAlone cap rows →
     IsRings cap (nexts rows) (prevs rows) (homes rows)
 rings_alone cap rows small len alone =
-    let size : length (homes rows) ≡ cap + 384 = length-map rows (λ r. r.home) ∙ len in
-    let home_of : (x : ℕ) → x < cap + 384 → get_or (homes rows) x 0 ≡ x + 1 - cap = λ x x_in. alone.home x (omega arith) in
+    let size : length (homes rows) ≡ cap + LISTS = length-map rows (λ r. r.home) ∙ len in
+    let home_of : (x : ℕ) → x < cap + LISTS → get_or (homes rows) x 0 ≡ x + 1 - cap = λ x x_in. alone.home x (omega arith) in
     record {
       small = small;
       next_len = length-map rows (λ r. r.next) ∙ len;
@@ -153,9 +155,9 @@ rings_alone cap rows small len alone =
     }
 
 -- callers see that no index stands in a list
-pub seen_alone : (cap : ℕ) (rows : List Row) → length rows ≡ cap + 384 → AreAlone cap rows → take cap (homes rows) ≡ replicate cap 0
+pub seen_alone : (cap : ℕ) (rows : List Row) → length rows ≡ cap + LISTS → AreAlone cap rows → take cap (homes rows) ≡ replicate cap 0
 seen_alone cap rows len alone =
-    let size : length (homes rows) ≡ cap + 384 = length-map rows (λ r. r.home) ∙ len in
+    let size : length (homes rows) ≡ cap + LISTS = length-map rows (λ r. r.home) ∙ len in
     let seen : length (take cap (homes rows)) ≡ cap = length-take-le cap (homes rows) (omega arith) in
     ext_get_or 0 (take cap (homes rows)) (replicate cap 0) (seen ∙ sym (length-replicate cap 0))
     (λ i i_in.
@@ -177,5 +179,5 @@ stands_seen cap next prev homes now i r now_is i_in =
     omega arith
 
 -- an index that callers see stands in one of the lists, or in none
-pub home_small : (cap : ℕ) (next prev homes now : List ℕ) (i : ℕ) → IsRings cap next prev homes → take cap homes ≡ now → i < length now → get_or homes i 0 ≤ 384
+pub home_small : (cap : ℕ) (next prev homes now : List ℕ) (i : ℕ) → IsRings cap next prev homes → take cap homes ≡ now → i < length now → get_or homes i 0 ≤ LISTS
 home_small cap next prev homes now i r now_is i_in = r.ring.home_le i (stands_seen cap next prev homes now i r now_is i_in)

@@ -1,4 +1,4 @@
--- The first slot starts first, and a tick before a slot's start leaves it as it is.
+-- The first list starts first, and a tick before a list's start leaves it as it is.
 
 use Rattle.std.proofs.Common.{◌≡◌, ◌≢◌, ℕ, ◌+◌, ◌-◌, ◌*◌, ◌/◌, ◌%◌, ◌<◌, ◌≤◌, List, length, get_or, refl, sym, arith, ◌∙◌, ap, inl, inr, Option, None, Some}
 use Rattle.std.proofs.lemmas.List.{get_or_past}
@@ -7,14 +7,14 @@ use Rattle.dq_ticks.specs.Units.{lap, tick_limit}
 use Rattle.dq_ticks.proofs.Laws.{start_le, start_above, level_stable, lower_first, before_later, turn_low, turn_top, digit_below}
 use Rattle.dq_wheel.specs.State.{filed_at}
 use Rattle.dq_wheel.specs.Moves.{moves_down}
-use Rattle.dq_wheel.specs.Wakes.{wake_for, IsNextWake}
-use Rattle.dq_wheel.specs.Lists.{StandsIn, IsEmpty}
-use Rattle.dq_wheel.specs.Occupied.{IsFilled, IsEarlier}
-use Rattle.dq_wheel.specs.Homes.{list_number}
-use Rattle.dq_wheel.specs.Lawful.{IsAt, IsHome, IsLawful, IsWithin, WakesAreAhead}
+use Rattle.dq_wheel.specs.Wakes.{wake_for, IsNextWake, IsWithin, WakesAreAhead}
+use Rattle.dq_wheel.specs.Lists.{StandsIn, IsListEmpty, IsListFilled}
+use Rattle.dq_wheel.specs.Maps.{IsEarlier}
+use Rattle.dq_wheel.specs.Homes.{list_number, IsAt, IsHome, IsLawfulFiling}
 use Rattle.dq_wheel.proofs.Links.{same_or_not, nat_le_or_lt}
 use Rattle.dq_wheel.proofs.Numbers.{number_same, number_low}
 use Rattle.dq_wheel.proofs.Lawful.{home_due}
+use Rattle.dq_wheel.specs.declared.TheConstants.{LISTS}
 
 pub wake_same : (e f : ℕ) → e ≡ f → wake_for e f ≡ e
 wake_same e f same = grind arith
@@ -33,7 +33,7 @@ pub some_at : (e : ℕ) (o : Option ℕ) (h m : ℕ) → IsHome e o h m → 0 < 
 some_at e None h m home on = let zero_home : h ≡ 0 = home.0 in absurd (omega arith)
 some_at e (Some f) h m home on = (f, refl, home)
 
--- the list of f stays while the tick is before its slot's start
+-- the list of f stays while the tick is before its start
 pub number_stable : (e n f : ℕ) → IsAhead e f → e ≤ n → n < start_for e f → list_number n f ≡ list_number e f
 number_stable e n f a after before =
     let still : level n f ≡ level e f = level_stable e f a n after before in
@@ -51,7 +51,7 @@ home_stable e n (Some f) h m after home early =
     let before : n < start_for e f = when.1 in
     let near : f < e + lap = at.near in
     record {
-      later = omega arith;
+      not_before = omega arith;
       in_range = at.in_range;
       near = omega arith;
       number = at.number ∙ ap (λ l. l + 1) (sym (number_stable e n f a after before));
@@ -68,7 +68,7 @@ still_there e n (Some f) h m after home early =
     let same : level n f ≡ level e f = level_stable e f (ahead e f h m at when.0) n after when.1 in
     grind arith
 
--- two slots of a level have two turns
+-- two lists of a level have two turns
 apart_turns : (own j k : ℕ) → own < 64 → j < 64 → k < 64 → j ≢ k → (j + 63 - own) % 64 ≤ (k + 63 - own) % 64 → (j + 63 - own) % 64 < (k + 63 - own) % 64
 apart_turns own j k own_in j_in k_in d le = omega arith
 
@@ -86,14 +86,14 @@ turn_less e place j k j_in k_in d le =
           omega arith
     ]
 
--- the list of a slot tells its level and its digit
+-- a list tells its level and its digit
 pub list_level : (e f p : ℕ) → list_number e f ≡ p → p / 64 ≡ level e f
 list_level e f p is = omega (arith, digit_below f (level e f))
 
 pub list_digit : (e f p : ℕ) → list_number e f ≡ p → p % 64 ≡ digit_of f (level e f)
 list_digit e f p is = omega (arith, digit_below f (level e f))
 
--- what stands in an earlier slot comes before the start of a later one
+-- what stands in an earlier list comes before the start of a later one
 pub earlier_first : (e f g p q : ℕ) → IsAhead e f → IsAhead e g → list_number e f ≡ p → list_number e g ≡ q → p ≢ q →
     IsEarlier (digit_of e 5) p q → f < start_for e g
 earlier_first e f g p q of_f of_g p_is q_is apart earlier =
@@ -114,7 +114,7 @@ earlier_first e f g p q of_f of_g p_is q_is apart earlier =
           before_later e f g of_f of_g levels there
     ]
 
-module _ (e : ℕ) (filed : List (Option ℕ)) (moves homes : List ℕ) (ok : IsLawful e filed moves homes) where
+module _ (e : ℕ) (filed : List (Option ℕ)) (moves homes : List ℕ) (ok : IsLawfulFiling e filed moves homes) where
   pub filed_home : (i f : ℕ) → filed_at filed i ≡ Some f → (i < length homes) × IsAt e f (get_or homes i 0) (get_or moves i 0)
   filed_home i f is =
       elim (nat_le_or_lt (length homes) i) [
@@ -126,21 +126,21 @@ module _ (e : ℕ) (filed : List (Option ℕ)) (moves homes : List ℕ) (ok : Is
   pub in_reach : (i f : ℕ) → filed_at filed i ≡ Some f → IsWithin e f
   in_reach i f is =
       let at = (filed_home i f is).1 in
-      record { later = at.later; in_range = at.in_range; near = at.near }
+      record { not_before = at.not_before; in_range = at.in_range; near = at.near }
 
   pub none_before : (i f : ℕ) → filed_at filed i ≡ Some f → e ≤ f
-  none_before i f is = (filed_home i f is).1.later
+  none_before i f is = (filed_home i f is).1.not_before
 
   -- what stands on the due list is filed at the tick
   pub due_stands : (i : ℕ) → StandsIn homes (digit_of e 0) i → filed_at filed i ≡ Some e
   due_stands i stands = home_due e (filed_at filed i) _ _ (ok.home i stands.0) stands.1
 
   -- nothing is due where no index stands on the due list
-  pub none_due : IsEmpty homes (digit_of e 0) → (i f : ℕ) → filed_at filed i ≡ Some f → e < f
+  pub none_due : IsListEmpty homes (digit_of e 0) → (i f : ℕ) → filed_at filed i ≡ Some f → e < f
   none_due empty i f is =
       let home = filed_home i f is in
       let at : IsAt e f (get_or homes i 0) (get_or moves i 0) = home.1 in
-      let later : e ≤ f = at.later in
+      let later : e ≤ f = at.not_before in
       elim (same_or_not e f) [
         | inl same ↦
             let number : get_or homes i 0 ≡ list_number e f + 1 = at.number in
@@ -154,11 +154,11 @@ module _ (e : ℕ) (filed : List (Option ℕ)) (moves homes : List ℕ) (ok : Is
   later_all none i f is =
       let home = filed_home i f is in
       let at : IsAt e f (get_or homes i 0) (get_or moves i 0) = home.1 in
-      let later : e ≤ f = at.later in
+      let later : e ≤ f = at.not_before in
       elim (same_or_not e f) [ inl same ↦ absurd (none i (is ∙ ap Some (sym same))) | inr other ↦ omega arith ]
 
-  -- no slot is filled and nothing is due
-  pub none_filed : ((p : ℕ) → p < 384 → IsEmpty homes p) → ((i f : ℕ) → filed_at filed i ≡ Some f → e < f) →
+  -- no list is filled and nothing is due
+  pub none_filed : ((p : ℕ) → p < LISTS → IsListEmpty homes p) → ((i f : ℕ) → filed_at filed i ≡ Some f → e < f) →
       (i f : ℕ) → filed_at filed i ≡ Some f → ⊥
   none_filed empty later i f is =
       let home = filed_home i f is in
@@ -173,7 +173,7 @@ module _ (e : ℕ) (filed : List (Option ℕ)) (moves homes : List ℕ) (ok : Is
         some = (i, e, is, sym (wake_same e e refl));
         least = λ j g there.
             let at : IsAt e g (get_or homes j 0) (get_or moves j 0) = (filed_home j g there).1 in
-            let later : e ≤ g = at.later in
+            let later : e ≤ g = at.not_before in
             elim (same_or_not e g) [
               | inl same ↦ omega (arith, wake_same e g same)
               | inr other ↦ omega (arith, wake_other e g other, start_above e g (ahead e g _ _ at (omega arith)))
@@ -181,11 +181,11 @@ module _ (e : ℕ) (filed : List (Option ℕ)) (moves homes : List ℕ) (ok : Is
       }
 
   pub due_least : (i : ℕ) → filed_at filed i ≡ Some e → (j g : ℕ) → filed_at filed j ≡ Some g → e ≤ g
-  due_least i is j g there = (filed_home j g there).1.later
+  due_least i is j g there = (filed_home j g there).1.not_before
 
   -- before all that wakes the lists stay
   pub lawful_stable : (n : ℕ) → e ≤ n → n < tick_limit → ((i f : ℕ) → filed_at filed i ≡ Some f → (e < f) × (n < start_for e f)) →
-      IsLawful n filed moves homes
+      IsLawfulFiling n filed moves homes
   lawful_stable n after in_range early =
       record {
         large = ok.large;
@@ -196,9 +196,9 @@ module _ (e : ℕ) (filed : List (Option ℕ)) (moves homes : List ℕ) (ok : Is
         home = λ i i_in. home_stable e n (filed_at filed i) _ _ after (ok.home i i_in) (early i);
       }
 
-  -- the first slot that is filled
-  module _ (list : ℕ) (list_in : list < 384) (filled : IsFilled homes list)
-      (first : (p : ℕ) → p < 384 → IsFilled homes p → IsEarlier (digit_of e 5) list p) (later : (i f : ℕ) → filed_at filed i ≡ Some f → e < f) where
+  -- the first list that is filled
+  module _ (list : ℕ) (list_in : list < LISTS) (filled : IsListFilled homes list)
+      (first : (p : ℕ) → p < LISTS → IsListFilled homes p → IsEarlier (digit_of e 5) list p) (later : (i f : ℕ) → filed_at filed i ≡ Some f → e < f) where
     abbrev pub opens : ℕ
     opens = start e (list / 64) (list % 64)
 
@@ -219,7 +219,7 @@ module _ (e : ℕ) (filed : List (Option ℕ)) (moves homes : List ℕ) (ok : Is
     pub first_filed : (g : ℕ) × (filed_at filed filled.0 ≡ Some g) × IsAt e g (get_or homes filled.0 0) (get_or moves filled.0 0)
     first_filed = some_at e (filed_at filed filled.0) _ _ (ok.home filled.0 filled.1.0) (omega (arith, filled.1.1))
 
-    -- what stands in the first slot comes before the start of all that stands elsewhere
+    -- what stands in the first list comes before the start of all that stands elsewhere
     pub first_before : (i f : ℕ) → filed_at filed i ≡ Some f → get_or homes i 0 ≡ list + 1 →
         (j g : ℕ) → filed_at filed j ≡ Some g → get_or homes j 0 ≢ list + 1 → f < start_for e g
     first_before i f is stands j g there elsewhere =
@@ -296,6 +296,6 @@ wakes_ahead e filed w within none next =
     let is : filed_at filed i ≡ Some f = next.some.2 in
     let reach : IsWithin e f = within i f is in
     let not_due : e ≢ f = λ same. none i (is ∙ ap Some (sym same)) in
-    let le : e ≤ f = reach.later in
+    let le : e ≤ f = reach.not_before in
     let above : e < start_for e f = start_above e f (record { later = omega arith; near = reach.near; in_range = reach.in_range }) in
     omega (arith, next.some.3, wake_other e f not_due)

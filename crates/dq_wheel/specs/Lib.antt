@@ -2,10 +2,11 @@ pub mod State
 pub mod Places
 pub mod Moves
 pub mod Wakes
+pub mod Walks
+pub mod Lawful
 pub mod Filed
+pub mod Homes
+pub mod Lists
+pub mod Maps
 pub mod Ring
 pub mod Rows
-pub mod Lists
-pub mod Occupied
-pub mod Homes
-pub mod Lawful

@@ -1,27 +1,17 @@
 //! Lists of indexes, linked both ways, in a fixed row.
-//!
-//! Each list is a circle through a head of its own. The heads stand behind the entries in the same row, so an entry always
-//! has a neighbour on either side, and no call asks where a list begins or ends.
 
 ghost use Rattle.std.specs.Prelude.{◌≡◌, ◌⊎◌, ℕ, ◌+◌, ◌<◌, ◌≤◌, length, slice_index, slice_set, replicate, IfOk, MatchOption};
-ghost use Rattle.dq_wheel.specs.Rows.{nexts, prevs, homes, AreAlone};
-ghost use Rattle.dq_wheel.specs.Ring.{IsRings};
-ghost use Rattle.dq_wheel.specs.Lists.{IsEmpty, IsListOf, StandsIn};
+ghost use Rattle.dq_wheel.specs.Lists.{IsLeastIn, IsListEmpty, IsListOf, StandsIn};
+ghost use Rattle.dq_wheel.specs.Maps.{IsOccupied};
+ghost use Rattle.dq_wheel.specs.Homes.{CanGo, IsOpened};
 
+use crate::LISTS;
+use crate::cascade::scatter;
+use crate::maps::Maps;
+use crate::row::{Row, append, detach, detach_first, lone_rows, row_at};
+use dq_ticks::CAPACITY_LIMIT;
 use std::alloc::{AllocError, Allocator, Global};
 use std::marker::Model;
-
-/// The number of lists.
-pub const LISTS: usize = 384;
-
-/// The links of an entry or of a list's head, and the list in which it stands.
-#[derive(Clone, Copy, Drop)]
-struct Row {
-    next: u32,
-    prev: u32,
-    /// One more than the number of the list, or 0.
-    home: u16,
-}
 
 /// Which of the lists each index stands in, if any.
 #[derive(Drop)]
@@ -32,139 +22,17 @@ pub struct Rings<A: Allocator = Global> {
 }
 
 impl<A: Allocator> Model for Rings<A> {
-    ghost use Rattle.std.specs.Prelude.{take};
     ghost use Rattle.dq_wheel.specs.Lists.{RingsState};
-    ghost use Rattle.dq_wheel.specs.Ring.{IsRings};
+    ghost use Rattle.dq_wheel.specs.Rows.{nexts, entry_homes, AreRings};
 
     ghost Value = { RingsState };
 
-    ghost use Rattle.dq_wheel.specs.Rows.{nexts, prevs, homes};
+    ghost view = { λ a. record {
+      homes = entry_homes a.capacity a.rows.items;
+      next = nexts a.rows.items;
+    } };
 
-    ghost view = { λ a. record { homes = take a.capacity (homes a.rows.items); next = nexts a.rows.items } };
-
-    ghost invariant = { λ a. IsRings a.capacity (nexts a.rows.items) (prevs a.rows.items) (homes a.rows.items) };
-}
-
-/// Writes what follows a number.
-fn set_next(rows: &mut [Row], at: usize, next: u32)
-    requires { at < length rows.old }
-    ensures next { nexts rows.new ≡ slice_set (nexts rows.old) at next }
-    ensures prev { prevs rows.new ≡ prevs rows.old }
-    ensures home { homes rows.new ≡ homes rows.old }
-{
-    rows[at].next = next;
-}
-
-/// Writes what a number follows.
-fn set_prev(rows: &mut [Row], at: usize, prev: u32)
-    requires { at < length rows.old }
-    ensures next { nexts rows.new ≡ nexts rows.old }
-    ensures prev { prevs rows.new ≡ slice_set (prevs rows.old) at prev }
-    ensures home { homes rows.new ≡ homes rows.old }
-{
-    rows[at].prev = prev;
-}
-
-/// Writes a number's row.
-fn set_row(rows: &mut [Row], at: usize, row: Row)
-    requires { at < length rows.old }
-    ensures next { nexts rows.new ≡ slice_set (nexts rows.old) at row.next }
-    ensures prev { prevs rows.new ≡ slice_set (prevs rows.old) at row.prev }
-    ensures home { homes rows.new ≡ slice_set (homes rows.old) at row.home }
-{
-    rows[at] = row;
-}
-
-/// Writes a number's home.
-fn set_home(rows: &mut [Row], at: usize, home: u16)
-    requires { at < length rows.old }
-    ensures next { nexts rows.new ≡ nexts rows.old }
-    ensures prev { prevs rows.new ≡ prevs rows.old }
-    ensures home { homes rows.new ≡ slice_set (homes rows.old) at home }
-{
-    rows[at].home = home;
-}
-
-/// A number's row.
-fn row_at(rows: &[Row], at: usize) -> Row
-    requires { at < length rows.now }
-    ensures next { result.next ≡ slice_index (nexts rows.now) at }
-    ensures prev { result.prev ≡ slice_index (prevs rows.now) at }
-    ensures home { result.home ≡ slice_index (homes rows.now) at }
-{
-    rows[at]
-}
-
-/// Puts a loose entry at the end of a list.
-fn append(rows: &mut [Row], capacity: usize, index: usize, list: usize)
-    requires rings { IsRings capacity (nexts rows.old) (prevs rows.old) (homes rows.old) }
-    requires index_in { index < capacity }
-    requires list_in { list < 384 }
-    requires loose { slice_index (homes rows.old) index ≡ 0 }
-    ensures rings { IsRings capacity (nexts rows.new) (prevs rows.new) (homes rows.new) }
-    ensures home { homes rows.new ≡ slice_set (homes rows.old) index (list + 1) }
-{
-    let head = capacity + list;
-    let last = row_at(rows, head).prev;
-    set_row(
-        rows,
-        index,
-        Row {
-            next: head as u32,
-            prev: last,
-            home: list as u16 + 1,
-        },
-    );
-    set_next(rows, last as usize, index as u32);
-    set_prev(rows, head, index as u32);
-}
-
-/// Takes an entry out of its list.
-fn detach(rows: &mut [Row], capacity: usize, index: usize)
-    requires rings { IsRings capacity (nexts rows.old) (prevs rows.old) (homes rows.old) }
-    requires index_in { index < capacity }
-    requires linked { 0 < slice_index (homes rows.old) index }
-    ensures rings { IsRings capacity (nexts rows.new) (prevs rows.new) (homes rows.new) }
-    ensures home { homes rows.new ≡ slice_set (homes rows.old) index 0 }
-{
-    let row = row_at(rows, index);
-    set_next(rows, row.prev as usize, row.next);
-    set_prev(rows, row.next as usize, row.prev);
-    set_home(rows, index, 0);
-}
-
-/// Takes the entry that follows the head of a list out of it.
-fn detach_first(rows: &mut [Row], capacity: usize, list: usize, first: usize)
-    requires rings { IsRings capacity (nexts rows.old) (prevs rows.old) (homes rows.old) }
-    requires list_in { list < 384 }
-    requires first_is { first ≡ slice_index (nexts rows.old) (capacity + list) }
-    requires entry { first < capacity }
-    ensures rings { IsRings capacity (nexts rows.new) (prevs rows.new) (homes rows.new) }
-    ensures home { homes rows.new ≡ slice_set (homes rows.old) first 0 }
-{
-    let head = capacity + list;
-    let after = row_at(rows, first).next;
-    set_next(rows, head, after);
-    set_prev(rows, after as usize, head as u32);
-    set_home(rows, first, 0);
-}
-
-/// The rows of entries and heads that stand alone.
-fn lone_rows<A: Allocator>(alloc: A, capacity: usize) -> Result<Vec<Row, A>, AllocError>
-    requires { capacity ≤ 65536 }
-    ensures { IfOk result (λ v. (length v.items ≡ capacity + 384) × AreAlone capacity v.items) }
-{
-    let count = (capacity + LISTS) as u32;
-    let mut rows = Vec::with_capacity(alloc, capacity + LISTS)?;
-    for at in 0..count {
-        let home = (at as usize + 1).saturating_sub(capacity) as u16;
-        rows.push(Row {
-            next: at,
-            prev: at,
-            home,
-        })?;
-    }
-    Ok(rows)
+    ghost invariant = { λ a. AreRings a.capacity a.rows.items };
 }
 
 /// The one of two indexes whose key is less.
@@ -181,7 +49,7 @@ fn lesser(keys: &[u64], one: usize, other: usize) -> usize
 impl<A: Allocator> Rings<A> {
     /// No index stands in a list.
     pub fn new(alloc: A, capacity: usize) -> Result<Rings<A>, AllocError>
-        requires { capacity ≤ 65536 }
+        requires { capacity ≤ CAPACITY_LIMIT }
         ensures { IfOk result (λ r. r.homes ≡ replicate capacity 0) }
     {
         let rows = lone_rows(alloc, capacity)?;
@@ -191,14 +59,14 @@ impl<A: Allocator> Rings<A> {
     /// The number of indexes.
     pub fn capacity(&self) -> usize
         ensures value { result ≡ length self.now.homes }
-        ensures small { length self.now.homes ≤ 65536 }
+        ensures small { length self.now.homes ≤ CAPACITY_LIMIT }
     {
         self.capacity
     }
 
     /// Each list, walked along its links from its head, has once each index whose home it is, and no other.
     pub fn law(&self)
-        ensures { (p : ℕ) → p < 384 → IsListOf self.now.next self.now.homes p }
+        ensures { (p : ℕ) → p < LISTS → IsListOf self.now.next self.now.homes p }
     {
         let _ = &self.rows;
     }
@@ -207,17 +75,18 @@ impl<A: Allocator> Rings<A> {
     pub fn home(&self, index: usize) -> u16
         requires { index < length self.now.homes }
         ensures value { result ≡ slice_index self.now.homes index }
-        ensures small { result ≤ 384 }
+        ensures small { result ≤ LISTS }
     {
         row_at(&self.rows, index).home
     }
 
     /// The first index of a list.
     pub fn first(&self, list: usize) -> Option<usize>
-        requires { list < 384 }
+        requires { list < LISTS }
         ensures { MatchOption result
-            (IsEmpty self.now.homes list)
-            (λ x. StandsIn self.now.homes list x × (x ≡ slice_index self.now.next (length self.now.homes + list))) }
+            (IsListEmpty self.now.homes list)
+            (λ x. StandsIn self.now.homes list x
+            × (x ≡ slice_index self.now.next (length self.now.homes + list))) }
     {
         let first = row_at(&self.rows, self.capacity + list).next as usize;
         if first < self.capacity {
@@ -229,12 +98,11 @@ impl<A: Allocator> Rings<A> {
 
     /// An index of a list whose key is least there.
     pub fn least_in(&self, list: usize, keys: &[u64]) -> Option<usize>
-        requires list_in { list < 384 }
+        requires list_in { list < LISTS }
         requires same_length { length keys.now ≡ length self.now.homes }
         ensures { MatchOption result
-            (IsEmpty self.now.homes list)
-            (λ x. StandsIn self.now.homes list x
-            × ((y : ℕ) → StandsIn self.now.homes list y → slice_index keys.now x ≤ slice_index keys.now y)) }
+            (IsListEmpty self.now.homes list)
+            (λ x. IsLeastIn self.now.homes keys.now list x) }
     {
         let Some(first) = self.first(list) else {
             return None;
@@ -254,7 +122,7 @@ impl<A: Allocator> Rings<A> {
     /// Puts a loose index at the end of a list.
     pub fn link(&mut self, index: usize, list: usize)
         requires index_in { index < length self.old.homes }
-        requires list_in { list < 384 }
+        requires list_in { list < LISTS }
         requires loose { slice_index self.old.homes index ≡ 0 }
         ensures { self.new.homes ≡ slice_set self.old.homes index (list + 1) }
     {
@@ -272,15 +140,46 @@ impl<A: Allocator> Rings<A> {
 
     /// Takes the first index out of a list.
     pub fn take_first(&mut self, list: usize) -> Option<usize>
-        requires { list < 384 }
+        requires { list < LISTS }
         ensures { MatchOption result
-            (IsEmpty self.old.homes list × (self.new ≡ self.old))
-            (λ x. StandsIn self.old.homes list x × (self.new.homes ≡ slice_set self.old.homes x 0)) }
+            (IsListEmpty self.old.homes list × (self.new ≡ self.old))
+            (λ x. StandsIn self.old.homes list x
+            × (self.new.homes ≡ slice_set self.old.homes x 0)) }
     {
         let Some(first) = self.first(list) else {
             return None;
         };
         detach_first(&mut self.rows, self.capacity, list, first);
         Some(first)
+    }
+
+    /// Opens a list: each of its indexes is placed by the new tick. Gives how many of them aren't due yet.
+    pub fn open(
+        &mut self,
+        maps: &mut Maps,
+        list: usize,
+        tick: u64,
+        filed: &[u64],
+        moves: &mut [u8],
+    ) -> u64
+        requires list_in { list < LISTS }
+        requires filed_all { length filed.now ≡ length self.old.homes }
+        requires moves_all { length moves.old ≡ length self.old.homes }
+        requires occupied { IsOccupied maps.old self.old.homes }
+        requires can_go { (i : ℕ) → StandsIn self.old.homes list i →
+            CanGo tick list (slice_index filed.now i) (slice_index moves.old i) }
+        ensures opened { IsOpened tick list filed.now self.old.homes moves.old
+            self.new.homes moves.new result }
+        ensures occupied { IsOccupied maps.new self.new.homes }
+    {
+        scatter(
+            &mut self.rows,
+            self.capacity,
+            maps,
+            list,
+            tick,
+            filed,
+            moves,
+        )
     }
 }

@@ -1,23 +1,22 @@
 //! The wheel: where each index is filed, and the calls that file, move and find them.
 
-ghost use Rattle.std.specs.Prelude.{◌≡◌, ◌≢◌, ◌⊎◌, ℕ, ◌+◌, ◌<◌, ◌≤◌, ◌↔◌, length, slice_index, IfSome, MatchBool, MatchOption, MatchResult};
+ghost use Rattle.std.specs.Prelude.{◌≡◌, ◌≢◌, ◌⊎◌, ℕ, ◌+◌, ◌<◌, ◌≤◌, ◌↔◌, length, slice_index, IfNone, IfSome, MatchBool, MatchOption, MatchResult};
 ghost use Rattle.std.specs.Int.{bit_at};
-ghost use Rattle.dq_ticks.specs.Units.{lap};
-ghost use Rattle.dq_wheel.specs.State.{filed_at, IsLeast, fresh_filing, linked, unlinked};
+ghost use Rattle.dq_wheel.specs.State.{filed_at, fresh_filing, linked, unlinked, IsLeast, NoneFiled, NoneFiledAt, NoneFiledBefore, OthersStay};
 ghost use Rattle.dq_wheel.specs.Places.{place_for, IsSlotFilled};
-ghost use Rattle.dq_wheel.specs.Moves.{passed};
-ghost use Rattle.dq_wheel.specs.Wakes.{wake_for, IsNextWake};
+ghost use Rattle.dq_wheel.specs.Moves.{ReachesLimit, ReachesWake};
+ghost use Rattle.dq_wheel.specs.Wakes.{IsNextWake, IsWithin, WakesAreAhead};
 ghost use Rattle.dq_wheel.specs.Filed.{filed_by};
-ghost use Rattle.dq_wheel.specs.Lawful.{place_of_home, IsLawfulWheel, IsWithin, WakesAreAhead};
+ghost use Rattle.dq_wheel.specs.Homes.{place_of_home};
+ghost use Rattle.dq_wheel.specs.Lawful.{IsLawfulWheel};
 
-use crate::slots::{Slots, due_list, list_of, start_of};
-use dq_ticks::{LAST_TICK, LEVELS, SLOTS, digit};
+use crate::LISTS;
+use crate::homes::{due_list, list_of, start_of};
+use crate::lists::Lists;
+use dq_ticks::{CAPACITY_LIMIT, LAST_TICK, LEVELS, REACH, SLOTS, digit};
 use std::alloc::{AllocError, Allocator, Global};
 use std::marker::Model;
 use thiserror::Error;
-
-/// The most indexes that a wheel may have.
-pub const CAPACITY_LIMIT: usize = 65536;
 
 /// Stands for the tick of an index that is loose.
 const NOT_FILED: u64 = u64::MAX;
@@ -41,7 +40,7 @@ pub enum Place {
 /// Why a wheel isn't made.
 #[derive(Clone, Copy, Debug, PartialEq, Eq, Error)]
 pub enum WheelError {
-    /// The capacity is 0 or above 65536.
+    /// The capacity is 0 or above [`CAPACITY_LIMIT`].
     #[error("bad capacity")]
     BadConfig,
     /// An allocation was refused.
@@ -67,36 +66,46 @@ pub struct Wheel<A: Allocator = Global> {
     filed: Vec<u64, A>,
     moves: Vec<u8, A>,
     moved: u64,
-    slots: Slots<A>,
+    lists: Lists<A>,
 }
 
 impl<A: Allocator> Model for Wheel<A> {
     ghost use Rattle.dq_wheel.specs.State.{Filing, WheelState};
-    ghost use Rattle.dq_wheel.specs.Filed.{deadlines};
-    ghost use Rattle.dq_wheel.specs.Lawful.{IsLawful};
+    ghost use Rattle.dq_wheel.specs.Filed.{filed_ticks};
+    ghost use Rattle.dq_wheel.specs.Homes.{IsLawfulFiling};
 
     ghost Value = { WheelState };
 
     ghost view = { λ w. record {
-      filing = record { tick = w.tick; filed = deadlines w.filed.items; moves = w.moves.items; moved = w.moved };
-      next = w.slots.next;
-      words = w.slots.words;
+      filing = record {
+        tick = w.tick;
+        filed = filed_ticks w.filed.items;
+        moves = w.moves.items;
+        moved = w.moved;
+      };
+      next = w.lists.next;
+      maps = w.lists.maps;
     } };
 
-    ghost invariant = { λ w. IsLawful w.tick (deadlines w.filed.items) w.moves.items w.slots.homes };
+    ghost invariant = { λ w.
+        IsLawfulFiling w.tick (filed_ticks w.filed.items) w.moves.items w.lists.homes };
 }
 
 /// What the number says that is kept for an index.
-fn filed_of(word: u64) -> Option<u64>
-    ensures { result ≡ filed_by word }
+fn filed_of(number: u64) -> Option<u64>
+    ensures { result ≡ filed_by number }
 {
-    if word == NOT_FILED { None } else { Some(word) }
+    if number == NOT_FILED {
+        None
+    } else {
+        Some(number)
+    }
 }
 
 /// The place that a home stands for.
 fn place_of(tick: u64, home: u16) -> Place
     requires in_range { tick ≤ LAST_TICK }
-    requires small { home ≤ 384 }
+    requires small { home ≤ LISTS }
     ensures { result ≡ place_of_home tick home }
 {
     if home == 0 {
@@ -114,7 +123,7 @@ fn place_of(tick: u64, home: u16) -> Place
 }
 
 impl<A: Allocator + Clone> Wheel<A> {
-    /// A wheel at tick 0 with nothing linked, over 1 to 65536 indexes. Another capacity is `BadConfig`; where an
+    /// A wheel at tick 0 with nothing linked, over 1 to [`CAPACITY_LIMIT`] indexes. Another capacity is `BadConfig`; where an
     /// allocation is refused it is `NoMemory`. No other call takes memory.
     pub fn new(alloc: A, capacity: usize) -> Result<Wheel<A>, WheelError>
         ensures { MatchResult result
@@ -126,13 +135,13 @@ impl<A: Allocator + Clone> Wheel<A> {
         }
         let filed = vec![in alloc.clone()?; NOT_FILED; capacity]?;
         let moves = vec![in alloc.clone()?; 0; capacity]?;
-        let slots = Slots::new(alloc, capacity)?;
+        let lists = Lists::new(alloc, capacity)?;
         Ok(Wheel {
             tick: 0,
             filed,
             moves,
             moved: 0,
-            slots,
+            lists,
         })
     }
 }
@@ -144,7 +153,7 @@ impl<A: Allocator> Wheel<A> {
     pub fn law(&self)
         ensures { IsLawfulWheel self.now }
     {
-        self.slots.law();
+        self.lists.law();
     }
 
     /// The number of indexes.
@@ -153,7 +162,7 @@ impl<A: Allocator> Wheel<A> {
         ensures large { 0 < result }
         ensures small { result ≤ CAPACITY_LIMIT }
     {
-        self.slots.capacity()
+        self.lists.capacity()
     }
 
     /// The tick.
@@ -178,18 +187,20 @@ impl<A: Allocator> Wheel<A> {
         requires { index < length self.now.filing.filed }
         ensures { result ≡ place_for self.now.filing.tick (filed_at self.now.filing.filed index) }
     {
-        place_of(self.tick, self.slots.home(index))
+        place_of(self.tick, self.lists.home(index))
     }
 
-    /// The occupancy word of a level: bit k is 1 exactly where its slot k isn't empty.
+    /// The occupancy map of a level: bit k is 1 exactly where its slot k isn't empty.
     pub fn occupancy(&self, level: usize) -> u64
         requires { level < LEVELS }
-        ensures { (k : ℕ) → k < 64 → (bit_at result k ≡ 1) ↔ IsSlotFilled self.now.filing.tick self.now.filing.filed level k }
+        ensures { (k : ℕ) → k < 64 →
+            (bit_at result k ≡ 1)
+            ↔ IsSlotFilled self.now.filing.tick self.now.filing.filed level k }
     {
-        self.slots.word_without(level, due_list(self.tick))
+        self.lists.map_without(level, due_list(self.tick))
     }
 
-    /// How often an index went from a slot to a slot of a lower level since it was linked.
+    /// How often an index went from a level to a lower one since it was linked.
     pub fn moves(&self, index: usize) -> u8
         requires { index < length self.now.filing.filed }
         ensures { result ≡ slice_index self.now.filing.moves index }
@@ -208,13 +219,13 @@ impl<A: Allocator> Wheel<A> {
     /// first slot that isn't empty.
     pub fn next_wake(&self) -> Option<u64>
         ensures { MatchOption result
-            ((i f : ℕ) → filed_at self.now.filing.filed i ≢ Some f)
+            (NoneFiled self.now.filing.filed)
             (λ w. IsNextWake self.now.filing.tick self.now.filing.filed w) }
     {
-        match self.slots.first(due_list(self.tick)) {
+        match self.lists.first(due_list(self.tick)) {
             Some(_) => Some(self.tick),
             None => match self
-                .slots
+                .lists
                 .first_filled(digit(self.tick, LEVELS - 1) as usize)
             {
                 Some(list) => Some(start_of(self.tick, list)),
@@ -226,31 +237,36 @@ impl<A: Allocator> Wheel<A> {
     /// A linked index that is filed least.
     pub fn least(&self) -> Option<usize>
         ensures { MatchOption result
-            ((i f : ℕ) → filed_at self.now.filing.filed i ≢ Some f)
+            (NoneFiled self.now.filing.filed)
             (λ i. IsLeast self.now.filing.filed i) }
     {
-        if let Some(index) = self.slots.first(due_list(self.tick)) {
+        if let Some(index) = self.lists.first(due_list(self.tick)) {
             return Some(index);
         }
         let Some(list) = self
-            .slots
+            .lists
             .first_filled(digit(self.tick, LEVELS - 1) as usize)
         else {
             return None;
         };
-        self.slots.least_in(list, &self.filed)
+        self.lists.least_in(list, &self.filed)
     }
 
-    /// Files a loose index at a tick from the wheel's own on, less than `2^36` ticks ahead. It has not moved then.
+    /// Files a loose index at a tick from the wheel's own on, at most [`REACH`] ticks ahead. It has not moved then.
     pub fn link(&mut self, index: usize, filed: u64)
         requires index_in { index < length self.old.filing.filed }
         requires loose { filed_at self.old.filing.filed index ≡ None }
         requires not_before { self.old.filing.tick ≤ filed }
         requires in_range { filed ≤ LAST_TICK }
-        requires near { filed < self.old.filing.tick + lap }
-        ensures { self.new.filing ≡ linked self.old.filing index filed }
+        requires near { filed ≤ self.old.filing.tick + REACH }
+        // The index is filed at just that tick, and nothing else changes.
+        ensures filed { filed_at self.new.filing.filed index ≡ Some filed }
+        ensures unmoved { slice_index self.new.filing.moves index ≡ 0 }
+        ensures others { OthersStay self.old.filing.filed self.new.filing.filed index }
+        ensures tick { self.new.filing.tick ≡ self.old.filing.tick }
+        ensures exact { self.new.filing ≡ linked self.old.filing index filed }
     {
-        self.slots.link(index, list_of(self.tick, filed));
+        self.lists.link(index, list_of(self.tick, filed));
         self.filed[index] = filed;
         self.moves[index] = 0;
     }
@@ -259,21 +275,36 @@ impl<A: Allocator> Wheel<A> {
     pub fn unlink(&mut self, index: usize)
         requires index_in { index < length self.old.filing.filed }
         requires linked { filed_at self.old.filing.filed index ≢ None }
-        ensures { self.new.filing ≡ unlinked self.old.filing index }
+        // The index is loose, and nothing else changes.
+        ensures loose { filed_at self.new.filing.filed index ≡ None }
+        ensures others { OthersStay self.old.filing.filed self.new.filing.filed index }
+        ensures tick { self.new.filing.tick ≡ self.old.filing.tick }
+        ensures exact { self.new.filing ≡ unlinked self.old.filing index }
     {
-        self.slots.unlink(index);
+        self.lists.unlink(index);
         self.filed[index] = NOT_FILED;
         self.moves[index] = 0;
     }
 
     /// Takes one index off the due list, or tells that nothing is filed at the tick.
     pub fn pop_due(&mut self) -> Option<usize>
-        ensures { MatchOption result
-            ((self.new ≡ self.old) × ((i : ℕ) → filed_at self.old.filing.filed i ≢ Some self.old.filing.tick))
-            (λ i. (i < length self.old.filing.filed) × (filed_at self.old.filing.filed i ≡ Some self.old.filing.tick)
+        // What is taken was filed at the tick, and is loose.
+        ensures due { IfSome result (λ i.
+            filed_at self.old.filing.filed i ≡ Some self.old.filing.tick) }
+        ensures loose { IfSome result (λ i. filed_at self.new.filing.filed i ≡ None) }
+        // Nothing else changes, and nothing is left out.
+        ensures others { IfSome result (λ i.
+            OthersStay self.old.filing.filed self.new.filing.filed i) }
+        ensures none { IfNone result
+            (NoneFiledAt self.old.filing.filed self.old.filing.tick) }
+        ensures tick { self.new.filing.tick ≡ self.old.filing.tick }
+        ensures exact { MatchOption result
+            ((self.new ≡ self.old) × NoneFiledAt self.old.filing.filed self.old.filing.tick)
+            (λ i. (i < length self.old.filing.filed)
+            × (filed_at self.old.filing.filed i ≡ Some self.old.filing.tick)
             × (self.new.filing ≡ unlinked self.old.filing i)) }
     {
-        let Some(index) = self.slots.take_first(due_list(self.tick)) else {
+        let Some(index) = self.lists.take_first(due_list(self.tick)) else {
             return None;
         };
         self.filed[index] = NOT_FILED;
@@ -281,24 +312,25 @@ impl<A: Allocator> Wheel<A> {
         Some(index)
     }
 
-    /// Goes on to the next wake, but not past the limit, once nothing is due. True where the wake was reached: its slot
-    /// is opened, and each of its indexes goes down to a lower level or is due. A way to a lower slot is a move.
+    /// Goes on to the next wake, but not past the limit, once nothing is due. True where the wake was reached: its list
+    /// is opened, and each of its indexes goes down to a lower level or is due. A way to a lower level is a move.
     pub fn advance(&mut self, limit: u64) -> bool
-        requires none_due { (i : ℕ) → filed_at self.old.filing.filed i ≢ Some self.old.filing.tick }
+        requires none_due { NoneFiledAt self.old.filing.filed self.old.filing.tick }
         requires not_before { self.old.filing.tick ≤ limit }
         requires in_range { limit ≤ LAST_TICK }
-        ensures way { MatchBool result
-            ((w : ℕ) × IsNextWake self.old.filing.tick self.old.filing.filed w × (w ≤ limit)
-            × (self.new.filing ≡ passed self.old.filing w))
-            (((i f : ℕ) → filed_at self.old.filing.filed i ≡ Some f → limit < wake_for self.old.filing.tick f)
-            × (self.new.filing ≡ passed self.old.filing limit)) }
-        ensures filed { self.new.filing.filed ≡ self.old.filing.filed }
+        // The tick goes on, to the limit at the most, and past no filed tick.
+        ensures onward { self.old.filing.tick < limit →
+            self.old.filing.tick < self.new.filing.tick }
         ensures within { self.new.filing.tick ≤ limit }
-        ensures none_before { (i f : ℕ) → filed_at self.new.filing.filed i ≡ Some f → self.new.filing.tick ≤ f }
-        ensures onward { self.old.filing.tick < limit → self.old.filing.tick < self.new.filing.tick }
+        ensures none_before { NoneFiledBefore self.new.filing.filed self.new.filing.tick }
+        // Each index stays filed at its tick.
+        ensures filed { self.new.filing.filed ≡ self.old.filing.filed }
+        ensures way { MatchBool result
+            (ReachesWake self.old.filing limit self.new.filing)
+            (ReachesLimit self.old.filing limit self.new.filing) }
     {
         let own = digit(self.tick, LEVELS - 1) as usize;
-        let Some(list) = self.slots.first_filled(own) else {
+        let Some(list) = self.lists.first_filled(own) else {
             self.tick = limit;
             return false;
         };
@@ -308,11 +340,11 @@ impl<A: Allocator> Wheel<A> {
             return false;
         }
         self.tick = start;
-        // All that stands in a slot of level 0 is due at its start, where that slot is the due list.
+        // All that stands in a list of level 0 is due at its start, where that list is the due list.
         if list < SLOTS {
             return true;
         }
-        let made = self.slots.open(list, start, &self.filed, &mut self.moves);
+        let made = self.lists.open(list, start, &self.filed, &mut self.moves);
         self.moved = self.moved.saturating_add(made);
         true
     }

@@ -1,16 +1,14 @@
 use super::{Place, Wheel, WheelError, wakes_are_ahead};
-use dq_ticks::LAST_TICK;
+use dq_ticks::{CAPACITY_LIMIT, LAST_TICK, REACH};
 use linked_list_allocator::LocalHeap;
 use std::alloc::Allocator;
 use std::process::Abort;
 use std::test::Fail;
 
-const LAP: u64 = 68719476736;
-
 // Links an index where the wheel allows it.
 fn link<A: Allocator>(rt: &impl Abort, wheel: &mut Wheel<A>, index: usize, filed: u64) {
     assert!(rt; index < wheel.capacity());
-    assert!(rt; wheel.tick() <= filed && filed <= LAST_TICK && filed < wheel.tick() + LAP);
+    assert!(rt; wheel.tick() <= filed && filed <= LAST_TICK && filed <= wheel.tick() + REACH);
     match wheel.filed(index) {
         None => wheel.link(index, filed),
         Some(_) => assert!(rt; false, "index {index} is linked"),
@@ -87,7 +85,7 @@ fn beyond_one_lap(rt: HostRuntime) -> Result<(), Fail> {
 #[test]
 fn places_by_tick(rt: HostRuntime) -> Result<(), Fail> {
     // The wheel's tick, the tick filed, the level and the slot, and the slot's start.
-    let slots = [
+    let lists = [
         (0, 63, 0, 63, 63),
         (0, 64, 1, 1, 64),
         (63, 64, 1, 1, 64),
@@ -184,8 +182,8 @@ fn refused_memory(rt: HostRuntime) -> Result<(), Fail> {
 
 #[test]
 fn full_wheel_to_the_last_tick(rt: HostRuntime) -> Result<(), Fail> {
-    let mut wheel = Wheel::new(rt.alloc(), 65536)?;
-    assert_eq!(rt; wheel.capacity(), 65536);
+    let mut wheel = Wheel::new(rt.alloc(), CAPACITY_LIMIT)?;
+    assert_eq!(rt; wheel.capacity(), CAPACITY_LIMIT);
     // The tick of an index is its number in the high digits and the same number turned in the low ones.
     for index in 0..65536usize {
         link(

@@ -1,5 +1,6 @@
 use Rattle.std.proofs.Common.{ap}
 use Rattle.dq_wheel.proofs.Lawful.{lawful_unlinked, seen_unlinked, seen_due}
+use Rattle.dq_wheel.proofs.Changes.{has_unlinked}
 use Rattle.dq_wheel.proofs.Wakes.{none_due}
 use Rattle.dq_wheel.proofs.Passing.{seen_none_due}
 use Rattle.dq_wheel.proofs.wheel.Wheel.pop_due.Goals as goal
@@ -11,14 +12,30 @@ invariant_of-self-2 g c =
 
 pub returns-in_default : goal.returns-in_default
 returns-in_default g c =
-    let empty = rw c.due_list.ensures.value at c.in_default.ensures.0 in (
-      rw c.in_default.ensures.1 c.self.view_is,
-      seen_none_due _ _ _ _ c.self.invariant _ _ (ap (λ w. w.filing) c.self.view_is) (none_due _ _ _ _ c.self.invariant empty),
-    )
+    let seen = ap (λ w. w.filing) c.self.view_is in
+    let empty = rw c.due_list.ensures.value at c.in_default.ensures.0 in
+    let none = seen_none_due _ _ _ _ c.self.invariant _ _ seen (none_due _ _ _ _ c.self.invariant empty) in
+    record {
+      due = tt;
+      loose = tt;
+      others = tt;
+      none = none;
+      tick = ap (λ w. w.filing.tick) c.self.view_is;
+      exact = (rw c.in_default.ensures.1 c.self.view_is, none);
+    }
 
 pub returns : goal.returns
 returns g c =
     let seen = ap (λ w. w.filing) c.self.view_is in
     let stands = rw c.due_list.ensures.value at c.in-Some.ensures.0 in
     let due = seen_due _ _ _ _ _ _ c.self.invariant seen _ stands.0 stands.1 in
-    (due.0, due.1, seen_unlinked _ _ _ _ _ seen _)
+    let exact = seen_unlinked _ _ _ _ _ seen c.in-Some.index in
+    let now = has_unlinked _ _ _ due.0 exact in
+    record {
+      due = due.1;
+      loose = now.loose;
+      others = now.others;
+      none = tt;
+      tick = now.tick;
+      exact = (due.0, due.1, exact);
+    }

@@ -1,5 +1,6 @@
 use Rattle.std.proofs.Common.{ap}
 use Rattle.dq_wheel.proofs.Lawful.{lawful_unlinked, seen_unlinked, seen_in}
+use Rattle.dq_wheel.proofs.Changes.{has_unlinked}
 use Rattle.dq_wheel.proofs.wheel.Wheel.unlink.Goals as goal
 
 pub invariant_of-self : goal.invariant_of-self
@@ -9,4 +10,7 @@ invariant_of-self g c =
     (lawful_unlinked _ _ _ _ _ _ c.self.invariant seen _ (seen_in _ _ _ _ _ _ c.self.invariant seen _ c.requires.index_in))
 
 pub returns : goal.returns
-returns g c = seen_unlinked _ _ _ _ _ (ap (λ w. w.filing) c.self.view_is) _
+returns g c =
+    let exact = seen_unlinked _ _ _ _ _ (ap (λ w. w.filing) c.self.view_is) c.args.index in
+    let now = has_unlinked _ _ _ c.requires.index_in exact in
+    record { loose = now.loose; others = now.others; tick = now.tick; exact = exact }

@@ -1,8 +1,0 @@
-use Rattle.std.proofs.Common.{ap}
-use Rattle.dq_wheel.proofs.Occupancy.{occupied_without}
-use Rattle.dq_wheel.proofs.slots.Slots.word_without.Goals as goal
-
-pub returns : goal.returns
-returns g c k k_in =
-    rw (← ap (λ w. w.homes) c.self.view_is)
-    (occupied_without _ _ _ c.self.invariant c.args.list c.clear_bit.ensures.cleared c.clear_bit.ensures.others c.args.level k c.requires.level_in k_in)

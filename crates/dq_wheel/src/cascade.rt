@@ -1,0 +1,52 @@
+//! How a list is opened: it is taken off its head, and each of its indexes goes to the list that the new tick names.
+
+ghost use Rattle.std.specs.Prelude.{◌≡◌, ℕ, ◌+◌, ◌<◌, ◌≤◌, length, slice_index};
+ghost use Rattle.dq_wheel.specs.Rows.{entry_homes, AreRings};
+ghost use Rattle.dq_wheel.specs.Lists.{StandsIn};
+ghost use Rattle.dq_wheel.specs.Maps.{IsOccupied};
+ghost use Rattle.dq_wheel.specs.Homes.{CanGo, IsOpened};
+
+use crate::LISTS;
+use crate::homes::list_from;
+use crate::maps::{Maps, clear_bit, set_bit};
+use crate::row::{Row, put_last, take_off};
+
+/// Places each index of a list again by the new tick, and gives how many of them aren't due yet. Meanwhile the list's
+/// bit stays, and what waits in it is linked only forward.
+pub fn scatter(
+    rows: &mut [Row],
+    capacity: usize,
+    maps: &mut Maps,
+    list: usize,
+    tick: u64,
+    filed: &[u64],
+    moves: &mut [u8],
+) -> u64
+    requires rings { AreRings capacity rows.old }
+    requires list_in { list < LISTS }
+    requires filed_all { length filed.now ≡ capacity }
+    requires moves_all { length moves.old ≡ capacity }
+    requires occupied { IsOccupied maps.old (entry_homes capacity rows.old) }
+    requires can_go { (i : ℕ) → StandsIn (entry_homes capacity rows.old) list i →
+        CanGo tick list (slice_index filed.now i) (slice_index moves.old i) }
+    ensures rings { AreRings capacity rows.new }
+    ensures opened { IsOpened tick list filed.now (entry_homes capacity rows.old) moves.old
+        (entry_homes capacity rows.new) moves.new result }
+    ensures occupied { IsOccupied maps.new (entry_homes capacity rows.new) }
+{
+    let mut made = 0;
+    let mut index = take_off(rows, capacity, list);
+    while index < capacity {
+        let when = filed[index];
+        let to = list_from(list, tick, when);
+        let after = put_last(rows, capacity, list, index, to);
+        set_bit(maps, to);
+        if when != tick {
+            moves[index] += 1;
+            made += 1;
+        }
+        index = after;
+    }
+    clear_bit(maps, list);
+    made
+}
