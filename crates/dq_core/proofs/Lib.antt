@@ -1,5 +1,6 @@
 pub mod Asks
 pub mod ByKey
+pub mod CallWords
 mod Cells
 pub mod Clearing
 pub mod Finds

@@ -1,8 +1,14 @@
 //! The one seat that begins and ends entries.
-ghost use Rattle.std.specs.Prelude.{◌≡◌, ◌+◌, ◌<◌, ◌≤◌, length, true, slice_set, IfOk};
+ghost use Rattle.std.specs.Prelude.{◌≡◌, ◌+◌, ◌<◌, ◌≤◌, length, true, slice_set, IfErr, IfOk};
 ghost use Rattle.atomic_table.specs.Seated.{TableId};
-ghost use Rattle.dq_core.specs.Words.{live, removed, word_at, begun_counts, settled_counts, finished_counts, IsChanged, IsInForce, IsOver, IsSettled, Learned};
-ghost use Rattle.dq_words.specs.KeeperCalls.{known_of, counts_by, EndsFit, KeeperIsMade, KeeperBegins, KeeperLooks, KeeperSettles, KeeperRenews, KeeperFinishes, Issues, Tells, Returns, Accounts};
+ghost use Rattle.dq_core.specs.Words.{AreFresh, live, removed, begun_counts, settled_counts};
+ghost use Rattle.dq_core.specs.Words.{finished_counts, IsChanged, IsInForce, IsOver, IsSettled};
+ghost use Rattle.dq_core.specs.Words.{Learned};
+ghost use Rattle.dq_words.specs.AtTheCall.{KnowsNothing, NoCallerAfter, NoKeeperFor, StepsAtMost};
+ghost use Rattle.dq_words.specs.KeeperCalls.{known_of, known_word, counts_by, EndsFit};
+ghost use Rattle.dq_words.specs.KeeperCalls.{KeeperIsMade, KeeperBegins, KeeperLooks};
+ghost use Rattle.dq_words.specs.KeeperCalls.{KeeperSettles, KeeperRenews, KeeperFinishes, Issues};
+ghost use Rattle.dq_words.specs.KeeperCalls.{Tells, Returns, Accounts};
 ghost use Rattle.dq_words.specs.Keeping.{IsKeeper, Stood};
 
 use crate::caller::Caller;
@@ -54,7 +60,8 @@ impl<A: Allocator> Model for Keeper<A> {
 
     ghost view = { λ k. k.seat };
 
-    ghost invariant = { λ k. (k.seat.view.keeps ≡ true) × (k.issued ≡ k.seat.view.issued) × (k.issued ≤ 1024) };
+    ghost invariant = { λ k. (k.seat.view.keeps ≡ true)
+        × (k.issued ≡ k.seat.view.issued) × (k.issued ≤ 1024) };
 }
 
 impl From<AllocError> for WordsError {
@@ -72,7 +79,16 @@ impl<A: Allocator + Clone> Keeper<A> {
     /// A keeper of that many slots which were never used. Refused as BadConfig for a capacity of 0 or beyond 65536, and as
     /// NoMemory.
     pub fn new(alloc: A, capacity: usize) -> Result<Keeper<A>, WordsError>
-        ensures { KeeperIsMade capacity result }
+        // Made: each word was never used, and nothing is known, written or issued yet.
+        ensures rows { IfOk result (λ k. length (known_of k) ≡ capacity) }
+        ensures fresh { IfOk result (λ k. AreFresh (known_of k) (counts_by k)) }
+        ensures nothing { IfOk result (λ k. KnowsNothing k) }
+
+        // Refused: exactly by the capacity, but where memory is refused.
+        ensures refused { IfErr result (λ e. NoKeeperFor capacity e) }
+
+        // All that it is.
+        ensures made { KeeperIsMade capacity result }
     {
         if capacity == 0 || capacity > CAPACITY_LIMIT {
             return Err(WordsError::BadConfig);
@@ -95,7 +111,18 @@ impl<A: Allocator> Keeper<A> {
     /// One caller more, which may go to any thread. Refused as TooManyHandles where [`HANDLE_LIMIT`] callers were issued,
     /// given back or not, and as NoMemory where the table can't be shared once more.
     pub fn issue(&mut self) -> Result<Caller<A>, WordsError>
+        // Issued: one more, which sits at this keeper's table and knows nothing yet.
+        ensures counted { IfOk result (λ _. self.new.view.issued ≡ self.old.view.issued + 1) }
+        ensures same_table { IfOk result (λ c. c.table ≡ self.old.table) }
+        ensures newcomer { IfOk result (λ c. KnowsNothing c) }
+
+        // Refused: exactly past the limit, but where memory is refused; then nothing changes.
+        ensures refused { IfErr result (λ e. NoCallerAfter self.old.view.issued e) }
+        ensures unchanged { IfErr result (λ _. self.new ≡ self.old) }
+
+        // All that it does.
         ensures issues { Issues self.old result self.new }
+        ensures table { self.new.table ≡ self.old.table }
     {
         if self.issued >= HANDLE_LIMIT {
             return Err(WordsError::TooManyHandles {
@@ -109,7 +136,14 @@ impl<A: Allocator> Keeper<A> {
 
     /// The callers that were issued and are not given back, by one load. A caller that was dropped is out for good.
     pub fn out(&mut self) -> u64
+        ensures at_most { result ≤ self.new.view.issued }
+        ensures one_step { StepsAtMost 1 self.old self.new }
+        ensures words { known_of self.new ≡ known_of self.old }
+        ensures counts { counts_by self.new ≡ counts_by self.old }
+
+        // All that it does.
         ensures tells { Tells self.old result self.new }
+        ensures table { self.new.table ≡ self.old.table }
     {
         let gone = self.seat.return_load() % ONE_CANCEL;
         self.issued - gone
@@ -117,9 +151,17 @@ impl<A: Allocator> Keeper<A> {
 
     /// The accepted cancels of all callers, where none is out, and else the number that is out, by one load.
     pub fn returned(&mut self) -> Result<u64, u64>
-        ensures returns { Returns self.old result self.new }
+        // Nobody is out: the cancels account for all that was begun.
         ensures accounts { IfOk result (λ c. Accounts self.new c) }
         ensures ends { IfOk result (λ c. EndsFit (counts_by self.new) c) }
+
+        // Somebody is out: so many.
+        ensures out { IfErr result (λ n. (0 < n) × (n ≤ self.new.view.issued)) }
+        ensures one_step { StepsAtMost 1 self.old self.new }
+
+        // All that it does.
+        ensures returns { Returns self.old result self.new }
+        ensures table { self.new.table ≡ self.old.table }
     {
         let word = self.seat.return_load();
         let out = self.issued - word % ONE_CANCEL;
@@ -153,8 +195,8 @@ impl<A: Allocator> Words for Keeper<A> {
 
     fn begin(&mut self, index: usize, stamp: u32, when: u64)
         requires in_range { index < length (known_of self.old) }
-        requires over { IsOver (word_at (known_of self.old) index) }
-        requires next { stamp ≡ (word_at (known_of self.old) index).stamp + 1 }
+        requires over { IsOver (known_word self.old index) }
+        requires next { stamp ≡ (known_word self.old index).stamp + 1 }
         requires last { stamp ≤ LAST_STAMP }
         requires tick { when ≤ LAST_TICK }
         ensures known { known_of self.new ≡ slice_set (known_of self.old) index (live stamp when) }
@@ -167,7 +209,7 @@ impl<A: Allocator> Words for Keeper<A> {
 
     fn look(&mut self, index: usize) -> Parts
         requires { index < length (known_of self.old) }
-        ensures learned { Learned true (word_at (known_of self.old) index) result }
+        ensures learned { Learned true (known_word self.old index) result }
         ensures known { known_of self.new ≡ slice_set (known_of self.old) index result }
         ensures counts { counts_by self.new ≡ counts_by self.old }
         ensures home { self.new.table ≡ self.old.table }
@@ -178,11 +220,13 @@ impl<A: Allocator> Words for Keeper<A> {
 
     fn settle(&mut self, index: usize, stamp: u32, at: u64) -> Settled
         requires in_range { index < length (known_of self.old) }
-        requires in_force { IsInForce stamp at (word_at (known_of self.old) index) }
+        requires in_force { IsInForce stamp at (known_word self.old index) }
         requires last { stamp ≤ LAST_STAMP }
         requires tick { at ≤ LAST_TICK }
-        ensures settled { IsSettled true stamp at (word_at (known_of self.old) index) result (word_at (known_of self.new) index) }
-        ensures known { known_of self.new ≡ slice_set (known_of self.old) index (word_at (known_of self.new) index) }
+        ensures settled { IsSettled true stamp at
+            (known_word self.old index) result (known_word self.new index) }
+        ensures known { known_of self.new
+            ≡ slice_set (known_of self.old) index (known_word self.new index) }
         ensures counts { counts_by self.new ≡ settled_counts (counts_by self.old) result }
         ensures home { self.new.table ≡ self.old.table }
         ensures step { KeeperSettles self.old.view index stamp at result self.new.view }
@@ -192,11 +236,13 @@ impl<A: Allocator> Words for Keeper<A> {
 
     fn renew(&mut self, index: usize, stamp: u32, when: u64) -> Option<u64>
         requires in_range { index < length (known_of self.old) }
-        requires in_force { IsInForce stamp 0 (word_at (known_of self.old) index) }
+        requires in_force { IsInForce stamp 0 (known_word self.old index) }
         requires last { stamp < LAST_STAMP }
         requires tick { when ≤ LAST_TICK }
-        ensures changed { IsChanged true stamp (λ d. live (stamp + 1) when) (word_at (known_of self.old) index) result (word_at (known_of self.new) index) }
-        ensures known { known_of self.new ≡ slice_set (known_of self.old) index (word_at (known_of self.new) index) }
+        ensures changed { IsChanged true stamp (λ d. live (stamp + 1) when)
+            (known_word self.old index) result (known_word self.new index) }
+        ensures known { known_of self.new
+            ≡ slice_set (known_of self.old) index (known_word self.new index) }
         ensures counts { counts_by self.new ≡ counts_by self.old }
         ensures home { self.new.table ≡ self.old.table }
         ensures step { KeeperRenews self.old.view index stamp when result self.new.view }
@@ -206,10 +252,12 @@ impl<A: Allocator> Words for Keeper<A> {
 
     fn finish(&mut self, index: usize, stamp: u32) -> Option<u64>
         requires in_range { index < length (known_of self.old) }
-        requires in_force { IsInForce stamp 0 (word_at (known_of self.old) index) }
+        requires in_force { IsInForce stamp 0 (known_word self.old index) }
         requires last { stamp ≤ LAST_STAMP }
-        ensures changed { IsChanged true stamp (removed stamp) (word_at (known_of self.old) index) result (word_at (known_of self.new) index) }
-        ensures known { known_of self.new ≡ slice_set (known_of self.old) index (word_at (known_of self.new) index) }
+        ensures changed { IsChanged true stamp (removed stamp)
+            (known_word self.old index) result (known_word self.new index) }
+        ensures known { known_of self.new
+            ≡ slice_set (known_of self.old) index (known_word self.new index) }
         ensures counts { counts_by self.new ≡ finished_counts (counts_by self.old) result }
         ensures home { self.new.table ≡ self.old.table }
         ensures step { KeeperFinishes self.old.view index stamp result self.new.view }
