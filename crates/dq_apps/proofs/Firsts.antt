@@ -1,6 +1,7 @@
 -- The first timer of a queue: what is filed least by its own deadline has the least deadline of all.
 use Rattle.std.proofs.Common.{◌≡◌, ℕ, ◌≤◌, get_or, Option, Some, None, Ok, refl, sym, ap, ◌∙◌, subst, inl, inr, arith}
 use Rattle.dq_ticks.specs.Keys.{KeyName}
+use Rattle.dq_ticks.specs.declared.TheConstants.{LAST_TICK}
 use Rattle.dq_ticks.specs.declared.words.Parts.{Parts}
 use Rattle.dq_ticks.specs.declared.words.Mark.{Mark}
 use Rattle.dq_ticks.specs.declared.words.Mark.TheVariants.{LiveMark, CancelledMark, ExpiredMark, RemovedMark}
@@ -12,7 +13,7 @@ use Rattle.dq_core.specs.Machine.{Entry}
 use Rattle.dq_core.specs.Core.{Core, machine, IsLawfulCore, IsPlaced, entry_of, due_by}
 use Rattle.dq_core.specs.Readers.{TellsLeast, TellsFiled}
 use Rattle.dq_core.specs.KeyCalls.{Shows}
-use Rattle.dq_apps.specs.TimerTable.{timer_at, running, IsFirst}
+use Rattle.dq_apps.specs.TimerTable.{timer_at, running, AreInRange, IsFirst}
 use Rattle.dq_apps.proofs.TimerRows.{slot_is, inside_slots, length-slots}
 
 due_live : (m : Mark) (d e : ℕ) → due_by m d ≡ Some e → (m ≡ LiveMark) × (d ≡ e)
@@ -31,6 +32,10 @@ look_live RemovedMark x d is = absurd (cc)
 force_live : (s f : ℕ) (w : Parts) → IsInForce s f w → w.mark ≡ LiveMark → f ≤ w.field
 force_live s f w (used, inl (is, within, small)) live = within
 force_live s f w (used, inr is) live = let mark : w.mark ≡ CancelledMark = ap (λ p. p.mark) is in absurd (cc)
+
+force_small : (s f : ℕ) (w : Parts) → IsInForce s f w → w.mark ≡ LiveMark → w.field ≤ LAST_TICK
+force_small s f w (used, inl (is, within, small)) live = small
+force_small s f w (used, inr is) live = let mark : w.mark ≡ CancelledMark = ap (λ p. p.mark) is in absurd (cc)
 
 module _ {K : Type 0} where
   entry_parts : (o : Option (Held K)) (w : Parts) (e : Entry K) → entry_of o w ≡ Some e → (h : Held K) × (o ≡ Some h) × (e.due ≡ due_by w.mark w.field)
@@ -66,6 +71,14 @@ module _ {K W : Type 0} (b : Core K W) (law : IsLawfulCore b) where
       let within = force_live (row_at b.shelf.rows i).stamp at.0 (word_at b.known i) at.2 live.0 in
       let field = live.1 in
       (at.0, at.1, omega (arith, within, field))
+
+  pub range_within : AreInRange (machine b).slots
+  range_within i born key d is =
+      let at = at_slot i (record { born = born; value = key; due = Some d }) is in
+      let live = due_live (word_at b.known i).mark (word_at b.known i).field d (sym at.3) in
+      let small = force_small (row_at b.shelf.rows i).stamp at.0 (word_at b.known i) at.2 live.0 in
+      let field = live.1 in
+      omega (arith, small, field)
 
   -- an entry that a look shows as live at d is a timer of that deadline
   shown_live : (k : KeyName) (e : Entry K) (d : ℕ) → (timer_at (machine b).slots k.entry.index).entry ≡ Some e → Shows b k (Ok (StillLive d)) → (timer_at (machine b).slots k.entry.index).entry ≡ running e.born e.value d

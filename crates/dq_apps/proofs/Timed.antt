@@ -1,7 +1,8 @@
 -- What an insert, a reset and a removal do to the timers of a queue.
-use Rattle.std.proofs.Common.{◌≡◌, ◌≢◌, ℕ, ◌+◌, ◌<◌, ◌≤◌, false, List, length, set, replicate, Some, None, max, refl, sym, ap, ◌∙◌, subst, inl, inr, arith}
+use Rattle.std.proofs.Common.{◌≡◌, ◌≢◌, ℕ, ◌+◌, ◌<◌, ◌≤◌, false, List, length, set, replicate, Some, None, max, Bool, refl, sym, ap, ◌∙◌, subst, inl, inr, arith}
 use Rattle.std.specs.List.{count_by}
 use Rattle.std.proofs.lemmas.List.{get_or_past}
+use Rattle.std.proofs.lemmas.List.Sums.{count_by-le-length}
 use Rattle.std.proofs.lemmas.Bool.{cases_lt}
 use Rattle.dq_ticks.specs.Keys.{KeyName}
 use Rattle.dq_ticks.specs.declared.TheConstants.{LAST_TICK}
@@ -155,6 +156,9 @@ module _ {K W : Type 0} (b c : Core K W) (own : OwnEventsAlone false K) (same : 
 module _ {K W : Type 0} (b : Core K W) (law : IsLawfulCore b) where
   pub capacity_within : length (machine b).slots ≤ 65536
   capacity_within = let size = length-slots b.shelf.rows b.known law.as_known in let few = law.capacity in omega (arith, size, few)
+
+  pub counted_within : (p : Slot K → Bool) → count_by p (machine b).slots ≤ 65536
+  counted_within p = let few = capacity_within in omega (arith, few, count_by-le-length p (machine b).slots)
 
   pub stamps_within : AreWithin b.shelf.last_stamp (machine b).slots
   stamps_within i = elim (cases_lt i (length (machine b).slots)) [

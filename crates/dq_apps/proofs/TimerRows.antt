@@ -80,7 +80,8 @@ module _ {K : Type 0} where
   new_slots zero = refl
   new_slots (suc n) = ap (λ ss. unset ∷ ss) (new_slots n)
 
-  none_new : (n i : ℕ) → timer_at (replicate n (unset {K = K})) i ≡ unset
+  -- where no slot was used, there is no timer
+  pub none_new : (n i : ℕ) → timer_at (replicate n (unset {K = K})) i ≡ unset
   none_new zero i = refl
   none_new (suc n) zero = refl
   none_new (suc n) (suc i) = none_new n i

@@ -1,13 +1,14 @@
--- No public clause cites this module but for `IsSetting` and `SettingRefused`.
+-- No public clause cites this module.
 -- The timers of keys: the slots of a queue in which no entry is cancelled.
 use Rattle.std.specs.Prelude.{◌≡◌, ℕ, ◌+◌, ◌<◌, ◌≤◌, Bool, List, Option, Some, None, Result, Ok}
-use Rattle.std.specs.Prelude.{Err, replicate, slice_index_or, slice_set, length, nat_lt, ◌&&◌, not, is_some, is_none}
+use Rattle.std.specs.Prelude.{Err, replicate, slice_index_or, slice_set, length, nat_lt, ◌&&◌}
+use Rattle.std.specs.Prelude.{not, is_some, is_none}
 use Rattle.dq_ticks.specs.Keys.{KeyName}
-use Rattle.dq_ticks.specs.declared.TheConstants.{LAST_STAMP}
+use Rattle.dq_ticks.specs.declared.TheConstants.{LAST_TICK}
 use Rattle.dq_core.specs.declared.errors.CoreError.{CoreError}
-use Rattle.dq_core.specs.declared.errors.CoreError.TheVariants.{BadConfig, NoMemory}
 use Rattle.dq_core.specs.Machine.{Entry, Slot}
 use Rattle.dq_core.specs.Core.{Core, machine}
+use Rattle.dq_apps.specs.Setting.{IsSetting, SettingRefused}
 
 -- the last stamp of a slot, the greatest noted tick, and the slots: each with its present stamp, and
 -- the timer there
@@ -36,6 +37,11 @@ AllRun {K} slots =
 -- no slot's stamp is beyond the last one
 abbrev pub AreWithin : {K : Type 0} → ℕ → List (Slot K) → Type 0
 AreWithin last slots = (i : ℕ) → (timer_at slots i).stamp ≤ last
+
+-- no timer's deadline is beyond the last tick
+abbrev pub AreInRange : {K : Type 0} → List (Slot K) → Type 0
+AreInRange {K} slots =
+    (i born : ℕ) (key : K) (d : ℕ) → (timer_at slots i).entry ≡ running born key d → d ≤ LAST_TICK
 
 -- a key of the queue names the timer of a key of the cache
 pub record IsRunning {K : Type 0} (slots : List (Slot K)) (k : KeyName) (key : K) (d : ℕ)
@@ -69,16 +75,6 @@ set_at slots i stamp born key deadline =
 -- the timers with other slots
 abbrev pub with_slots : {K : Type 0} → TimerTable K → ℕ → List (Slot K) → TimerTable K
 with_slots t noted slots = record { last_stamp = t.last_stamp; noted = noted; slots = slots }
-
--- the numbers that a cache is made by
-abbrev pub IsSetting : ℕ → ℕ → Type 0
-IsSetting capacity last = (0 < capacity) × (capacity ≤ 65536) × (0 < last) × (last ≤ LAST_STAMP)
-
--- why none is made: BadConfig exactly where a number is out of its range
-abbrev pub SettingRefused : ℕ → ℕ → CoreError → Type 0
-SettingRefused capacity last BadConfig = ¬ IsSetting capacity last
-SettingRefused capacity last NoMemory = IsSetting capacity last
-SettingRefused capacity last e = ⊥
 
 -- timers of which none is set
 abbrev pub fresh_timers : {K : Type 0} → ℕ → ℕ → TimerTable K

@@ -2,8 +2,9 @@
 ghost use Rattle.std.specs.Prelude.{◌≡◌, ◌≢◌, ℕ, ◌+◌, ◌<◌, ◌≤◌, ◌↔◌, length, IsTrue, IfSome};
 ghost use Rattle.std.specs.List.{count_by};
 ghost use Rattle.dq_apps.specs.TimerTable.{is_set, is_spent, timers_of, with_slots, stopped};
-ghost use Rattle.dq_apps.specs.TimerTable.{IsSetting, MakesTimers, AreTimers, IsTimer};
-ghost use Rattle.dq_apps.specs.TimerTable.{StopsDue, Starts, Restarts, AreWithin, IsFirst};
+ghost use Rattle.dq_apps.specs.Setting.{IsSetting};
+ghost use Rattle.dq_apps.specs.TimerTable.{MakesTimers, AreTimers, IsTimer};
+ghost use Rattle.dq_apps.specs.TimerTable.{StopsDue, Starts, Restarts, AreWithin, AreInRange, IsFirst};
 
 use dq_core::{CoreConfig, CoreError, DelayCore, Look, Turn, VecWords};
 use dq_ticks::{Key, LAST_STAMP, LAST_TICK};
@@ -146,6 +147,7 @@ impl<K: Drop, A: Allocator> Timers<K, A> {
         ensures last { self.now.last_stamp ≤ LAST_STAMP }
         ensures capacity { length self.now.slots ≤ 65536 }
         ensures stamps { AreWithin self.now.last_stamp self.now.slots }
+        ensures deadlines { AreInRange self.now.slots }
         ensures noted { self.now.noted ≤ LAST_TICK }
     {
         self.queue.law();
@@ -153,7 +155,8 @@ impl<K: Drop, A: Allocator> Timers<K, A> {
 
     /// How many timers are set.
     pub(crate) fn len(&self) -> usize
-        ensures { result ≡ count_by is_set self.now.slots }
+        ensures count { result ≡ count_by is_set self.now.slots }
+        ensures few { result ≤ 65536 }
     {
         self.queue.law();
         self.queue.len()
@@ -161,7 +164,8 @@ impl<K: Drop, A: Allocator> Timers<K, A> {
 
     /// How many slots have no timer and no stamp left.
     pub(crate) fn worn(&self) -> usize
-        ensures { result ≡ count_by (is_spent self.now.last_stamp) self.now.slots }
+        ensures count { result ≡ count_by (is_spent self.now.last_stamp) self.now.slots }
+        ensures few { result ≤ 65536 }
     {
         self.queue.law();
         self.queue.worn()
