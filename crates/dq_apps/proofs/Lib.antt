@@ -1,0 +1,13 @@
+pub mod CacheSteps
+pub mod Firsts
+pub mod Leasts
+pub mod PutSteps
+pub mod SeenPairs
+pub mod SeenSlots
+pub mod Shows
+pub mod ShowsPuts
+pub mod Sweeps
+pub mod Ties
+pub mod Timed
+pub mod TimerRows
+pub mod TimerRuns
