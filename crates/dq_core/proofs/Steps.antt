@@ -22,8 +22,8 @@ use Rattle.dq_core.specs.Machine.{Machine, Reap, Pass, RunOf, IsCallers, IsOnThe
 use Rattle.dq_core.specs.Core.{Core, machine, IsPlaced, IsLawful, IsLawfulCore, filing_for, due_by, entry_of}
 use Rattle.dq_core.specs.TableRows.{machine_of}
 use Rattle.dq_core.specs.Calls.{SameCore, LooksOver, IsFiledOver, IsUnderWay, IsAnswered, IsLeft, IsOut, IsTurn, IsPolled, TurnRow, turn_counts, TellsWake, WakesAhead, cost, work, noting}
-use Rattle.dq_wheel.specs.Wakes.{IsNextWake}
-use Rattle.dq_wheel.specs.Lawful.{IsLawfulWheel, WakesAreAhead}
+use Rattle.dq_wheel.specs.Wakes.{IsNextWake, WakesAreAhead}
+use Rattle.dq_wheel.specs.Lawful.{IsLawfulWheel}
 use Rattle.dq_core.proofs.Slotwise.{held_inside}
 use Rattle.dq_core.proofs.Law.{Filed, filed_is, held_filed, law_kept, law_vacated, force_learned, force_live}
 use Rattle.dq_core.specs.WheelWays.{GoesOn}
