@@ -7,7 +7,7 @@ use Rattle.std.proofs.lemmas.List.Elements.{All-from_get_or}
 use Rattle.std.proofs.lemmas.Bool.{cases_lt}
 use Rattle.dq_ticks.specs.declared.words.Parts.{Parts}
 use Rattle.dq_ticks.specs.declared.words.Mark.TheVariants.{LiveMark, CancelledMark, ExpiredMark}
-use Rattle.dq_ticks.specs.declared.TheConstants.{LAST_TICK, LAST_STAMP}
+use Rattle.dq_ticks.specs.declared.TheConstants.{CAPACITY_LIMIT, LAST_TICK, LAST_STAMP}
 use Rattle.dq_ticks.specs.Units.{lap}
 use Rattle.dq_wheel.specs.State.{Filing, filed_at, unlinked}
 use Rattle.dq_core.specs.declared.slots.Held.{Held}
@@ -16,11 +16,11 @@ use Rattle.dq_core.specs.Slots.{Row, SlotRows, unused, row_at, is_held, vacated,
 use Rattle.dq_core.proofs.Slotwise.{changed_set, slots_change, count_set, stamps_set, one_held, one}
 use Rattle.dq_core.specs.Core.{IsPlaced, IsSlot, IsLawful}
 
-few_by : (n last begins : ℕ) → begins ≤ n * last → n ≤ 65536 → last ≤ LAST_STAMP → begins ≤ 65536 * LAST_STAMP
+few_by : (n last begins : ℕ) → begins ≤ n * last → n ≤ CAPACITY_LIMIT → last ≤ LAST_STAMP → begins ≤ CAPACITY_LIMIT * LAST_STAMP
 few_by n last begins h small low = grind arith
 
 -- too few entries were begun to overflow
-pub few : {T : Type 0} {noted : ℕ} {wheel : Filing} {slots : SlotRows T} {known : List Parts} {counts : Counts} → IsLawful noted wheel slots known counts → counts.begins ≤ 65536 * LAST_STAMP
+pub few : {T : Type 0} {noted : ℕ} {wheel : Filing} {slots : SlotRows T} {known : List Parts} {counts : Counts} → IsLawful noted wheel slots known counts → counts.begins ≤ CAPACITY_LIMIT * LAST_STAMP
 few {T} {noted} {wheel} {slots} {known} {counts} l =
     let bound : sum_by (λ r. r.stamp) slots.rows ≤ length slots.rows * slots.last_stamp =
     sum_by-le (λ r. r.stamp) slots.last_stamp slots.rows (All-from_get_or (λ r. r.stamp ≤ slots.last_stamp) slots.rows unused (λ i inside. (l.each i inside).bound)) in

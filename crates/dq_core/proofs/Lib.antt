@@ -7,11 +7,6 @@ pub mod Finds
 pub mod Inserts
 pub mod Law
 pub mod Leaving
-pub mod RunsEnding
-pub mod RunsKept
-pub mod RunsMoves
-pub mod RunsOfCalls
-pub mod RunsOrdered
 pub mod Looks
 pub mod Rests
 pub mod Searches

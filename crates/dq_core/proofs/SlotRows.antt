@@ -5,7 +5,7 @@ use Rattle.std.proofs.lemmas.List.Sums.{sum_by-set, sum_by-cons, sum_by_push, ge
 use Rattle.std.proofs.lemmas.List.Elements.{All-set, All-get_or, All-replicate}
 use Rattle.std.proofs.lemmas.Bool.{and_parts, and_left, and_right, cases_eq, cases_lt, eq-eqb, ne_eqb, lt-ltb, le-ltb, ltb-true, le-leb, lt-leb}
 use Rattle.dq_core.specs.declared.slots.Held.{Held}
-use Rattle.dq_ticks.specs.declared.TheConstants.{LAST_STAMP}
+use Rattle.dq_ticks.specs.declared.TheConstants.{CAPACITY_LIMIT, LAST_STAMP}
 use Rattle.dq_core.specs.Slots.{Row, SlotRows, unused, row_at, is_held, is_free, is_worn, IsRow, IsSlotRows, filled_row, vacated_row, raised_row}
 use Rattle.dq_core.specs.SlotRowsKept.{times, is_open, IsSlotRowsKept}
 
@@ -268,7 +268,7 @@ unused_at {T = T} n i =
     (cases_lt i n)
 
 -- a new row
-pub new_is : {T : Type 0} (last n space : ℕ) (rows : List (Row T)) (stack : List ℕ) → 0 < last → last ≤ LAST_STAMP → n ≤ 65536 → rows ≡ replicate n unused → IsNewStack n n stack → n ≤ space → IsSlotRowsKept last rows stack 0 space
+pub new_is : {T : Type 0} (last n space : ℕ) (rows : List (Row T)) (stack : List ℕ) → 0 < last → last ≤ LAST_STAMP → n ≤ CAPACITY_LIMIT → rows ≡ replicate n unused → IsNewStack n n stack → n ≤ space → IsSlotRowsKept last rows stack 0 space
 new_is {T = T} last n space rows stack used bound size are s room =
     let left : is_free last (unused {T = T}) ≡ true = lt-ltb 0 last used in
     let good : IsRow last (unused {T = T}) = record { bound = omega arith; birth = λ h e. cc } in

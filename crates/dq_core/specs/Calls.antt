@@ -3,7 +3,7 @@ use Rattle.std.specs.Prelude.{max, ◌≡◌, ◌≢◌, ℕ, ◌+◌, ◌-◌, 
 use Rattle.std.specs.List.{count_by, sum_by}
 use Rattle.dq_wheel.specs.State.{Filing, WheelState, filed_at, linked, unlinked, fresh_filing}
 use Rattle.dq_wheel.specs.Wakes.{IsNextWake}
-use Rattle.dq_ticks.specs.declared.TheConstants.{LAST_TICK, LAST_STAMP}
+use Rattle.dq_ticks.specs.declared.TheConstants.{CAPACITY_LIMIT, LAST_TICK, LAST_STAMP}
 use Rattle.dq_ticks.specs.declared.words.Parts.{Parts}
 use Rattle.dq_ticks.specs.declared.words.Mark.TheVariants.{LiveMark}
 use Rattle.dq_ticks.specs.declared.keys.Key.{Key}
@@ -61,7 +61,7 @@ new_core shard capacity last wheel known counts words =
 
 -- the numbers of a configuration, for that many words
 abbrev pub IsConfig : ℕ → ℕ → ℕ → Type 0
-IsConfig capacity last rows = (0 < capacity) × (capacity ≤ 65536) × (0 < last) × (last ≤ LAST_STAMP) × (rows ≡ capacity)
+IsConfig capacity last rows = (0 < capacity) × (capacity ≤ CAPACITY_LIMIT) × (0 < last) × (last ≤ LAST_STAMP) × (rows ≡ capacity)
 
 -- why no queue is made: BadConfig exactly where a number is out of range
 abbrev pub NewRefused : ℕ → ℕ → ℕ → CoreError → Type 0

@@ -4,7 +4,7 @@ use Rattle.std.specs.List.{count_by, sum_by}
 use Rattle.dq_ticks.specs.declared.words.Parts.{Parts}
 use Rattle.dq_ticks.specs.declared.words.Mark.{Mark}
 use Rattle.dq_ticks.specs.declared.words.Mark.TheVariants.{LiveMark, CancelledMark, ExpiredMark, RemovedMark}
-use Rattle.dq_ticks.specs.declared.TheConstants.{LAST_TICK, LAST_STAMP}
+use Rattle.dq_ticks.specs.declared.TheConstants.{CAPACITY_LIMIT, LAST_TICK, LAST_STAMP, REACH}
 use Rattle.dq_ticks.specs.Units.{lap}
 use Rattle.dq_wheel.specs.State.{Filing, WheelState, filed_at}
 use Rattle.dq_core.specs.declared.slots.Held.{Held}
@@ -47,13 +47,9 @@ abbrev pub machine : {T W : Type 0} → Core T W → Machine T
 machine c =
     record { tick = c.wheel.filing.tick; noted = c.noted; table = table_of c.slots.rows c.known }
 
--- the furthest from its tick that a wheel files
-abbrev pub reach : ℕ
-reach = 68719476735
-
 -- where a deadline in force is filed at a tick: there, or as far ahead as the wheel reaches
 abbrev pub filing_for : ℕ → ℕ → ℕ
-filing_for tick d = min d (tick + reach)
+filing_for tick d = min d (tick + REACH)
 
 -- what is held, what is known and what is filed at one slot
 abbrev pub IsPlaced : {T : Type 0} → ℕ → ℕ → ℕ → Option (Held T) → Parts → Option ℕ → Type 0
@@ -77,7 +73,7 @@ AreSlots tick noted last rows known filed = (i : ℕ) → i < length rows → Is
 pub record IsLawful {T : Type 0} (noted : ℕ) (wheel : Filing) (slots : SlotRows T) (known : List Parts) (counts : Counts) : Type 0 where
   pub as_filed : length wheel.filed ≡ length slots.rows
   pub as_known : length known ≡ length slots.rows
-  pub capacity : length slots.rows ≤ 65536
+  pub capacity : length slots.rows ≤ CAPACITY_LIMIT
   pub last_bound : slots.last_stamp ≤ LAST_STAMP
   pub tick : wheel.tick ≤ noted
   pub noted_bound : noted ≤ LAST_TICK

@@ -6,8 +6,6 @@ pub mod KeyCalls
 pub mod Machine
 pub mod Plain
 pub mod Readers
-pub mod Runs
-pub mod RunsOfCalls
 pub mod Rests
 pub mod SlotRowsKept
 pub mod Slots

@@ -2,7 +2,7 @@
 use Rattle.std.specs.Prelude.{◌≡◌, ℕ, ◌+◌, ◌<◌, ◌≤◌, Bool, true, List, Option, Some, None, Result, Ok, Err, slice_index_or, slice_set, length, nat_lt, ◌&&◌, not, is_some, is_none}
 use Rattle.std.specs.List.{count_by, All}
 use Rattle.dq_core.specs.declared.slots.Held.{Held}
-use Rattle.dq_ticks.specs.declared.TheConstants.{LAST_STAMP}
+use Rattle.dq_ticks.specs.declared.TheConstants.{CAPACITY_LIMIT, LAST_STAMP}
 
 -- a slot: its present stamp, and what is held there
 pub record Row (T : Type 0) : Type 0 where
@@ -77,5 +77,5 @@ pub record IsRow {T : Type 0} (last : ℕ) (r : Row T) : Type 0 where
 pub record IsSlotRows {T : Type 0} (s : SlotRows T) : Type 0 where
   pub used : 0 < s.last_stamp
   pub bound : s.last_stamp ≤ LAST_STAMP
-  pub size : length s.rows ≤ 65536
+  pub size : length s.rows ≤ CAPACITY_LIMIT
   pub each : All (IsRow s.last_stamp) s.rows

@@ -4,7 +4,7 @@ use Rattle.std.specs.List.{sum_by, count_by}
 use Rattle.dq_ticks.specs.declared.words.Parts.{Parts}
 use Rattle.dq_ticks.specs.declared.words.Mark.{Mark}
 use Rattle.dq_ticks.specs.declared.words.Mark.TheVariants.{LiveMark, CancelledMark, ExpiredMark, RemovedMark}
-use Rattle.dq_ticks.specs.declared.TheConstants.{LAST_TICK, LAST_STAMP}
+use Rattle.dq_ticks.specs.declared.TheConstants.{CAPACITY_LIMIT, LAST_TICK, LAST_STAMP}
 use Rattle.dq_ticks.specs.declared.keys.Key.{Key}
 use Rattle.dq_core.specs.declared.errors.CoreError.{CoreError}
 use Rattle.dq_core.specs.declared.errors.CoreError.TheVariants.{NoMemory, BadConfig}
@@ -24,7 +24,7 @@ new_row capacity = record { known = replicate capacity never; counts = record { 
 
 -- the numbers of a capacity
 abbrev pub IsCapacity : ℕ → Type 0
-IsCapacity n = (0 < n) × (n ≤ 65536)
+IsCapacity n = (0 < n) × (n ≤ CAPACITY_LIMIT)
 
 -- why no row is made: BadConfig exactly where the capacity is none
 abbrev pub RowRefused : ℕ → CoreError → Type 0
@@ -50,7 +50,7 @@ is_going w = is_live w.mark && nat_lt 0 w.stamp
 
 -- how the counts go with the words
 pub record IsWordRow (known : List Parts) (counts : Counts) : Type 0 where
-  pub capacity : length known ≤ 65536
+  pub capacity : length known ≤ CAPACITY_LIMIT
   pub bounds : (i : ℕ) → i < length known → (word_at known i).stamp ≤ LAST_STAMP
   pub begun : counts.begins ≤ sum_by (λ w. w.stamp) known
   pub ended : counts.expiries + counts.removals + count_by is_going known ≤ counts.begins

@@ -2,7 +2,7 @@
 ghost use Rattle.std.specs.Prelude.{◌≡◌};
 ghost use Rattle.dq_core.specs.declared.errors.CoreError.TheVariants.{NoMemory};
 
-use dq_ticks::LAST_STAMP;
+use dq_ticks::{CAPACITY_LIMIT, LAST_STAMP};
 use std::alloc::AllocError;
 use thiserror::Error;
 
@@ -39,7 +39,7 @@ pub enum CoreError {
         limit: u64,
     },
     /// The capacity or the last stamp is out of its range, or the words are not as many as the slots.
-    #[error("the capacity isn't 1 to 65536, the last stamp isn't 1 to {LAST_STAMP}, or there isn't one word for each slot")]
+    #[error("the capacity isn't 1 to {CAPACITY_LIMIT}, the last stamp isn't 1 to {LAST_STAMP}, or there isn't one word for each slot")]
     BadConfig,
     /// Memory was refused.
     #[error("out of memory")]
@@ -59,8 +59,8 @@ impl From<AllocError> for CoreError {
 pub struct CoreConfig {
     /// The shard's number, which its keys carry.
     pub shard: u32,
-    /// The number of slots, from 1 to 65536.
+    /// The number of slots, from 1 to [`CAPACITY_LIMIT`].
     pub capacity: usize,
-    /// The stamp after which a slot is worn, from 1 to the last stamp of a word.
+    /// The stamp after which a slot is worn, from 1 to [`LAST_STAMP`].
     pub last_stamp: u32,
 }

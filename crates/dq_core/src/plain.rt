@@ -6,8 +6,7 @@ ghost use Rattle.std.specs.Prelude.{◌≡◌, ◌<◌, ◌==◌, length};
 ghost use Rattle.dq_core.specs.Soonest.{IsSoonest};
 
 use crate::errors::CoreError;
-use crate::vec_words::CAPACITY_LIMIT;
-use dq_ticks::LAST_TICK;
+use dq_ticks::{CAPACITY_LIMIT, LAST_TICK};
 use std::alloc::{Allocator, Global};
 use std::marker::Model;
 
@@ -75,7 +74,7 @@ impl<T, A: Allocator> Model for PlainQueue<T, A> {
 impl<T: Drop, A: Allocator> PlainQueue<T, A> {
     ghost use Rattle.dq_core.specs.Plain.{IsPlain, PlainMakes, PlainInserts, PlainPolls};
 
-    /// An empty queue at tick 0; `BadConfig` for a capacity of 0 or beyond 65536, `NoMemory` where memory is refused. No
+    /// An empty queue at tick 0; `BadConfig` for a capacity of 0 or beyond [`CAPACITY_LIMIT`], `NoMemory` where memory is refused. No
     /// other call takes memory.
     pub fn new(alloc: A, capacity: usize) -> Result<PlainQueue<T, A>, CoreError>
         ensures { PlainMakes capacity result }

@@ -6,7 +6,7 @@
 
 ghost use Rattle.std.specs.Prelude.{◌≡◌, ◌≢◌, ℕ, ◌+◌, ◌<◌, ◌≤◌, max, length, ◌↔◌, IfOk, IfErr, IfSome, IfNone, OnOk, OnErr, IsErr, IsErrAnd, IsErrOf, IsNone, MatchOption, Some, None, List, [], ◌∷◌, Ok, Err, IsTrue, replicate};
 ghost use Rattle.std.specs.List.{count_by};
-ghost use Rattle.dq_core.specs.Core.{filing_for as file_at};
+ghost use Rattle.dq_core.specs.Core.{filing_for};
 ghost use Rattle.dq_core.specs.Slots.{unused, is_held, is_worn, row_at};
 ghost use Rattle.dq_core.specs.Words.{AreFresh};
 ghost use Rattle.dq_core.specs.Calls.{IsConfig};
@@ -16,7 +16,7 @@ use crate::errors::{CoreConfig, CoreError};
 use crate::outcomes::{Expired, Progress, Removed, Tally, Turn};
 use crate::slots::Slots;
 use crate::words::{Settled, Words};
-use dq_ticks::{EntryId, Key, LAST_STAMP, LAST_TICK, Mark};
+use dq_ticks::{CAPACITY_LIMIT, EntryId, Key, LAST_STAMP, LAST_TICK, Mark, REACH};
 use dq_wheel::Wheel;
 use dq_wheel::wheel::wakes_are_ahead;
 use std::alloc::{AllocError, Allocator, Global};
@@ -48,9 +48,6 @@ impl<T, W: Words, A: Allocator> Model for DelayCore<T, W, A> {
     ghost invariant = { λ a. IsLawful a.noted a.wheel.filing a.slots (W.known a.words) (W.counts a.words) × (W.counts a.words ≡ record { begins = a.inserted; expiries = a.expired; removals = a.removed }) };
 }
 
-/// The greatest number of slots.
-const CAPACITY_LIMIT: usize = 65536;
-
 /// Whether the numbers of a configuration are in their ranges, and the words are as many as its slots.
 fn is_config(config: &CoreConfig, rows: usize) -> bool
     ensures { IsTrue result ↔ IsConfig config.now.capacity config.now.last_stamp rows }
@@ -69,7 +66,7 @@ fn rows<T: Drop, A: Allocator + Clone>(
     last: u32,
 ) -> Result<(Wheel<A>, Slots<T, A>), AllocError>
     requires some { 0 < capacity }
-    requires few { capacity ≤ 65536 }
+    requires few { capacity ≤ CAPACITY_LIMIT }
     requires used { 0 < last }
     requires bound { last ≤ LAST_STAMP }
     ensures { IfOk result (λ r. (r.0.filing ≡ fresh_filing capacity) × (r.1 ≡ record { last_stamp = last; rows = replicate capacity unused })) }
@@ -82,15 +79,12 @@ fn rows<T: Drop, A: Allocator + Clone>(
     }
 }
 
-/// The furthest from its tick that a wheel files.
-const REACH: u64 = 68719476735;
-
 /// Where a deadline is filed at a tick.
 #[inline]
-fn filing_for(tick: u64, deadline: u64) -> u64
+fn filing_tick(tick: u64, deadline: u64) -> u64
     requires tick { tick ≤ LAST_TICK }
     requires deadline { deadline ≤ LAST_TICK }
-    ensures { result ≡ file_at tick deadline }
+    ensures { result ≡ filing_for tick deadline }
 {
     deadline.min(tick + REACH)
 }
@@ -102,8 +96,8 @@ impl<T: Drop, W: Words + Drop, A: Allocator + Clone> DelayCore<T, W, A> {
     ghost use Rattle.dq_core.specs.declared.errors.CoreError.TheVariants.{NoMemory};
 
     /// A queue over fresh words, at tick 0, with nothing linked. Refused as BadConfig where the capacity isn't 1 to
-    /// 65536, the last stamp isn't 1 to 1048575, or the words aren't as many as the slots, and else as NoMemory; the
-    /// words come back.
+    /// [`CAPACITY_LIMIT`], the last stamp isn't 1 to [`LAST_STAMP`], or the words aren't as many as the slots, and else as
+    /// NoMemory; the words come back.
     pub fn new(alloc: A, config: CoreConfig, words: W) -> Result<DelayCore<T, W, A>, (CoreError, W)>
         requires { AreFresh (W.known words) (W.counts words) }
         ensures makes { IsMade config words (W.known words) (W.counts words) result }
@@ -199,7 +193,7 @@ impl<T: Drop, W: Words, A: Allocator> DelayCore<T, W, A> {
                 let tick = self.wheel.tick();
                 let base = when.max(tick);
                 self.words.begin(index, stamp, base);
-                self.wheel.link(index, filing_for(tick, base));
+                self.wheel.link(index, filing_tick(tick, base));
                 self.inserted += 1;
                 let entry = EntryId::new(self.shard, index as u32, stamp);
                 Ok(Key::new(entry, stamp))
@@ -244,7 +238,7 @@ impl<T: Drop, W: Words, A: Allocator> DelayCore<T, W, A> {
                 })
             }
             Settled::Later(deadline) => {
-                self.wheel.link(index, filing_for(tick, deadline));
+                self.wheel.link(index, filing_tick(tick, deadline));
                 Progress::Went
             }
             Settled::SettledCancelled => {
@@ -456,7 +450,7 @@ impl<T: Drop, W: Words, A: Allocator> DelayCore<T, W, A> {
             return Err(CoreError::WasCancelled);
         };
         self.wheel.unlink(index);
-        self.wheel.link(index, filing_for(tick, base));
+        self.wheel.link(index, filing_tick(tick, base));
         self.slots.raise(index);
         Ok(Key::new(*entry, stamp + 1))
     }

@@ -128,11 +128,11 @@ impl<T, A: Allocator> Model for Slots<T, A> {
 
 impl<T: Drop, A: Allocator + Clone> Slots<T, A> {
     ghost use Rattle.dq_core.specs.Slots.{SlotRows, unused};
-    ghost use Rattle.dq_ticks.specs.declared.TheConstants.{LAST_STAMP};
+    ghost use Rattle.dq_ticks.specs.declared.TheConstants.{CAPACITY_LIMIT, LAST_STAMP};
 
     /// A row of slots that were never used.
     pub fn new(alloc: A, capacity: usize, last: u32) -> Result<Slots<T, A>, AllocError>
-        requires size { capacity ≤ 65536 }
+        requires size { capacity ≤ CAPACITY_LIMIT }
         requires used { 0 < last }
         requires bound { last ≤ LAST_STAMP }
         ensures { IfOk result (λ s. s ≡ record { last_stamp = last; rows = replicate capacity unused }) }

@@ -6,7 +6,7 @@ ghost use Rattle.dq_core.specs.WordRows.{IsMadeRow, IsWordRow, IsNamed, IsCalled
 
 use crate::errors::CoreError;
 use crate::words::{CallError, Look, Settled, Words};
-use dq_ticks::{Key, LAST_TICK, Mark, Parts};
+use dq_ticks::{CAPACITY_LIMIT, Key, LAST_TICK, Mark, Parts};
 use std::alloc::{Allocator, Global};
 use std::marker::Model;
 
@@ -35,11 +35,8 @@ const UNUSED: Parts = Parts {
     field: 0,
 };
 
-/// The greatest number of words.
-pub const CAPACITY_LIMIT: usize = 65536;
-
 impl<A: Allocator> VecWords<A> {
-    /// A row of words that were never used; BadConfig for a capacity of 0 or beyond 65536.
+    /// A row of words that were never used; BadConfig for a capacity of 0 or beyond [`CAPACITY_LIMIT`].
     pub fn new(alloc: A, capacity: usize) -> Result<VecWords<A>, CoreError>
         ensures { IsMadeRow capacity result }
     {

@@ -1,5 +1,5 @@
-use Rattle.dq_core.proofs.Ways.{own_events_alone as alone}
+use Rattle.dq_core.proofs.Ways.{own_events_alone}
 use Rattle.dq_core.proofs.key_calls.DelayCore+T+VecWords+A+A.own_events_alone.Goals as goal
 
 pub returns : goal.returns
-returns g c = alone _
+returns g c = own_events_alone _

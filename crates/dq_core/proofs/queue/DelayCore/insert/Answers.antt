@@ -11,12 +11,12 @@ overflow_add-self g c = omega (arith, few c.self.invariant.0, ap (λ n. n.begins
 
 pub invariant_of-self : goal.invariant_of-self
 invariant_of-self g c =
-    (law_inserted c.self.invariant.0 c.in-Ok.index c.stamp-stamp.result c.tick-tick.result c.max-base.result c.filing_for.result c.args.when c.args.value c.if-when-gt-LAST_TICK.false c.in-Ok.ensures c.stamp-stamp.ensures c.tick-tick.ensures.value c.max-base.ensures c.filing_for.ensures c.link.ensures.exact c.begin.ensures.known c.begin.ensures.counts, c.begin.ensures.counts ∙ ap begun_counts c.self.invariant.1)
+    (law_inserted c.self.invariant.0 c.in-Ok.index c.stamp-stamp.result c.tick-tick.result c.max-base.result c.filing_tick.result c.args.when c.args.value c.if-when-gt-LAST_TICK.false c.in-Ok.ensures c.stamp-stamp.ensures c.tick-tick.ensures.value c.max-base.ensures c.filing_tick.ensures c.link.ensures.exact c.begin.ensures.known c.begin.ensures.counts, c.begin.ensures.counts ∙ ap begun_counts c.self.invariant.1)
 
 pub returns-in-Ok-clause-inserts : goal.returns-in-Ok-clause-inserts
 returns-in-Ok-clause-inserts g c =
     rw (← c.self.view_is)
-    (inserts _ _ c.in-Ok.index c.stamp-stamp.result c.tick-tick.result c.max-base.result c.filing_for.result c.args.when c.args.value c.new-entry.result c.new.result c.self.invariant.0 c.if-when-gt-LAST_TICK.false c.in-Ok.ensures c.stamp-stamp.ensures c.tick-tick.ensures.value c.max-base.ensures c.filing_for.ensures c.link.ensures.exact c.begin.ensures.known c.begin.ensures.counts c.new-entry.ensures c.new.ensures refl refl)
+    (inserts _ _ c.in-Ok.index c.stamp-stamp.result c.tick-tick.result c.max-base.result c.filing_tick.result c.args.when c.args.value c.new-entry.result c.new.result c.self.invariant.0 c.if-when-gt-LAST_TICK.false c.in-Ok.ensures c.stamp-stamp.ensures c.tick-tick.ensures.value c.max-base.ensures c.filing_tick.ensures c.link.ensures.exact c.begin.ensures.known c.begin.ensures.counts c.new-entry.ensures c.new.ensures refl refl)
 
 pub returns-in-Err-clause-inserts : goal.returns-in-Err-clause-inserts
 returns-in-Err-clause-inserts g c =

@@ -20,7 +20,7 @@ invariant_of-self-2 g c =
     let b = core_of s.shard s.noted s.wheel s.slots (g.W.Words.known s.words) (g.W.Words.counts s.words) s.words in
     let found = rw (← c.self.view_is) at c.in-Some.ensures in
     let below = below_last g.W.Words.shared b c.self.invariant.0 c.args.entry.now c.in-Some.index found c.stamp-stamp.result c.last.result c.stamp-stamp.ensures c.last.ensures c.if-stamp-last.false in
-    (law_reset g.W.Words.shared b c.self.invariant.0 c.args.entry.now c.in-Some.index found c.link.new.self c.raise.new.self (g.W.Words.known c.renew.new.self) (g.W.Words.counts c.renew.new.self) c.stamp-stamp.result c.tick-tick.result c.max-base.result c.filing_for.result c.args.when c.stamp-stamp.ensures below c.if-when-gt-LAST_TICK.false c.tick-tick.ensures.value c.max-base.ensures c.filing_for.ensures c.in-Some-renew.ensures.changed.1 (linked_anew s.wheel.filing c.unlink.new.self.filing _ _ _ c.unlink.ensures c.link.ensures) c.raise.ensures c.in-Some-renew.ensures.known c.in-Some-renew.ensures.counts, c.in-Some-renew.ensures.counts ∙ c.self.invariant.1)
+    (law_reset g.W.Words.shared b c.self.invariant.0 c.args.entry.now c.in-Some.index found c.link.new.self c.raise.new.self (g.W.Words.known c.renew.new.self) (g.W.Words.counts c.renew.new.self) c.stamp-stamp.result c.tick-tick.result c.max-base.result c.filing_tick.result c.args.when c.stamp-stamp.ensures below c.if-when-gt-LAST_TICK.false c.tick-tick.ensures.value c.max-base.ensures c.filing_tick.ensures c.in-Some-renew.ensures.changed.1 (linked_anew s.wheel.filing c.unlink.new.self.filing _ _ _ c.unlink.ensures.exact c.link.ensures.exact) c.raise.ensures c.in-Some-renew.ensures.known c.in-Some-renew.ensures.counts, c.in-Some-renew.ensures.counts ∙ c.self.invariant.1)
 
 pub returns-clause-resets : goal.returns-clause-resets
 returns-clause-resets g c =
@@ -29,7 +29,7 @@ returns-clause-resets g c =
     let found = rw (← c.self.view_is) at c.in-Some.ensures in
     let below = below_last g.W.Words.shared b c.self.invariant.0 c.args.entry.now c.in-Some.index found c.stamp-stamp.result c.last.result c.stamp-stamp.ensures c.last.ensures c.if-stamp-last.false in
     rw (← c.self.view_is)
-    (resets g.W.Words.shared b c.self.invariant.0 c.args.entry.now c.in-Some.index found _ c.stamp-stamp.result c.tick-tick.result c.max-base.result c.filing_for.result c.args.when c.in-Some-renew.field-0 c.new.result c.stamp-stamp.ensures below c.if-when-gt-LAST_TICK.false c.tick-tick.ensures.value c.max-base.ensures c.filing_for.ensures c.in-Some-renew.ensures.changed (linked_anew s.wheel.filing c.unlink.new.self.filing _ _ _ c.unlink.ensures c.link.ensures) c.raise.ensures c.in-Some-renew.ensures.known c.in-Some-renew.ensures.counts c.new.ensures refl refl)
+    (resets g.W.Words.shared b c.self.invariant.0 c.args.entry.now c.in-Some.index found _ c.stamp-stamp.result c.tick-tick.result c.max-base.result c.filing_tick.result c.args.when c.in-Some-renew.field-0 c.new.result c.stamp-stamp.ensures below c.if-when-gt-LAST_TICK.false c.tick-tick.ensures.value c.max-base.ensures c.filing_tick.ensures c.in-Some-renew.ensures.changed (linked_anew s.wheel.filing c.unlink.new.self.filing _ _ _ c.unlink.ensures.exact c.link.ensures.exact) c.raise.ensures c.in-Some-renew.ensures.known c.in-Some-renew.ensures.counts c.new.ensures refl refl)
 
 pub returns-in_default-renew-clause-others : goal.returns-in_default-renew-clause-others
 returns-in_default-renew-clause-others g c = looked_others (returns-in_default-renew-clause-resets g c).1.looked

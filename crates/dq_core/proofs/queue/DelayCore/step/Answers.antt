@@ -48,7 +48,7 @@ pub returns-in-Later-clause-progress : goal.returns-in-Later-clause-progress
 returns-in-Later-clause-progress g c =
     let settled = rw (c.stamp-stamp.ensures, c.tick-tick.ensures.value) at c.in-Later.ensures.settled in
     rw (← c.self.view_is)
-    (step_later g.W.Words.shared _ _ c.self.invariant.0 c.in-Some.index c.in-Some.ensures.exact.1 refl _ settled (refiled _ c.pop_due.new.self.filing _ _ c.filing_for.result _ _ c.link.ensures.exact c.in-Some.ensures.exact.2 c.filing_for.ensures c.tick-tick.ensures.value) refl c.in-Later.ensures.known c.in-Later.ensures.counts)
+    (step_later g.W.Words.shared _ _ c.self.invariant.0 c.in-Some.index c.in-Some.ensures.exact.1 refl _ settled (refiled _ c.pop_due.new.self.filing _ _ c.filing_tick.result _ _ c.link.ensures.exact c.in-Some.ensures.exact.2 c.filing_tick.ensures c.tick-tick.ensures.value) refl c.in-Later.ensures.known c.in-Later.ensures.counts)
 
 pub returns-in-SettledCancelled-clause-progress : goal.returns-in-SettledCancelled-clause-progress
 returns-in-SettledCancelled-clause-progress g c =
