@@ -9,6 +9,11 @@ pub mod Law
 pub mod Leaving
 pub mod Looks
 pub mod Rests
+pub mod RunsEnding
+pub mod RunsKept
+pub mod RunsMoves
+pub mod RunsOfCalls
+pub mod RunsOrdered
 pub mod Searches
 pub mod SlotRows
 pub mod Slotwise

@@ -7,6 +7,8 @@ pub mod Machine
 pub mod Plain
 pub mod Readers
 pub mod Rests
+pub mod Runs
+pub mod RunsOfCalls
 pub mod SlotRowsKept
 pub mod Slots
 pub mod Soonest

@@ -17,6 +17,7 @@ mod outcomes;
 pub mod plain;
 pub mod queue;
 mod readers;
+pub mod runs;
 pub mod slots;
 mod sweeps;
 pub mod vec_words;
