@@ -1,3 +1,4 @@
+-- No public clause cites this module.
 -- A slot as it lies in memory.
 use Rattle.std.specs.Prelude.{ℕ, Option, Some, None}
 use Rattle.dq_core.specs.declared.slots.Held.{Held}

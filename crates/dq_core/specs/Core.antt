@@ -3,7 +3,8 @@ use Rattle.std.specs.Prelude.{◌≡◌, ℕ, ◌+◌, ◌<◌, ◌≤◌, min, 
 use Rattle.std.specs.List.{count_by, sum_by}
 use Rattle.dq_ticks.specs.declared.words.Parts.{Parts}
 use Rattle.dq_ticks.specs.declared.words.Mark.{Mark}
-use Rattle.dq_ticks.specs.declared.words.Mark.TheVariants.{LiveMark, CancelledMark, ExpiredMark, RemovedMark}
+use Rattle.dq_ticks.specs.declared.words.Mark.TheVariants.{LiveMark, CancelledMark, ExpiredMark}
+use Rattle.dq_ticks.specs.declared.words.Mark.TheVariants.{RemovedMark}
 use Rattle.dq_ticks.specs.declared.TheConstants.{CAPACITY_LIMIT, LAST_TICK, LAST_STAMP, REACH}
 use Rattle.dq_ticks.specs.Units.{lap}
 use Rattle.dq_wheel.specs.State.{Filing, WheelState, filed_at}
@@ -12,8 +13,8 @@ use Rattle.dq_core.specs.Words.{Counts, word_at, IsOver, IsInForce}
 use Rattle.dq_core.specs.Slots.{Row, SlotRows, row_at, is_held}
 use Rattle.dq_core.specs.Machine.{Entry, TableRow, Machine}
 
--- a queue: its number, the greatest accepted tick, the wheel, the slots, and of its words what is known, the keeper's
--- own writes, and the words themselves
+-- a queue: its number, the greatest accepted tick, the wheel, the slots, and of its words what is
+-- known, the keeper's own writes, and the words themselves
 pub record Core (T W : Type 0) : Type 0 where
   pub shard : ℕ
   pub noted : ℕ
@@ -54,23 +55,29 @@ filing_for tick d = min d (tick + REACH)
 -- what is held, what is known and what is filed at one slot
 abbrev pub IsPlaced : {T : Type 0} → ℕ → ℕ → ℕ → Option (Held T) → Parts → Option ℕ → Type 0
 IsPlaced tick noted stamp None w None = IsOver w × (w.mark ≡ ExpiredMark → w.field ≤ noted)
-IsPlaced tick noted stamp (Some h) w (Some f) = IsInForce stamp f w × (tick ≤ f) × (f < tick + lap) × (h.born ≤ stamp)
+IsPlaced tick noted stamp (Some h) w (Some f) =
+    IsInForce stamp f w × (tick ≤ f) × (f < tick + lap) × (h.born ≤ stamp)
 IsPlaced tick noted stamp None w (Some f) = ⊥
 IsPlaced tick noted stamp (Some h) w None = ⊥
 
--- one slot: its known word has its stamp, and is in force where an entry is held, which is then filed no later than its
--- deadline in force
-pub record IsSlot {T : Type 0} (tick noted last : ℕ) (r : Row T) (w : Parts) (f : Option ℕ) : Type 0 where
+-- one slot: its known word has its stamp, and is in force where an entry is held, which is then
+-- filed no later than its deadline in force
+pub record IsSlot {T : Type 0} (tick noted last : ℕ) (r : Row T) (w : Parts) (f : Option ℕ)
+    : Type 0 where
   pub stamp : w.stamp ≡ r.stamp
   pub bound : r.stamp ≤ last
   pub placed : IsPlaced tick noted r.stamp r.held w f
 
 -- all slots, each with its word and where its index is filed
-abbrev pub AreSlots : {T : Type 0} → ℕ → ℕ → ℕ → List (Row T) → List Parts → List (Option ℕ) → Type 0
-AreSlots tick noted last rows known filed = (i : ℕ) → i < length rows → IsSlot tick noted last (row_at rows i) (word_at known i) (filed_at filed i)
+abbrev pub AreSlots : {T : Type 0} → ℕ → ℕ → ℕ → List (Row T) → List Parts → List (Option ℕ) →
+    Type 0
+AreSlots tick noted last rows known filed =
+    (i : ℕ) → i < length rows →
+    IsSlot tick noted last (row_at rows i) (word_at known i) (filed_at filed i)
 
 -- the shard law
-pub record IsLawful {T : Type 0} (noted : ℕ) (wheel : Filing) (slots : SlotRows T) (known : List Parts) (counts : Counts) : Type 0 where
+pub record IsLawful {T : Type 0} (noted : ℕ) (wheel : Filing) (slots : SlotRows T)
+    (known : List Parts) (counts : Counts) : Type 0 where
   pub as_filed : length wheel.filed ≡ length slots.rows
   pub as_known : length known ≡ length slots.rows
   pub capacity : length slots.rows ≤ CAPACITY_LIMIT

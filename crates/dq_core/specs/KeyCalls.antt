@@ -1,4 +1,5 @@
--- The calls by key on a queue over plain words: each is the machine's event, and nothing but the word changes.
+-- The calls by key on a queue over plain words: each is the machine's event, and nothing but the
+-- word changes.
 use Rattle.std.specs.Prelude.{◌≡◌, ◌≢◌, ℕ, ◌<◌, ◌≤◌, ◌⊎◌, max, Result, Ok, Err}
 use Rattle.dq_ticks.specs.declared.TheConstants.{LAST_TICK}
 use Rattle.dq_ticks.specs.declared.keys.Key.{Key}
@@ -19,7 +20,8 @@ pub record KeepsRest {T W : Type 0} (b c : Core T W) : Type 0 where
   pub counts : c.counts ≡ b.counts
 
 -- a live entry's deadline in force is raised to `when`, where it is lower, and told
-pub record IsExtended {T W : Type 0} (b : Core T W) (k : Key) (when d : ℕ) (c : Core T W) : Type 0 where
+pub record IsExtended {T W : Type 0} (b : Core T W) (k : Key) (when d : ℕ) (c : Core T W)
+    : Type 0 where
   pub accepted : when ≤ LAST_TICK
   pub shard : k.entry.shard ≡ b.shard
   pub callable : IsCallable b.known k
@@ -28,7 +30,8 @@ pub record IsExtended {T W : Type 0} (b : Core T W) (k : Key) (when d : ℕ) (c 
   pub step : Step b.slots.last_stamp (machine b) (Extend k.entry.index k.stamp when) (machine c)
   pub rest : KeepsRest b c
 
--- why a call by key is refused: first by its shard, then by its index and stamp, then by the entry's end
+-- why a call by key is refused: first by its shard, then by its index and stamp, then by the
+-- entry's end
 abbrev pub KeyRefused : {T W : Type 0} → Core T W → Key → CallError → Type 0
 KeyRefused b k Unknown = (k.entry.shard ≢ b.shard) ⊎ CallRefused b.known k Unknown
 KeyRefused b k e = (k.entry.shard ≡ b.shard) × CallRefused b.known k e

@@ -12,8 +12,8 @@ use Rattle.dq_core.specs.Machine.{table_at, NoneLinked}
 use Rattle.dq_core.specs.Core.{Core, machine}
 use Rattle.dq_core.specs.Calls.{IsLinked, IsMissing}
 
--- the keeper's own writes, the linked entries and the wheel's moves; each entry that was inserted is linked, or has ended
--- as expired, as removed or as cancelled
+-- the keeper's own writes, the linked entries and the wheel's moves; each entry that was inserted
+-- is linked, or has ended as expired, as removed or as cancelled
 pub record IsTally {T W : Type 0} (c : Core T W) (t : Tally) : Type 0 where
   pub begins : c.counts.begins ≡ t.inserted
   pub expiries : c.counts.expiries ≡ t.expired
@@ -22,15 +22,19 @@ pub record IsTally {T W : Type 0} (c : Core T W) (t : Tally) : Type 0 where
   pub sum : t.inserted ≡ t.expired + t.removed + t.cancelled + t.linked
   pub moves : t.moves ≡ c.wheel.filing.moved
 
--- a linked entry that is filed least, with its key of the present stamp; none exactly where nothing is linked
+-- a linked entry that is filed least, with its key of the present stamp; none exactly where nothing
+-- is linked
 abbrev pub TellsLeast : {T W : Type 0} → Core T W → Option Key → Type 0
 TellsLeast c None = NoneLinked (machine c)
-TellsLeast c (Some k) = IsLinked c k.entry × ((table_at (machine c) k.entry.index).stamp ≡ k.stamp) × IsLeast c.wheel.filing.filed k.entry.index
+TellsLeast c (Some k) =
+    IsLinked c k.entry × ((table_at (machine c) k.entry.index).stamp ≡ k.stamp)
+    × IsLeast c.wheel.filing.filed k.entry.index
 
 -- the place of a linked entry
 abbrev pub TellsPlace : {T W : Type 0} → Core T W → EntryId → Option Place → Type 0
 TellsPlace c id None = IsMissing c id
-TellsPlace c id (Some place) = IsLinked c id × (place ≡ place_for c.wheel.filing.tick (filed_at c.wheel.filing.filed id.index))
+TellsPlace c id (Some place) =
+    IsLinked c id × (place ≡ place_for c.wheel.filing.tick (filed_at c.wheel.filing.filed id.index))
 
 -- where a linked entry is filed
 abbrev pub TellsFiled : {T W : Type 0} → Core T W → EntryId → Option ℕ → Type 0
@@ -39,4 +43,4 @@ TellsFiled c id (Some filed) = IsLinked c id × (filed_at c.wheel.filing.filed i
 
 -- a queue with other words that are known alike
 abbrev pub with_words : {T W : Type 0} → Core T W → W → Core T W
-with_words c w = record { shard = c.shard; noted = c.noted; wheel = c.wheel; slots = c.slots; known = c.known; counts = c.counts; words = w }
+with_words c w = record c { words = w }

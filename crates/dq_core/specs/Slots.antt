@@ -1,5 +1,7 @@
 -- The fixed row of slots, and what a call makes of it.
-use Rattle.std.specs.Prelude.{◌≡◌, ℕ, ◌+◌, ◌<◌, ◌≤◌, Bool, true, List, Option, Some, None, Result, Ok, Err, slice_index_or, slice_set, length, nat_lt, ◌&&◌, not, is_some, is_none}
+use Rattle.std.specs.Prelude.{◌≡◌, ℕ, ◌+◌, ◌<◌, ◌≤◌, Bool, true, List, Option, Some, None, Result}
+use Rattle.std.specs.Prelude.{Ok, Err, slice_index_or, slice_set, length, nat_lt, ◌&&◌, not}
+use Rattle.std.specs.Prelude.{is_some, is_none}
 use Rattle.std.specs.List.{count_by, All}
 use Rattle.dq_core.specs.declared.slots.Held.{Held}
 use Rattle.dq_ticks.specs.declared.TheConstants.{CAPACITY_LIMIT, LAST_STAMP}
@@ -41,34 +43,38 @@ IsBorn {T} r (Some born) = (h : Held T) × (r.held ≡ Some h) × (h.born ≡ bo
 
 -- a slot that holds a value under its next stamp
 abbrev pub filled_row : {T : Type 0} → Row T → T → Row T
-filled_row r v = record { stamp = r.stamp + 1; held = Some (record { born = r.stamp + 1; value = v }) }
+filled_row r v =
+    record { stamp = r.stamp + 1; held = Some (record { born = r.stamp + 1; value = v }) }
 
 -- a slot that holds nothing, at the same stamp
 abbrev pub vacated_row : {T : Type 0} → Row T → Row T
-vacated_row r = record { stamp = r.stamp; held = None }
+vacated_row r = record r { held = None }
 
 -- a slot that holds what it held, under its next stamp
 abbrev pub raised_row : {T : Type 0} → Row T → Row T
-raised_row r = record { stamp = r.stamp + 1; held = r.held }
+raised_row r = record r { stamp = r.stamp + 1 }
 
 -- the slots with a value put in at slot i
 abbrev pub filled : {T : Type 0} → SlotRows T → ℕ → T → SlotRows T
-filled s i v = record { last_stamp = s.last_stamp; rows = slice_set s.rows i (filled_row (row_at s.rows i) v) }
+filled s i v = record s { rows = slice_set s.rows i (filled_row (row_at s.rows i) v) }
 
 -- the slots with slot i vacated
 abbrev pub vacated : {T : Type 0} → SlotRows T → ℕ → SlotRows T
-vacated s i = record { last_stamp = s.last_stamp; rows = slice_set s.rows i (vacated_row (row_at s.rows i)) }
+vacated s i = record s { rows = slice_set s.rows i (vacated_row (row_at s.rows i)) }
 
 -- the slots with slot i under its next stamp
 abbrev pub raised : {T : Type 0} → SlotRows T → ℕ → SlotRows T
-raised s i = record { last_stamp = s.last_stamp; rows = slice_set s.rows i (raised_row (row_at s.rows i)) }
+raised s i = record s { rows = slice_set s.rows i (raised_row (row_at s.rows i)) }
 
--- a value goes to a free slot, under that slot's next stamp; it comes back, and nothing changes, exactly where no slot is free
+-- a value goes to a free slot, under that slot's next stamp; it comes back, and nothing changes,
+-- exactly where no slot is free
 abbrev pub IsFilled : {T : Type 0} → SlotRows T → T → Result ℕ T → SlotRows T → Type 0
-IsFilled s v (Ok i) t = (i < length s.rows) × (is_free s.last_stamp (row_at s.rows i) ≡ true) × (t ≡ filled s i v)
+IsFilled s v (Ok i) t =
+    (i < length s.rows) × (is_free s.last_stamp (row_at s.rows i) ≡ true) × (t ≡ filled s i v)
 IsFilled s v (Err back) t = (count_by (is_free s.last_stamp) s.rows ≡ 0) × (back ≡ v) × (t ≡ s)
 
--- a slot's stamp is within the last one, and what is held there was born under a stamp from 1 to the present one
+-- a slot's stamp is within the last one, and what is held there was born under a stamp from 1 to
+-- the present one
 pub record IsRow {T : Type 0} (last : ℕ) (r : Row T) : Type 0 where
   pub bound : r.stamp ≤ last
   pub birth : (h : Held T) → r.held ≡ Some h → (0 < h.born) × (h.born ≤ r.stamp)

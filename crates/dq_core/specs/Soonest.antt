@@ -1,3 +1,4 @@
+-- No public clause cites this module.
 -- What a search for the soonest entry finds.
 use Rattle.std.specs.Prelude.{◌≡◌, ℕ, ◌<◌, List, length, slice_index_or}
 use Rattle.dq_core.specs.declared.plain.Pending.{Pending}

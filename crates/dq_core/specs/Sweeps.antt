@@ -1,11 +1,13 @@
 -- Entries that leave a queue together: a sweep of those that were cancelled, and a clear of all.
-use Rattle.std.specs.Prelude.{cond, ◌≡◌, ◌≢◌, ℕ, ◌+◌, ◌≤◌, Bool, true, false, List, [], ◌∷◌, Option, Some, None, length}
+use Rattle.std.specs.Prelude.{cond, ◌≡◌, ◌≢◌, ℕ, ◌+◌, ◌≤◌, Bool, true, false, List, [], ◌∷◌, Option}
+use Rattle.std.specs.Prelude.{Some, None, length}
 use Rattle.std.specs.List.{count_by, AllByRecursion}
 use Rattle.dq_ticks.specs.declared.words.Parts.{Parts}
 use Rattle.dq_wheel.specs.State.{Filing, unlinked}
 use Rattle.dq_core.specs.Words.{Counts, removed, word_at, IsChanged}
 use Rattle.dq_core.specs.Slots.{Row, SlotRows, is_held, row_at, vacated}
-use Rattle.dq_core.specs.Machine.{Entry, Machine, Event, Run, RunOf, table_at, IsReaping, IsClearing, removes, NoneLinked}
+use Rattle.dq_core.specs.Machine.{Entry, Machine, Event, Run, RunOf, table_at, IsReaping}
+use Rattle.dq_core.specs.Machine.{IsClearing, removes, NoneLinked}
 use Rattle.dq_core.specs.Core.{Core, machine}
 use Rattle.dq_core.specs.Calls.{LooksOver}
 
@@ -35,7 +37,8 @@ abbrev pub NoneCancelled : {T : Type 0} → Machine T → Type 0
 NoneCancelled m = (i : ℕ) → NotCancelled m i
 
 -- the entries at those slots were found cancelled and were reaped
-pub record AreReaped {T W : Type 0} (shared : Bool) (b : Core T W) (is : List ℕ) (c : Core T W) : Type 0 where
+pub record AreReaped {T W : Type 0} (shared : Bool) (b : Core T W) (is : List ℕ) (c : Core T W)
+    : Type 0 where
   pub run : RunOf (IsReaping shared) b.slots.last_stamp (machine b) (machine c)
   pub out : AreOut b is c
   pub looks : LooksOver shared b.known c.known
@@ -46,47 +49,59 @@ abbrev pub only_if : Bool → ℕ → List ℕ
 only_if true i = i ∷ []
 only_if false i = []
 
--- one slot was swept: its entry is reaped where it was found cancelled, and the other slots are as they were
-pub record IsSwept {T W : Type 0} (shared : Bool) (b : Core T W) (i : ℕ) (found : Bool) (c : Core T W) : Type 0 where
+-- one slot was swept: its entry is reaped where it was found cancelled, and the other slots are as
+-- they were
+pub record IsSwept {T W : Type 0} (shared : Bool) (b : Core T W) (i : ℕ) (found : Bool)
+    (c : Core T W) : Type 0 where
   pub reaped : AreReaped shared b (only_if found i) c
   pub here : NotCancelled (machine c) i
   pub other : (j : ℕ) → j ≢ i → table_at (machine c) j ≡ table_at (machine b) j
 
 -- a sweep reaps n entries, and leaves none linked that is known as cancelled
-pub record Sweeps {T W : Type 0} (shared : Bool) (b : Core T W) (n : ℕ) (c : Core T W) : Type 0 where
+pub record Sweeps {T W : Type 0} (shared : Bool) (b : Core T W) (n : ℕ) (c : Core T W)
+    : Type 0 where
   pub reaped : (is : List ℕ) × (length is ≡ n) × AreReaped shared b is c
   pub none : NoneCancelled (machine c)
 
 -- where n entries are removed
 abbrev pub removed_counts : Counts → ℕ → Counts
-removed_counts c n = record { begins = c.begins; expiries = c.expiries; removals = c.removals + n }
+removed_counts c n = record c { removals = c.removals + n }
 
 -- a run of a clear, with that many removals
 abbrev pub RunOfClear : {T : Type 0} → Bool → ℕ → Machine T → ℕ → Machine T → Type 0
-RunOfClear {T} shared last m n k = (es : List (Event T)) × AllByRecursion (IsClearing shared) es × Run last m es k × (removes es ≡ n)
+RunOfClear {T} shared last m n k =
+    (es : List (Event T)) × AllByRecursion (IsClearing shared) es × Run last m es k
+    × (removes es ≡ n)
 
--- how a clear leaves a word: that of an entry is ended as removed at the deadline that was then in force, or was learned to
--- be cancelled; any other is as it was
+-- how a clear leaves a word: that of an entry is ended as removed at the deadline that was then in
+-- force, or was learned to be cancelled; any other is as it was
 abbrev pub IsCleared : {T : Type 0} → Bool → Row T → Parts → Parts → Type 0
 IsCleared shared r w v =
-    (is_held r ≡ true → (o : Option ℕ) × IsChanged shared r.stamp (removed r.stamp) w o v) × (is_held r ≡ false → v ≡ w)
+    (is_held r ≡ true → (o : Option ℕ) × IsChanged shared r.stamp (removed r.stamp) w o v)
+    × (is_held r ≡ false → v ≡ w)
 
 -- entries at those slots were ended, n of them as removed
-pub record AreEnded {T W : Type 0} (shared : Bool) (b : Core T W) (is : List ℕ) (n : ℕ) (c : Core T W) : Type 0 where
+pub record AreEnded {T W : Type 0} (shared : Bool) (b : Core T W) (is : List ℕ) (n : ℕ)
+    (c : Core T W) : Type 0 where
   pub run : RunOfClear shared b.slots.last_stamp (machine b) n (machine c)
   pub few : n ≤ length is
   pub out : AreOut b is c
   pub counts : c.counts ≡ removed_counts b.counts n
 
 -- one slot was cleared, and the other slots and words are as they were
-pub record IsEmptied {T W : Type 0} (shared : Bool) (b : Core T W) (i : ℕ) (removed : Bool) (c : Core T W) : Type 0 where
+pub record IsEmptied {T W : Type 0} (shared : Bool) (b : Core T W) (i : ℕ) (removed : Bool)
+    (c : Core T W) : Type 0 where
   pub ended : (is : List ℕ) × AreEnded shared b is (cond removed 1 0) c
   pub here : (row_at c.slots.rows i).held ≡ None
   pub word : IsCleared shared (row_at b.slots.rows i) (word_at b.known i) (word_at c.known i)
-  pub other : (j : ℕ) → j ≢ i → (row_at c.slots.rows j ≡ row_at b.slots.rows j) × (word_at c.known j ≡ word_at b.known j)
+  pub other :
+      (j : ℕ) → j ≢ i → (row_at c.slots.rows j ≡ row_at b.slots.rows j)
+      × (word_at c.known j ≡ word_at b.known j)
 
 -- a clear ends each linked entry, n of them as removed
-pub record Clears {T W : Type 0} (shared : Bool) (b : Core T W) (n : ℕ) (c : Core T W) : Type 0 where
+pub record Clears {T W : Type 0} (shared : Bool) (b : Core T W) (n : ℕ) (c : Core T W)
+    : Type 0 where
   pub ended : (is : List ℕ) × AreEnded shared b is n c
-  pub words : (i : ℕ) → IsCleared shared (row_at b.slots.rows i) (word_at b.known i) (word_at c.known i)
+  pub words :
+      (i : ℕ) → IsCleared shared (row_at b.slots.rows i) (word_at b.known i) (word_at c.known i)
   pub none : NoneLinked (machine c)

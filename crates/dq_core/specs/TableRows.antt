@@ -12,4 +12,5 @@ table_row_of r w = record { stamp = r.stamp; entry = entry_of r.held w }
 
 -- the machine by the known words
 abbrev pub machine_of : {T : Type 0} → ℕ → ℕ → List (Row T) → List Parts → Machine T
-machine_of tick noted rows known = record { tick = tick; noted = noted; table = table_of rows known }
+machine_of tick noted rows known =
+    record { tick = tick; noted = noted; table = table_of rows known }

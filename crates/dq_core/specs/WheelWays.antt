@@ -1,4 +1,5 @@
--- The way of a queue's wheel over a poll: by whole wakes, and at a tick through the indexes that are filed there.
+-- The way of a queue's wheel over a poll: by whole wakes, and at a tick through the indexes that
+-- are filed there.
 use Rattle.std.specs.Prelude.{◌≡◌, ◌≢◌, ℕ, ◌<◌, ◌≤◌, ◌⊎◌, Bool, List, [], ◌∷◌, Some}
 use Rattle.dq_ticks.specs.declared.words.Parts.{Parts}
 use Rattle.dq_wheel.specs.State.{Filing, filed_at, linked, unlinked}

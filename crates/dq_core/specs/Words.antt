@@ -1,13 +1,17 @@
 -- What the keeper of a row of words knows, and how it may come to know more.
-use Rattle.std.specs.Prelude.{◌≡◌, ◌≢◌, ℕ, ◌+◌, ◌<◌, ◌≤◌, Bool, true, List, Option, Some, None, slice_index_or, length, replicate, ◌⊎◌}
+use Rattle.std.specs.Prelude.{◌≡◌, ◌≢◌, ℕ, ◌+◌, ◌<◌, ◌≤◌, Bool, true, List, Option, Some, None}
+use Rattle.std.specs.Prelude.{slice_index_or, length, replicate, ◌⊎◌}
 use Rattle.dq_ticks.specs.declared.words.Parts.{Parts}
 use Rattle.dq_ticks.specs.declared.words.Mark.{Mark}
-use Rattle.dq_ticks.specs.declared.words.Mark.TheVariants.{LiveMark, CancelledMark, ExpiredMark, RemovedMark}
+use Rattle.dq_ticks.specs.declared.words.Mark.TheVariants.{LiveMark, CancelledMark, ExpiredMark}
+use Rattle.dq_ticks.specs.declared.words.Mark.TheVariants.{RemovedMark}
 use Rattle.dq_ticks.specs.declared.TheConstants.{LAST_TICK}
 use Rattle.dq_core.specs.declared.words.Look.{Look}
-use Rattle.dq_core.specs.declared.words.Look.TheVariants.{StillLive, LookCancelled, LookExpired, LookRemoved}
+use Rattle.dq_core.specs.declared.words.Look.TheVariants.{StillLive, LookCancelled, LookExpired}
+use Rattle.dq_core.specs.declared.words.Look.TheVariants.{LookRemoved}
 use Rattle.dq_core.specs.declared.words.Settled.{Settled}
-use Rattle.dq_core.specs.declared.words.Settled.TheVariants.{SettledExpired, Later, SettledCancelled}
+use Rattle.dq_core.specs.declared.words.Settled.TheVariants.{SettledExpired, Later}
+use Rattle.dq_core.specs.declared.words.Settled.TheVariants.{SettledCancelled}
 
 -- how often the keeper has begun a word, and ended one as expired or removed
 pub record Counts : Type 0 where
@@ -45,13 +49,17 @@ IsOver w = (w ≡ never) ⊎ (w.mark ≢ LiveMark)
 
 -- the word of a linked entry: live at a deadline that is not before f, or cancelled
 abbrev pub IsInForce : ℕ → ℕ → Parts → Type 0
-IsInForce s f w = (0 < s) × (((w ≡ live s w.field) × (f ≤ w.field) × (w.field ≤ LAST_TICK)) ⊎ (w ≡ cancelled s))
+IsInForce s f w =
+    (0 < s) × (((w ≡ live s w.field) × (f ≤ w.field) × (w.field ≤ LAST_TICK)) ⊎ (w ≡ cancelled s))
 
 -- what the keeper may learn of a word that it knew as w: nothing new where nobody shares it,
 -- else that a live word was extended or cancelled
 abbrev pub Learned : Bool → Parts → Parts → Type 0
 Learned shared w v =
-    (v ≡ w) ⊎ ((shared ≡ true) × (w.mark ≡ LiveMark) × (((v ≡ live w.stamp v.field) × (w.field ≤ v.field) × (v.field ≤ LAST_TICK)) ⊎ (v ≡ cancelled w.stamp)))
+    (v ≡ w)
+    ⊎ ((shared ≡ true) × (w.mark ≡ LiveMark)
+    × (((v ≡ live w.stamp v.field) × (w.field ≤ v.field) × (v.field ≤ LAST_TICK))
+    ⊎ (v ≡ cancelled w.stamp)))
 
 -- how a word was settled, from what was known to what is known
 abbrev pub IsSettled : Bool → ℕ → ℕ → Parts → Settled → Parts → Type 0
@@ -66,22 +74,24 @@ IsChanged shared s into w None v = Learned shared w (cancelled s) × (v ≡ canc
 
 -- the counts with one begin more
 abbrev pub begun_counts : Counts → Counts
-begun_counts c = record { begins = c.begins + 1; expiries = c.expiries; removals = c.removals }
+begun_counts c = record c { begins = c.begins + 1 }
 
 -- the counts with one expiry more, where a word expired
 abbrev pub settled_counts : Counts → Settled → Counts
-settled_counts c SettledExpired = record { begins = c.begins; expiries = c.expiries + 1; removals = c.removals }
+settled_counts c SettledExpired = record c { expiries = c.expiries + 1 }
 settled_counts c (Later d) = c
 settled_counts c SettledCancelled = c
 
 -- the counts with one removal more, where a word was removed
 abbrev pub finished_counts : Counts → Option ℕ → Counts
-finished_counts c (Some d) = record { begins = c.begins; expiries = c.expiries; removals = c.removals + 1 }
+finished_counts c (Some d) = record c { removals = c.removals + 1 }
 finished_counts c None = c
 
 -- words that nobody has used
 abbrev pub AreFresh : List Parts → Counts → Type 0
-AreFresh known counts = (known ≡ replicate (length known) never) × (counts ≡ record { begins = 0; expiries = 0; removals = 0 })
+AreFresh known counts =
+    (known ≡ replicate (length known) never)
+    × (counts ≡ record { begins = 0; expiries = 0; removals = 0 })
 
 -- what the mark and the field of a word show
 abbrev pub look_by : Mark → ℕ → Look

@@ -33,7 +33,8 @@ impl<T: Drop, W: SharedWords, A: Allocator> DelayCore<T, W, A> {
         ensures same { self.new ≡ with_words self.old self.new.words }
         ensures home { W.home self.new.words ≡ W.home self.old.words }
         ensures counts { self.new.counts ≡ W.counts self.new.words }
-        ensures audit { IfOk result (λ c. W.audited self.new.words c × (self.new.counts.expiries + self.new.counts.removals + c ≤ self.new.counts.begins)) }
+        ensures audit { IfOk result (λ c. W.audited self.new.words c
+            × (self.new.counts.expiries + self.new.counts.removals + c ≤ self.new.counts.begins)) }
     {
         self.words.returned()
     }

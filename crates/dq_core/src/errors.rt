@@ -39,7 +39,7 @@ pub enum CoreError {
         limit: u64,
     },
     /// The capacity or the last stamp is out of its range, or the words are not as many as the slots.
-    #[error("the capacity isn't 1 to {CAPACITY_LIMIT}, the last stamp isn't 1 to {LAST_STAMP}, or there isn't one word for each slot")]
+    #[error("the capacity isn't 1 to {CAPACITY_LIMIT}, the last stamp 1 to {LAST_STAMP}, or the words not one a slot")]
     BadConfig,
     /// Memory was refused.
     #[error("out of memory")]

@@ -36,9 +36,6 @@ impl<T: Drop, A: Allocator> DelayCore<T, VecWords<A>, A> {
     /// another shard or names no stamp that its slot was given, as Stale where the slot has a later stamp, as Ended where
     /// the entry isn't live.
     pub fn extend(&mut self, key: &Key, when: u64) -> Result<u64, CallError>
-        ensures same { SameCore self.old self.new }
-        ensures extends { Extends self.old key.now when result self.new }
-
         // The entry is live until the deadline that is told: `when`, or a later one that it had.
         ensures live { IfOk result (λ d. IsKeyLive self.new key.now d) }
         ensures raised { IfOk result
@@ -48,6 +45,10 @@ impl<T: Drop, A: Allocator> DelayCore<T, VecWords<A>, A> {
         ensures rest { KeepsRest self.old self.new }
         ensures refused { OnErr result (self.new ≡ self.old) }
         ensures too_far { IsErrOf result (TooFar LAST_TICK) ↔ (LAST_TICK < when) }
+
+        // Exactly: a step of the queue machine, or which refusal comes first.
+        ensures extends { Extends self.old key.now when result self.new }
+        ensures same { SameCore self.old self.new }
     {
         if when > LAST_TICK {
             return Err(CallError::TooFar { limit: LAST_TICK });
@@ -61,9 +62,6 @@ impl<T: Drop, A: Allocator> DelayCore<T, VecWords<A>, A> {
     /// Cancels a live entry, which stays linked until it is reaped, and answers the deadline that it gives up. Refused as
     /// `extend` is, but never as TooFar.
     pub fn cancel(&mut self, key: &Key) -> Result<u64, CallError>
-        ensures same { SameCore self.old self.new }
-        ensures cancels { Cancels self.old key.now result self.new }
-
         // The entry was live until the deadline that is told, and is cancelled.
         ensures was_live { IfOk result (λ d. IsKeyLive self.old key.now d) }
         ensures cancelled { OnOk result (IsKeyCancelled self.new key.now) }
@@ -71,6 +69,10 @@ impl<T: Drop, A: Allocator> DelayCore<T, VecWords<A>, A> {
         // Nothing but the word changes, and nothing at all where it is refused.
         ensures rest { KeepsRest self.old self.new }
         ensures refused { OnErr result (self.new ≡ self.old) }
+
+        // Exactly: a step of the queue machine, or which refusal comes first.
+        ensures cancels { Cancels self.old key.now result self.new }
+        ensures same { SameCore self.old self.new }
     {
         if !self.is_mine(key) {
             return Err(CallError::Unknown);
@@ -81,13 +83,14 @@ impl<T: Drop, A: Allocator> DelayCore<T, VecWords<A>, A> {
     /// What the word that a key names shows: that the entry is live, or how it ended. Refused as Unknown or as Stale, as
     /// `extend` is.
     pub fn look(&self, key: &Key) -> Result<Look, CallError>
-        ensures shows { Shows self.now key.now result }
-
         // A live entry is shown with its deadline in force, and a cancelled one as cancelled.
         ensures live { (d : ℕ) → IsOkAnd result (λ look. look ≡ StillLive d)
             → IsKeyLive self.now key.now d }
         ensures cancelled { IsOkAnd result (λ look. look ≡ LookCancelled)
             → (word_at self.now.known key.now.entry.index).mark ≡ CancelledMark }
+
+        // Exactly: the word that is shown, or which refusal comes first.
+        ensures shows { Shows self.now key.now result }
     {
         if !self.is_mine(key) {
             return Err(CallError::Unknown);

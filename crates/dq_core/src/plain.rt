@@ -68,14 +68,15 @@ impl<T, A: Allocator> Model for PlainQueue<T, A> {
 
     ghost view = { λ a. plain a.capacity a.tick a.noted a.entries.items };
 
-    ghost invariant = { λ a. IsPlain (plain a.capacity a.tick a.noted a.entries.items) × (a.capacity ≤ vec_capacity a.entries) };
+    ghost invariant = { λ a. IsPlain (plain a.capacity a.tick a.noted a.entries.items)
+        × (a.capacity ≤ vec_capacity a.entries) };
 }
 
 impl<T: Drop, A: Allocator> PlainQueue<T, A> {
     ghost use Rattle.dq_core.specs.Plain.{IsPlain, PlainMakes, PlainInserts, PlainPolls};
 
-    /// An empty queue at tick 0; `BadConfig` for a capacity of 0 or beyond [`CAPACITY_LIMIT`], `NoMemory` where memory is refused. No
-    /// other call takes memory.
+    /// An empty queue at tick 0; `BadConfig` for a capacity of 0 or beyond [`CAPACITY_LIMIT`], `NoMemory` where memory is
+    /// refused. No other call takes memory.
     pub fn new(alloc: A, capacity: usize) -> Result<PlainQueue<T, A>, CoreError>
         ensures { PlainMakes capacity result }
     {

@@ -43,9 +43,20 @@ impl<T, W: Words, A: Allocator> Model for DelayCore<T, W, A> {
 
     ghost Value = { Core T W };
 
-    ghost view = { λ a. record { shard = a.shard; noted = a.noted; wheel = a.wheel; slots = a.slots; known = W.known a.words; counts = W.counts a.words; words = a.words } };
+    ghost view = { λ a. record {
+      shard = a.shard;
+      noted = a.noted;
+      wheel = a.wheel;
+      slots = a.slots;
+      known = W.known a.words;
+      counts = W.counts a.words;
+      words = a.words;
+    } };
 
-    ghost invariant = { λ a. IsLawful a.noted a.wheel.filing a.slots (W.known a.words) (W.counts a.words) × (W.counts a.words ≡ record { begins = a.inserted; expiries = a.expired; removals = a.removed }) };
+    ghost invariant = { λ a.
+        IsLawful a.noted a.wheel.filing a.slots (W.known a.words) (W.counts a.words)
+        × (W.counts a.words
+        ≡ record { begins = a.inserted; expiries = a.expired; removals = a.removed }) };
 }
 
 /// Whether the numbers of a configuration are in their ranges, and the words are as many as its slots.
@@ -69,7 +80,8 @@ fn rows<T: Drop, A: Allocator + Clone>(
     requires few { capacity ≤ CAPACITY_LIMIT }
     requires used { 0 < last }
     requires bound { last ≤ LAST_STAMP }
-    ensures { IfOk result (λ r. (r.0.filing ≡ fresh_filing capacity) × (r.1 ≡ record { last_stamp = last; rows = replicate capacity unused })) }
+    ensures { IfOk result (λ r. (r.0.filing ≡ fresh_filing capacity)
+        × (r.1 ≡ record { last_stamp = last; rows = replicate capacity unused })) }
 {
     let other = alloc.clone()?;
     let slots = Slots::new(other, capacity, last)?;
@@ -100,8 +112,6 @@ impl<T: Drop, W: Words + Drop, A: Allocator + Clone> DelayCore<T, W, A> {
     /// NoMemory; the words come back.
     pub fn new(alloc: A, config: CoreConfig, words: W) -> Result<DelayCore<T, W, A>, (CoreError, W)>
         requires { AreFresh (W.known words) (W.counts words) }
-        ensures makes { IsMade config words (W.known words) (W.counts words) result }
-
         // An empty queue at tick 0, of that shard and that many slots.
         ensures empty { IfOk result (λ q. NoneLinked (machine q)) }
         ensures start { IfOk result (λ q. (q.noted ≡ 0) × (q.wheel.filing.tick ≡ 0)) }
@@ -112,6 +122,9 @@ impl<T: Drop, W: Words + Drop, A: Allocator + Clone> DelayCore<T, W, A> {
         ensures back { IfErr result (λ e. e.1 ≡ words) }
         ensures in_range { IsConfig config.capacity config.last_stamp (length (W.known words))
             → IfErr result (λ e. e.0 ≡ NoMemory) }
+
+        // Exactly: the whole new queue, or which refusal comes.
+        ensures makes { IsMade config words (W.known words) (W.counts words) result }
     {
         if !is_config(&config, words.rows()) {
             return Err((CoreError::BadConfig, words));
@@ -145,7 +158,8 @@ impl<T: Drop, W: Words, A: Allocator> DelayCore<T, W, A> {
     pub fn law(&self)
         ensures shard { IsLawfulCore self.now }
         ensures wheel { IsLawfulWheel self.now.wheel }
-        ensures words { (self.now.known ≡ W.known self.now.words) × (self.now.counts ≡ W.counts self.now.words) }
+        ensures words { (self.now.known ≡ W.known self.now.words)
+            × (self.now.counts ≡ W.counts self.now.words) }
         ensures keeper { W.keeps self.now.words }
     {
         self.wheel.law();
@@ -171,10 +185,6 @@ impl<T: Drop, W: Words, A: Allocator> DelayCore<T, W, A> {
     /// slot is free; the value comes back then.
     #[inline]
     pub fn insert(&mut self, value: T, when: u64) -> Result<Key, (CoreError, T)>
-        ensures same { SameCore self.old self.new }
-        ensures home { W.home self.new.words ≡ W.home self.old.words }
-        ensures inserts { Inserts self.old value when result self.new }
-
         // The entry is live from now on, and no other entry changes.
         ensures live { IfOk result (λ k. IsLinkedAs self.new k value (base_for self.old when)) }
         ensures others { IfOk result (λ k. OthersStay self.old self.new k.entry.index) }
@@ -183,6 +193,11 @@ impl<T: Drop, W: Words, A: Allocator> DelayCore<T, W, A> {
         // Refused, the value comes back and nothing changes; first, and exactly, beyond the last tick.
         ensures refused { IfErr result (λ e. (e.1 ≡ value) × (self.new ≡ self.old)) }
         ensures too_far { IsErrAnd result (λ e. e.0 ≡ TooFar LAST_TICK) ↔ (LAST_TICK < when) }
+
+        // Exactly: a step of the queue machine, and what it leaves of the wheel, the slots and the words.
+        ensures inserts { Inserts self.old value when result self.new }
+        ensures same { SameCore self.old self.new }
+        ensures home { W.home self.new.words ≡ W.home self.old.words }
     {
         if when > LAST_TICK {
             return Err((CoreError::TooFar { limit: LAST_TICK }, value));
@@ -273,13 +288,11 @@ impl<T: Drop, W: Words, A: Allocator> DelayCore<T, W, A> {
     /// noted: call again until the answer is Waiting (nothing is due; `next` is the next tick at which there is something
     /// to do) or Idle (nothing is linked). Refused as TickTooLarge beyond the last tick, which is not noted then.
     pub fn poll(&mut self, tick: u64) -> Result<Turn<T>, CoreError>
-        ensures same { SameCore self.old self.new }
-        ensures home { W.home self.new.words ≡ W.home self.old.words }
-        ensures polls { Polls W.shared self.old tick result self.new }
-
-        // The greater of the two ticks is noted. A tick is refused exactly beyond the last one.
+        // The greater of the two ticks is noted. A tick is refused, and nothing changes, exactly
+        // beyond the last one.
         ensures noted { OnOk result (self.new.noted ≡ max self.old.noted tick) }
         ensures refused { IsErr result ↔ (LAST_TICK < tick) }
+        ensures kept { OnErr result (self.new ≡ self.old) }
 
         // What comes out is due, and no live entry has an earlier deadline.
         ensures out { IfOut result
@@ -287,10 +300,15 @@ impl<T: Drop, W: Words, A: Allocator> DelayCore<T, W, A> {
 
         // Else no live entry is due, and the tick to wait for is after the noted one. There is none
         // exactly where nothing is linked.
-        ensures none_due { IfRests result
+        ensures waiting { IfRests result
             (λ next. NoneLiveBefore (machine self.new) (self.new.noted + 1)) }
         ensures ahead { IfRests result (λ next. IfSome next (λ tick. self.new.noted < tick)) }
         ensures idle { IfRests result (λ next. (next ≡ None) ↔ NoneLinked (machine self.new)) }
+
+        // Exactly: a run of the queue machine, and the way of the wheel and of the words.
+        ensures polls { Polls W.shared self.old tick result self.new }
+        ensures same { SameCore self.old self.new }
+        ensures home { W.home self.new.words ≡ W.home self.old.words }
     {
         if tick > LAST_TICK {
             return Err(CoreError::TickTooLarge { limit: LAST_TICK });
@@ -354,10 +372,6 @@ impl<T: Drop, W: Words, A: Allocator> DelayCore<T, W, A> {
     /// The deadline in force of a live entry, a tick of one millisecond. Refused as Missing where no entry is linked with
     /// that shard, index and birth stamp, and as WasCancelled where it is cancelled.
     pub fn deadline(&mut self, entry: &EntryId) -> Result<u64, CoreError>
-        ensures same { SameCore self.old self.new }
-        ensures home { W.home self.new.words ≡ W.home self.old.words }
-        ensures tells { TellsDeadline W.shared self.old entry.now result self.new }
-
         // The entry is live until the deadline that is told, or known as cancelled, or missing.
         ensures live { IfOk result (λ d. IsLiveEntry (machine self.new) entry.now d) }
         ensures cancelled { IsErrOf result WasCancelled
@@ -367,6 +381,11 @@ impl<T: Drop, W: Words, A: Allocator> DelayCore<T, W, A> {
         // No entry leaves or moves, and no other changes.
         ensures kept { KeepsSlots self.old self.new }
         ensures others { OthersStay self.old self.new entry.now.index }
+
+        // Exactly: what is known after it, and all else as it was.
+        ensures tells { TellsDeadline W.shared self.old entry.now result self.new }
+        ensures same { SameCore self.old self.new }
+        ensures home { W.home self.new.words ≡ W.home self.old.words }
     {
         let Some(index) = self.find(entry) else {
             return Err(CoreError::Missing);
@@ -382,10 +401,6 @@ impl<T: Drop, W: Words, A: Allocator> DelayCore<T, W, A> {
     /// is.
     #[inline]
     pub fn remove(&mut self, entry: &EntryId) -> Result<Removed<T>, CoreError>
-        ensures same { SameCore self.old self.new }
-        ensures home { W.home self.new.words ≡ W.home self.old.words }
-        ensures removes { Removes W.shared self.old entry.now result self.new }
-
         // What was held under that shard, index and birth stamp comes out, and nothing else.
         ensures out { IfOk result
             (λ x. (x.key.entry ≡ entry.now) × HoldsValue self.old entry.now x.value) }
@@ -395,6 +410,11 @@ impl<T: Drop, W: Words, A: Allocator> DelayCore<T, W, A> {
         // Refused, no entry leaves or moves; a missing entry is told exactly.
         ensures refused { OnErr result (KeepsSlots self.old self.new) }
         ensures missing { IsErrOf result Missing ↔ IsMissing self.old entry.now }
+
+        // Exactly: a step of the queue machine, and what it leaves of the wheel, the slots and the words.
+        ensures removes { Removes W.shared self.old entry.now result self.new }
+        ensures same { SameCore self.old self.new }
+        ensures home { W.home self.new.words ≡ W.home self.old.words }
     {
         let Some(index) = self.find(entry) else {
             return Err(CoreError::Missing);
@@ -418,10 +438,6 @@ impl<T: Drop, W: Words, A: Allocator> DelayCore<T, W, A> {
     /// tick, then as `deadline` is, then as Worn where the slot has no stamp left.
     #[inline]
     pub fn reset(&mut self, entry: &EntryId, when: u64) -> Result<Key, CoreError>
-        ensures same { SameCore self.old self.new }
-        ensures home { W.home self.new.words ≡ W.home self.old.words }
-        ensures resets { Resets W.shared self.old entry.now when result self.new }
-
         // The same entry is live at its new base, under the slot's next stamp, and no other changes.
         ensures live { OnOk result
             (IsLiveEntry (machine self.new) entry.now (base_for self.old when)) }
@@ -432,6 +448,11 @@ impl<T: Drop, W: Words, A: Allocator> DelayCore<T, W, A> {
         // Refused, no entry leaves or moves; first, and exactly, beyond the last tick.
         ensures refused { OnErr result (KeepsSlots self.old self.new) }
         ensures too_far { IsErrOf result (TooFar LAST_TICK) ↔ (LAST_TICK < when) }
+
+        // Exactly: a step of the queue machine, and what it leaves of the wheel, the slots and the words.
+        ensures resets { Resets W.shared self.old entry.now when result self.new }
+        ensures same { SameCore self.old self.new }
+        ensures home { W.home self.new.words ≡ W.home self.old.words }
     {
         if when > LAST_TICK {
             return Err(CoreError::TooFar { limit: LAST_TICK });

@@ -123,7 +123,8 @@ impl<T, A: Allocator> Model for Slots<T, A> {
 
     ghost view = { λ a. record { last_stamp = a.last; rows = a.cells.items } };
 
-    ghost invariant = { λ a. IsSlotRowsKept a.last a.cells.items a.free.items a.taken (vec_capacity a.free) };
+    ghost invariant = { λ a.
+        IsSlotRowsKept a.last a.cells.items a.free.items a.taken (vec_capacity a.free) };
 }
 
 impl<T: Drop, A: Allocator + Clone> Slots<T, A> {
@@ -135,7 +136,8 @@ impl<T: Drop, A: Allocator + Clone> Slots<T, A> {
         requires size { capacity ≤ CAPACITY_LIMIT }
         requires used { 0 < last }
         requires bound { last ≤ LAST_STAMP }
-        ensures { IfOk result (λ s. s ≡ record { last_stamp = last; rows = replicate capacity unused }) }
+        ensures { IfOk result
+            (λ s. s ≡ record { last_stamp = last; rows = replicate capacity unused }) }
     {
         let mut cells = Vec::with_capacity(alloc.clone()?, capacity)?;
         let mut free = Vec::with_capacity(alloc, capacity)?;

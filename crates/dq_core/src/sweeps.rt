@@ -44,10 +44,6 @@ impl<T: Drop, W: Words, A: Allocator> DelayCore<T, W, A> {
     /// Reaps each linked entry that is found cancelled, and answers how many: their values are dropped, and their slots
     /// are free for others, or worn. It looks at every slot.
     pub fn sweep(&mut self) -> usize
-        ensures same { SameCore self.old self.new }
-        ensures home { W.home self.new.words ≡ W.home self.old.words }
-        ensures sweeps { Sweeps W.shared self.old result self.new }
-
         // No entry is left that is known as cancelled, and so many are fewer.
         ensures reaped { NoneCancelled (machine self.new) }
         ensures fewer { linked_in self.new + result ≡ linked_in self.old }
@@ -56,6 +52,11 @@ impl<T: Drop, W: Words, A: Allocator> DelayCore<T, W, A> {
         ensures counts { self.new.counts ≡ self.old.counts }
         ensures noted { self.new.noted ≡ self.old.noted }
         ensures tick { self.new.wheel.filing.tick ≡ self.old.wheel.filing.tick }
+
+        // Exactly: a run of the queue machine, and what it leaves of the wheel, the slots and the words.
+        ensures sweeps { Sweeps W.shared self.old result self.new }
+        ensures same { SameCore self.old self.new }
+        ensures home { W.home self.new.words ≡ W.home self.old.words }
     {
         let mut reaped = 0;
         for index in 0..self.slots.capacity() {
@@ -92,10 +93,6 @@ impl<T: Drop, W: Words, A: Allocator> DelayCore<T, W, A> {
     /// Ends every linked entry, and drops its value: each live one as removed, and those that were cancelled are reaped.
     /// It answers how many it ended as removed, and goes over every slot.
     pub fn clear(&mut self) -> usize
-        ensures same { SameCore self.old self.new }
-        ensures home { W.home self.new.words ≡ W.home self.old.words }
-        ensures clears { Clears W.shared self.old result self.new }
-
         // Nothing is linked any more. So many removals are counted, and no other ending.
         ensures empty { NoneLinked (machine self.new) }
         ensures counts { self.new.counts ≡ removed_counts self.old.counts result }
@@ -104,6 +101,11 @@ impl<T: Drop, W: Words, A: Allocator> DelayCore<T, W, A> {
         // No tick goes on.
         ensures noted { self.new.noted ≡ self.old.noted }
         ensures tick { self.new.wheel.filing.tick ≡ self.old.wheel.filing.tick }
+
+        // Exactly: a run of the queue machine, and what it leaves of the wheel, the slots and the words.
+        ensures clears { Clears W.shared self.old result self.new }
+        ensures same { SameCore self.old self.new }
+        ensures home { W.home self.new.words ≡ W.home self.old.words }
     {
         let mut removed = 0;
         for index in 0..self.slots.capacity() {

@@ -24,9 +24,13 @@ impl<A: Allocator> Model for VecWords<A> {
 
     ghost Value = { WordRow };
 
-    ghost view = { λ a. record { known = a.row.items; counts = record { begins = a.begins; expiries = a.expiries; removals = a.removals } } };
+    ghost view = { λ a. record {
+      known = a.row.items;
+      counts = record { begins = a.begins; expiries = a.expiries; removals = a.removals };
+    } };
 
-    ghost invariant = { λ a. IsWordRow a.row.items (record { begins = a.begins; expiries = a.expiries; removals = a.removals }) };
+    ghost invariant = { λ a. IsWordRow a.row.items
+        (record { begins = a.begins; expiries = a.expiries; removals = a.removals }) };
 }
 
 const UNUSED: Parts = Parts {

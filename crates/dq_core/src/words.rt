@@ -120,8 +120,10 @@ pub trait Words {
         requires in_force { IsInForce stamp at (word_at (known self.old) index) }
         requires last { stamp ≤ LAST_STAMP }
         requires tick { at ≤ LAST_TICK }
-        ensures settled { IsSettled shared stamp at (word_at (known self.old) index) result (word_at (known self.new) index) }
-        ensures known { known self.new ≡ slice_set (known self.old) index (word_at (known self.new) index) }
+        ensures settled { IsSettled shared stamp at (word_at (known self.old) index) result
+            (word_at (known self.new) index) }
+        ensures known { known self.new
+            ≡ slice_set (known self.old) index (word_at (known self.new) index) }
         ensures counts { counts self.new ≡ settled_counts (counts self.old) result }
         ensures home { home self.new ≡ home self.old };
 
@@ -132,8 +134,10 @@ pub trait Words {
         requires in_force { IsInForce stamp 0 (word_at (known self.old) index) }
         requires last { stamp < LAST_STAMP }
         requires tick { when ≤ LAST_TICK }
-        ensures changed { IsChanged shared stamp (λ d. live (stamp + 1) when) (word_at (known self.old) index) result (word_at (known self.new) index) }
-        ensures known { known self.new ≡ slice_set (known self.old) index (word_at (known self.new) index) }
+        ensures changed { IsChanged shared stamp (λ d. live (stamp + 1) when)
+            (word_at (known self.old) index) result (word_at (known self.new) index) }
+        ensures known { known self.new
+            ≡ slice_set (known self.old) index (word_at (known self.new) index) }
         ensures counts { counts self.new ≡ counts self.old }
         ensures home { home self.new ≡ home self.old };
 
@@ -143,8 +147,10 @@ pub trait Words {
         requires in_range { index < length (known self.old) }
         requires in_force { IsInForce stamp 0 (word_at (known self.old) index) }
         requires last { stamp ≤ LAST_STAMP }
-        ensures changed { IsChanged shared stamp (removed stamp) (word_at (known self.old) index) result (word_at (known self.new) index) }
-        ensures known { known self.new ≡ slice_set (known self.old) index (word_at (known self.new) index) }
+        ensures changed { IsChanged shared stamp (removed stamp)
+            (word_at (known self.old) index) result (word_at (known self.new) index) }
+        ensures known { known self.new
+            ≡ slice_set (known self.old) index (word_at (known self.new) index) }
         ensures counts { counts self.new ≡ finished_counts (counts self.old) result }
         ensures home { home self.new ≡ home self.old };
 }
@@ -172,19 +178,24 @@ pub trait SharedWords: Words {
     /// One caller more.
     fn issue(&mut self) -> Result<Self::Caller, Self::Fault>
         ensures issued { issues self.old result self.new }
-        ensures same { (Self.known self.new ≡ Self.known self.old) × (Self.counts self.new ≡ Self.counts self.old) }
+        ensures same { (Self.known self.new ≡ Self.known self.old)
+            × (Self.counts self.new ≡ Self.counts self.old) }
         ensures home { Self.home self.new ≡ Self.home self.old };
 
     /// The issued callers that are not given back.
     fn out(&mut self) -> u64
         ensures told { tells self.old result self.new }
-        ensures same { (Self.known self.new ≡ Self.known self.old) × (Self.counts self.new ≡ Self.counts self.old) }
+        ensures same { (Self.known self.new ≡ Self.known self.old)
+            × (Self.counts self.new ≡ Self.counts self.old) }
         ensures home { Self.home self.new ≡ Self.home self.old };
 
     /// The accepted cancels of all callers, where none is out; else the number of callers that are out.
     fn returned(&mut self) -> Result<u64, u64>
         ensures returned { returns self.old result self.new }
-        ensures same { (Self.known self.new ≡ Self.known self.old) × (Self.counts self.new ≡ Self.counts self.old) }
+        ensures same { (Self.known self.new ≡ Self.known self.old)
+            × (Self.counts self.new ≡ Self.counts self.old) }
         ensures home { Self.home self.new ≡ Self.home self.old }
-        ensures audit { IfOk result (λ c. audited self.new c × ((Self.counts self.new).expiries + (Self.counts self.new).removals + c ≤ (Self.counts self.new).begins)) };
+        ensures audit { IfOk result (λ c. audited self.new c
+            × ((Self.counts self.new).expiries + (Self.counts self.new).removals + c
+            ≤ (Self.counts self.new).begins)) };
 }
