@@ -1,7 +1,8 @@
 -- No public clause cites this module.
 -- Occupancy maps: six numbers of 64 bits, a bit for each list.
 
-use Rattle.std.specs.Prelude.{◌≡◌, ◌≢◌, ℕ, ◌+◌, ◌-◌, ◌/◌, ◌%◌, ◌<◌, ◌≤◌, ◌⊎◌, ◌==◌, if◌then◌else◌, List}
+use Rattle.std.specs.Prelude.{◌≡◌, ◌≢◌, ℕ, ◌+◌, ◌-◌, ◌/◌, ◌%◌, ◌<◌, ◌≤◌, ◌⊎◌, ◌==◌, if◌then◌else◌}
+use Rattle.std.specs.Prelude.{List}
 use Rattle.dq_wheel.specs.Lists.{IsListFilled}
 use Rattle.dq_wheel.specs.Walks.{bit_of}
 use Rattle.dq_wheel.specs.declared.TheConstants.{LISTS}
