@@ -1,5 +1,5 @@
 -- A clear: how it ends the entry of one slot, and those of all.
-use Rattle.std.proofs.Common.{◌≡◌, ◌≢◌, ℕ, ◌+◌, ◌<◌, ◌≤◌, zero, suc, Bool, true, false, cond, List, [], ◌∷◌, ◌++◌, length, get_or, set, Option, Some, None, is_some, refl, sym, ap, ◌∙◌, subst, inl, inr, arith}
+use Rattle.std.proofs.Common.{◌≡◌, ◌≢◌, ℕ, ◌+◌, ◌<◌, ◌≤◌, zero, suc, Bool, true, false, cond, List, [], ◌∷◌, ◌++◌, length, length-append, get_or, set, Option, Some, None, is_some, refl, sym, ap, ◌∙◌, subst, inl, inr, arith}
 use Rattle.std.specs.List.{AllByRecursion}
 use Rattle.std.proofs.lemmas.List.{get_or_past}
 use Rattle.std.proofs.lemmas.Bool.{cases_eq, cases_lt, false≢true}
@@ -53,6 +53,10 @@ clear_callers : {T : Type 0} (shared : Bool) (last : ℕ) (m n : Machine T) → 
 clear_callers shared last m n a =
     (a.0, all_into (IsCallers shared) (IsClearing shared) (callers_clearing shared) a.0 a.1, a.2, removes_none shared a.0 a.1)
 
+one_most : (r : Bool) → cond r 1 0 ≤ 1
+one_most true = omega arith
+one_most false = omega arith
+
 -- one held slot, whose word was finished
 module _ {T W : Type 0} (shared : Bool) (b c : Core T W) (l : IsLawfulCore b) (i f : ℕ) (at : Filed b.wheel.filing.tick b.slots.last_stamp b.slots.rows b.known b.wheel.filing.filed i f) (stamp : ℕ) (es : stamp ≡ (row_at b.slots.rows i).stamp) (ew : c.wheel.filing ≡ unlinked b.wheel.filing i) (eh : c.slots ≡ vacated b.slots i) (ek : c.known ≡ set b.known i (word_at c.known i)) (en : c.noted ≡ b.noted) where
   -- what was known of its word is changed
@@ -73,6 +77,7 @@ module _ {T W : Type 0} (shared : Bool) (b c : Core T W) (l : IsLawfulCore b) (i
           i ∷ [],
           record {
             run = clear_more shared b.slots.last_stamp (machine b) g.learned (machine c) 0 (cond r 1 0) (cond r 1 0) (clear_callers shared b.slots.last_stamp (machine b) g.learned g.callers) one (omega arith);
+            few = one_most r;
             out = out_one b c i at.held at.is_held ew eh en;
             counts = ec;
           },
@@ -120,7 +125,7 @@ clear_from shared b =
     record {
       same = (refl, refl, refl);
       few = omega arith;
-      ended = ([], record { run = ([], tt, refl, refl); out = out_none b b refl refl refl; counts = counts_none b.counts });
+      ended = ([], record { run = ([], tt, refl, refl); few = omega arith; out = out_none b b refl refl refl; counts = counts_none b.counts });
       words = λ j less. absurd (omega arith);
       none = λ j less. absurd (omega arith);
       rest = λ j more. (refl, refl);
@@ -131,6 +136,7 @@ ended_more shared a b c is js n m k same x y e =
     let P : ℕ → Type 0 = λ s. RunOfClear shared s (machine b) m (machine c) in
     record {
       run = clear_more shared a.slots.last_stamp (machine a) (machine b) (machine c) n m k x.run (subst P same.1 y.run) e;
+      few = let p = x.few in let q = y.few in omega (arith, e, p, q, length-append is js);
       out = out_more a b c is js x.out y.out;
       counts = counts_more a.counts b.counts c.counts n m k x.counts y.counts e;
     }

@@ -13,7 +13,8 @@ use Rattle.dq_core.specs.declared.outcomes.Removed.{Removed}
 use Rattle.dq_core.specs.Words.{Counts, word_at, IsInForce, Learned, IsChanged, live, cancelled, removed, finished_counts}
 use Rattle.dq_core.specs.Slots.{SlotRows, row_at, vacated, vacated_row, raised, raised_row, IsBorn}
 use Rattle.dq_core.specs.Machine.{Entry, Machine, Callers, Has, table_at, put}
-use Rattle.dq_core.specs.Core.{Core, machine, machine_of, IsLawful, IsLawfulCore, filing_for, due_by, entry_of}
+use Rattle.dq_core.specs.Core.{Core, machine, IsLawful, IsLawfulCore, filing_for, due_by, entry_of}
+use Rattle.dq_core.specs.TableRows.{machine_of}
 use Rattle.dq_core.specs.Calls.{IsLookedAt, IsFound, IsMissing, IsFoundCancelled, IsFoundLive, IsRemoved, IsReset, file_for}
 use Rattle.dq_core.proofs.Slotwise.{held_inside}
 use Rattle.dq_core.proofs.Law.{Filed, held_filed, law_kept, law_vacated, force_learned, force_low}
@@ -58,6 +59,15 @@ missing_born {T} b l id i ei (Some n) born other =
 -- what the law says of a found entry
 pub found_filed : {T W : Type 0} (b : Core T W) → IsLawfulCore b → (id : EntryId) (i : ℕ) → IsFound b id i → (f : ℕ) × Filed b.wheel.filing.tick b.slots.last_stamp b.slots.rows b.known b.wheel.filing.filed i f
 found_filed b l id i found = held_filed l i found.3.0 found.2 found.3.1
+
+-- what is found isn't missing
+pub not_missing : {T W : Type 0} (b : Core T W) → IsLawfulCore b → (id : EntryId) (i : ℕ) → IsFound b id i → ¬ IsMissing b id
+not_missing {T} b l id i (shard, at, inside, (h, held, born)) missing =
+    let P : ℕ → Type 0 = λ n. (row_at b.slots.rows n).held ≡ Some h in
+    let e : Entry T = record { born = h.born; value = h.value; due = due_by (word_at b.known id.index).mark (word_at b.known id.index).field } in
+    let is : (table_at (machine b) id.index).entry ≡ Some e =
+    ap (λ s. s.entry) (table_row_is b.slots.rows b.known l.as_known id.index) ∙ ap (λ o. entry_of o (word_at b.known id.index)) (subst P at held) in
+    missing shard e is born
 
 -- its word is in force
 pub found_force : {T W : Type 0} (b : Core T W) → IsLawfulCore b → (id : EntryId) (i stamp : ℕ) → IsFound b id i → stamp ≡ (row_at b.slots.rows i).stamp → IsInForce stamp 0 (word_at b.known i)

@@ -12,7 +12,8 @@ use Rattle.dq_ticks.specs.declared.keys.EntryId.{EntryId}
 use Rattle.dq_core.proofs.SlotRows.{parted}
 use Rattle.dq_core.specs.Machine.{Machine, table_at, put}
 use Rattle.dq_core.specs.Calls.{IsInserted, base_for, file_for}
-use Rattle.dq_core.specs.Core.{Core, IsSlot, IsLawful, IsLawfulCore, filing_for, machine, table_of, table_row_of, entry_of}
+use Rattle.dq_core.specs.Core.{Core, IsSlot, IsLawful, IsLawfulCore, filing_for, machine, table_of, entry_of}
+use Rattle.dq_core.specs.TableRows.{table_row_of}
 use Rattle.dq_core.proofs.Ways.{table_row_is, table_set, length-table}
 use Rattle.dq_core.proofs.Slotwise.{changed_set, slots_change, free_is, count_set, stamps_set, none_held, one}
 

@@ -10,13 +10,14 @@ use Rattle.dq_core.specs.declared.slots.Held.{Held}
 use Rattle.dq_core.specs.Words.{word_at, never, IsInForce, Learned, cancelled}
 use Rattle.dq_core.specs.Slots.{Row, SlotRows, unused, row_at, is_held, vacated, vacated_row}
 use Rattle.dq_core.specs.Machine.{Entry, TableRow, Machine, Reap, RunOf, Callers, IsCallers, IsReaping, Has, table_at, put}
-use Rattle.dq_core.specs.Core.{Core, machine, machine_of, table_row_of, table_of, entry_of, due_by, IsLawful, IsLawfulCore}
+use Rattle.dq_core.specs.Core.{Core, machine, table_of, entry_of, due_by, IsLawful, IsLawfulCore}
+use Rattle.dq_core.specs.TableRows.{machine_of, table_row_of}
 use Rattle.dq_core.specs.Calls.{LooksOver, SameCore}
 use Rattle.dq_core.specs.Sweeps.{all_unlinked, all_vacated, AreOut, NotCancelled, AreReaped, only_if, IsSwept, Sweeps}
 use Rattle.dq_core.proofs.Slotwise.{held_is, held_inside, count_set, one, one_held}
 use Rattle.dq_core.proofs.Law.{Filed, held_filed, law_vacated, force_learned, force_stamp, force_low}
 use Rattle.dq_core.proofs.Ways.{run_of_more, run_of_into, run_of_none, run_of_one, callers_reaping, Learning, learning, machine_is, vacated_of, table_row_is, table-le-rows}
-use Rattle.dq_core.proofs.Steps.{looks_none, looks_one, looks_more}
+use Rattle.dq_core.proofs.Looks.{looks_none, looks_one, looks_more}
 
 -- one list of indexes after another
 

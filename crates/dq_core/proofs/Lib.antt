@@ -1,11 +1,14 @@
 pub mod Asks
 pub mod ByKey
+pub mod CallWords
 mod Cells
 pub mod Clearing
 pub mod Finds
 pub mod Inserts
 pub mod Law
 pub mod Leaving
+pub mod Looks
+pub mod Rests
 pub mod Searches
 pub mod SlotRows
 pub mod Slotwise

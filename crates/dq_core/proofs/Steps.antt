@@ -1,7 +1,7 @@
 -- The steps of a poll: each keeps the shard law, goes the machine's way, and leaves less to do.
 use Rattle.std.proofs.Common.{◌≡◌, ◌≢◌, ℕ, ◌+◌, ◌-◌, ◌<◌, ◌≤◌, max, Bool, List, length, get_or, set, Option, Some, None, MatchOption, refl, sym, ap, ◌∙◌, subst, inl, inr, arith}
 use Rattle.std.specs.List.{sum_by}
-use Rattle.std.proofs.lemmas.List.{length-set, get_or-set_same, get_or-set_other, set-set, set-get_or}
+use Rattle.std.proofs.lemmas.List.{get_or-set_same, get_or-set_other, set-set, set-get_or}
 use Rattle.std.proofs.lemmas.List.Sums.{sum_by-set}
 use Rattle.std.proofs.lemmas.Bool.{cases_eq}
 use Rattle.dq_ticks.specs.declared.words.Parts.{Parts}
@@ -16,15 +16,18 @@ use Rattle.dq_core.specs.declared.outcomes.Expired.{Expired}
 use Rattle.dq_core.specs.declared.outcomes.Turn.{Turn}
 use Rattle.dq_core.specs.declared.outcomes.Turn.TheVariants.{Out, Waiting, Idle}
 use Rattle.dq_core.specs.declared.words.Settled.TheVariants.{SettledExpired, Later, SettledCancelled}
-use Rattle.dq_core.specs.Words.{Counts, word_at, never, IsInForce, Learned, IsSettled, live, cancelled, settled_counts}
+use Rattle.dq_core.specs.Words.{Counts, word_at, never, IsInForce, Learned, IsSettled, settled_counts}
 use Rattle.dq_core.specs.Slots.{SlotRows, unused, row_at, vacated, vacated_row}
 use Rattle.dq_core.specs.Machine.{Machine, Reap, Pass, RunOf, IsCallers, IsOnTheWay, Has, table_at, put, NoneLiveBefore, NoneLinked}
-use Rattle.dq_core.specs.Core.{Core, machine, machine_of, IsPlaced, IsLawful, IsLawfulCore, filing_for, due_by, entry_of}
-use Rattle.dq_core.specs.Calls.{SameCore, LooksOver, IsFiledOver, IsUnderWay, IsAnswered, IsLeft, IsOut, IsTurn, IsPolled, TurnRow, turn_counts, TellsWake, cost, work, noting}
+use Rattle.dq_core.specs.Core.{Core, machine, IsPlaced, IsLawful, IsLawfulCore, filing_for, due_by, entry_of}
+use Rattle.dq_core.specs.TableRows.{machine_of}
+use Rattle.dq_core.specs.Calls.{SameCore, LooksOver, IsFiledOver, IsUnderWay, IsAnswered, IsLeft, IsOut, IsTurn, IsPolled, TurnRow, turn_counts, TellsWake, WakesAhead, cost, work, noting}
 use Rattle.dq_wheel.specs.Wakes.{IsNextWake}
+use Rattle.dq_wheel.specs.Lawful.{IsLawfulWheel, WakesAreAhead}
 use Rattle.dq_core.proofs.Slotwise.{held_inside}
 use Rattle.dq_core.proofs.Law.{Filed, filed_is, held_filed, law_kept, law_vacated, force_learned, force_live}
 use Rattle.dq_core.specs.WheelWays.{GoesOn}
+use Rattle.dq_core.proofs.Looks.{looks_none, looks_one, looks_more}
 use Rattle.dq_core.proofs.WheelSteps.{goes_more, goes_one, goes_none}
 use Rattle.dq_core.proofs.Ways.{run_of_more, run_of_into, run_of_none, run_of_one, callers_on_the_way, learning, machine_is, vacated_of, none_before, none_due, table_row_is, core_of}
 
@@ -33,41 +36,6 @@ pub relinked : (w : Filing) (i f : ℕ) → linked (unlinked w i) i f ≡ linked
 relinked w i f =
     ap (λ xs. let x : Filing = record { tick = w.tick; filed = xs; moves = set (set w.moves i 0) i 0; moved = w.moved } in x) (set-set w.filed i None (Some f))
     ∙ ap (λ xs. let x : Filing = record { tick = w.tick; filed = set w.filed i (Some f); moves = xs; moved = w.moved } in x) (set-set w.moves i 0 0)
-
--- nothing was looked at
-pub looks_none : (shared : Bool) (known : List Parts) → LooksOver shared known known
-looks_none shared known = (refl, λ i. inl refl)
-
--- one word was looked at
-pub looks_one : (shared : Bool) (known : List Parts) (i : ℕ) (v : Parts) → i < length known → Learned shared (word_at known i) v → LooksOver shared known (set known i v)
-looks_one shared known i v inside learned = (
-  length-set known i v,
-  λ j.
-      elim (cases_eq j i) [
-        | inl same ↦
-            let P : ℕ → Type 0 = λ k. Learned shared (word_at known k) (word_at (set known i v) k) in
-            let Q : Parts → Type 0 = λ w. Learned shared (word_at known i) w in
-            subst P (sym same) (subst Q (sym (get_or-set_same known i v never inside)) learned)
-        | inr ne ↦ inl (get_or-set_other known i j v never ne)
-      ],
-)
-
--- what is learned after what was learned
-learned_more : (shared : Bool) (a b c : Parts) → Learned shared a b → Learned shared b c → Learned shared a c
-learned_more shared a b c (inl ab) bc = let P : Parts → Type 0 = λ x. Learned shared x c in subst P ab bc
-learned_more shared a b c (inr x) (inl bc) = let P : Parts → Type 0 = λ y. Learned shared a y in subst P (sym bc) (inr x)
-learned_more shared a b c (inr (open_, alive, inl (is, more, small))) (inr (open', alive', inl (is', more', small'))) =
-    let stamp : b.stamp ≡ a.stamp = ap (λ p. p.stamp) is in
-    inr (open_, alive, inl (is' ∙ ap (λ s. live s c.field) stamp, omega (arith, more, more'), small'))
-learned_more shared a b c (inr (open_, alive, inl (is, more, small))) (inr (open', alive', inr is')) =
-    let stamp : b.stamp ≡ a.stamp = ap (λ p. p.stamp) is in
-    inr (open_, alive, inr (is' ∙ ap cancelled stamp))
-learned_more shared a b c (inr (open_, alive, inr is)) (inr (open', alive', more)) =
-    let mark : b.mark ≡ CancelledMark = ap (λ p. p.mark) is in
-    absurd (cc)
-
-pub looks_more : (shared : Bool) (a b c : List Parts) → LooksOver shared a b → LooksOver shared b c → LooksOver shared a c
-looks_more shared a b c x y = (y.0 ∙ x.0, λ i. learned_more shared (word_at a i) (word_at b i) (word_at c i) (x.1 i) (y.1 i))
 
 -- how one index is filed after two ways
 filed_more : (u : Filing) (a : List Parts) (v : Filing) (b : List Parts) (w : Filing) (c : List Parts) (i : ℕ) → u.tick ≤ v.tick → v.tick ≤ w.tick → IsFiledOver u a v b i → IsFiledOver v b w c i → IsFiledOver u a w c i
@@ -87,7 +55,7 @@ under_way_more shared a b c last noted x y =
     record {
       way = run_of_more (IsOnTheWay shared) a.slots.last_stamp (machine a) (machine b) (machine c) x.way (subst P last y.way);
       looks = looks_more shared a.known b.known c.known x.looks y.looks;
-      wheel = goes_more a.noted b.noted a.wheel.filing b.wheel.filing c.wheel.filing noted x.wheel y.wheel;
+      wheel = goes_more shared a.known b.known a.noted b.noted a.wheel.filing b.wheel.filing c.wheel.filing noted x.looks x.wheel y.wheel;
       ticks = omega arith;
       filed = λ i. filed_more a.wheel.filing a.known b.wheel.filing b.known c.wheel.filing c.known i ticks ticks' (x.filed i) (y.filed i);
       counts = y.counts ∙ x.counts;
@@ -95,7 +63,7 @@ under_way_more shared a b c last noted x y =
 
 pub under_way_none : {T W : Type 0} (shared : Bool) (b : Core T W) → IsUnderWay shared b b
 under_way_none shared b =
-    record { way = run_of_none (IsOnTheWay shared) b.slots.last_stamp (machine b) (machine b) refl; looks = looks_none shared b.known; wheel = goes_none b.noted b.wheel.filing; ticks = omega arith; filed = λ i. inl (refl, refl); counts = refl }
+    record { way = run_of_none (IsOnTheWay shared) b.slots.last_stamp (machine b) (machine b) refl; looks = looks_none shared b.known; wheel = goes_none shared b.known b.noted b.wheel.filing; ticks = omega arith; filed = λ i. inl (refl, refl); counts = refl }
 
 -- how the indexes are filed where one index changes
 filed_one : (v w : Filing) (old new : List Parts) (i : ℕ) (o : Option ℕ) (p : Parts) → w.filed ≡ set v.filed i o → new ≡ set old i p → IsFiledOver v old w new i → (j : ℕ) → IsFiledOver v old w new j
@@ -154,6 +122,7 @@ module _ {T W : Type 0} (shared : Bool) (b c : Core T W) (l : IsLawfulCore b) (i
       let mc : machine c ≡ machine_of b.wheel.filing.tick b.noted b.slots.rows (set b.known i v) = machine_is c b.wheel.filing.tick b.noted b.slots.rows (set b.known i v) ticks en (ap (λ x. x.rows) es) ek in
       let P : Machine T → Type 0 = λ m. RunOf (IsOnTheWay shared) b.slots.last_stamp (machine b) m in
       let Q : List Parts → Type 0 = λ ws. LooksOver shared b.known ws in
+      let L : Parts → Type 0 = λ p. Learned shared (word_at b.known i) p in
       let later = later_filed b.wheel.filing.tick d settled.0 in
       let at_i : filed_at c.wheel.filing.filed i ≡ Some (filing_for b.wheel.filing.tick v.field) =
       ap (λ xs. filed_at xs i) filed ∙ get_or-set_same b.wheel.filing.filed i (Some (filing_for b.wheel.filing.tick d)) None inside_filed ∙ ap (λ n. let o : Option ℕ = Some (filing_for b.wheel.filing.tick n) in o) (sym vf) in
@@ -167,7 +136,7 @@ module _ {T W : Type 0} (shared : Bool) (b c : Core T W) (l : IsLawfulCore b) (i
         record {
           way = subst P (sym mc) (run_of_into (IsCallers shared) (IsOnTheWay shared) (callers_on_the_way shared) b.slots.last_stamp (machine b) (machine_of b.wheel.filing.tick b.noted b.slots.rows (set b.known i v)) lea.way);
           looks = subst Q (sym ek) (looks_one shared b.known i v inside_known settled.2);
-          wheel = goes_one b.noted b.wheel.filing c.wheel.filing (inr (inl (i, filing_for b.wheel.filing.tick d, due, later.0, filing)));
+          wheel = goes_one shared b.known b.noted b.wheel.filing c.wheel.filing (inr (inl (i, s, d, due, settled.0, subst L settled.1 settled.2, filing)));
           ticks = t0;
           filed = filed_one b.wheel.filing c.wheel.filing b.known c.known i (Some (filing_for b.wheel.filing.tick d)) v filed ek (inr (inr (b.wheel.filing.tick, omega arith, t0, vm, at_i)));
           counts = ec;
@@ -222,7 +191,7 @@ module _ {T W : Type 0} (shared : Bool) (b c : Core T W) (l : IsLawfulCore b) (i
         record {
           way = run_of_more (IsOnTheWay shared) b.slots.last_stamp (machine b) m1 (machine c) (run_of_into (IsCallers shared) (IsOnTheWay shared) (callers_on_the_way shared) b.slots.last_stamp (machine b) m1 lea.way) reap;
           looks = subst Q (sym ek) (looks_one shared b.known i v inside_known settled.1);
-          wheel = goes_one b.noted b.wheel.filing c.wheel.filing (inl (i, due, ew));
+          wheel = goes_one shared b.known b.noted b.wheel.filing c.wheel.filing (inl (i, due, ew));
           ticks = t0;
           filed = filed_one b.wheel.filing c.wheel.filing b.known c.known i None v filed ek (inr (inl at_i));
           counts = ec;
@@ -280,7 +249,7 @@ module _ {T W : Type 0} (shared : Bool) (b c : Core T W) (l : IsLawfulCore b) (i
       record {
         run = (machine b, run_of_none (IsOnTheWay shared) b.slots.last_stamp (machine b) (machine b) refl, out);
         row = row;
-        wheel = goes_one b.noted b.wheel.filing c.wheel.filing (inl (i, due, ew));
+        wheel = goes_one shared b.known b.noted b.wheel.filing c.wheel.filing (inl (i, due, ew));
         ticks = omega (arith, ticks);
         filed = filed_one b.wheel.filing c.wheel.filing b.known c.known i None v filed ek (inr (inl at_i));
         counts = ec;
@@ -311,7 +280,7 @@ step_advanced {T} {W} shared b c l goes ef small up before es ek ec en =
       record {
         way = run_of_one (IsOnTheWay shared) b.slots.last_stamp (machine b) (machine c) (Pass t) tt (omega (arith, up), small, none, mc);
         looks = subst Q (sym ek) (looks_none shared b.known);
-        wheel = goes_one b.noted b.wheel.filing c.wheel.filing (inr (inr goes));
+        wheel = goes_one shared b.known b.noted b.wheel.filing c.wheel.filing (inr (inr goes));
         ticks = omega (arith, up);
         filed = λ i. inl (ap (λ xs. filed_at xs i) ef, ap (λ ws. word_at ws i) ek);
         counts = ec;
@@ -320,7 +289,7 @@ step_advanced {T} {W} shared b c l goes ef small up before es ek ec en =
     )
 
 -- at rest the wheel stands at the noted tick, and none is due there
-pub rests : {T W : Type 0} (b : Core T W) → IsLawfulCore b → b.noted ≤ b.wheel.filing.tick → ((i : ℕ) → filed_at b.wheel.filing.filed i ≢ Some b.wheel.filing.tick) → (b.wheel.filing.tick ≡ b.noted) × NoneLiveBefore (machine b) (b.noted + 1)
+pub rests : {T W : Type 0} (b : Core T W) → IsLawfulCore b → b.noted ≤ b.wheel.filing.tick → ((i : ℕ) → filed_at b.wheel.filing.filed i ≢ Some b.wheel.filing.tick) → (b.wheel.filing.tick ≡ b.noted) × NoneLiveBefore (machine b) (b.noted + 1) × ((i : ℕ) → filed_at b.wheel.filing.filed i ≢ Some b.wheel.filing.tick)
 rests b l up none =
     let tick = l.tick in
     let same : b.wheel.filing.tick ≡ b.noted = omega arith in (
@@ -330,13 +299,14 @@ rests b l up none =
           let after = (filed_is l i f e).ahead in
           let other : f ≢ b.wheel.filing.tick = λ eq. none i (e ∙ ap (λ n. let o : Option ℕ = Some n in o) eq) in
           omega (arith, same, after)),
+      none,
     )
 
 -- a queue whose wheel is as it was
 pub same_wheel : {T W : Type 0} (b : Core T W) (wheel : WheelState) → wheel ≡ b.wheel → ◌≡◌ {A = Core T W} (record { shard = b.shard; noted = b.noted; wheel = wheel; slots = b.slots; known = b.known; counts = b.counts; words = b.words }) b
 same_wheel {T} {W} b wheel e = ap (λ w. let c : Core T W = record { shard = b.shard; noted = b.noted; wheel = w; slots = b.slots; known = b.known; counts = b.counts; words = b.words } in c) e
 
-entry_none : {T : Type 0} (o : Option (Held T)) (w : Parts) → ((h : Held T) → o ≡ Some h → ⊥) → entry_of o w ≡ None
+pub entry_none : {T : Type 0} (o : Option (Held T)) (w : Parts) → ((h : Held T) → o ≡ Some h → ⊥) → entry_of o w ≡ None
 entry_none None w h = refl
 entry_none (Some x) w h = absurd (h x refl)
 
@@ -383,7 +353,7 @@ answered_more {T} shared a b c x same noted way ans =
     record {
       run = (run.0, run_of_more (IsOnTheWay shared) a.slots.last_stamp (machine a) (machine b) run.0 way.way run.1, run.2);
       row = (ans.row.0, looks_more shared a.known b.known ans.row.0 way.looks ans.row.1, ans.row.2, ans.row.3);
-      wheel = goes_more a.noted b.noted a.wheel.filing b.wheel.filing c.wheel.filing noted way.wheel ans.wheel;
+      wheel = goes_more shared a.known b.known a.noted b.noted a.wheel.filing b.wheel.filing c.wheel.filing noted way.looks way.wheel ans.wheel;
       ticks = omega arith;
       filed = λ i. filed_more a.wheel.filing a.known b.wheel.filing b.known c.wheel.filing c.known i up up' (way.filed i) (ans.filed i);
       counts = ans.counts ∙ ap (λ n. settled_counts n SettledExpired) way.counts;
@@ -426,17 +396,28 @@ key_at k id s s' e es = e ∙ ap (λ n. let x : Key = record { entry = id; stamp
 pub advanced_on : (noted new mid old : ℕ) {tick : ℕ} → tick ≡ old → mid ≡ old → tick < noted → (mid < noted → mid < new) → old < new
 advanced_on noted new mid old e e' less on = let up = on (omega arith) in omega arith
 
+-- what a step that rests leaves of the queue b
+abbrev pub IsAtRest : {T W : Type 0} → Core T W → Core T W → Type 0
+IsAtRest b c =
+    (c ≡ b) × (c.wheel.filing.tick ≡ c.noted) × NoneLiveBefore (machine c) (c.noted + 1)
+    × ((i : ℕ) → filed_at c.wheel.filing.filed i ≢ Some c.wheel.filing.tick)
+
 -- a step that rests leaves the queue as it was
-pub rests_at : {T W : Type 0} (b : Core T W) (wheel : WheelState) → wheel ≡ b.wheel → IsLawfulCore b → b.noted ≤ b.wheel.filing.tick → ((i : ℕ) → filed_at b.wheel.filing.filed i ≢ Some b.wheel.filing.tick) → (core_of b.shard b.noted wheel b.slots b.known b.counts b.words ≡ b) × (wheel.filing.tick ≡ b.noted) × NoneLiveBefore (machine (core_of b.shard b.noted wheel b.slots b.known b.counts b.words)) (b.noted + 1)
+pub rests_at : {T W : Type 0} (b : Core T W) (wheel : WheelState) → wheel ≡ b.wheel → IsLawfulCore b → b.noted ≤ b.wheel.filing.tick → ((i : ℕ) → filed_at b.wheel.filing.filed i ≢ Some b.wheel.filing.tick) → IsAtRest b (core_of b.shard b.noted wheel b.slots b.known b.counts b.words)
 rests_at {T} {W} b wheel e l up none =
-    let P : WheelState → Type 0 = λ w. (core_of b.shard b.noted w b.slots b.known b.counts b.words ≡ b) × (w.filing.tick ≡ b.noted) × NoneLiveBefore (machine (core_of b.shard b.noted w b.slots b.known b.counts b.words)) (b.noted + 1) in
+    let P : WheelState → Type 0 = λ w. IsAtRest b (core_of b.shard b.noted w b.slots b.known b.counts b.words) in
     let r = rests b l up none in
-    subst P (sym e) (refl, r.0, r.1)
+    subst P (sym e) (refl, r.0, r.1, r.2)
 
 -- the next wake, by what the wheel tells
 pub tells_wake : {T W : Type 0} (b : Core T W) → IsLawfulCore b → (o : Option ℕ) → MatchOption o ((i f : ℕ) → filed_at b.wheel.filing.filed i ≡ Some f → ⊥) (λ w. IsNextWake b.wheel.filing.tick b.wheel.filing.filed w) → TellsWake b o
 tells_wake b l None none = none_linked b l none
 tells_wake b l (Some w) is = is
+
+-- what wakes next wakes after the wheel's tick, where nothing is filed there
+pub wakes_ahead : {T W : Type 0} (b : Core T W) (o : Option ℕ) → WakesAreAhead → IsLawfulWheel b.wheel → MatchOption o ((i f : ℕ) → filed_at b.wheel.filing.filed i ≡ Some f → ⊥) (λ w. IsNextWake b.wheel.filing.tick b.wheel.filing.filed w) → WakesAhead b o
+wakes_ahead b None ahead l is none = tt
+wakes_ahead b (Some w) ahead l is none = ahead b.wheel.filing.tick b.wheel.filing.filed w l.within none is
 
 -- what a loop of steps keeps
 abbrev pub IsOnWay : {T W : Type 0} → Bool → Core T W → ℕ → Core T W → Type 0
@@ -453,12 +434,16 @@ polled_out shared b cur c t x on ans noted = polled_gave shared b (noting b t) c
 rested : {T W : Type 0} (shared : Bool) (b cur after : Core T W) (t : ℕ) → IsOnWay shared b t cur → (after ≡ cur) → IsOnWay shared b t after
 rested {T} {W} shared b cur after t on e = let P : Core T W → Type 0 = λ m. IsOnWay shared b t m in subst P (sym e) on
 
-pub polled_waiting : {T W : Type 0} (shared : Bool) (b cur after : Core T W) (t next : ℕ) → IsOnWay shared b t cur → (after ≡ cur) × (after.wheel.filing.tick ≡ after.noted) × NoneLiveBefore (machine after) (after.noted + 1) → TellsWake after (Some next) → IsPolled shared b t (Waiting next) after
-polled_waiting shared b cur after t next on r wake =
-    let now = rested shared b cur after t on r.0 in
-    polled_rests shared b (noting b t) after t (Waiting next) now.0 refl now.1 now.2 now.3 (refl, r.1, none_due (machine after) after.noted r.2, wake) now.3.looks refl
+-- a wake for which a queue at rest waits is after the noted tick
+wakes_later : {T W : Type 0} (c : Core T W) (next : ℕ) → c.wheel.filing.tick ≡ c.noted → ((i : ℕ) → filed_at c.wheel.filing.filed i ≢ Some c.wheel.filing.tick) → WakesAhead c (Some next) → c.noted < next
+wakes_later c next at none ahead = let later = ahead none in omega (arith, at, later)
 
-pub polled_idle : {T W : Type 0} (shared : Bool) (b cur after : Core T W) (t : ℕ) → IsOnWay shared b t cur → (after ≡ cur) × (after.wheel.filing.tick ≡ after.noted) × NoneLiveBefore (machine after) (after.noted + 1) → TellsWake after None → IsPolled shared b t Idle after
+pub polled_waiting : {T W : Type 0} (shared : Bool) (b cur after : Core T W) (t next : ℕ) → IsOnWay shared b t cur → IsAtRest cur after → TellsWake after (Some next) → WakesAhead after (Some next) → IsPolled shared b t (Waiting next) after
+polled_waiting shared b cur after t next on r wake ahead =
+    let now = rested shared b cur after t on r.0 in
+    polled_rests shared b (noting b t) after t (Waiting next) now.0 refl now.1 now.2 now.3 (refl, r.1, none_due (machine after) after.noted r.2, wake, wakes_later after next r.1 r.3 ahead) now.3.looks refl
+
+pub polled_idle : {T W : Type 0} (shared : Bool) (b cur after : Core T W) (t : ℕ) → IsOnWay shared b t cur → IsAtRest cur after → TellsWake after None → IsPolled shared b t Idle after
 polled_idle shared b cur after t on r wake =
     let now = rested shared b cur after t on r.0 in
     polled_rests shared b (noting b t) after t Idle now.0 refl now.1 now.2 now.3 (refl, r.1, none_due (machine after) after.noted r.2, wake) now.3.looks refl

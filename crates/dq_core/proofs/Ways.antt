@@ -10,7 +10,8 @@ use Rattle.dq_core.specs.declared.slots.Held.{Held}
 use Rattle.dq_core.specs.Words.{Counts, word_at, never, Learned, live, cancelled}
 use Rattle.dq_core.specs.Slots.{Row, SlotRows, unused, row_at, vacated_row, raised_row}
 use Rattle.dq_core.specs.Machine.{Entry, TableRow, Machine, Event, Note, Pass, Insert, Reset, Extend, Cancel, Remove, Reap, Expire, table_at, put, Has, NoneLiveBefore, with_due, Step, Run, RunOf, IsCallers, IsOnTheWay, IsReaping, IsClearing, Callers, due, is_due_entry, is_due_by, OwnEventsAlone}
-use Rattle.dq_core.specs.Core.{Core, due_by, entry_of, table_row_of, table_of, machine_of, machine, IsPlaced, AreSlots}
+use Rattle.dq_core.specs.Core.{Core, due_by, entry_of, table_of, machine, IsPlaced, AreSlots}
+use Rattle.dq_core.specs.TableRows.{table_row_of, machine_of}
 
 pub length-table : {T : Type 0} (rows : List (Row T)) (known : List Parts) → length known ≡ length rows → length (table_of rows known) ≡ length rows
 length-table [] ws e = refl

@@ -3,24 +3,39 @@ use Rattle.std.proofs.Common.{◌≡◌, ◌≢◌, ℕ, ◌<◌, ◌≤◌, Boo
 use Rattle.dq_wheel.specs.State.{Filing, filed_at}
 use Rattle.dq_wheel.specs.Wakes.{IsNextWake, wake_for}
 use Rattle.dq_wheel.specs.Moves.{passed}
+use Rattle.dq_ticks.specs.declared.words.Parts.{Parts}
+use Rattle.dq_core.specs.Words.{word_at, live}
+use Rattle.dq_core.specs.Calls.{LooksOver}
+use Rattle.dq_core.proofs.Looks.{learned_more}
 use Rattle.dq_core.specs.WheelWays.{GoesOn, WheelStep, GoesThrough, WheelGoes}
 
-through_more : (limit : ℕ) (u v w : Filing) (us vs : List Filing) → GoesThrough limit u us v → GoesThrough limit v vs w → GoesThrough limit u (us ++ vs) w
-through_more limit u v w [] vs a b = let P : Filing → Type 0 = λ x. GoesThrough limit x vs w in subst P a b
-through_more limit u v w (x ∷ us) vs a b = (a.0, through_more limit x v w us vs a.1 b)
+through_more : (shared : Bool) (known : List Parts) (limit : ℕ) (u v w : Filing) (us vs : List Filing) → GoesThrough shared known limit u us v → GoesThrough shared known limit v vs w → GoesThrough shared known limit u (us ++ vs) w
+through_more shared known limit u v w [] vs a b = let P : Filing → Type 0 = λ x. GoesThrough shared known limit x vs w in subst P a b
+through_more shared known limit u v w (x ∷ us) vs a b = (a.0, through_more shared known limit x v w us vs a.1 b)
 
--- one way after another, to the same limit
-pub goes_more : (limit limit' : ℕ) (u v w : Filing) → limit' ≡ limit → WheelGoes limit u v → WheelGoes limit' v w → WheelGoes limit u w
-goes_more limit limit' u v w same a b =
-    let P : ℕ → Type 0 = λ l. WheelGoes l v w in
+-- what was learned of a word as it is known now was learned of it as it was known before
+step_known : (shared : Bool) (old new : List Parts) (limit : ℕ) (v w : Filing) → LooksOver shared old new → WheelStep shared new limit v w → WheelStep shared old limit v w
+step_known shared old new limit v w looks (inl out) = inl out
+step_known shared old new limit v w looks (inr (inl (i, s, d, at, later, learned, is))) =
+    inr (inl (i, s, d, at, later, learned_more shared (word_at old i) (word_at new i) (live s d) (looks.1 i) learned, is))
+step_known shared old new limit v w looks (inr (inr on)) = inr (inr on)
+
+through_known : (shared : Bool) (old new : List Parts) (limit : ℕ) (v w : Filing) (us : List Filing) → LooksOver shared old new → GoesThrough shared new limit v us w → GoesThrough shared old limit v us w
+through_known shared old new limit v w [] looks a = a
+through_known shared old new limit v w (u ∷ us) looks a = (step_known shared old new limit v u looks a.0, through_known shared old new limit u w us looks a.1)
+
+-- one way after another, to the same limit, by what was known at first
+pub goes_more : (shared : Bool) (old new : List Parts) (limit limit' : ℕ) (u v w : Filing) → limit' ≡ limit → LooksOver shared old new → WheelGoes shared old limit u v → WheelGoes shared new limit' v w → WheelGoes shared old limit u w
+goes_more shared old new limit limit' u v w same looks a b =
+    let P : ℕ → Type 0 = λ l. WheelGoes shared new l v w in
     let c = subst P same b in
-    (a.0 ++ c.0, through_more limit u v w a.0 c.0 a.1 c.1)
+    (a.0 ++ c.0, through_more shared old limit u v w a.0 c.0 a.1 (through_known shared old new limit v w c.0 looks c.1))
 
-pub goes_one : (limit : ℕ) (v w : Filing) → WheelStep limit v w → WheelGoes limit v w
-goes_one limit v w s = (w ∷ [], (s, refl))
+pub goes_one : (shared : Bool) (known : List Parts) (limit : ℕ) (v w : Filing) → WheelStep shared known limit v w → WheelGoes shared known limit v w
+goes_one shared known limit v w s = (w ∷ [], (s, refl))
 
-pub goes_none : (limit : ℕ) (v : Filing) → WheelGoes limit v v
-goes_none limit v = ([], refl)
+pub goes_none : (shared : Bool) (known : List Parts) (limit : ℕ) (v : Filing) → WheelGoes shared known limit v v
+goes_none shared known limit v = ([], refl)
 
 went : (reached : Bool) (limit : ℕ) (v w : Filing) → MatchBool reached
     ((n : ℕ) × IsNextWake v.tick v.filed n × (n ≤ limit) × (w ≡ passed v n))

@@ -1,5 +1,5 @@
 -- What each call of a queue does, and why it is refused.
-use Rattle.std.specs.Prelude.{max, ◌≡◌, ◌≢◌, ℕ, ◌+◌, ◌-◌, ◌<◌, ◌≤◌, ◌⊎◌, Bool, List, [], Option, Some, None, Result, Ok, Err, length, replicate, slice_set}
+use Rattle.std.specs.Prelude.{max, ◌≡◌, ◌≢◌, ℕ, ◌+◌, ◌-◌, ◌<◌, ◌≤◌, ◌⊎◌, Bool, List, [], Option, Some, None, Result, Ok, Err, length, replicate, slice_set, IfSome}
 use Rattle.std.specs.List.{count_by, sum_by}
 use Rattle.dq_wheel.specs.State.{Filing, WheelState, filed_at, linked, unlinked, fresh_filing}
 use Rattle.dq_wheel.specs.Wakes.{IsNextWake}
@@ -224,10 +224,10 @@ IsOut shard last m x n =
     × (x.noted ≡ n.noted)
 
 -- how a poll ends: with an entry that expires; or with no live entry whose deadline is at most the noted tick, at which
--- the wheel then stands, and where nothing is linked it is idle
+-- the wheel then stands: it is idle where nothing is linked, and else it waits for a tick after the noted one
 abbrev pub IsTurn : {T : Type 0} → ℕ → ℕ → Machine T → Turn T → Machine T → Filing → Type 0
 IsTurn shard last m (Out x) n w = IsOut shard last m x n
-IsTurn shard last m (Waiting next) n w = (n ≡ m) × (n.tick ≡ n.noted) × (due n n.noted ≡ []) × IsNextWake w.tick w.filed next
+IsTurn shard last m (Waiting next) n w = (n ≡ m) × (n.tick ≡ n.noted) × (due n n.noted ≡ []) × IsNextWake w.tick w.filed next × (n.noted < next)
 IsTurn shard last m Idle n w = (n ≡ m) × (n.tick ≡ n.noted) × (due n n.noted ≡ []) × NoneLinked n
 
 -- the counts after a poll: one expiry more where an entry came out
@@ -255,7 +255,7 @@ IsFiledOver v old w new i =
 pub record IsUnderWay {T W : Type 0} (shared : Bool) (b c : Core T W) : Type 0 where
   pub way : RunOf (IsOnTheWay shared) b.slots.last_stamp (machine b) (machine c)
   pub looks : LooksOver shared b.known c.known
-  pub wheel : WheelGoes b.noted b.wheel.filing c.wheel.filing
+  pub wheel : WheelGoes shared b.known b.noted b.wheel.filing c.wheel.filing
   pub ticks : b.wheel.filing.tick ≤ c.wheel.filing.tick
   pub filed : (i : ℕ) → IsFiledOver b.wheel.filing b.known c.wheel.filing c.known i
   pub counts : c.counts ≡ b.counts
@@ -264,7 +264,7 @@ pub record IsUnderWay {T W : Type 0} (shared : Bool) (b c : Core T W) : Type 0 w
 pub record IsAnswered {T W : Type 0} (shared : Bool) (b : Core T W) (turn : Turn T) (c : Core T W) : Type 0 where
   pub run : (m : Machine T) × RunOf (IsOnTheWay shared) b.slots.last_stamp (machine b) m × IsTurn b.shard b.slots.last_stamp m turn (machine c) c.wheel.filing
   pub row : TurnRow shared b.known turn c.known
-  pub wheel : WheelGoes b.noted b.wheel.filing c.wheel.filing
+  pub wheel : WheelGoes shared b.known b.noted b.wheel.filing c.wheel.filing
   pub ticks : b.wheel.filing.tick ≤ c.wheel.filing.tick
   pub filed : (i : ℕ) → IsFiledOver b.wheel.filing b.known c.wheel.filing c.known i
   pub counts : c.counts ≡ turn_counts b.counts turn
@@ -282,7 +282,9 @@ work c = sum_by cost c.wheel.filing.filed + (c.noted - c.wheel.filing.tick)
 abbrev pub IsProgress : {T W : Type 0} → Bool → Core T W → Progress T → Core T W → Type 0
 IsProgress shared b (Gave x) c = IsAnswered shared b (Out x) c
 IsProgress shared b Went c = IsUnderWay shared b c × (work c < work b)
-IsProgress shared b Rests c = (c ≡ b) × (c.wheel.filing.tick ≡ c.noted) × NoneLiveBefore (machine c) (c.noted + 1)
+IsProgress shared b Rests c =
+    (c ≡ b) × (c.wheel.filing.tick ≡ c.noted) × NoneLiveBefore (machine c) (c.noted + 1)
+    × ((i : ℕ) → filed_at c.wheel.filing.filed i ≢ Some c.wheel.filing.tick)
 
 -- a queue with a greater tick noted
 abbrev pub noting : {T W : Type 0} → Core T W → ℕ → Core T W
@@ -302,3 +304,9 @@ Polls shared b tick (Err e) c = (e ≡ TickTooLarge LAST_TICK) × (LAST_TICK < t
 abbrev pub TellsWake : {T W : Type 0} → Core T W → Option ℕ → Type 0
 TellsWake c None = NoneLinked (machine c)
 TellsWake c (Some w) = IsNextWake c.wheel.filing.tick c.wheel.filing.filed w
+
+-- where nothing is filed at the wheel's tick, the next wake is after it
+abbrev pub WakesAhead : {T W : Type 0} → Core T W → Option ℕ → Type 0
+WakesAhead c wake =
+    ((i : ℕ) → filed_at c.wheel.filing.filed i ≢ Some c.wheel.filing.tick)
+    → IfSome wake (λ w. c.wheel.filing.tick < w)

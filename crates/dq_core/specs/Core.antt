@@ -35,23 +35,17 @@ abbrev pub entry_of : {T : Type 0} → Option (Held T) → Parts → Option (Ent
 entry_of None w = None
 entry_of (Some h) w = Some (record { born = h.born; value = h.value; due = due_by w.mark w.field })
 
--- a slot, with its word, as a row of the machine's table
-abbrev pub table_row_of : {T : Type 0} → Row T → Parts → TableRow T
-table_row_of r w = record { stamp = r.stamp; entry = entry_of r.held w }
-
 -- the table of all slots, each with its word
 abbrev pub table_of : {T : Type 0} → List (Row T) → List Parts → List (TableRow T)
 table_of [] ws = []
 table_of (r ∷ rs) [] = []
-table_of (r ∷ rs) (w ∷ ws) = table_row_of r w ∷ table_of rs ws
-
--- the machine by the known words
-abbrev pub machine_of : {T : Type 0} → ℕ → ℕ → List (Row T) → List Parts → Machine T
-machine_of tick noted rows known = record { tick = tick; noted = noted; table = table_of rows known }
+table_of (r ∷ rs) (w ∷ ws) =
+    record { stamp = r.stamp; entry = entry_of r.held w } ∷ table_of rs ws
 
 -- the machine that a queue is
 abbrev pub machine : {T W : Type 0} → Core T W → Machine T
-machine c = machine_of c.wheel.filing.tick c.noted c.slots.rows c.known
+machine c =
+    record { tick = c.wheel.filing.tick; noted = c.noted; table = table_of c.slots.rows c.known }
 
 -- the furthest from its tick that a wheel files
 abbrev pub reach : ℕ

@@ -1,3 +1,4 @@
+pub mod AtTheCall
 pub mod Calls
 pub mod Cells
 pub mod Core
@@ -5,10 +6,12 @@ pub mod KeyCalls
 pub mod Machine
 pub mod Plain
 pub mod Readers
+pub mod Rests
 pub mod SlotRowsKept
 pub mod Slots
 pub mod Soonest
 pub mod Sweeps
+pub mod TableRows
 pub mod WheelWays
 pub mod WordRows
 pub mod Words

@@ -1,5 +1,5 @@
 -- Entries that leave a queue together: a sweep of those that were cancelled, and a clear of all.
-use Rattle.std.specs.Prelude.{cond, ◌≡◌, ◌≢◌, ℕ, ◌+◌, Bool, true, false, List, [], ◌∷◌, Option, Some, None, length}
+use Rattle.std.specs.Prelude.{cond, ◌≡◌, ◌≢◌, ℕ, ◌+◌, ◌≤◌, Bool, true, false, List, [], ◌∷◌, Option, Some, None, length}
 use Rattle.std.specs.List.{count_by, AllByRecursion}
 use Rattle.dq_ticks.specs.declared.words.Parts.{Parts}
 use Rattle.dq_wheel.specs.State.{Filing, unlinked}
@@ -74,6 +74,7 @@ IsCleared shared r w v =
 -- entries at those slots were ended, n of them as removed
 pub record AreEnded {T W : Type 0} (shared : Bool) (b : Core T W) (is : List ℕ) (n : ℕ) (c : Core T W) : Type 0 where
   pub run : RunOfClear shared b.slots.last_stamp (machine b) n (machine c)
+  pub few : n ≤ length is
   pub out : AreOut b is c
   pub counts : c.counts ≡ removed_counts b.counts n
 

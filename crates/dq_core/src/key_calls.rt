@@ -1,6 +1,9 @@
 //! The calls by key of a queue over plain words. Over shared words a caller makes them without the queue.
 
-ghost use Rattle.std.specs.Prelude.{◌≡◌, ◌↔◌, IsTrue};
+ghost use Rattle.std.specs.Prelude.{◌≡◌, ◌↔◌, ℕ, ◌<◌, max, IsTrue, IfOk, OnOk, OnErr, IsOkAnd, IsErrOf};
+ghost use Rattle.dq_ticks.specs.declared.words.Mark.TheVariants.{CancelledMark};
+ghost use Rattle.dq_core.specs.declared.words.CallError.TheVariants.{TooFar};
+ghost use Rattle.dq_core.specs.declared.words.Look.TheVariants.{StillLive, LookCancelled};
 
 use crate::queue::DelayCore;
 use crate::vec_words::VecWords;
@@ -11,7 +14,9 @@ use std::alloc::Allocator;
 impl<T: Drop, A: Allocator> DelayCore<T, VecWords<A>, A> {
     ghost use Rattle.dq_core.specs.Calls.{SameCore};
     ghost use Rattle.dq_core.specs.Machine.{OwnEventsAlone};
-    ghost use Rattle.dq_core.specs.KeyCalls.{Extends, Cancels, Shows};
+    ghost use Rattle.dq_core.specs.KeyCalls.{Extends, Cancels, Shows, KeepsRest};
+    ghost use Rattle.dq_core.specs.AtTheCall.{IsKeyLive, IsKeyCancelled};
+    ghost use Rattle.dq_core.specs.Words.{word_at};
 
     /// Plain words are shared with nobody, so no step of a caller comes between: each call is a run of its own events
     /// alone.
@@ -33,6 +38,16 @@ impl<T: Drop, A: Allocator> DelayCore<T, VecWords<A>, A> {
     pub fn extend(&mut self, key: &Key, when: u64) -> Result<u64, CallError>
         ensures same { SameCore self.old self.new }
         ensures extends { Extends self.old key.now when result self.new }
+
+        // The entry is live until the deadline that is told: `when`, or a later one that it had.
+        ensures live { IfOk result (λ d. IsKeyLive self.new key.now d) }
+        ensures raised { IfOk result
+            (λ d. (had : ℕ) → IsKeyLive self.old key.now had → d ≡ max when had) }
+
+        // Nothing but the word changes, and nothing at all where it is refused.
+        ensures rest { KeepsRest self.old self.new }
+        ensures refused { OnErr result (self.new ≡ self.old) }
+        ensures too_far { IsErrOf result (TooFar LAST_TICK) ↔ (LAST_TICK < when) }
     {
         if when > LAST_TICK {
             return Err(CallError::TooFar { limit: LAST_TICK });
@@ -48,6 +63,14 @@ impl<T: Drop, A: Allocator> DelayCore<T, VecWords<A>, A> {
     pub fn cancel(&mut self, key: &Key) -> Result<u64, CallError>
         ensures same { SameCore self.old self.new }
         ensures cancels { Cancels self.old key.now result self.new }
+
+        // The entry was live until the deadline that is told, and is cancelled.
+        ensures was_live { IfOk result (λ d. IsKeyLive self.old key.now d) }
+        ensures cancelled { OnOk result (IsKeyCancelled self.new key.now) }
+
+        // Nothing but the word changes, and nothing at all where it is refused.
+        ensures rest { KeepsRest self.old self.new }
+        ensures refused { OnErr result (self.new ≡ self.old) }
     {
         if !self.is_mine(key) {
             return Err(CallError::Unknown);
@@ -58,7 +81,13 @@ impl<T: Drop, A: Allocator> DelayCore<T, VecWords<A>, A> {
     /// What the word that a key names shows: that the entry is live, or how it ended. Refused as Unknown or as Stale, as
     /// `extend` is.
     pub fn look(&self, key: &Key) -> Result<Look, CallError>
-        ensures { Shows self.now key.now result }
+        ensures shows { Shows self.now key.now result }
+
+        // A live entry is shown with its deadline in force, and a cancelled one as cancelled.
+        ensures live { (d : ℕ) → IsOkAnd result (λ look. look ≡ StillLive d)
+            → IsKeyLive self.now key.now d }
+        ensures cancelled { IsOkAnd result (λ look. look ≡ LookCancelled)
+            → (word_at self.now.known key.now.entry.index).mark ≡ CancelledMark }
     {
         if !self.is_mine(key) {
             return Err(CallError::Unknown);

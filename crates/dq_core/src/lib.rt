@@ -12,6 +12,7 @@
 mod callers;
 pub mod errors;
 mod key_calls;
+pub mod laws;
 mod outcomes;
 pub mod plain;
 pub mod queue;

@@ -4,10 +4,10 @@
 //! owner. The wheel files the index no later than that deadline; where an entry comes due there and its word has a later
 //! deadline, it is filed again.
 
-ghost use Rattle.std.specs.Prelude.{◌≡◌, ◌≢◌, ℕ, ◌+◌, ◌<◌, ◌≤◌, max, length, ◌↔◌, IfOk, IfErr, IfSome, IfNone, MatchOption, Some, None, List, [], ◌∷◌, Ok, Err, IsTrue, replicate};
+ghost use Rattle.std.specs.Prelude.{◌≡◌, ◌≢◌, ℕ, ◌+◌, ◌<◌, ◌≤◌, max, length, ◌↔◌, IfOk, IfErr, IfSome, IfNone, OnOk, OnErr, IsErr, IsErrAnd, IsErrOf, IsNone, MatchOption, Some, None, List, [], ◌∷◌, Ok, Err, IsTrue, replicate};
 ghost use Rattle.std.specs.List.{count_by};
 ghost use Rattle.dq_core.specs.Core.{filing_for as file_at};
-ghost use Rattle.dq_core.specs.Slots.{unused, is_held, is_worn};
+ghost use Rattle.dq_core.specs.Slots.{unused, is_held, is_worn, row_at};
 ghost use Rattle.dq_core.specs.Words.{AreFresh};
 ghost use Rattle.dq_core.specs.Calls.{IsConfig};
 ghost use Rattle.dq_wheel.specs.State.{fresh_filing};
@@ -18,6 +18,7 @@ use crate::slots::Slots;
 use crate::words::{Settled, Words};
 use dq_ticks::{EntryId, Key, LAST_STAMP, LAST_TICK, Mark};
 use dq_wheel::Wheel;
+use dq_wheel::wheel::wakes_are_ahead;
 use std::alloc::{AllocError, Allocator, Global};
 use std::marker::Model;
 
@@ -96,13 +97,27 @@ fn filing_for(tick: u64, deadline: u64) -> u64
 
 impl<T: Drop, W: Words + Drop, A: Allocator + Clone> DelayCore<T, W, A> {
     ghost use Rattle.dq_core.specs.Calls.{IsMade};
+    ghost use Rattle.dq_core.specs.Core.{machine};
+    ghost use Rattle.dq_core.specs.Machine.{NoneLinked};
+    ghost use Rattle.dq_core.specs.declared.errors.CoreError.TheVariants.{NoMemory};
 
     /// A queue over fresh words, at tick 0, with nothing linked. Refused as BadConfig where the capacity isn't 1 to
     /// 65536, the last stamp isn't 1 to 1048575, or the words aren't as many as the slots, and else as NoMemory; the
     /// words come back.
     pub fn new(alloc: A, config: CoreConfig, words: W) -> Result<DelayCore<T, W, A>, (CoreError, W)>
         requires { AreFresh (W.known words) (W.counts words) }
-        ensures { IsMade config words (W.known words) (W.counts words) result }
+        ensures makes { IsMade config words (W.known words) (W.counts words) result }
+
+        // An empty queue at tick 0, of that shard and that many slots.
+        ensures empty { IfOk result (λ q. NoneLinked (machine q)) }
+        ensures start { IfOk result (λ q. (q.noted ≡ 0) × (q.wheel.filing.tick ≡ 0)) }
+        ensures size { IfOk result
+            (λ q. (q.shard ≡ config.shard) × (length q.slots.rows ≡ config.capacity)) }
+
+        // Refused, the words come back. Within the ranges only memory is wanting.
+        ensures back { IfErr result (λ e. e.1 ≡ words) }
+        ensures in_range { IsConfig config.capacity config.last_stamp (length (W.known words))
+            → IfErr result (λ e. e.0 ≡ NoMemory) }
     {
         if !is_config(&config, words.rows()) {
             return Err((CoreError::BadConfig, words));
@@ -126,7 +141,10 @@ impl<T: Drop, W: Words + Drop, A: Allocator + Clone> DelayCore<T, W, A> {
 impl<T: Drop, W: Words, A: Allocator> DelayCore<T, W, A> {
     ghost use Rattle.dq_wheel.specs.Lawful.{IsLawfulWheel};
     ghost use Rattle.dq_core.specs.Core.{Core, machine, IsLawfulCore};
-    ghost use Rattle.dq_core.specs.Calls.{SameCore, Inserts, IsProgress, noting, Polls, TellsWake, IsFind, TellsDeadline, Removes, Resets};
+    ghost use Rattle.dq_core.specs.Machine.{NoneLiveBefore, NoneLinked, table_at};
+    ghost use Rattle.dq_core.specs.AtTheCall.{IfOut, IfRests, linked_in, IsLinkedAs, HoldsValue, OthersStay, KeepsSlots};
+    ghost use Rattle.dq_core.specs.declared.errors.CoreError.TheVariants.{TooFar, Missing, WasCancelled};
+    ghost use Rattle.dq_core.specs.Calls.{SameCore, base_for, IsMissing, IsLiveEntry, IsCancelledEntry, Inserts, IsProgress, noting, Polls, TellsWake, WakesAhead, IsFind, TellsDeadline, Removes, Resets};
 
     /// The shard law, what the wheel's own law says of this queue's wheel, and that what is known and counted is what
     /// the words' keeper knows and has counted.
@@ -162,6 +180,15 @@ impl<T: Drop, W: Words, A: Allocator> DelayCore<T, W, A> {
         ensures same { SameCore self.old self.new }
         ensures home { W.home self.new.words ≡ W.home self.old.words }
         ensures inserts { Inserts self.old value when result self.new }
+
+        // The entry is live from now on, and no other entry changes.
+        ensures live { IfOk result (λ k. IsLinkedAs self.new k value (base_for self.old when)) }
+        ensures others { IfOk result (λ k. OthersStay self.old self.new k.entry.index) }
+        ensures one_more { OnOk result (linked_in self.new ≡ linked_in self.old + 1) }
+
+        // Refused, the value comes back and nothing changes; first, and exactly, beyond the last tick.
+        ensures refused { IfErr result (λ e. (e.1 ≡ value) × (self.new ≡ self.old)) }
+        ensures too_far { IsErrAnd result (λ e. e.0 ≡ TooFar LAST_TICK) ↔ (LAST_TICK < when) }
     {
         if when > LAST_TICK {
             return Err((CoreError::TooFar { limit: LAST_TICK }, value));
@@ -227,10 +254,16 @@ impl<T: Drop, W: Words, A: Allocator> DelayCore<T, W, A> {
         }
     }
 
-    /// The next wake: the tick at which the queue has something to do, none where nothing is linked.
+    /// The next wake: the tick at which the queue has something to do, none where nothing is linked. It is after the
+    /// wheel's tick where nothing is filed there.
     pub fn next_wake(&self) -> Option<u64>
-        ensures { TellsWake self.now result }
+        ensures wake { TellsWake self.now result }
+        ensures none { IsNone result ↔ NoneLinked (machine self.now) }
+        ensures ahead { WakesAhead self.now result }
     {
+        // That a wake is ahead is a law of the digits of what is filed, which the wheel keeps within its reach.
+        wakes_are_ahead();
+        self.wheel.law();
         self.wheel.next_wake()
     }
 
@@ -249,6 +282,21 @@ impl<T: Drop, W: Words, A: Allocator> DelayCore<T, W, A> {
         ensures same { SameCore self.old self.new }
         ensures home { W.home self.new.words ≡ W.home self.old.words }
         ensures polls { Polls W.shared self.old tick result self.new }
+
+        // The greater of the two ticks is noted. A tick is refused exactly beyond the last one.
+        ensures noted { OnOk result (self.new.noted ≡ max self.old.noted tick) }
+        ensures refused { IsErr result ↔ (LAST_TICK < tick) }
+
+        // What comes out is due, and no live entry has an earlier deadline.
+        ensures out { IfOut result
+            (λ x. (x.deadline ≤ self.new.noted) × NoneLiveBefore (machine self.new) x.deadline) }
+
+        // Else no live entry is due, and the tick to wait for is after the noted one. There is none
+        // exactly where nothing is linked.
+        ensures none_due { IfRests result
+            (λ next. NoneLiveBefore (machine self.new) (self.new.noted + 1)) }
+        ensures ahead { IfRests result (λ next. IfSome next (λ tick. self.new.noted < tick)) }
+        ensures idle { IfRests result (λ next. (next ≡ None) ↔ NoneLinked (machine self.new)) }
     {
         if tick > LAST_TICK {
             return Err(CoreError::TickTooLarge { limit: LAST_TICK });
@@ -315,6 +363,16 @@ impl<T: Drop, W: Words, A: Allocator> DelayCore<T, W, A> {
         ensures same { SameCore self.old self.new }
         ensures home { W.home self.new.words ≡ W.home self.old.words }
         ensures tells { TellsDeadline W.shared self.old entry.now result self.new }
+
+        // The entry is live until the deadline that is told, or known as cancelled, or missing.
+        ensures live { IfOk result (λ d. IsLiveEntry (machine self.new) entry.now d) }
+        ensures cancelled { IsErrOf result WasCancelled
+            → IsCancelledEntry (machine self.new) entry.now }
+        ensures missing { IsErrOf result Missing ↔ IsMissing self.old entry.now }
+
+        // No entry leaves or moves, and no other changes.
+        ensures kept { KeepsSlots self.old self.new }
+        ensures others { OthersStay self.old self.new entry.now.index }
     {
         let Some(index) = self.find(entry) else {
             return Err(CoreError::Missing);
@@ -333,6 +391,16 @@ impl<T: Drop, W: Words, A: Allocator> DelayCore<T, W, A> {
         ensures same { SameCore self.old self.new }
         ensures home { W.home self.new.words ≡ W.home self.old.words }
         ensures removes { Removes W.shared self.old entry.now result self.new }
+
+        // What was held under that shard, index and birth stamp comes out, and nothing else.
+        ensures out { IfOk result
+            (λ x. (x.key.entry ≡ entry.now) × HoldsValue self.old entry.now x.value) }
+        ensures gone { OnOk result ((table_at (machine self.new) entry.now.index).entry ≡ None) }
+        ensures others { OthersStay self.old self.new entry.now.index }
+
+        // Refused, no entry leaves or moves; a missing entry is told exactly.
+        ensures refused { OnErr result (KeepsSlots self.old self.new) }
+        ensures missing { IsErrOf result Missing ↔ IsMissing self.old entry.now }
     {
         let Some(index) = self.find(entry) else {
             return Err(CoreError::Missing);
@@ -359,6 +427,17 @@ impl<T: Drop, W: Words, A: Allocator> DelayCore<T, W, A> {
         ensures same { SameCore self.old self.new }
         ensures home { W.home self.new.words ≡ W.home self.old.words }
         ensures resets { Resets W.shared self.old entry.now when result self.new }
+
+        // The same entry is live at its new base, under the slot's next stamp, and no other changes.
+        ensures live { OnOk result
+            (IsLiveEntry (machine self.new) entry.now (base_for self.old when)) }
+        ensures key { IfOk result (λ k. (k.entry ≡ entry.now)
+            × (k.stamp ≡ (row_at self.old.slots.rows entry.now.index).stamp + 1)) }
+        ensures others { OthersStay self.old self.new entry.now.index }
+
+        // Refused, no entry leaves or moves; first, and exactly, beyond the last tick.
+        ensures refused { OnErr result (KeepsSlots self.old self.new) }
+        ensures too_far { IsErrOf result (TooFar LAST_TICK) ↔ (LAST_TICK < when) }
     {
         if when > LAST_TICK {
             return Err(CoreError::TooFar { limit: LAST_TICK });

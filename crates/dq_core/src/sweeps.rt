@@ -2,9 +2,19 @@
 //!
 //! A cancelled entry stays linked until its keeper finds it so: a poll does where the entry comes due, a sweep at once.
 
-ghost use Rattle.std.specs.Prelude.{◌≡◌, ◌<◌, length};
+ghost use Rattle.std.specs.Prelude.{◌≡◌, ◌+◌, ◌<◌, ◌≤◌, length};
+ghost use Rattle.dq_core.specs.AtTheCall.{linked_in};
 ghost use Rattle.dq_core.specs.Calls.{SameCore};
-ghost use Rattle.dq_core.specs.Sweeps.{IsSwept, Sweeps, IsEmptied, Clears};
+ghost use Rattle.dq_core.specs.Core.{machine};
+ghost use Rattle.dq_core.specs.Machine.{NoneLinked};
+ghost use Rattle.dq_core.specs.Sweeps.{
+  IsSwept,
+  Sweeps,
+  IsEmptied,
+  Clears,
+  NoneCancelled,
+  removed_counts,
+};
 
 use crate::queue::DelayCore;
 use crate::words::Words;
@@ -37,6 +47,15 @@ impl<T: Drop, W: Words, A: Allocator> DelayCore<T, W, A> {
         ensures same { SameCore self.old self.new }
         ensures home { W.home self.new.words ≡ W.home self.old.words }
         ensures sweeps { Sweeps W.shared self.old result self.new }
+
+        // No entry is left that is known as cancelled, and so many are fewer.
+        ensures reaped { NoneCancelled (machine self.new) }
+        ensures fewer { linked_in self.new + result ≡ linked_in self.old }
+
+        // Nothing is ended by it, and no tick goes on.
+        ensures counts { self.new.counts ≡ self.old.counts }
+        ensures noted { self.new.noted ≡ self.old.noted }
+        ensures tick { self.new.wheel.filing.tick ≡ self.old.wheel.filing.tick }
     {
         let mut reaped = 0;
         for index in 0..self.slots.capacity() {
@@ -76,6 +95,15 @@ impl<T: Drop, W: Words, A: Allocator> DelayCore<T, W, A> {
         ensures same { SameCore self.old self.new }
         ensures home { W.home self.new.words ≡ W.home self.old.words }
         ensures clears { Clears W.shared self.old result self.new }
+
+        // Nothing is linked any more. So many removals are counted, and no other ending.
+        ensures empty { NoneLinked (machine self.new) }
+        ensures counts { self.new.counts ≡ removed_counts self.old.counts result }
+        ensures at_most { result ≤ linked_in self.old }
+
+        // No tick goes on.
+        ensures noted { self.new.noted ≡ self.old.noted }
+        ensures tick { self.new.wheel.filing.tick ≡ self.old.wheel.filing.tick }
     {
         let mut removed = 0;
         for index in 0..self.slots.capacity() {

@@ -18,7 +18,8 @@ use Rattle.dq_core.specs.Words.{word_at}
 use Rattle.dq_core.specs.WordRows.{CallRefused}
 use Rattle.dq_core.specs.Machine.{table_at}
 use Rattle.dq_core.specs.Machine.{Entry as Linked}
-use Rattle.dq_core.specs.Core.{Core, machine, table_row_of, entry_of, due_by, IsLawfulCore, IsPlaced}
+use Rattle.dq_core.specs.Core.{Core, machine, entry_of, due_by, IsLawfulCore, IsPlaced}
+use Rattle.dq_core.specs.TableRows.{table_row_of}
 use Rattle.dq_core.specs.KeyCalls.{KeyRefused, ExtendingRefused}
 use Rattle.dq_core.specs.Calls.{InsertRefused, FindRefused, ResetRefused, IsMissing, IsFoundCancelled}
 use Rattle.dq_replay.specs.Leases.{live_entry}

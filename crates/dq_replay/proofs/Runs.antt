@@ -10,7 +10,8 @@ use Rattle.dq_core.specs.Slots.{Row, row_at, is_held}
 use Rattle.dq_core.specs.Words.{word_at}
 use Rattle.dq_core.specs.Machine.{TableRow, Machine, Event, table_at, put, Note, Pass, Insert, Reset, Extend, Cancel, Remove, Reap, Expire, Step, Run, RunOf, IsCallers, IsOnTheWay, IsReaping, Callers, Has, is_due_entry, is_due_by}
 use Rattle.dq_core.specs.Machine.{Entry as Linked}
-use Rattle.dq_core.specs.Core.{table_of, table_row_of, entry_of, due_by}
+use Rattle.dq_core.specs.Core.{table_of, entry_of, due_by}
+use Rattle.dq_core.specs.TableRows.{table_row_of}
 use Rattle.dq_replay.specs.declared.session.Entry.{Entry}
 use Rattle.dq_replay.specs.Leases.{lease_by, lease_of, with_lease, live_of, vacant, live_entry}
 use Rattle.dq_replay.specs.Leased.{IsKept, NoneDue}

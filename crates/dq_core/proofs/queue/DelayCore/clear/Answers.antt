@@ -1,5 +1,6 @@
 use Rattle.std.proofs.Common.{◌∙◌, arith}
 use Rattle.dq_core.proofs.Clearing.{clear_on, clear_ends}
+use Rattle.dq_core.proofs.CallWords.{out_tick, removed_most}
 use Rattle.dq_core.proofs.queue.DelayCore.clear.Goals.{then-clear_at, else-clear_at}
 use Rattle.dq_core.proofs.queue.DelayCore.clear.Goals as goal
 
@@ -21,3 +22,12 @@ returns-clause-clears g c =
     let past = c.loop-index-test.false in
     let size = c.loop-index.invariant.0 in
     clear_ends g.W.Words.shared c.args.self.now c.loop-index.self c.loop-index.index c.loop-index.removed c.loop-index.invariant.1 (omega (arith, past, size))
+
+pub returns-clause-empty : goal.returns-clause-empty
+returns-clause-empty g c = (returns-clause-clears g c).none
+
+pub returns-clause-at_most : goal.returns-clause-at_most
+returns-clause-at_most g c = removed_most (returns-clause-clears g c)
+
+pub returns-clause-tick : goal.returns-clause-tick
+returns-clause-tick g c = out_tick (returns-clause-clears g c).ended.1.out

@@ -2,6 +2,7 @@ use Rattle.std.proofs.Common.{ap, ◌∙◌, refl, arith}
 use Rattle.dq_core.specs.Words.{begun_counts}
 use Rattle.dq_core.proofs.Law.{few}
 use Rattle.dq_core.proofs.Inserts.{law_inserted, inserts, refused_full, same_slots}
+use Rattle.dq_core.proofs.CallWords.{inserted_live, inserted_others}
 use Rattle.dq_core.proofs.queue.DelayCore.insert.Goals as goal
 
 -- too few entries were begun to overflow
@@ -21,3 +22,9 @@ pub returns-in-Err-clause-inserts : goal.returns-in-Err-clause-inserts
 returns-in-Err-clause-inserts g c =
     rw (← c.self.view_is)
     (refused_full _ c.fill.new.self c.args.when c.linked.result c.worn.result c.if-when-gt-LAST_TICK.false c.in-Err.ensures.0 c.in-Err.ensures.2 c.linked.ensures c.worn.ensures, c.in-Err.ensures.1, same_slots _ c.fill.new.self c.in-Err.ensures.2)
+
+pub returns-in-Ok-clause-live : goal.returns-in-Ok-clause-live
+returns-in-Ok-clause-live g c = inserted_live (returns-in-Ok-clause-inserts g c)
+
+pub returns-in-Ok-clause-others : goal.returns-in-Ok-clause-others
+returns-in-Ok-clause-others g c = inserted_others (returns-in-Ok-clause-inserts g c)

@@ -14,8 +14,8 @@ steps-preserved g c = (
 
 pub returns-in-Some-clause-polls : goal.returns-in-Some-clause-polls
 returns-in-Some-clause-polls g c =
-    polled_waiting g.W.Words.shared c.args.self.now c.steps.self c.step.new.self c.args.tick c.in-Some.next c.steps.invariant.0 c.in-Rests.ensures.progress c.in-Some.ensures
+    polled_waiting g.W.Words.shared c.args.self.now c.steps.self c.step.new.self c.args.tick c.in-Some.next c.steps.invariant.0 c.in-Rests.ensures.progress c.in-Some.ensures.wake c.in-Some.ensures.ahead
 
 pub returns-in-None-clause-polls : goal.returns-in-None-clause-polls
 returns-in-None-clause-polls g c =
-    polled_idle g.W.Words.shared c.args.self.now c.steps.self c.step.new.self c.args.tick c.steps.invariant.0 c.in-Rests.ensures.progress c.in-None.ensures
+    polled_idle g.W.Words.shared c.args.self.now c.steps.self c.step.new.self c.args.tick c.steps.invariant.0 c.in-Rests.ensures.progress c.in-None.ensures.wake

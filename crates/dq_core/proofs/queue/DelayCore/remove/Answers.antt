@@ -2,6 +2,7 @@ use Rattle.std.proofs.Common.{ap, ◌∙◌, refl, Some}
 use Rattle.dq_core.specs.Words.{finished_counts}
 use Rattle.dq_core.proofs.Ways.{core_of}
 use Rattle.dq_core.proofs.Finds.{found_cancelled, law_removed, removes, learned_at}
+use Rattle.dq_core.proofs.CallWords.{missing_exactly, looked_others, removed_others, removed_gone}
 use Rattle.dq_core.proofs.queue.DelayCore.remove.Goals as goal
 
 pub returns-in_default-finish-clause-removes : goal.returns-in_default-finish-clause-removes
@@ -27,3 +28,26 @@ returns-clause-removes g c =
     let found = rw (← c.self.view_is) at c.in-Some.ensures in
     rw (← c.self.view_is)
     (removes g.W.Words.shared b c.self.invariant.0 c.args.entry.now c.in-Some.index found _ c.stamp-stamp.result c.in-Some-finish.deadline c.vacate-held.result _ c.stamp-stamp.ensures c.in-Some-finish.ensures.changed c.vacate-held.ensures.held c.unlink.ensures c.vacate-held.ensures.vacated c.in-Some-finish.ensures.known c.in-Some-finish.ensures.counts c.new.ensures refl refl refl refl)
+
+pub returns-in_default-finish-clause-others : goal.returns-in_default-finish-clause-others
+returns-in_default-finish-clause-others g c = looked_others (returns-in_default-finish-clause-removes g c).looked
+
+pub returns-clause-gone : goal.returns-clause-gone
+returns-clause-gone g c = removed_gone (returns-clause-removes g c)
+
+pub returns-clause-others : goal.returns-clause-others
+returns-clause-others g c = removed_others (returns-clause-removes g c)
+
+pub returns-in_default-finish-clause-missing : goal.returns-in_default-finish-clause-missing
+returns-in_default-finish-clause-missing g c =
+    let s = c.self.inside in
+    let b = core_of s.shard s.noted s.wheel s.slots (g.W.Words.known s.words) (g.W.Words.counts s.words) s.words in
+    let found = rw (← c.self.view_is) at c.in-Some.ensures in
+    rw (← c.self.view_is) (missing_exactly b c.self.invariant.0 c.args.entry.now c.in-Some.index found _ (λ e. cc))
+
+pub returns-clause-missing : goal.returns-clause-missing
+returns-clause-missing g c =
+    let s = c.self.inside in
+    let b = core_of s.shard s.noted s.wheel s.slots (g.W.Words.known s.words) (g.W.Words.counts s.words) s.words in
+    let found = rw (← c.self.view_is) at c.in-Some.ensures in
+    rw (← c.self.view_is) (missing_exactly b c.self.invariant.0 c.args.entry.now c.in-Some.index found _ (λ e. cc))

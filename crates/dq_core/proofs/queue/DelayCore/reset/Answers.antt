@@ -1,6 +1,8 @@
+use Rattle.std.proofs.lemmas.Result.{err_from_is_err_and}
 use Rattle.std.proofs.Common.{◌∙◌, refl}
 use Rattle.dq_core.proofs.Ways.{core_of}
 use Rattle.dq_core.proofs.Finds.{found_cancelled, law_reset, resets, learned_at, below_last, linked_anew}
+use Rattle.dq_core.proofs.CallWords.{looked_others, reset_others, reset_live, find_refuses}
 use Rattle.dq_core.proofs.queue.DelayCore.reset.Goals as goal
 
 pub returns-in_default-renew-clause-resets : goal.returns-in_default-renew-clause-resets
@@ -28,3 +30,18 @@ returns-clause-resets g c =
     let below = below_last g.W.Words.shared b c.self.invariant.0 c.args.entry.now c.in-Some.index found c.stamp-stamp.result c.last.result c.stamp-stamp.ensures c.last.ensures c.if-stamp-last.false in
     rw (← c.self.view_is)
     (resets g.W.Words.shared b c.self.invariant.0 c.args.entry.now c.in-Some.index found _ c.stamp-stamp.result c.tick-tick.result c.max-base.result c.filing_for.result c.args.when c.in-Some-renew.field-0 c.new.result c.stamp-stamp.ensures below c.if-when-gt-LAST_TICK.false c.tick-tick.ensures.value c.max-base.ensures c.filing_for.ensures c.in-Some-renew.ensures.changed (linked_anew s.wheel.filing c.unlink.new.self.filing _ _ _ c.unlink.ensures c.link.ensures) c.raise.ensures c.in-Some-renew.ensures.known c.in-Some-renew.ensures.counts c.new.ensures refl refl)
+
+pub returns-in_default-renew-clause-others : goal.returns-in_default-renew-clause-others
+returns-in_default-renew-clause-others g c = looked_others (returns-in_default-renew-clause-resets g c).1.looked
+
+pub returns-clause-live : goal.returns-clause-live
+returns-clause-live g c = reset_live (returns-clause-resets g c)
+
+pub returns-clause-others : goal.returns-clause-others
+returns-clause-others g c = reset_others (returns-clause-resets g c)
+
+pub returns-in_err-deadline-clause-resets : goal.returns-in_err-deadline-clause-resets
+returns-in_err-deadline-clause-resets g c =
+    let p = err_from_is_err_and c.from_residual.result c.from_residual.ensures.1 in
+    rw (p.1, p.2)
+    (find_refuses g.W.Words.shared c.args.self.now c.args.entry.now c.args.when _ c.deadline.new.self c.if-when-gt-LAST_TICK.false c.in_err-deadline.ensures.tells)

@@ -1,5 +1,6 @@
 use Rattle.std.proofs.Common.{◌∙◌, arith}
 use Rattle.dq_core.proofs.Leaving.{sweeping_on, sweeping_ends}
+use Rattle.dq_core.proofs.CallWords.{out_tick}
 use Rattle.dq_core.proofs.queue.DelayCore.sweep.Goals.{then-reap_at, else-reap_at}
 use Rattle.dq_core.proofs.queue.DelayCore.sweep.Goals as goal
 
@@ -21,3 +22,9 @@ returns-clause-sweeps g c =
     let past = c.loop-index-test.false in
     let size = c.loop-index.invariant.0 in
     sweeping_ends g.W.Words.shared c.args.self.now c.loop-index.self c.loop-index.index c.loop-index.reaped c.loop-index.invariant.1 (omega (arith, past, size))
+
+pub returns-clause-reaped : goal.returns-clause-reaped
+returns-clause-reaped g c = (returns-clause-sweeps g c).none
+
+pub returns-clause-tick : goal.returns-clause-tick
+returns-clause-tick g c = out_tick (returns-clause-sweeps g c).reaped.2.out

@@ -1,0 +1,11 @@
+//! Laws over the calls of a queue, each the contract of an empty function.
+
+ghost use Rattle.dq_core.specs.Rests.{RestsLeaveNoCancelled};
+
+use crate::words::Words;
+
+/// After a poll that finds nothing due, so that it waits or is idle, all that is linked is filed after the noted tick.
+/// So each entry that was cancelled and was filed up to that tick is out of the queue.
+pub fn rests_leave_no_cancelled<T, W: Words>()
+    ensures { RestsLeaveNoCancelled T W }
+{}
