@@ -1,0 +1,4 @@
+pub mod Firsts
+pub mod Timed
+pub mod TimerRows
+pub mod TimerRuns

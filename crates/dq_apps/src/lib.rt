@@ -1,0 +1,4 @@
+//! What servers build on the delay queue: an expiring cache.
+#![tactic(auto)]
+
+mod timers;
