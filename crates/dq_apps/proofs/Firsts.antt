@@ -51,44 +51,44 @@ module _ {K : Type 0} where
 
 module _ {K W : Type 0} (b : Core K W) (law : IsLawfulCore b) where
   -- what stands at a slot with an entry, and where it is filed
-  at_slot : (i : ℕ) (e : Entry K) → (timer_at (machine b).slots i).entry ≡ Some e → (f : ℕ) × (get_or b.wheel.filing.filed i None ≡ Some f) × IsInForce (row_at b.shelf.rows i).stamp f (word_at b.known i) × (e.due ≡ due_by (word_at b.known i).mark (word_at b.known i).field)
+  at_slot : (i : ℕ) (e : Entry K) → (timer_at (machine b).table i).entry ≡ Some e → (f : ℕ) × (get_or b.wheel.filing.filed i None ≡ Some f) × IsInForce (row_at b.slots.rows i).stamp f (word_at b.known i) × (e.due ≡ due_by (word_at b.known i).mark (word_at b.known i).field)
   at_slot i e is =
-      let r = row_at b.shelf.rows i in
+      let r = row_at b.slots.rows i in
       let w = word_at b.known i in
-      let slot = slot_is b.shelf.rows b.known law.as_known i in
+      let slot = slot_is b.slots.rows b.known law.as_known i in
       let parts = entry_parts r.held w e (sym (ap (λ s. s.entry) slot) ∙ is) in
-      let inside = inside_slots (machine b).slots i e is in
-      let size = length-slots b.shelf.rows b.known law.as_known in
+      let inside = inside_slots (machine b).table i e is in
+      let size = length-slots b.slots.rows b.known law.as_known in
       let P : Option (Held K) → Type 0 = λ o. IsPlaced b.wheel.filing.tick b.noted r.stamp o w (get_or b.wheel.filing.filed i None) in
-      let placed = placed_some b.wheel.filing.tick b.noted r.stamp parts.0 w (get_or b.wheel.filing.filed i None) (subst P parts.1 (law.slots i (omega (arith, inside, size))).placed) in
+      let placed = placed_some b.wheel.filing.tick b.noted r.stamp parts.0 w (get_or b.wheel.filing.filed i None) (subst P parts.1 (law.each i (omega (arith, inside, size))).placed) in
       (placed.0, placed.1, placed.2, parts.2)
 
   -- a timer is filed no later than its deadline
-  filed_within : (i born : ℕ) (key : K) (d : ℕ) → (timer_at (machine b).slots i).entry ≡ running born key d → (f : ℕ) × (get_or b.wheel.filing.filed i None ≡ Some f) × (f ≤ d)
+  filed_within : (i born : ℕ) (key : K) (d : ℕ) → (timer_at (machine b).table i).entry ≡ running born key d → (f : ℕ) × (get_or b.wheel.filing.filed i None ≡ Some f) × (f ≤ d)
   filed_within i born key d is =
       let at = at_slot i (record { born = born; value = key; due = Some d }) is in
       let live = due_live (word_at b.known i).mark (word_at b.known i).field d (sym at.3) in
-      let within = force_live (row_at b.shelf.rows i).stamp at.0 (word_at b.known i) at.2 live.0 in
+      let within = force_live (row_at b.slots.rows i).stamp at.0 (word_at b.known i) at.2 live.0 in
       let field = live.1 in
       (at.0, at.1, omega (arith, within, field))
 
-  pub range_within : AreInRange (machine b).slots
+  pub range_within : AreInRange (machine b).table
   range_within i born key d is =
       let at = at_slot i (record { born = born; value = key; due = Some d }) is in
       let live = due_live (word_at b.known i).mark (word_at b.known i).field d (sym at.3) in
-      let small = force_small (row_at b.shelf.rows i).stamp at.0 (word_at b.known i) at.2 live.0 in
+      let small = force_small (row_at b.slots.rows i).stamp at.0 (word_at b.known i) at.2 live.0 in
       let field = live.1 in
       omega (arith, small, field)
 
   -- an entry that a look shows as live at d is a timer of that deadline
-  shown_live : (k : KeyName) (e : Entry K) (d : ℕ) → (timer_at (machine b).slots k.entry.index).entry ≡ Some e → Shows b k (Ok (StillLive d)) → (timer_at (machine b).slots k.entry.index).entry ≡ running e.born e.value d
+  shown_live : (k : KeyName) (e : Entry K) (d : ℕ) → (timer_at (machine b).table k.entry.index).entry ≡ Some e → Shows b k (Ok (StillLive d)) → (timer_at (machine b).table k.entry.index).entry ≡ running e.born e.value d
   shown_live k e d is shows =
       let at = at_slot k.entry.index e is in
       let live = look_live (word_at b.known k.entry.index).mark (word_at b.known k.entry.index).field d shows.1.3 in
       let due : e.due ≡ Some d = at.3 ∙ (λ i. due_by (live.0 i) (live.1 i)) in
       is ∙ ap (λ o. let x : Entry K = record { born = e.born; value = e.value; due = o } in Some x) due
 
-  pub first_is : (k : KeyName) (d : ℕ) → TellsLeast b (Some k) → TellsFiled b k.entry (Some d) → Shows b k (Ok (StillLive d)) → IsFirst (machine b).slots d
+  pub first_is : (k : KeyName) (d : ℕ) → TellsLeast b (Some k) → TellsFiled b k.entry (Some d) → Shows b k (Ok (StillLive d)) → IsFirst (machine b).table d
   first_is k d least filed shows = record {
     some = (k.entry.index, least.0.1.0.born, least.0.1.0.value, shown_live k least.0.1.0 d least.0.1.1.1 shows);
     least = λ i born key e is.

@@ -1,3 +1,4 @@
+pub mod CacheReads
 pub mod CacheSteps
 pub mod Firsts
 pub mod Leasts
@@ -7,6 +8,7 @@ pub mod SeenSlots
 pub mod Shows
 pub mod ShowsPuts
 pub mod Sweeps
+pub mod TiedChanges
 pub mod Ties
 pub mod Timed
 pub mod TimerRows

@@ -3,7 +3,8 @@ use Rattle.std.proofs.Common.{◌≡◌, ℕ, ◌+◌, Bool, Some, None, Ok, Err
 use Rattle.dq_core.specs.declared.errors.CoreError.{CoreError}
 use Rattle.dq_core.specs.declared.errors.CoreError.TheVariants.{TooFar, Full, Missing, WasCancelled, Worn, TickTooLarge, BadConfig, NoMemory}
 use Rattle.dq_apps.specs.Cache.{Cache, moment_at}
-use Rattle.dq_apps.specs.Calls.{purged, at_moment, InRange, IsAbsent, IsKeptWorn, Replaces, Adds, AddRefused, PutRefused, Puts}
+use Rattle.dq_apps.specs.Calls.{purged, InRange, IsAbsent, IsKeptWorn, Replaces, Adds, AddRefused, PutRefused, Puts}
+use Rattle.dq_apps.specs.Steps.{at_moment}
 
 module _ {K V : Type 0} (eq : K → K → Bool) (b d : Cache K V) (key : K) (value : V) (ttl now : ℕ) where
   -- the moment was set, and what was due dropped

@@ -11,7 +11,7 @@ use Rattle.dq_apps.specs.Cache.{seen, entries_of, value_at}
 use Rattle.dq_apps.specs.Calls.{IsAllSeen}
 use Rattle.dq_apps.specs.TimerTable.{TimerTable}
 use Rattle.dq_apps.specs.Tied.{cache_of, IsStock, pairs_seen}
-use Rattle.dq_apps.proofs.CacheSteps.{gets_none, gets_value}
+use Rattle.dq_apps.proofs.CacheReads.{gets_none, gets_value}
 
 module _ {K V : Type 0} (m : ℕ) where
   abbrev late : K × Kept V → Bool

@@ -6,7 +6,7 @@ use Rattle.std.proofs.lemmas.List.Sums.{sum_by-set, count_by-le-length}
 use Rattle.std.proofs.lemmas.Bool.{cases_lt, le-ltb, lt-ltb, le-leb, lt-leb, ltb-true}
 use Rattle.dq_apps.specs.Cache.{Item, CacheSlot, Cache, bare, slot_at, is_kept, AreDistinct}
 use Rattle.dq_apps.specs.Calls.{left_at, swept, is_due, due_count, purged, emptied_slots}
-use Rattle.dq_apps.specs.Tied.{DropsOne}
+use Rattle.dq_apps.specs.Steps.{DropsOne}
 use Rattle.dq_apps.proofs.TimerRows.{count-cons}
 
 abbrev one_if : Bool → ℕ

@@ -8,8 +8,9 @@ use Rattle.dq_ticks.specs.declared.words.Parts.{Parts}
 use Rattle.dq_core.specs.declared.slots.Held.{Held}
 use Rattle.dq_core.specs.Words.{word_at, never}
 use Rattle.dq_core.specs.Slots.{Row, unused, row_at, is_held, is_worn}
-use Rattle.dq_core.specs.Machine.{Entry, Slot}
-use Rattle.dq_core.specs.Core.{slot_of, slots_of, entry_of}
+use Rattle.dq_core.specs.Machine.{Entry, TableRow}
+use Rattle.dq_core.specs.Core.{table_of, entry_of}
+use Rattle.dq_core.specs.TableRows.{table_row_of}
 use Rattle.dq_apps.specs.TimerTable.{unset, timer_at, AllRun, is_set, is_spent}
 
 -- a count, slot by slot
@@ -18,7 +19,7 @@ count-cons p x xs = sum_by-cons (λ y. cond (p y) 1 0) x xs
 
 module _ {K : Type 0} where
   -- past the last slot there is no timer
-  pub inside_slots : (slots : List (Slot K)) (i : ℕ) (e : Entry K) → (timer_at slots i).entry ≡ Some e → i < length slots
+  pub inside_slots : (slots : List (TableRow K)) (i : ℕ) (e : Entry K) → (timer_at slots i).entry ≡ Some e → i < length slots
   inside_slots slots i e is = elim (cases_lt i (length slots)) [
     | inl within ↦ within
     | inr past ↦
@@ -26,14 +27,14 @@ module _ {K : Type 0} where
         absurd (cc)
   ]
 
-  pub set_here : (slots : List (Slot K)) (i : ℕ) (x : Slot K) → i < length slots → timer_at (set slots i x) i ≡ x
+  pub set_here : (slots : List (TableRow K)) (i : ℕ) (x : TableRow K) → i < length slots → timer_at (set slots i x) i ≡ x
   set_here slots i x inside = get_or-set_same slots i x unset inside
 
-  pub set_there : (slots : List (Slot K)) (i j : ℕ) (x : Slot K) → j ≢ i → timer_at (set slots i x) j ≡ timer_at slots j
+  pub set_there : (slots : List (TableRow K)) (i j : ℕ) (x : TableRow K) → j ≢ i → timer_at (set slots i x) j ≡ timer_at slots j
   set_there slots i j x ne = get_or-set_other slots i j x unset ne
 
   -- a slot was changed, and what runs there now runs
-  pub all_run_set : (slots : List (Slot K)) (i : ℕ) (x : Slot K) → i < length slots → AllRun slots → ((e : Entry K) → x.entry ≡ Some e → (d : ℕ) × (e.due ≡ Some d)) → AllRun (set slots i x)
+  pub all_run_set : (slots : List (TableRow K)) (i : ℕ) (x : TableRow K) → i < length slots → AllRun slots → ((e : Entry K) → x.entry ≡ Some e → (d : ℕ) × (e.due ≡ Some d)) → AllRun (set slots i x)
   all_run_set slots i x inside all here j e is = elim (cases_eq j i) [
     | inl same ↦
         let P : ℕ → Type 0 = λ k. (timer_at (set slots i x) k).entry ≡ Some e in
@@ -42,14 +43,14 @@ module _ {K : Type 0} where
   ]
 
   -- the slots of a queue's machine
-  pub slot_is : (rows : List (Row K)) (known : List Parts) → length known ≡ length rows → (i : ℕ) → timer_at (slots_of rows known) i ≡ slot_of (row_at rows i) (word_at known i)
+  pub slot_is : (rows : List (Row K)) (known : List Parts) → length known ≡ length rows → (i : ℕ) → timer_at (table_of rows known) i ≡ table_row_of (row_at rows i) (word_at known i)
   slot_is [] [] e i = refl
   slot_is [] (w ∷ ws) e i = absurd (omega arith)
   slot_is (r ∷ rs) [] e i = absurd (omega arith)
   slot_is (r ∷ rs) (w ∷ ws) e zero = refl
   slot_is (r ∷ rs) (w ∷ ws) e (suc i) = slot_is rs ws (omega arith) i
 
-  pub length-slots : (rows : List (Row K)) (known : List Parts) → length known ≡ length rows → length (slots_of rows known) ≡ length rows
+  pub length-slots : (rows : List (Row K)) (known : List Parts) → length known ≡ length rows → length (table_of rows known) ≡ length rows
   length-slots [] ws e = refl
   length-slots (r ∷ rs) [] e = absurd (omega arith)
   length-slots (r ∷ rs) (w ∷ ws) e = ap suc (length-slots rs ws (omega arith))
@@ -63,20 +64,20 @@ module _ {K : Type 0} where
   spent_by last s (Some h) w = refl
 
   -- a test of slots that agrees with one of rows counts as many
-  count_agrees : (p : Row K → Bool) (q : Slot K → Bool) → ((r : Row K) (w : Parts) → p r ≡ q (slot_of r w)) → (rows : List (Row K)) (known : List Parts) → length known ≡ length rows → count_by p rows ≡ count_by q (slots_of rows known)
+  count_agrees : (p : Row K → Bool) (q : TableRow K → Bool) → ((r : Row K) (w : Parts) → p r ≡ q (table_row_of r w)) → (rows : List (Row K)) (known : List Parts) → length known ≡ length rows → count_by p rows ≡ count_by q (table_of rows known)
   count_agrees p q same [] ws e = refl
   count_agrees p q same (r ∷ rs) [] e = absurd (omega arith)
   count_agrees p q same (r ∷ rs) (w ∷ ws) e =
       let rest = count_agrees p q same rs ws (omega arith) in
-      count-cons p r rs ∙ (ap (λ b. cond b 1 0 + count_by p rs) (same r w) ∙ (ap (λ n. cond (q (slot_of r w)) 1 0 + n) rest ∙ sym (count-cons q (slot_of r w) (slots_of rs ws))))
+      count-cons p r rs ∙ (ap (λ b. cond b 1 0 + count_by p rs) (same r w) ∙ (ap (λ n. cond (q (table_row_of r w)) 1 0 + n) rest ∙ sym (count-cons q (table_row_of r w) (table_of rs ws))))
 
-  pub count_set : (rows : List (Row K)) (known : List Parts) → length known ≡ length rows → count_by is_held rows ≡ count_by is_set (slots_of rows known)
+  pub count_set : (rows : List (Row K)) (known : List Parts) → length known ≡ length rows → count_by is_held rows ≡ count_by is_set (table_of rows known)
   count_set rows known e = count_agrees is_held is_set (λ r w. set_by r.held w) rows known e
 
-  pub count_spent : (last : ℕ) (rows : List (Row K)) (known : List Parts) → length known ≡ length rows → count_by (is_worn last) rows ≡ count_by (is_spent last) (slots_of rows known)
+  pub count_spent : (last : ℕ) (rows : List (Row K)) (known : List Parts) → length known ≡ length rows → count_by (is_worn last) rows ≡ count_by (is_spent last) (table_of rows known)
   count_spent last rows known e = count_agrees (is_worn last) (is_spent last) (λ r w. spent_by last r.stamp r.held w) rows known e
 
-  pub new_slots : (n : ℕ) → slots_of (replicate n (unused {T = K})) (replicate n never) ≡ replicate n unset
+  pub new_slots : (n : ℕ) → table_of (replicate n (unused {T = K})) (replicate n never) ≡ replicate n unset
   new_slots zero = refl
   new_slots (suc n) = ap (λ ss. unset ∷ ss) (new_slots n)
 

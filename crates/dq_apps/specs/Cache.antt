@@ -3,7 +3,7 @@ use Rattle.std.specs.Prelude.{◌≡◌, ℕ, ◌<◌, ◌≤◌, max, nat_lt, B
 use Rattle.std.specs.Prelude.{Some, None, length, filter, slice_index_or, is_some}
 use Rattle.std.specs.Option.{option_map}
 use Rattle.std.specs.Map.{lookup}
-use Rattle.dq_ticks.specs.declared.TheConstants.{LAST_TICK, LAST_STAMP}
+use Rattle.dq_ticks.specs.declared.TheConstants.{LAST_TICK, LAST_STAMP, CAPACITY_LIMIT}
 
 -- what is kept: a key, its value, and the deadline from which on it isn't seen
 pub record Item (K V : Type 0) : Type 0 where
@@ -95,4 +95,4 @@ module _ {K V : Type 0} where
     pub stamps : (i : ℕ) → (slot_at c.slots i).stamp ≤ c.last_stamp
     pub last : c.last_stamp ≤ LAST_STAMP
     pub moment : c.moment ≤ LAST_TICK
-    pub capacity : length c.slots ≤ 65536
+    pub capacity : length c.slots ≤ CAPACITY_LIMIT

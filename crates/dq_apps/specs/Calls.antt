@@ -67,10 +67,6 @@ module _ {K V : Type 0} where
   abbrev pub due_count : ℕ → List (CacheSlot K V) → ℕ
   due_count m slots = count_by (λ s. is_due m s.item) slots
 
-  -- the cache at a moment
-  abbrev pub at_moment : Cache K V → ℕ → Cache K V
-  at_moment c m = record { last_stamp = c.last_stamp; moment = m; slots = c.slots }
-
   -- the cache at a moment, with what is due then dropped
   abbrev pub purged : Cache K V → ℕ → Cache K V
   purged c m = record { last_stamp = c.last_stamp; moment = m; slots = map (swept m) c.slots }
@@ -92,7 +88,8 @@ module _ {K V : Type 0} where
 
   -- the slots with slot i emptied: it keeps its stamp
   abbrev pub emptied_slots : List (CacheSlot K V) → ℕ → List (CacheSlot K V)
-  emptied_slots slots i = slice_set slots i (record { stamp = (slot_at slots i).stamp; item = None })
+  emptied_slots slots i =
+      slice_set slots i (record { stamp = (slot_at slots i).stamp; item = None })
 
   -- the cache with slot i emptied
   abbrev pub emptied : Cache K V → ℕ → Cache K V

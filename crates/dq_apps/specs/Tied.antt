@@ -1,15 +1,16 @@
 -- No public clause cites this module.
 -- How the map of a cache goes with its timers, and what the two show.
-use Rattle.std.specs.Prelude.{◌≡◌, ℕ, ◌<◌, ◌≤◌, Bool, true, false, List, [], Option, Some, None}
+use Rattle.std.specs.Prelude.{◌≡◌, ℕ, ◌≤◌, Bool, true, List, [], Option, Some, None}
 use Rattle.std.specs.Prelude.{map, cond, slice_get, min, filter, nat_lt}
 use Rattle.std.specs.List.{IsDistinct, All}
+use Rattle.std.specs.Option.{option_map}
 use Rattle.std.specs.Map.{lookup, keys_of}
 use Rattle.dq_ticks.specs.declared.TheConstants.{LAST_TICK}
-use Rattle.dq_core.specs.Machine.{Entry, Slot}
+use Rattle.dq_ticks.specs.Keys.{KeyName}
+use Rattle.dq_core.specs.Machine.{Entry, TableRow}
 use Rattle.dq_apps.specs.declared.kept.Kept.{Kept}
 use Rattle.dq_apps.specs.declared.kept.Timer.{Timer}
-use Rattle.dq_apps.specs.Cache.{Item, CacheSlot, Cache, slot_at}
-use Rattle.dq_apps.specs.Calls.{emptied}
+use Rattle.dq_apps.specs.Cache.{Item, CacheSlot, Cache}
 use Rattle.dq_apps.specs.TimerTable.{TimerTable, timer_at, IsRunning}
 
 module _ {K V : Type 0} where
@@ -26,11 +27,11 @@ module _ {K V : Type 0} where
   item_at eq es (Some e) = item_of e.value e.due (lookup (eq e.value) es)
 
   -- a slot with a timer shows the timer's key and deadline, and the value that the map has there
-  abbrev pub shown : (K → K → Bool) → List (K × Kept V) → Slot K → CacheSlot K V
+  abbrev pub shown : (K → K → Bool) → List (K × Kept V) → TableRow K → CacheSlot K V
   shown eq es s = record { stamp = s.stamp; item = item_at eq es s.entry }
 
   -- what all slots show
-  abbrev pub shown_slots : (K → K → Bool) → List (K × Kept V) → List (Slot K)
+  abbrev pub shown_slots : (K → K → Bool) → List (K × Kept V) → List (TableRow K)
       → List (CacheSlot K V)
   shown_slots eq es slots = map (shown eq es) slots
 
@@ -40,7 +41,7 @@ module _ {K V : Type 0} where
       record { last_stamp = t.last_stamp; moment = moment; slots = shown_slots eq es t.slots }
 
   -- each key of the map has its timer, and each timer its key in the map
-  pub record IsTied (eq : K → K → Bool) (es : List (K × Kept V)) (slots : List (Slot K))
+  pub record IsTied (eq : K → K → Bool) (es : List (K × Kept V)) (slots : List (TableRow K))
       : Type 0 where
     pub distinct : IsDistinct eq (keys_of es)
     pub forth :
@@ -64,18 +65,26 @@ module _ {K V : Type 0} where
       ((q : K) → lookup (eq q) fs ≡ cond (eq key q) w (lookup (eq q) es))
       × IsDistinct eq (keys_of fs)
 
+  -- a map that has another deadline and timer at a key, with its value
+  abbrev pub IsRenewedAt : (K → K → Bool) → List (K × Kept V) → K → ℕ → KeyName
+      → List (K × Kept V) → Type 0
+  IsRenewedAt eq es key deadline k fs =
+      (s : Kept V) → lookup (eq key) es ≡ Some s
+      → IsWritten eq es key (Some (record { value = s.value; deadline = deadline; key = k })) fs
+
+  -- a map that has a value, a deadline and a timer at a key
+  abbrev pub IsReplacedAt : (K → K → Bool) → List (K × Kept V) → K → V → ℕ → KeyName
+      → List (K × Kept V) → Type 0
+  IsReplacedAt eq es key value deadline k fs =
+      IsWritten eq es key (Some (record { value = value; deadline = deadline; key = k })) fs
+
   -- what a map has that is seen at m, each key with its value
   abbrev pub pairs_seen : ℕ → List (K × Kept V) → List (K × V)
   pairs_seen m es = map (λ e. (e.0, e.1.value)) (filter (λ e. nat_lt m e.1.deadline) es)
 
-  -- one that is due at the moment is dropped, or none is due
-  abbrev pub DropsOne : Cache K V → Bool → Cache K V → Type 0
-  DropsOne b true c =
-      (i : ℕ) × (x : Item K V) × ((slot_at b.slots i).item ≡ Some x) × (x.deadline ≤ b.moment)
-      × (c ≡ emptied b i)
-  DropsOne b false c =
-      (c ≡ b)
-      × ((i : ℕ) (x : Item K V) → (slot_at b.slots i).item ≡ Some x → b.moment < x.deadline)
+-- the value of what was looked up
+abbrev pub HadValue : {V : Type 0} → Option (Kept V) → V → Type 0
+HadValue {V} o v = option_map (λ (s : Kept V). s.value) o ≡ Some v
 
 -- the timer of what was looked up
 abbrev pub TellsTimer : {V : Type 0} → Option (Kept V) → Option Timer → Type 0

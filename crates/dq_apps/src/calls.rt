@@ -2,7 +2,8 @@
 ghost use Rattle.std.specs.Prelude.{◌≡◌, ℕ, ◌+◌, true, None, IfOk, IfErr, OnOk, OnErr, IsSomeAnd};
 ghost use Rattle.dq_apps.specs.Cache.{moment_at, value_seen};
 ghost use Rattle.dq_apps.specs.Calls.{Takes, Renews, Puts, Purges};
-ghost use Rattle.dq_apps.specs.AtTheCall.{IsSeenUntil, IsGone, KeepsSeen, KeepsOthers, NoneDueNow, kept_count};
+ghost use Rattle.dq_apps.specs.AtTheCall.{IsSeenUntil, IsGone, KeepsSeen, KeepsOthers};
+ghost use Rattle.dq_apps.specs.AtTheCall.{NoneDueNow, kept_count};
 
 use crate::cache::TtlCache;
 use dq_core::CoreError;
@@ -31,12 +32,14 @@ impl<K: Eq + Hash + Drop, V: Drop, A: Allocator> TtlCache<K, V, A> {
         ensures puts { Puts K.eq self.old key value ttl now result self.new }
 
         // The value is seen until its deadline, and the one that was seen before comes back.
-        ensures seen { OnOk result (IsSeenUntil K.eq self.new key value (moment_at self.old now + ttl)) }
+        ensures seen { OnOk result
+            (IsSeenUntil K.eq self.new key value (moment_at self.old now + ttl)) }
         ensures old { IfOk result (λ old. old ≡ value_seen K.eq self.old key now) }
 
         // At other keys the same is seen; and at all keys, where the put is refused.
         ensures others { KeepsOthers K.eq self.old self.new key now }
-        ensures refused { IfErr result (λ e. (e.1 ≡ key) × (e.2 ≡ value) × KeepsSeen K.eq self.old self.new now) }
+        ensures refused { IfErr result
+            (λ e. (e.1 ≡ key) × (e.2 ≡ value) × KeepsSeen K.eq self.old self.new now) }
     {
         self.law();
         self.put_at(key, value, ttl, now)
@@ -68,7 +71,8 @@ impl<K: Eq + Hash + Drop, V: Drop, A: Allocator> TtlCache<K, V, A> {
 
         // What was seen is seen until its new deadline.
         ensures deadline { IfOk result (λ d. d ≡ moment_at self.old now + ttl) }
-        ensures seen { IfOk result (λ d. IsSomeAnd (value_seen K.eq self.old key.now now) (λ v. IsSeenUntil K.eq self.new key.now v d)) }
+        ensures seen { IfOk result (λ d. IsSomeAnd (value_seen K.eq self.old key.now now)
+            (λ v. IsSeenUntil K.eq self.new key.now v d)) }
 
         // At other keys the same is seen. A refusal changes nothing.
         ensures others { KeepsOthers K.eq self.old self.new key.now now }

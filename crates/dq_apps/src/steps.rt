@@ -1,10 +1,8 @@
 //! What the calls of a cache are made of, each exact.
-ghost use Rattle.std.specs.Prelude.{◌≡◌, ◌≢◌, ℕ, ◌≤◌, ◌↔◌, IsTrue, IsSome, Some, None, Ok, Err, true, max, MatchResult};
-ghost use Rattle.std.specs.Map.{lookup};
-ghost use Rattle.dq_apps.specs.Cache.{Item, IsKeptAt, moment_at};
-ghost use Rattle.dq_apps.specs.Calls.{due_count, purged, at_moment, full_count, IsAbsent, IsKeptWorn};
-ghost use Rattle.dq_apps.specs.Calls.{Takes, Renews, Replaces, Adds, AddRefused, Puts, Purges};
-ghost use Rattle.dq_apps.specs.Tied.{DropsOne};
+ghost use Rattle.std.specs.Prelude.{◌≡◌, ◌≤◌, true};
+ghost use Rattle.dq_apps.specs.Cache.{moment_at};
+ghost use Rattle.dq_apps.specs.Calls.{due_count, purged, IsAbsent, Takes, Renews, Puts, Purges};
+ghost use Rattle.dq_apps.specs.Steps.{at_moment, DropsOne, IsKept, PutsKept, PutsNew};
 
 use crate::cache::TtlCache;
 use crate::kept::Kept;
@@ -115,7 +113,7 @@ impl<K: Eq + Hash + Drop, V: Drop, A: Allocator> TtlCache<K, V, A> {
 
     /// Whether a key is kept, seen or due.
     fn holds(&self, key: &K) -> bool
-        ensures yes { result ≡ true → (i : ℕ) × (x : Item K V) × IsKeptAt K.eq self.now key.now i x }
+        ensures yes { result ≡ true → IsKept K.eq self.now key.now }
         ensures no { (result ≡ true → ⊥) → IsAbsent K.eq self.now key.now }
     {
         let _ = &self.moment;
@@ -124,10 +122,10 @@ impl<K: Eq + Hash + Drop, V: Drop, A: Allocator> TtlCache<K, V, A> {
 
     /// Puts a value at a key that is kept; hands it back where the slot has no stamp left.
     fn replace(&mut self, key: &K, value: V, when: u64) -> Result<V, V>
-        requires kept { (i : ℕ) × (x : Item K V) × IsKeptAt K.eq self.old key.now i x }
+        requires kept { IsKept K.eq self.old key.now }
         requires later { self.old.moment ≤ when }
         requires tick { when ≤ LAST_TICK }
-        ensures { MatchResult result (λ old. Replaces K.eq self.old key.now value when old self.new) (λ back. IsKeptWorn K.eq self.old key.now × (back ≡ value) × (self.new ≡ self.old)) }
+        ensures { PutsKept K.eq self.old key.now value when result self.new }
     {
         let Some(timer) = timer_of(&self.stock, key) else {
             unreachable!();
@@ -147,7 +145,7 @@ impl<K: Eq + Hash + Drop, V: Drop, A: Allocator> TtlCache<K, V, A> {
         requires clones { (k : K) → K.is_clone key k → K.eq key k ≡ true }
         requires later { self.old.moment ≤ when }
         requires tick { when ≤ LAST_TICK }
-        ensures { MatchResult result (λ done. Adds K.eq self.old key value when self.new) (λ e. AddRefused self.old e.0 × (e.1 ≡ key) × (e.2 ≡ value) × (self.new ≡ self.old)) }
+        ensures { PutsNew K.eq self.old key value when result self.new }
     {
         let (linked, worn) = (self.timers.len(), self.timers.worn());
         if linked + worn == self.timers.capacity() {

@@ -1,9 +1,8 @@
 //! The map of a cache: what is read there, and what is written at a key.
 ghost use Rattle.std.specs.Prelude.{◌≡◌, ◌<◌, IsSome, Some, None};
 ghost use Rattle.std.specs.Map.{lookup};
-ghost use Rattle.std.specs.Option.{option_map};
-ghost use Rattle.dq_apps.specs.declared.kept.Kept.{Kept};
-ghost use Rattle.dq_apps.specs.Tied.{IsWritten, TellsTimer, TellsLeast, lesser_of};
+ghost use Rattle.dq_apps.specs.Tied.{IsRenewedAt, IsReplacedAt, HadValue, TellsTimer};
+ghost use Rattle.dq_apps.specs.Tied.{TellsLeast, lesser_of};
 
 use crate::kept::{Kept, Timer};
 use dq_ticks::Key;
@@ -39,7 +38,7 @@ pub(crate) fn renew_at<K: Eq + Hash, V, A: Allocator>(
     next: Key,
 )
     requires { IsSome (lookup (K.eq key.now) stock.old.entries) }
-    ensures { (s : Kept V) → lookup (K.eq key.now) stock.old.entries ≡ Some s → IsWritten K.eq stock.old.entries key.now (Some (record { value = s.value; deadline = deadline; key = next })) stock.new.entries }
+    ensures { IsRenewedAt K.eq stock.old.entries key.now deadline next stock.new.entries }
 {
     if let Some(kept) = stock.get_mut(key) {
         kept.deadline = deadline;
@@ -56,8 +55,9 @@ pub(crate) fn replace_at<K: Eq + Hash, V, A: Allocator>(
     next: Key,
 ) -> V
     requires { IsSome (lookup (K.eq key.now) stock.old.entries) }
-    ensures old { option_map (λ s. s.value) (lookup (K.eq key.now) stock.old.entries) ≡ Some result }
-    ensures written { IsWritten K.eq stock.old.entries key.now (Some (record { value = value; deadline = deadline; key = next })) stock.new.entries }
+    ensures old { HadValue (lookup (K.eq key.now) stock.old.entries) result }
+    ensures written { IsReplacedAt K.eq stock.old.entries key.now value deadline next
+        stock.new.entries }
 {
     match stock.get_mut(key) {
         Some(kept) => {

@@ -1,18 +1,16 @@
-//! The timers of a cache's keys, kept by the delay queue of one owner: nobody cancels one, so each runs until it is due.
+//! The timers of a cache's keys, kept by the delay queue of one owner. Nobody cancels one, so each runs until it is due.
 ghost use Rattle.std.specs.Prelude.{◌≡◌, ◌≢◌, ℕ, ◌+◌, ◌<◌, ◌≤◌, ◌↔◌, length, IsTrue, IfSome};
 ghost use Rattle.std.specs.List.{count_by};
-ghost use Rattle.dq_apps.specs.TimerTable.{is_set, is_spent, timers_of, with_slots, stopped};
+ghost use Rattle.dq_apps.specs.TimerTable.{is_set, is_spent, timers_of, HasRoom};
 ghost use Rattle.dq_apps.specs.Setting.{IsSetting};
 ghost use Rattle.dq_apps.specs.TimerTable.{MakesTimers, AreTimers, IsTimer};
-ghost use Rattle.dq_apps.specs.TimerTable.{StopsDue, Starts, Restarts, AreWithin, AreInRange, IsFirst};
+ghost use Rattle.dq_apps.specs.TimerTable.{StopsDue, Stops, Starts, Restarts, IsFirst};
+ghost use Rattle.dq_apps.specs.TimerTable.{AreWithin, AreInRange};
 
 use dq_core::{CoreConfig, CoreError, DelayCore, Look, Turn, VecWords};
-use dq_ticks::{Key, LAST_STAMP, LAST_TICK};
+use dq_ticks::{CAPACITY_LIMIT, Key, LAST_STAMP, LAST_TICK};
 use std::alloc::{Allocator, Global};
 use std::marker::Model;
-
-/// The greatest number of keys.
-const CAPACITY_LIMIT: usize = 65536;
 
 /// Whether the numbers that a cache is made by are in their ranges.
 pub(crate) fn is_setting(capacity: usize, last_stamp: u32) -> bool
@@ -44,7 +42,7 @@ fn insert_one<K: Drop, A: Allocator>(queue: &mut Queue<K, A>, key: K, when: u64)
     requires timers { AreTimers queue.old }
     requires tick { when ≤ LAST_TICK }
     requires later { queue.old.noted ≤ when }
-    requires room { count_by is_set (timers_of queue.old).slots + count_by (is_spent queue.old.shelf.last_stamp) (timers_of queue.old).slots ≢ length (timers_of queue.old).slots }
+    requires room { HasRoom (timers_of queue.old) }
     ensures starts { Starts (timers_of queue.old) key when result (timers_of queue.new) }
     ensures timers { AreTimers queue.new }
 {
@@ -76,7 +74,7 @@ fn reset_one<K: Drop, A: Allocator>(queue: &mut Queue<K, A>, key: &Key, when: u6
 fn remove_one<K: Drop, A: Allocator>(queue: &mut Queue<K, A>, key: &Key)
     requires timers { AreTimers queue.old }
     requires set { IsTimer (timers_of queue.old).slots key.now }
-    ensures stopped { timers_of queue.new ≡ with_slots (timers_of queue.old) queue.old.noted (stopped (timers_of queue.old).slots key.now.entry.index) }
+    ensures stops { Stops (timers_of queue.old) key.now (timers_of queue.new) }
     ensures timers { AreTimers queue.new }
 {
     queue.own_events_alone();
@@ -86,7 +84,8 @@ fn remove_one<K: Drop, A: Allocator>(queue: &mut Queue<K, A>, key: &Key)
     }
 }
 
-/// The least deadline of all timers, where the queue files its first one by its deadline: that is up to some 2 years ahead.
+/// The least deadline of all timers, where the queue files its first one by its own deadline: none is then before it. A
+/// deadline more than `REACH` ticks ahead is filed earlier, and then none is told.
 fn first_of<K: Drop, A: Allocator>(queue: &Queue<K, A>) -> Option<u64>
     ensures { IfSome result (IsFirst (timers_of queue.now).slots) }
 {
@@ -145,7 +144,7 @@ impl<K: Drop, A: Allocator> Timers<K, A> {
     /// What holds of all timers.
     pub(crate) fn law(&self)
         ensures last { self.now.last_stamp ≤ LAST_STAMP }
-        ensures capacity { length self.now.slots ≤ 65536 }
+        ensures capacity { length self.now.slots ≤ CAPACITY_LIMIT }
         ensures stamps { AreWithin self.now.last_stamp self.now.slots }
         ensures deadlines { AreInRange self.now.slots }
         ensures noted { self.now.noted ≤ LAST_TICK }
@@ -156,7 +155,7 @@ impl<K: Drop, A: Allocator> Timers<K, A> {
     /// How many timers are set.
     pub(crate) fn len(&self) -> usize
         ensures count { result ≡ count_by is_set self.now.slots }
-        ensures few { result ≤ 65536 }
+        ensures few { result ≤ CAPACITY_LIMIT }
     {
         self.queue.law();
         self.queue.len()
@@ -165,7 +164,7 @@ impl<K: Drop, A: Allocator> Timers<K, A> {
     /// How many slots have no timer and no stamp left.
     pub(crate) fn worn(&self) -> usize
         ensures count { result ≡ count_by (is_spent self.now.last_stamp) self.now.slots }
-        ensures few { result ≤ 65536 }
+        ensures few { result ≤ CAPACITY_LIMIT }
     {
         self.queue.law();
         self.queue.worn()
@@ -179,7 +178,8 @@ impl<K: Drop, A: Allocator> Timers<K, A> {
         self.queue.capacity()
     }
 
-    /// The least deadline of a timer, where it is told at once; none where no timer is set, or all are far ahead.
+    /// The least deadline of a timer; none where no timer is set, or where all are more than two years ahead. Time as the
+    /// timers that share the first one's list.
     pub(crate) fn first_deadline(&self) -> Option<u64>
         ensures { IfSome result (IsFirst self.now.slots) }
     {
@@ -199,7 +199,7 @@ impl<K: Drop, A: Allocator> Timers<K, A> {
     pub(crate) fn start(&mut self, key: K, when: u64) -> Key
         requires tick { when ≤ LAST_TICK }
         requires later { self.old.noted ≤ when }
-        requires room { count_by is_set self.old.slots + count_by (is_spent self.old.last_stamp) self.old.slots ≢ length self.old.slots }
+        requires room { HasRoom self.old }
         ensures { Starts self.old key when result self.new }
     {
         insert_one(&mut self.queue, key, when)
@@ -218,7 +218,7 @@ impl<K: Drop, A: Allocator> Timers<K, A> {
     /// Stops a timer.
     pub(crate) fn stop(&mut self, key: &Key)
         requires { IsTimer self.old.slots key.now }
-        ensures { self.new ≡ with_slots self.old self.old.noted (stopped self.old.slots key.now.entry.index) }
+        ensures { Stops self.old key.now self.new }
     {
         remove_one(&mut self.queue, key);
     }

@@ -5,6 +5,6 @@ pub returns : goal.returns
 returns g c =
     let removed = rw c.entry.ensures at c.in-Ok.ensures.removes in
     record {
-      stopped = removed_stops c.args.queue.now c.remove.new.self c.own_events_alone.ensures c.remove.ensures.same c.requires.timers c.args.key.now _ c.requires.set removed;
+      stops = removed_stops c.args.queue.now c.remove.new.self c.own_events_alone.ensures c.remove.ensures.same c.requires.timers c.args.key.now _ c.requires.set removed;
       timers = removed_timers c.args.queue.now c.remove.new.self c.own_events_alone.ensures c.remove.ensures.same c.requires.timers c.args.key.now _ c.requires.set removed;
     }

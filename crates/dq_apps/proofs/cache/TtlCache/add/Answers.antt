@@ -1,5 +1,6 @@
 use Rattle.std.proofs.Common.{refl, ◌∙◌, arith}
-use Rattle.dq_apps.proofs.CacheSteps.{counts_are, same_cache, new_stock, new_adds}
+use Rattle.dq_apps.proofs.CacheReads.{counts_are}
+use Rattle.dq_apps.proofs.CacheSteps.{same_cache, new_stock, new_adds}
 use Rattle.dq_apps.proofs.cache.TtlCache.add.Goals as goal
 
 pub returns-then-linked-worn : goal.returns-then-linked-worn

@@ -1,5 +1,5 @@
 use Rattle.std.proofs.Common.{sym, max, arith}
-use Rattle.dq_apps.proofs.CacheSteps.{gets_none, gets_due, gets_now}
+use Rattle.dq_apps.proofs.CacheReads.{gets_none, gets_due, gets_now}
 use Rattle.dq_apps.proofs.cache.TtlCache.get.Goals as goal
 
 pub returns-in_default : goal.returns-in_default

@@ -1,4 +1,4 @@
-use Rattle.dq_apps.proofs.CacheSteps.{some_kept, none_absent}
+use Rattle.dq_apps.proofs.CacheReads.{some_kept, none_absent}
 use Rattle.dq_apps.proofs.cache.TtlCache.holds.Goals as goal
 
 pub returns-clause-yes : goal.returns-clause-yes

@@ -1,4 +1,4 @@
-use Rattle.dq_apps.proofs.CacheSteps.{cache_law}
+use Rattle.dq_apps.proofs.CacheReads.{cache_law}
 use Rattle.dq_apps.proofs.cache.TtlCache.law.Goals as goal
 
 pub returns : goal.returns

@@ -1,4 +1,4 @@
-use Rattle.dq_apps.proofs.CacheSteps.{first_least, stock_least}
+use Rattle.dq_apps.proofs.CacheReads.{first_least, stock_least}
 use Rattle.dq_apps.proofs.cache.TtlCache.next_deadline.Goals as goal
 
 pub returns-in-Some : goal.returns-in-Some

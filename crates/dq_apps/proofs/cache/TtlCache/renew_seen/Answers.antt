@@ -1,5 +1,6 @@
 use Rattle.std.proofs.Common.{◌+◌, ◌<◌, refl, ap, arith, max}
-use Rattle.dq_apps.proofs.CacheSteps.{unseen_absent, unseen_due, renewed_stock, renews, seen_worn, worn_cache}
+use Rattle.dq_apps.proofs.CacheReads.{unseen_absent, unseen_due}
+use Rattle.dq_apps.proofs.CacheSteps.{renewed_stock, renews, seen_worn, worn_cache}
 use Rattle.dq_apps.proofs.cache.TtlCache.renew_seen.Goals as goal
 
 pub returns-in_default : goal.returns-in_default

@@ -1,13 +1,15 @@
-use Rattle.std.proofs.Common.{refl, sym, ap, ◌∙◌, arith, is_some}
+use Rattle.std.proofs.Common.{refl, sym, arith}
 use Rattle.std.proofs.lemmas.Bool.{true≢false}
-use Rattle.dq_apps.proofs.CacheSteps.{kept_some, renewed_stock, replaces, kept_worn, worn_cache}
+use Rattle.dq_apps.proofs.CacheReads.{kept_some}
+use Rattle.dq_apps.proofs.CacheSteps.{renewed_stock, replaces, kept_worn, worn_cache}
 use Rattle.dq_apps.proofs.cache.TtlCache.replace.Goals as goal
 
 pub unreachable-requires : goal.unreachable-requires
 unreachable-requires g c =
     let s = c.self.inside in
     let kept = rw (← c.self.view_is) at c.requires.kept in
-    true≢false (sym (kept_some g.met.K.Eq.laws s.stock.entries s.timers s.moment c.self.invariant c.args.key.now kept.0 kept.1 kept.2) ∙ ap is_some c.in_default.ensures)
+    let some = kept_some g.met.K.Eq.laws s.stock.entries s.timers s.moment c.self.invariant c.args.key.now kept.0 kept.1 kept.2 in
+    true≢false (sym (rw c.in_default.ensures at some))
 
 pub invariant_of-self : goal.invariant_of-self
 invariant_of-self g c =

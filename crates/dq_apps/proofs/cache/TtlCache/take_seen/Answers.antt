@@ -1,5 +1,6 @@
 use Rattle.std.proofs.Common.{refl, arith, max}
-use Rattle.dq_apps.proofs.CacheSteps.{unseen_absent, unseen_due, taken_stock, taken_takes}
+use Rattle.dq_apps.proofs.CacheReads.{unseen_absent, unseen_due}
+use Rattle.dq_apps.proofs.CacheSteps.{taken_stock, taken_takes}
 use Rattle.dq_apps.proofs.cache.TtlCache.take_seen.Goals as goal
 
 pub returns-in_default : goal.returns-in_default
