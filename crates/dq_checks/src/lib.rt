@@ -1,21 +1,19 @@
-//! The worked rows of the queue over plain words and over shared ones, and of shared words alone, as tests. They stand in a
-//! crate of their own, since a crate is proved once more with its tests.
+//! The worked cases of the queue over plain words and over shared ones, of shared words alone, threads and refused memory, as
+//! tests. They stand in a crate of their own, since a crate is proved once more with its tests.
 #![tactic(auto)]
 
 #[cfg(test)]
-mod placed_rows;
+mod cases;
 #[cfg(test)]
-mod plain_placed_rows;
-#[cfg(test)]
-mod plain_rows;
+mod makings;
 #[cfg(test)]
 mod queues;
 #[cfg(test)]
 mod race;
 #[cfg(test)]
-mod rows;
+mod sent;
 #[cfg(test)]
-mod shared_rows;
+mod step;
 #[cfg(test)]
 mod words;
 #[cfg(test)]

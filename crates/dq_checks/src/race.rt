@@ -1,8 +1,8 @@
 // A caller that extends, a caller that cancels and the keeper's own queue, each in a thread of its own.
-use dq_core::{CoreConfig, CoreError, DelayCore, Turn};
+use crate::queues::over_shared;
+use dq_core::{CoreError, DelayCore, Turn};
 use dq_ticks::{Key, LAST_STAMP};
 use dq_words::{Caller, Keeper};
-use std::alloc::Global;
 use std::process::Abort;
 use std::test::Fail;
 use std::thread::join;
@@ -49,20 +49,6 @@ fn poll_all(core: &mut Core) -> Option<Answers> {
         }
     }
     None
-}
-
-// An empty queue. Its capacity is a parameter, or the proof counts the slots one by one.
-fn queue(alloc: Global, capacity: usize) -> Result<Core, Fail> {
-    let keeper = Keeper::new(alloc, capacity)?;
-    let config = CoreConfig {
-        shard: 0,
-        capacity,
-        last_stamp: LAST_STAMP,
-    };
-    match DelayCore::new(alloc, config, keeper) {
-        Ok(core) => Ok(core),
-        Err((error, _)) => Err(error.into()),
-    }
 }
 
 // The key of a new entry of a deadline, which is its value too.
@@ -112,7 +98,7 @@ fn adds_up(rt: &impl Abort, core: &mut Core, cancels: u64) {
 
 #[test]
 fn extends_and_cancels_race_with_polls(rt: HostRuntime) -> Result<(), Fail> {
-    let mut core = queue(rt.alloc(), 256)?;
+    let mut core: Core = over_shared(rt.alloc(), 256, LAST_STAMP)?;
     let mut extender = core.issue()?;
     let mut canceller = core.issue()?;
     let mut keys = Vec::with_capacity(rt.alloc(), ENTRIES)?;

@@ -1,7 +1,6 @@
 use dq_core::{CallError, Look, Settled, Words};
 use dq_ticks::{EntryId, Key};
 use dq_words::{CAPACITY_LIMIT, Caller, HANDLE_LIMIT, Keeper, WordsError};
-use linked_list_allocator::LocalHeap;
 use std::process::Abort;
 use std::test::Fail;
 
@@ -126,41 +125,5 @@ fn bad_configs(rt: HostRuntime) -> Result<(), Fail> {
     }
     let keeper = Keeper::new(rt.alloc(), CAPACITY_LIMIT)?;
     assert_eq!(rt; keeper.rows(), 65536);
-    Ok(())
-}
-
-// Whether a keeper is made over that heap. Its callers take no memory.
-fn is_made(rt: &impl Abort, heap: &LocalHeap) -> Result<bool, Fail> {
-    match Keeper::new(heap, 4) {
-        Ok(mut keeper) => {
-            let used = heap.used();
-            let caller: Caller<&LocalHeap> = keeper.issue()?;
-            assert_eq!(rt; heap.used(), used);
-            assert_eq!(rt; caller.give_back(), 0);
-            assert_eq!(rt; keeper.returned(), Ok(0));
-            Ok(true)
-        }
-        Err(error) => {
-            assert_eq!(rt; error, WordsError::NoMemory);
-            Ok(false)
-        }
-    }
-}
-
-// Over a heap that grows by a block each time, each allocation is refused in turn: the row of zeros, the words, the table's
-// own block.
-#[test]
-fn keeper_refused_memory(rt: HostRuntime) -> Result<(), Fail> {
-    let mut refused = false;
-    let mut made = false;
-    for size in 0..64 {
-        let heap = LocalHeap::new(rt.alloc(), 16 * size)?;
-        let is_made = is_made(&rt, &heap)?;
-        assert_eq!(rt; heap.used(), 0);
-        assert!(rt; is_made || !made);
-        made = is_made;
-        refused = refused || !is_made;
-    }
-    assert!(rt; made && refused);
     Ok(())
 }

@@ -1,85 +1,58 @@
-//! The worked rows by name. A test names its row, so that a queue of each kind is made, and given to the rows, in one place:
-//! a test by itself has next to nothing to prove.
+//! Each worked case, over a fresh queue.
 
+use crate::cases::{Case, OVER_BOTH_WORDS, OVER_PLAIN_WORDS};
 use crate::queues::{Calls, Queue, plain, shared};
-use crate::{placed_rows, rows};
-use dq_core::Words;
-use std::alloc::Global;
+use crate::step::Step;
+use dq_core::{SharedWords, Words};
 use std::process::Abort;
 use std::test::Fail;
 
-/// A worked row.
-#[derive(Clone, Copy)]
-pub enum Row {
-    ExtendPostpones,
-    ExtendNeverLowers,
-    ResetMakesOldKeyStale,
-    CancelledIsReaped,
-    PackedVector,
-    SweepAndClear,
-    ReusedSlotIsStale,
-    ForgedKeys,
-    AKeyOfAnotherShardIsUnknown,
-    DueAtOnce,
-    WaitsThenOut,
-    TwoLevels,
-    ExactSlotStart,
-    ThreeInOrder,
-    LateInsertIsDue,
-    LastTickAndBeyond,
-    WornSlot,
-    AtOneLap,
-    BeyondOneLap,
-    MovesCounted,
-}
-
-fn run<W: Words, C: Calls<W>>(
-    rt: &impl Abort,
-    queue: &mut Queue<W, C>,
-    row: Row,
-) -> Result<(), Fail> {
-    match row {
-        Row::ExtendPostpones => rows::extend_postpones(rt, queue),
-        Row::ExtendNeverLowers => rows::extend_never_lowers(rt, queue),
-        Row::ResetMakesOldKeyStale => rows::reset_makes_old_key_stale(rt, queue),
-        Row::CancelledIsReaped => rows::cancelled_is_reaped(rt, queue),
-        Row::PackedVector => rows::packed_vector(rt, queue),
-        Row::SweepAndClear => rows::sweep_and_clear(rt, queue),
-        Row::ReusedSlotIsStale => rows::reused_slot_is_stale(rt, queue),
-        Row::ForgedKeys => rows::forged_keys(rt, queue),
-        Row::AKeyOfAnotherShardIsUnknown => rows::a_key_of_another_shard_is_unknown(rt, queue),
-        Row::DueAtOnce => placed_rows::due_at_once(rt, queue),
-        Row::WaitsThenOut => placed_rows::waits_then_out(rt, queue),
-        Row::TwoLevels => placed_rows::two_levels(rt, queue),
-        Row::ExactSlotStart => placed_rows::exact_slot_start(rt, queue),
-        Row::ThreeInOrder => placed_rows::three_in_order(rt, queue),
-        Row::LateInsertIsDue => placed_rows::late_insert_is_due(rt, queue),
-        Row::LastTickAndBeyond => placed_rows::last_tick_and_beyond(rt, queue),
-        Row::WornSlot => placed_rows::worn_slot(rt, queue),
-        Row::AtOneLap => placed_rows::at_one_lap(rt, queue),
-        Row::BeyondOneLap => placed_rows::beyond_one_lap(rt, queue),
-        Row::MovesCounted => placed_rows::moves_counted(rt, queue),
+/// Each step of a case answers as it has to.
+fn plays<W: Words, C: Calls<W>>(rt: &impl Abort, queue: &mut Queue<W, C>, case: &Case) {
+    let (name, _, _, steps) = case;
+    for (number, step) in steps.iter().enumerate() {
+        assert!(rt;
+            queue.takes(*step) == Some(true),
+            "{name}: step {number} from 0"
+        );
     }
 }
 
-/// A row over plain words.
-pub fn over_plain(
-    rt: &impl Abort,
-    alloc: Global,
-    capacity: usize,
-    last_stamp: u32,
-    row: Row,
-) -> Result<(), Fail> {
-    run(rt, &mut plain(alloc, capacity, last_stamp)?, row)
+fn plays_over_plain<R: Abort + AllocGlobal>(rt: &R, cases: &[Case]) -> Result<(), Fail> {
+    for case in cases {
+        plays(rt, &mut plain(rt.alloc(), case.1, case.2)?, case);
+    }
+    Ok(())
 }
 
-/// A row over shared words.
-pub fn over_shared(
-    rt: &impl Abort,
-    alloc: Global,
-    capacity: usize,
-    last_stamp: u32,
-    row: Row,
-) -> Result<(), Fail> {
-    run(rt, &mut shared(alloc, capacity, last_stamp)?, row)
+#[test]
+fn cases_over_plain_words(rt: HostRuntime) -> Result<(), Fail> {
+    plays_over_plain(&rt, OVER_BOTH_WORDS)?;
+    plays_over_plain(&rt, OVER_PLAIN_WORDS)
+}
+
+/// How many cancels of a case are accepted.
+fn cancels(case: &Case) -> u64 {
+    case.3
+        .iter()
+        .filter(|step| matches!(step, Step::Cancel(_, Ok(_))))
+        .count() as u64
+}
+
+/// Behind each case its caller is given back through the queue, and the keeper is told its accepted cancels.
+#[test]
+fn cases_over_shared_words(rt: HostRuntime) -> Result<(), Fail> {
+    for case in OVER_BOTH_WORDS {
+        let mut queue = shared(rt.alloc(), case.1, case.2)?;
+        plays(&rt, &mut queue, case);
+        let Queue {
+            mut core,
+            calls,
+            ..
+        } = queue;
+        assert_eq!(rt; (core.out(), core.returned()), (1, Err(1)));
+        assert_eq!(rt; calls.give_back(), cancels(case));
+        assert_eq!(rt; (core.out(), core.returned()), (0, Ok(cancels(case))));
+    }
+    Ok(())
 }
