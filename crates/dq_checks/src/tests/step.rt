@@ -1,6 +1,6 @@
 //! The calls of a worked case, each with what it has to answer.
 
-use crate::queues::{Calls, Queue};
+use super::queues::{Calls, Queue};
 use dq_core::{CallError, CoreError, Look, Tally, Turn, Words};
 use dq_ticks::{EntryId, Key};
 use dq_wheel::Place;

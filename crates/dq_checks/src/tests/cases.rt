@@ -1,9 +1,9 @@
 //! The worked cases: for each its name, the queue's capacity and last stamp, and the calls with their answers. A new case is a
 //! new row here.
 
-use crate::step::Named::{Given, OfIndex, OfShard, OfStamp};
-use crate::step::Step;
-use crate::step::Step::{
+use super::step::Named::{Given, OfIndex, OfShard, OfStamp};
+use super::step::Step;
+use super::step::Step::{
     Cancel, Clear, Counts, Deadline, Extend, Filed, Idle, Insert, Look, Moves, NextWake, Out,
     OutOneOf, Peek, Place, RefuseInsert, RefusePoll, RefuseRemove, RefuseReset, Reset, Stamps,
     Sweep, Tallies, Tick, Wait,

@@ -1,8 +1,8 @@
 //! Each worked case, over a fresh queue.
 
-use crate::cases::{Case, OVER_BOTH_WORDS, OVER_PLAIN_WORDS};
-use crate::queues::{Calls, Queue, plain, shared};
-use crate::step::Step;
+use super::cases::{Case, OVER_BOTH_WORDS, OVER_PLAIN_WORDS};
+use super::queues::{Calls, Queue, plain, shared};
+use super::step::Step;
 use dq_core::{SharedWords, Words};
 use std::process::Abort;
 use std::test::Fail;
@@ -40,11 +40,10 @@ fn cancels(case: &Case) -> u64 {
 }
 
 /// Behind each case its caller is given back through the queue, and the keeper is told its accepted cancels.
-#[test]
-fn cases_over_shared_words(rt: HostRuntime) -> Result<(), Fail> {
-    for case in OVER_BOTH_WORDS {
+fn plays_over_shared<R: Abort + AllocGlobal>(rt: &R, cases: &[Case]) -> Result<(), Fail> {
+    for case in cases {
         let mut queue = shared(rt.alloc(), case.1, case.2)?;
-        plays(&rt, &mut queue, case);
+        plays(rt, &mut queue, case);
         let Queue {
             mut core,
             calls,
@@ -55,4 +54,9 @@ fn cases_over_shared_words(rt: HostRuntime) -> Result<(), Fail> {
         assert_eq!(rt; (core.out(), core.returned()), (0, Ok(cancels(case))));
     }
     Ok(())
+}
+
+#[test]
+fn cases_over_shared_words(rt: HostRuntime) -> Result<(), Fail> {
+    plays_over_shared(&rt, OVER_BOTH_WORDS)
 }

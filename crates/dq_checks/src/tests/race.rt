@@ -1,11 +1,11 @@
 // A caller that extends, a caller that cancels and the keeper's own queue, each in a thread of its own.
-use crate::queues::over_shared;
+use super::queues::over_shared;
 use dq_core::{CoreError, DelayCore, Turn};
 use dq_ticks::{Key, LAST_STAMP};
 use dq_words::{Caller, Keeper};
 use std::process::Abort;
 use std::test::Fail;
-use std::thread::join;
+use std::thread::{Threads, join};
 
 const ENTRIES: usize = 200;
 
@@ -96,6 +96,27 @@ fn adds_up(rt: &impl Abort, core: &mut Core, cancels: u64) {
     assert_eq!(rt; tally.expired.checked_add(cancels), Some(200));
 }
 
+// What the three threads answer: the extends and the cancels, and the polls.
+fn race<R: Threads + Sync>(
+    rt: &R,
+    core: &mut Core,
+    extender: &mut Caller,
+    canceller: &mut Caller,
+    keys: &[Key],
+) -> ((Answers, Answers), Option<Answers>) {
+    join(
+        rt,
+        || {
+            join(
+                rt,
+                || extend_even(extender, keys),
+                || cancel_fifths(canceller, keys),
+            )
+        },
+        || poll_all(core),
+    )
+}
+
 #[test]
 fn extends_and_cancels_race_with_polls(rt: HostRuntime) -> Result<(), Fail> {
     let mut core: Core = over_shared(rt.alloc(), 256, LAST_STAMP)?;
@@ -103,17 +124,12 @@ fn extends_and_cancels_race_with_polls(rt: HostRuntime) -> Result<(), Fail> {
     let mut canceller = core.issue()?;
     let mut keys = Vec::with_capacity(rt.alloc(), ENTRIES)?;
     fill(&mut core, &mut keys)?;
-    let all = keys.as_slice();
-    let ((extended, cancelled), expired) = join(
+    let ((extended, cancelled), expired) = race(
         &rt,
-        || {
-            join(
-                &rt,
-                || extend_even(&mut extender, all),
-                || cancel_fifths(&mut canceller, all),
-            )
-        },
-        || poll_all(&mut core),
+        &mut core,
+        &mut extender,
+        &mut canceller,
+        &keys,
     );
     let Some(expired) = expired else {
         panic!(rt; "the polls came to no end, or an entry came out before its deadline")
