@@ -1,7 +1,6 @@
-//! The limits of a queue and of its words, and refused memory.
+//! The limits of a queue and of its words.
 
 use dq_core::{CoreConfig, CoreError, DelayCore, VecWords, Words};
-use linked_list_allocator::LocalHeap;
 use std::alloc::Global;
 use std::test::Fail;
 
@@ -43,52 +42,6 @@ fn bad_configs(rt: HostRuntime) -> Result<(), Fail> {
     assert_eq!(rt; refusal(rt.alloc(), 65536, 1048575, 65536), Ok(None));
     for capacity in [0, 65537] {
         assert_eq!(rt; refusal(rt.alloc(), 1, 1, capacity), Err(bad));
-    }
-    Ok(())
-}
-
-// Whether a queue is made where memory is taken from that heap, and the words come back where it is not.
-fn is_made(alloc: Global, heap: &LocalHeap) -> Result<bool, CoreError> {
-    let config = CoreConfig {
-        shard: 0,
-        capacity: 4,
-        last_stamp: 1,
-    };
-    match DelayCore::new(heap, config, VecWords::new(alloc, 4)?) {
-        Ok(mut queue) => Ok(queue.insert('v', 5).is_ok()),
-        Err((CoreError::NoMemory, words)) if words.rows() == 4 => Ok(false),
-        Err((error, _words)) => Err(error),
-    }
-}
-
-// The making takes some blocks of 16 bytes and more: as the heap grows by 16 bytes, each is refused in turn.
-#[test]
-fn queue_refused_memory(rt: HostRuntime) -> Result<(), Fail> {
-    let mut refused = 0u64;
-    for blocks in 0..1024usize {
-        let heap = LocalHeap::new(rt.alloc(), blocks * 16)?;
-        let made = is_made(rt.alloc(), &heap)?;
-        assert_eq!(rt; heap.used(), 0);
-        if made {
-            assert!(rt; refused > 4);
-            return Ok(());
-        }
-        refused = refused.saturating_add(1);
-    }
-    assert!(rt; false, "no heap was large enough");
-    Ok(())
-}
-
-#[test]
-fn words_refused_memory(rt: HostRuntime) -> Result<(), Fail> {
-    // Four words are one block of 64 bytes.
-    for (size, made) in [(0, false), (48, false), (64, true)] {
-        let heap = LocalHeap::new(rt.alloc(), size)?;
-        match VecWords::new(&heap, 4) {
-            Ok(words) => assert!(rt; made && words.rows() == 4),
-            Err(error) => assert!(rt; !made && error == CoreError::NoMemory),
-        }
-        assert_eq!(rt; heap.used(), 0);
     }
     Ok(())
 }

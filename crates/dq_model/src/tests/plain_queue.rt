@@ -1,5 +1,4 @@
 use dq_core::{CoreError, PlainQueue, PlainTurn};
-use linked_list_allocator::LocalHeap;
 use std::process::Abort;
 use std::test::Fail;
 
@@ -101,25 +100,5 @@ fn plain_limits(rt: HostRuntime) -> Result<(), Fail> {
     let widest: Queue = PlainQueue::new(rt.alloc(), 65536)?;
     assert_eq!(rt; widest.capacity(), 65536);
     last_tick_and_beyond(&rt, &mut PlainQueue::new(rt.alloc(), 1)?);
-    Ok(())
-}
-
-#[test]
-fn plain_refused_memory(rt: HostRuntime) -> Result<(), Fail> {
-    // Four entries of 16 bytes are one block of 64.
-    for (size, made) in [(0, false), (48, false), (64, true)] {
-        let heap = LocalHeap::new(rt.alloc(), size)?;
-        match PlainQueue::new(&heap, 4) {
-            Ok(mut queue) => {
-                assert!(rt; made);
-                assert_eq!(rt; queue.insert(7u64, 1), Ok(1));
-            }
-            Err(error) => {
-                assert!(rt; !made);
-                assert_eq!(rt; error, CoreError::NoMemory);
-            }
-        }
-        assert_eq!(rt; heap.used(), 0);
-    }
     Ok(())
 }

@@ -1,5 +1,4 @@
 use dq_core::Slots;
-use linked_list_allocator::LocalHeap;
 use std::process::Abort;
 use std::test::Fail;
 
@@ -50,23 +49,5 @@ fn a_raise_keeps_the_birth_stamp(rt: HostRuntime) -> Result<(), Fail> {
     }
     raises(&rt, &mut slots);
     counts(&rt, &slots, 3, 0);
-    Ok(())
-}
-
-#[test]
-fn slots_refused_memory(rt: HostRuntime) -> Result<(), Fail> {
-    // Four cells are one block of 96 bytes, and their stack of free indexes takes one of 16: at 48 the first is refused, at 96
-    // the second.
-    for (size, made) in [(0, false), (48, false), (96, false), (112, true)] {
-        let heap = LocalHeap::new(rt.alloc(), size)?;
-        match Slots::new(&heap, 4, 1) {
-            Ok(mut slots) => {
-                assert!(rt; made);
-                assert_eq!(rt; slots.fill(7u64), Ok(0));
-            }
-            Err(_) => assert!(rt; !made),
-        }
-        assert_eq!(rt; heap.used(), 0);
-    }
     Ok(())
 }

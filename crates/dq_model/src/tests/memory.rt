@@ -3,11 +3,15 @@
 use dq_core::{CoreConfig, CoreError, DelayCore, Look, Turn, VecWords};
 use dq_ticks::{Key, LAST_STAMP};
 use linked_list_allocator::LocalHeap;
+use refusing_heap::RefusingHeap;
 use std::process::Abort;
 use std::test::Fail;
 
+// The heap of a test, which refuses one allocation.
+type Heap<'all> = RefusingHeap<&'all LocalHeap>;
+
 // A queue all of whose memory is of one heap.
-type Heaped<'heap> = DelayCore<char, VecWords<&'heap LocalHeap>, &'heap LocalHeap>;
+type Heaped<'heap, 'all> = DelayCore<char, VecWords<&'heap Heap<'all>>, &'heap Heap<'all>>;
 
 fn inserted(queue: &mut Heaped, value: char, when: u64) -> Result<Key, CoreError> {
     queue.insert(value, when).map_err(|refused| refused.0)
@@ -40,35 +44,20 @@ fn calls_of_the_owner(rt: &impl Abort, queue: &mut Heaped) -> Result<(), Fail> {
     Ok(())
 }
 
-// Whether the heap was large enough for a queue, whose calls then all went well.
-fn is_enough(rt: &impl Abort, heap: &LocalHeap) -> Result<bool, Fail> {
+// Over a heap that refuses what comes behind the makings: one allocation of the words, five of the queue.
+#[test]
+fn calls_take_no_memory(rt: HostRuntime) -> Result<(), Fail> {
+    let all = LocalHeap::new(rt.alloc(), 1 << 16)?;
+    let heap = RefusingHeap::new(&all, 6);
     let config = CoreConfig {
         shard: 0,
         capacity: 2,
         last_stamp: LAST_STAMP,
     };
-    let Ok(words) = VecWords::new(heap, 2) else {
-        return Ok(false);
-    };
-    let Ok(mut queue) = DelayCore::new(heap, config, words) else {
-        return Ok(false);
-    };
-    let used = heap.used();
-    calls_by_key(rt, &mut queue)?;
-    calls_of_the_owner(rt, &mut queue)?;
-    assert_eq!(rt; heap.used(), used);
-    Ok(true)
-}
-
-// The least heap that is enough has no room for another block.
-#[test]
-fn calls_take_no_memory(rt: HostRuntime) -> Result<(), Fail> {
-    for blocks in 0..1024usize {
-        let heap = LocalHeap::new(rt.alloc(), blocks * 16)?;
-        if is_enough(&rt, &heap)? {
-            return Ok(());
-        }
-    }
-    assert!(rt; false, "no heap was large enough");
+    let words = VecWords::new(&heap, 2)?;
+    let mut queue = DelayCore::new(&heap, config, words).map_err(|refused| refused.0)?;
+    calls_by_key(&rt, &mut queue)?;
+    calls_of_the_owner(&rt, &mut queue)?;
+    assert!(rt; !heap.has_refused());
     Ok(())
 }

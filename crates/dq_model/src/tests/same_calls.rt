@@ -1,6 +1,6 @@
 //! The queue and the slow model of it are given the same calls, drawn by a fixed generator, and agree after each.
 
-use crate::model::{Draw, Expected, LAST, SlowQueue};
+use super::model::{Draw, Expected, LAST, SlowQueue};
 use dq_core::{CoreConfig, DelayCore, PlainQueue, PlainTurn, Turn, VecWords};
 use dq_ticks::{EntryId, Key};
 use std::alloc::Global;
