@@ -24,16 +24,22 @@ fn keep<D: Display + Drop>(kept: &RefCell<String>, value: D, end: &str) -> io::R
     }
 }
 
-impl Print for Terminal {
-    fn print<D: Display + Drop>(&self, value: D) -> io::Result<()> {
+impl Terminal {
+    fn open_output(&self) -> io::Result<&RefCell<String>> {
         if self.is_closed {
             return Err(io::Error::from(io::ErrorKind::BrokenPipe));
         }
-        keep(&self.output, value, "")
+        Ok(&self.output)
+    }
+}
+
+impl Print for Terminal {
+    fn print<D: Display + Drop>(&self, value: D) -> io::Result<()> {
+        keep(self.open_output()?, value, "")
     }
 
     fn println<D: Display + Drop>(&self, value: D) -> io::Result<()> {
-        keep(&self.output, value, "\n")
+        keep(self.open_output()?, value, "\n")
     }
 
     fn write_all(&self, _bytes: &[u8]) -> io::Result<()> {
