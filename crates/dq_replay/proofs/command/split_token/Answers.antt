@@ -2,7 +2,7 @@ use Rattle.std.proofs.Common.{◌+◌, ◌-◌, length, drop, arith, sym}
 use Rattle.std.specs.Prelude.{◌==◌}
 use Rattle.std.proofs.lemmas.List.{length-drop, take_all}
 use Rattle.dq_replay.proofs.Splits.{split_at, split_none}
-use Rattle.dq_replay.proofs.command.split_word.Goals as goal
+use Rattle.dq_replay.proofs.command.split_token.Goals as goal
 
 pub returns-in-Some : goal.returns-in-Some
 returns-in-Some c =

@@ -5,28 +5,28 @@ use Rattle.dq_ticks.specs.Keys.{KeyName}
 use Rattle.dq_ticks.specs.declared.TheConstants.{LAST_STAMP}
 use Rattle.dq_core.specs.Slots.{is_held}
 use Rattle.dq_core.specs.Machine.{Machine, table_at, put}
-use Rattle.dq_core.specs.Machine.{Entry as Linked}
+use Rattle.dq_core.specs.Machine.{Entry}
 use Rattle.dq_core.specs.Core.{Core, machine}
-use Rattle.dq_replay.specs.declared.session.Entry.{Entry}
+use Rattle.dq_replay.specs.declared.session.Lease.{Lease}
 use Rattle.dq_replay.specs.declared.leases.Refusal.{Refusal}
 use Rattle.dq_replay.specs.declared.leases.Refusal.TheVariants.{Missing, TooFar}
-use Rattle.dq_replay.specs.Script.{with_entry, deadline_of, without, moved}
+use Rattle.dq_replay.specs.Script.{with_lease, deadline_of, without, moved}
 use Rattle.dq_replay.specs.Leases.{live_of, live_entry, key_at, AreKeyed, NameTable, found_in}
 
 -- the number of slots, the wheel's tick and the noted one, a bound on the stamps that were given, and the live names in order
-pub record Leased : Type 0 where
+pub record LeasesState : Type 0 where
   pub capacity : ℕ
   pub tick : ℕ
   pub noted : ℕ
   pub given : ℕ
-  pub live : List Entry
+  pub live : List Lease
 
 -- what a queue of names and a bound on its stamps show
-abbrev pub leased : {W : Type 0} → Core (List ℕ) W → ℕ → Leased
-leased c given = record { capacity = length c.slots.rows; tick = c.wheel.filing.tick; noted = c.noted; given = given; live = live_of (machine c).table }
+abbrev pub leases_state : {W : Type 0} → Core (List ℕ) W → ℕ → LeasesState
+leases_state c given = record { capacity = length c.slots.rows; tick = c.wheel.filing.tick; noted = c.noted; given = given; live = live_of (machine c).table }
 
 -- each live name has the key of its entry, no stamp is beyond the bound, and only the last stamp of all is the last
-pub record IsLeased {W : Type 0} (c : Core (List ℕ) W) (names : NameTable) (given : ℕ) : Type 0 where
+pub record AreLeases {W : Type 0} (c : Core (List ℕ) W) (names : NameTable) (given : ℕ) : Type 0 where
   pub last : c.slots.last_stamp ≡ LAST_STAMP
   pub keyed : AreKeyed c.shard (machine c) (found_in names)
   pub count : length names.entries ≡ length (live_of (machine c).table)
@@ -51,7 +51,7 @@ pub record IsSameQueue {V W : Type 0} (b : Core (List ℕ) V) (c : Core (List �
   pub rows : length c.slots.rows ≡ length b.slots.rows
 
 -- one slot of the queue has another stamp and entry, and all else of its machine is as it was
-pub record IsChangedAt {W : Type 0} (b : Core (List ℕ) W) (i s : ℕ) (e : Option (Linked (List ℕ))) (c : Core (List ℕ) W) : Type 0 where
+pub record IsChangedAt {W : Type 0} (b : Core (List ℕ) W) (i s : ℕ) (e : Option (Entry (List ℕ))) (c : Core (List ℕ) W) : Type 0 where
   pub same : IsSameQueue b c
   pub inside : i < length (machine b).table
   pub machine_is : machine c ≡ put (machine b) i s e
@@ -74,13 +74,13 @@ IsExtendedTo b k when result c name d =
     (result ≡ max when d) × IsChangedAt b k.entry.index (table_at (machine b) k.entry.index).stamp (Some (live_entry k.entry.born name result)) c
 
 -- a live name's entry is cancelled, and its deadline is told
-abbrev pub IsCancelledAt : {W : Type 0} → Core (List ℕ) W → KeyName → ℕ → Core (List ℕ) W → List ℕ → ℕ → Type 0
-IsCancelledAt b k result c name d =
+abbrev pub IsCancelledLease : {W : Type 0} → Core (List ℕ) W → KeyName → ℕ → Core (List ℕ) W → List ℕ → ℕ → Type 0
+IsCancelledLease b k result c name d =
     (result ≡ d) × IsChangedAt b k.entry.index (table_at (machine b) k.entry.index).stamp (Some (record { born = k.entry.born; value = name; due = None })) c
 
 -- a live name's entry leaves the queue, and its deadline is told
-abbrev pub IsRemovedAt : {W : Type 0} → Core (List ℕ) W → KeyName → ℕ → Core (List ℕ) W → List ℕ → ℕ → Type 0
-IsRemovedAt b k result c name d = (result ≡ d) × IsChangedAt b k.entry.index (table_at (machine b) k.entry.index).stamp None c
+abbrev pub IsRemovedLease : {W : Type 0} → Core (List ℕ) W → KeyName → ℕ → Core (List ℕ) W → List ℕ → ℕ → Type 0
+IsRemovedLease b k result c name d = (result ≡ d) × IsChangedAt b k.entry.index (table_at (machine b) k.entry.index).stamp None c
 
 -- the deadline of a live name is told, and nothing changes
 abbrev pub IsToldOf : {W : Type 0} → Core (List ℕ) W → KeyName → ℕ → Core (List ℕ) W → List ℕ → ℕ → Type 0
@@ -101,11 +101,11 @@ pub record IsRoomy {W : Type 0} (b c : Core (List ℕ) W) : Type 0 where
   pub room : count_by is_held c.slots.rows < length c.slots.rows
 
 -- none of the names is due
-abbrev pub NoneDue : ℕ → List Entry → Type 0
+abbrev pub NoneDue : ℕ → List Lease → Type 0
 NoneDue now live = filter (λ e. nat_le e.deadline now) live ≡ []
 
 -- a live name left the queue, whose deadline in force is at most `now`
-pub record IsGone {W : Type 0} (b : Core (List ℕ) W) (now : ℕ) (x : Entry) (c : Core (List ℕ) W) : Type 0 where
+pub record IsGone {W : Type 0} (b : Core (List ℕ) W) (now : ℕ) (x : Lease) (c : Core (List ℕ) W) : Type 0 where
   pub same : IsSameQueue b c
   pub way : (m : Machine (List ℕ)) × (i : ℕ) × (born : ℕ) × IsKept b.shard (machine b) m × ((table_at m i).entry ≡ Some (live_entry born x.name x.deadline)) × (machine c ≡ put m i (table_at m i).stamp None)
   pub due : x.deadline ≤ now
@@ -120,48 +120,48 @@ pub record IsResting {W : Type 0} (b : Core (List ℕ) W) (now : ℕ) (c : Core 
   pub noted : c.noted ≡ now
 
 -- one poll
-abbrev pub IsPolledTo : {W : Type 0} → Core (List ℕ) W → ℕ → Option Entry → Core (List ℕ) W → Type 0
+abbrev pub IsPolledTo : {W : Type 0} → Core (List ℕ) W → ℕ → Option Lease → Core (List ℕ) W → Type 0
 IsPolledTo b now None c = IsResting b now c
 IsPolledTo b now (Some x) c = IsGone b now x c
 
 -- what the calls do to the leases
 
 -- a name goes live at the greater of what was asked and the tick
-abbrev pub with_lease_at : Leased → List ℕ → ℕ → Leased
+abbrev pub with_lease_at : LeasesState → List ℕ → ℕ → LeasesState
 with_lease_at b name deadline =
-    record { capacity = b.capacity; tick = b.tick; noted = b.noted; given = b.given + 1; live = with_entry (record { name = name; deadline = deadline }) b.live }
+    record { capacity = b.capacity; tick = b.tick; noted = b.noted; given = b.given + 1; live = with_lease (record { name = name; deadline = deadline }) b.live }
 
 -- a live name at another deadline, with that bound on the stamps
-abbrev pub moved_lease : Leased → List ℕ → ℕ → ℕ → Leased
+abbrev pub moved_lease : LeasesState → List ℕ → ℕ → ℕ → LeasesState
 moved_lease b name deadline given = record { capacity = b.capacity; tick = b.tick; noted = b.noted; given = given; live = moved name deadline b.live }
 
-abbrev pub without_lease : Leased → List ℕ → Leased
+abbrev pub without_lease : LeasesState → List ℕ → LeasesState
 without_lease b name = record { capacity = b.capacity; tick = b.tick; noted = b.noted; given = b.given; live = without name b.live }
 
 -- a live name gets the greater of what was asked, at most the limit, and what was noted as its deadline
-abbrev pub ResetsLease : Leased → List ℕ → ℕ → ℕ → Result ℕ Refusal → Leased → Type 0
+abbrev pub ResetsLease : LeasesState → List ℕ → ℕ → ℕ → Result ℕ Refusal → LeasesState → Type 0
 ResetsLease b name when limit (Err Missing) c = (deadline_of name b.live ≡ None) × (c ≡ b)
 ResetsLease b name when limit (Err TooFar) c = (old : ℕ) × (deadline_of name b.live ≡ Some old) × (limit < when) × (c ≡ b)
 ResetsLease b name when limit (Ok d) c = (old : ℕ) × (deadline_of name b.live ≡ Some old) × (when ≤ limit) × (d ≡ max when b.noted) × (c ≡ moved_lease b name d (b.given + 1))
 
 -- a live name's deadline is raised to what was asked, at most the limit
-abbrev pub ExtendsLease : Leased → List ℕ → ℕ → ℕ → Result ℕ Refusal → Leased → Type 0
+abbrev pub ExtendsLease : LeasesState → List ℕ → ℕ → ℕ → Result ℕ Refusal → LeasesState → Type 0
 ExtendsLease b name when limit (Err Missing) c = (deadline_of name b.live ≡ None) × (c ≡ b)
 ExtendsLease b name when limit (Err TooFar) c = (old : ℕ) × (deadline_of name b.live ≡ Some old) × (limit < when) × (c ≡ b)
 ExtendsLease b name when limit (Ok d) c = (old : ℕ) × (deadline_of name b.live ≡ Some old) × (when ≤ limit) × (d ≡ max when old) × (c ≡ moved_lease b name d b.given)
 
 -- a live name ends, and its deadline in force is told
-abbrev pub EndsLease : Leased → List ℕ → Option ℕ → Leased → Type 0
+abbrev pub EndsLease : LeasesState → List ℕ → Option ℕ → LeasesState → Type 0
 EndsLease b name None c = (deadline_of name b.live ≡ None) × (c ≡ b)
 EndsLease b name (Some d) c = (deadline_of name b.live ≡ Some d) × (c ≡ without_lease b name)
 
 -- one live name that is due leaves, or none is left that is
-abbrev pub ExpiresLease : Leased → ℕ → Option Entry → Leased → Type 0
+abbrev pub ExpiresLease : LeasesState → ℕ → Option Lease → LeasesState → Type 0
 ExpiresLease b now None c = (c ≡ record { capacity = b.capacity; tick = now; noted = now; given = b.given; live = b.live }) × NoneDue now b.live
-ExpiresLease b now (Some x) c = (b.live ≡ with_entry x c.live) × (x.deadline ≤ now) × (c.noted ≡ now) × (c.capacity ≡ b.capacity) × (c.given ≡ b.given)
+ExpiresLease b now (Some x) c = (b.live ≡ with_lease x c.live) × (x.deadline ≤ now) × (c.noted ≡ now) × (c.capacity ≡ b.capacity) × (c.given ≡ b.given)
 
 -- the live names that are due leave, in order
-abbrev pub Ticks : Leased → ℕ → List Entry → Leased → Type 0
+abbrev pub Ticks : LeasesState → ℕ → List Lease → LeasesState → Type 0
 Ticks b now due c =
     (due ≡ filter (λ e. nat_le e.deadline now) b.live)
     × (c ≡ record { capacity = b.capacity; tick = now; noted = now; given = b.given; live = filter (λ e. nat_lt now e.deadline) b.live })
