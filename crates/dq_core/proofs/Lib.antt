@@ -4,6 +4,7 @@ pub mod CallWords
 mod Cells
 pub mod Clearing
 pub mod Finds
+pub mod FreeBits
 pub mod Inserts
 pub mod Law
 pub mod Leaving

@@ -11,6 +11,7 @@
 
 mod callers;
 pub mod errors;
+mod free_slots;
 mod key_calls;
 pub mod laws;
 mod outcomes;
