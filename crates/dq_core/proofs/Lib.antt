@@ -10,6 +10,7 @@ pub mod Law
 pub mod Leaving
 pub mod Looks
 pub mod Rests
+pub mod PackedWords
 pub mod RunsEnding
 pub mod RunsKept
 pub mod RunsMoves

@@ -15,6 +15,7 @@ mod free_slots;
 mod key_calls;
 pub mod laws;
 mod outcomes;
+mod packed_row;
 pub mod plain;
 pub mod queue;
 mod readers;
