@@ -11,9 +11,11 @@
 
 mod callers;
 pub mod errors;
+mod free_slots;
 mod key_calls;
 pub mod laws;
 mod outcomes;
+mod packed_row;
 pub mod plain;
 pub mod queue;
 mod readers;
