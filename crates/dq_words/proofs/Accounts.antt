@@ -4,7 +4,7 @@ use Rattle.dq_words.specs.declared.views.View.{View}
 use Rattle.dq_words.specs.Counts.{begins_in, expiries_in, removals_in}
 use Rattle.dq_words.specs.Files.{keeper_writes}
 use Rattle.dq_words.specs.Plays.{Audits}
-use Rattle.dq_words.specs.Desks.{Accounts}
+use Rattle.dq_words.specs.KeeperCalls.{Accounts}
 use Rattle.dq_words.proofs.Gathers.{writes_own}
 
 pub accounts : (w : View) (c : ℕ) → Audits w c → Accounts w c

@@ -6,11 +6,11 @@ use Rattle.dq_ticks.specs.declared.words.Mark.{Mark}
 use Rattle.dq_ticks.specs.declared.words.Mark.TheVariants.{LiveMark, CancelledMark}
 use Rattle.dq_ticks.specs.Word.{word, stamp_of, mark_of, field_of, mark_number, mark_by, packed, parts_of}
 use Rattle.dq_core.specs.declared.words.Settled.TheVariants.{SettledExpired, Later, SettledCancelled}
-use Rattle.dq_core.specs.Words.{live, cancelled, expired, removed, never, word_at, AreFresh, IsOver, IsInForce, IsSettled, Learned as Learns}
+use Rattle.dq_core.specs.Words.{live, cancelled, expired, removed, never, word_at, AreFresh, IsOver, IsInForce, IsSettled, Learned}
 use Rattle.dq_words.specs.declared.views.View.{View}
-use Rattle.dq_words.specs.Keeping.{counts_of, IsFree, IsOpen, Shows}
+use Rattle.dq_words.specs.Keeping.{counts_of, IsFree, IsOpen, LearnedAt}
 use Rattle.dq_words.specs.Rule.{zeros, first_keeper}
-use Rattle.dq_words.specs.Word.{Learned, parts_row}
+use Rattle.dq_words.specs.Word.{LearnedWord, parts_row}
 use Rattle.dq_words.proofs.Keepings.{Grown, learned_on, open_on, open_live, open_shut}
 
 blanks : (n : ℕ) → parts_row (zeros n) ≡ replicate n never
@@ -52,7 +52,7 @@ expired_is s d n is small = parts_by s 2 d n is (omega arith) small
 pub removed_is : (s d n : ℕ) → n ≡ word s 3 d → d ≤ 4398046511103 → parts_of n ≡ removed s d
 removed_is s d n is small = parts_by s 3 d n is (omega arith) small
 
-pub learned_parts : (x n : ℕ) → Learned x n → Learns true (parts_of x) (parts_of n)
+pub learned_parts : (x n : ℕ) → LearnedWord x n → Learned true (parts_of x) (parts_of n)
 learned_parts x n h = ⊎_elim (λ e. inl (ap parts_of e))
     (λ (l : Grown x n). let a = l.2 in let b = l.4 in
     let m : mark_of x ≡ 0 = omega arith in
@@ -119,8 +119,8 @@ row_here xs ys i n p inside is e = row_at ys i ∙ ap parts_of (ap (λ (zs : Lis
 pub row_known : (xs ys : List ℕ) (i n : ℕ) → i < length (parts_row xs) → ys ≡ set xs i n → parts_row ys ≡ set (parts_row xs) i (word_at (parts_row ys) i)
 row_known xs ys i n inside is = row_set xs ys i n (word_at (parts_row ys) i) is (sym (row_here xs ys i n (parts_of n) inside is refl))
 
-pub learned_at : (xs : List ℕ) (i n : ℕ) (p : Parts) → Learned (get_or xs i 0) n → parts_of n ≡ p → Learns true (word_at (parts_row xs) i) p
-learned_at xs i n p h e = let P : Parts × Parts → Type 0 = λ x. Learns true x.0 x.1 in subst P (λ q. (sym (row_at xs i) q, e q)) (learned_parts (get_or xs i 0) n h)
+pub learned_at : (xs : List ℕ) (i n : ℕ) (p : Parts) → LearnedWord (get_or xs i 0) n → parts_of n ≡ p → Learned true (word_at (parts_row xs) i) p
+learned_at xs i n p h e = let P : Parts × Parts → Type 0 = λ x. Learned true x.0 x.1 in subst P (λ q. (sym (row_at xs i) q, e q)) (learned_parts (get_or xs i 0) n h)
 
 pub open_at : (xs : List ℕ) (i s f : ℕ) → IsInForce s f (word_at (parts_row xs) i) → IsOpen (get_or xs i 0) s × (mark_of (get_or xs i 0) ≡ 0 → f ≤ field_of (get_or xs i 0))
 open_at xs i s f h = in_force_open s f (get_or xs i 0) (let P : Parts → Type 0 = λ p. IsInForce s f p in subst P (row_at xs i) h)
@@ -136,19 +136,19 @@ pub over_shown : (xs zs ys : List ℕ) (i old new : ℕ) → zs ≡ set xs i old
 over_shown xs zs ys i old new a b = b ∙ ap (λ (us : List ℕ). set us i new) a ∙ set-set xs i old new
 
 -- what a try that changed the shown word tells
-pub changes : (xs zs ys : List ℕ) (i s old new : ℕ) (p : Parts) → i < length (parts_row xs) → Shows xs zs i old → IsOpen old s → mark_of old ≡ 0 → ys ≡ set zs i new → parts_of new ≡ p → (d : ℕ) → d ≡ field_of old → Learns true (word_at (parts_row xs) i) (live s d) × (word_at (parts_row ys) i ≡ p)
+pub changes : (xs zs ys : List ℕ) (i s old new : ℕ) (p : Parts) → i < length (parts_row xs) → LearnedAt xs zs i old → IsOpen old s → mark_of old ≡ 0 → ys ≡ set zs i new → parts_of new ≡ p → (d : ℕ) → d ≡ field_of old → Learned true (word_at (parts_row xs) i) (live s d) × (word_at (parts_row ys) i ≡ p)
 changes xs zs ys i s old new p inside shown is_open m is e d at =
     let l = open_live old s is_open m in
     let small : field_of old ≤ 4398046511103 = omega arith in
     (learned_at xs i old (live s d) shown.0 (live_is s d old (l ∙ ap (λ k. word s 0 k) (sym at)) (omega arith)), row_here xs ys i new p inside (over_shown xs zs ys i old new shown.1 is) e)
 
 -- what a shown word that isn't live tells
-pub unchanged : (xs zs : List ℕ) (i s old : ℕ) → i < length (parts_row xs) → Shows xs zs i old → IsOpen old s → mark_of old ≢ 0 → Learns true (word_at (parts_row xs) i) (cancelled s) × (word_at (parts_row zs) i ≡ cancelled s)
+pub unchanged : (xs zs : List ℕ) (i s old : ℕ) → i < length (parts_row xs) → LearnedAt xs zs i old → IsOpen old s → mark_of old ≢ 0 → Learned true (word_at (parts_row xs) i) (cancelled s) × (word_at (parts_row zs) i ≡ cancelled s)
 unchanged xs zs i s old inside shown is_open m =
     let e = cancelled_is s old (open_shut old s is_open m) in
     (learned_at xs i old (cancelled s) shown.0 e, row_here xs zs i old (cancelled s) inside shown.1 e)
 
-module _ (xs ys : List ℕ) (i s at n : ℕ) (inside : i < length (parts_row xs)) (asked : IsInForce s at (word_at (parts_row xs) i)) (small : at ≤ 4398046511103) (learned : Learned (get_or xs i 0) n) where
+module _ (xs ys : List ℕ) (i s at n : ℕ) (inside : i < length (parts_row xs)) (asked : IsInForce s at (word_at (parts_row xs) i)) (small : at ≤ 4398046511103) (learned : LearnedWord (get_or xs i 0) n) where
   known : IsOpen (get_or xs i 0) s × (mark_of (get_or xs i 0) ≡ 0 → at ≤ field_of (get_or xs i 0))
   known = open_at xs i s at asked
 
@@ -173,18 +173,18 @@ module _ (xs ys : List ℕ) (i s at n : ℕ) (inside : i < length (parts_row xs)
       let ne : at ≢ field_of n = (λ (same : at ≡ field_of n). miss (now ∙ ap (λ k. word s 0 k) (sym same))) in omega arith)
       (λ (e : n ≡ word l.0 1 0). absurd (omega arith)) l.5) learned in
       let shows = row_here xs ys i n (live s d) inside shown (live_is s d n (now ∙ ap (λ k. word s 0 k) (sym is)) (omega arith)) in
-      let P : Parts → Type 0 = λ p. Learns true (word_at (parts_row xs) i) p in
+      let P : Parts → Type 0 = λ p. Learned true (word_at (parts_row xs) i) p in
       (omega arith, shows, subst P (sym (row_here xs ys i n (parts_of n) inside shown refl)) (learned_at xs i n (parts_of n) learned refl))
 
   pub settles_cancelled : mark_of n ≢ 0 → ys ≡ set xs i n → IsSettled true s at (word_at (parts_row xs) i) SettledCancelled (word_at (parts_row ys) i)
   settles_cancelled m shown =
       let now = cancelled_is s n (open_shut n s (open_on (get_or xs i 0) n s known.0 learned) m) in
-      let P : Parts → Type 0 = λ p. Learns true (word_at (parts_row xs) i) p in
+      let P : Parts → Type 0 = λ p. Learned true (word_at (parts_row xs) i) p in
       (row_here xs ys i n (cancelled s) inside shown now, subst P (sym (row_here xs ys i n (parts_of n) inside shown refl)) (learned_at xs i n (parts_of n) learned refl))
 
 -- a word shown once more
-pub shown_again : (xs zs ys : List ℕ) (i old n : ℕ) → i < length (parts_row xs) → Shows xs zs i old → Learned (get_or zs i 0) n → ys ≡ set zs i n → Shows xs ys i n
+pub shown_again : (xs zs ys : List ℕ) (i old n : ℕ) → i < length (parts_row xs) → LearnedAt xs zs i old → LearnedWord (get_or zs i 0) n → ys ≡ set zs i n → LearnedAt xs ys i n
 shown_again xs zs ys i old n inside shown learned is =
     let here : get_or zs i 0 ≡ old = ap (λ (us : List ℕ). get_or us i 0) shown.1 ∙ get_or-set_same xs i old 0 (row_inside xs i inside) in
-    let P : ℕ → Type 0 = λ k. Learned k n in
+    let P : ℕ → Type 0 = λ k. LearnedWord k n in
     (learned_on (get_or xs i 0) old n shown.0 (subst P here learned), over_shown xs zs ys i old n shown.1 is)

@@ -10,8 +10,8 @@ use Rattle.dq_words.specs.declared.views.Call.TheVariants.{Extend, Cancel}
 use Rattle.dq_words.specs.declared.views.StepKind.{StepKind}
 use Rattle.dq_words.specs.declared.views.StepKind.TheVariants.{CallerLoad, ExtendMax, CancelMax}
 use Rattle.dq_words.specs.Counts.{most_begins, cancels_in}
-use Rattle.dq_words.specs.Plays.{Covers, NoneBeyond, Fair, Looks, Extends, Cancels, stepping, extending, cancelling}
-use Rattle.dq_words.specs.Calls.{Reads, seen_at, IsForged, Refuses, IsRefused, IsAccepted, IsExtend, IsCancel}
+use Rattle.dq_words.specs.Plays.{Covers, NoneBeyond, Fair, CallerLoads, ExtendStep, CancelStep, loading, extending, cancelling}
+use Rattle.dq_words.specs.CallerCalls.{Reads, seen_at, IsForged, Refuses, IsRefused, IsAccepted, CallerExtends, CallerCancels}
 
 -- the view v after a call that saw n
 abbrev seeing : View → ℕ → ℕ → List StepKind → List Call → View
@@ -53,7 +53,7 @@ missed_by n s Unknown h a b = omega arith
 missed_by n s (Stale seen) h a b = let x = h.0 in let y = h.1 in omega arith
 missed_by n s (Ended how) h a b = h.1 b
 
-module _ (v u w : View) (k : KeyName) (m n : ℕ) (inside : k.entry.index < length v.seen) (pos : 0 < k.stamp) (loaded : Looks v u k.entry.index m) where
+module _ (v u w : View) (k : KeyName) (m n : ℕ) (inside : k.entry.index < length v.seen) (pos : 0 < k.stamp) (loaded : CallerLoads v u k.entry.index m) where
   abbrev i : ℕ
   i = k.entry.index
 
@@ -68,9 +68,9 @@ module _ (v u w : View) (k : KeyName) (m n : ℕ) (inside : k.entry.index < leng
       subst P mid (covers_by u.calls i n k.stamp d fair at live low)
 
   -- a step that failed
-  refused_after : (e : CallError) → w ≡ stepping u i n CallerLoad → get_or u.seen i 0 ≤ n → Fair u.calls i n → Refuses n k.stamp e → IsRefused v k e (CallerLoad ∷ CallerLoad ∷ v.steps) w
+  refused_after : (e : CallError) → w ≡ loading u i n CallerLoad → get_or u.seen i 0 ≤ n → Fair u.calls i n → Refuses n k.stamp e → IsRefused v k e (CallerLoad ∷ CallerLoad ∷ v.steps) w
   refused_after e is low fair refuses =
-      let whole : w ≡ seeing v i n (CallerLoad ∷ CallerLoad ∷ v.steps) v.calls = is ∙ ap (λ (x : View). stepping x i n CallerLoad) loaded.0 ∙ seen_twice v i m n (CallerLoad ∷ CallerLoad ∷ v.steps) v.calls in
+      let whole : w ≡ seeing v i n (CallerLoad ∷ CallerLoad ∷ v.steps) v.calls = is ∙ ap (λ (x : View). loading x i n CallerLoad) loaded.0 ∙ seen_twice v i m n (CallerLoad ∷ CallerLoad ∷ v.steps) v.calls in
       let here = seen_now v w i n (CallerLoad ∷ CallerLoad ∷ v.steps) v.calls inside whole in
       let calls : w.calls ≡ v.calls = ap (λ (x : View). x.calls) whole in
       let mid : u.calls ≡ v.calls = ap (λ (x : View). x.calls) loaded.0 in
@@ -90,39 +90,39 @@ module _ (v u w : View) (k : KeyName) (m n : ℕ) (inside : k.entry.index < leng
   stamped : get_or u.seen i 0 ≤ n → k.stamp ≤ stamp_of m → stamp_of n < k.stamp → ⊥
   stamped low asked below = let a = seen_between in omega arith
 
-  pub refuses_extend : (when new : ℕ) (e : CallError) → when ≤ 4398046511103 → new ≡ word k.stamp 0 when → k.stamp ≤ stamp_of m → Extends u w i new n → Refuses n k.stamp e → IsExtend v k when (Err e) w
+  pub refuses_extend : (when new : ℕ) (e : CallError) → when ≤ 4398046511103 → new ≡ word k.stamp 0 when → k.stamp ≤ stamp_of m → ExtendStep u w i new n → Refuses n k.stamp e → CallerExtends v k when (Err e) w
   refuses_extend when new e small is asked steps refuses = by e (refused steps.2) refuses where
     at : stamp_of new ≡ k.stamp
     at = omega arith
 
-    refused : (((stamp_of n ≡ stamp_of new) × (mark_of n ≡ 0) × (w ≡ extending u i new (max n new))) ⊎ ((stamp_of n ≡ stamp_of new → mark_of n ≢ 0) × (w ≡ stepping u i n CallerLoad))) → IsRefused v k e (CallerLoad ∷ CallerLoad ∷ v.steps) w
+    refused : (((stamp_of n ≡ stamp_of new) × (mark_of n ≡ 0) × (w ≡ extending u i new (max n new))) ⊎ ((stamp_of n ≡ stamp_of new → mark_of n ≢ 0) × (w ≡ loading u i n CallerLoad))) → IsRefused v k e (CallerLoad ∷ CallerLoad ∷ v.steps) w
     refused way = ⊎_elim
         (λ (hit : (stamp_of n ≡ stamp_of new) × (mark_of n ≡ 0) × (w ≡ extending u i new (max n new))). absurd (missed_by n k.stamp e refuses (hit.0 ∙ at) hit.1))
-        (λ (miss : (stamp_of n ≡ stamp_of new → mark_of n ≢ 0) × (w ≡ stepping u i n CallerLoad)). refused_after e miss.1 steps.0 steps.1 refuses) way
+        (λ (miss : (stamp_of n ≡ stamp_of new → mark_of n ≢ 0) × (w ≡ loading u i n CallerLoad)). refused_after e miss.1 steps.0 steps.1 refuses) way
 
-    by : (e : CallError) → IsRefused v k e (CallerLoad ∷ CallerLoad ∷ v.steps) w → Refuses n k.stamp e → IsExtend v k when (Err e) w
+    by : (e : CallError) → IsRefused v k e (CallerLoad ∷ CallerLoad ∷ v.steps) w → Refuses n k.stamp e → CallerExtends v k when (Err e) w
     by (TooFar limit) r h = absurd h
     by Unknown r h = absurd (stamped steps.0 asked h)
     by (Stale seen) r h = (small, r)
     by (Ended how) r h = (small, r)
 
-  pub refuses_cancel : (new : ℕ) (e : CallError) → new ≡ word k.stamp 1 0 → k.stamp ≤ stamp_of m → Cancels u w i new n → Refuses n k.stamp e → IsCancel v k (Err e) w
+  pub refuses_cancel : (new : ℕ) (e : CallError) → new ≡ word k.stamp 1 0 → k.stamp ≤ stamp_of m → CancelStep u w i new n → Refuses n k.stamp e → CallerCancels v k (Err e) w
   refuses_cancel new e is asked steps refuses = by e (refused steps.2) refuses where
     at : stamp_of new ≡ k.stamp
     at = omega arith
 
-    refused : (((stamp_of n ≡ stamp_of new) × (mark_of n ≡ 0) × (w ≡ cancelling u i new (field_of n) new) × (cancels_in w.calls ≤ most_begins)) ⊎ ((stamp_of n ≡ stamp_of new → mark_of n ≢ 0) × (w ≡ stepping u i n CallerLoad))) → IsRefused v k e (CallerLoad ∷ CallerLoad ∷ v.steps) w
+    refused : (((stamp_of n ≡ stamp_of new) × (mark_of n ≡ 0) × (w ≡ cancelling u i new (field_of n) new) × (cancels_in w.calls ≤ most_begins)) ⊎ ((stamp_of n ≡ stamp_of new → mark_of n ≢ 0) × (w ≡ loading u i n CallerLoad))) → IsRefused v k e (CallerLoad ∷ CallerLoad ∷ v.steps) w
     refused way = ⊎_elim
         (λ (hit : (stamp_of n ≡ stamp_of new) × (mark_of n ≡ 0) × (w ≡ cancelling u i new (field_of n) new) × (cancels_in w.calls ≤ most_begins)). absurd (missed_by n k.stamp e refuses (hit.0 ∙ at) hit.1))
-        (λ (miss : (stamp_of n ≡ stamp_of new → mark_of n ≢ 0) × (w ≡ stepping u i n CallerLoad)). refused_after e miss.1 steps.0 steps.1 refuses) way
+        (λ (miss : (stamp_of n ≡ stamp_of new → mark_of n ≢ 0) × (w ≡ loading u i n CallerLoad)). refused_after e miss.1 steps.0 steps.1 refuses) way
 
-    by : (e : CallError) → IsRefused v k e (CallerLoad ∷ CallerLoad ∷ v.steps) w → Refuses n k.stamp e → IsCancel v k (Err e) w
+    by : (e : CallError) → IsRefused v k e (CallerLoad ∷ CallerLoad ∷ v.steps) w → Refuses n k.stamp e → CallerCancels v k (Err e) w
     by (TooFar limit) r h = absurd h
     by Unknown r h = absurd (stamped steps.0 asked h)
     by (Stale seen) r h = r
     by (Ended how) r h = r
 
-  pub accepts_extend : (when new d : ℕ) → when ≤ 4398046511103 → new ≡ word k.stamp 0 when → Extends u w i new n → stamp_of n ≡ k.stamp → mark_of n ≡ 0 → d ≡ max (field_of n) when → IsExtend v k when (Ok d) w
+  pub accepts_extend : (when new d : ℕ) → when ≤ 4398046511103 → new ≡ word k.stamp 0 when → ExtendStep u w i new n → stamp_of n ≡ k.stamp → mark_of n ≡ 0 → d ≡ max (field_of n) when → CallerExtends v k when (Ok d) w
   accepts_extend when new d small is steps same live best =
       let at : stamp_of new ≡ k.stamp = omega arith in let asked : field_of new ≡ when = omega arith in ⊎_elim
       (λ (hit : (stamp_of n ≡ stamp_of new) × (mark_of n ≡ 0) × (w ≡ extending u i new (max n new))).
@@ -144,9 +144,9 @@ module _ (v u w : View) (k : KeyName) (m n : ℕ) (inside : k.entry.index < leng
         accepted_at d steps.1 same live (omega arith),
         ap (λ (y : View). y.calls) whole,
       ))
-      (λ (miss : (stamp_of n ≡ stamp_of new → mark_of n ≢ 0) × (w ≡ stepping u i n CallerLoad)). absurd (miss.0 (same ∙ sym at) live)) steps.2
+      (λ (miss : (stamp_of n ≡ stamp_of new → mark_of n ≢ 0) × (w ≡ loading u i n CallerLoad)). absurd (miss.0 (same ∙ sym at) live)) steps.2
 
-  pub accepts_cancel : (new d : ℕ) → new ≡ word k.stamp 1 0 → Cancels u w i new n → stamp_of n ≡ k.stamp → mark_of n ≡ 0 → d ≡ field_of n → IsCancel v k (Ok d) w
+  pub accepts_cancel : (new d : ℕ) → new ≡ word k.stamp 1 0 → CancelStep u w i new n → stamp_of n ≡ k.stamp → mark_of n ≡ 0 → d ≡ field_of n → CallerCancels v k (Ok d) w
   accepts_cancel new d is steps same live best =
       let at : stamp_of new ≡ k.stamp = omega arith in ⊎_elim
       (λ (hit : (stamp_of n ≡ stamp_of new) × (mark_of n ≡ 0) × (w ≡ cancelling u i new (field_of n) new) × (cancels_in w.calls ≤ most_begins)).
@@ -166,8 +166,8 @@ module _ (v u w : View) (k : KeyName) (m n : ℕ) (inside : k.entry.index < leng
         accepted_at d steps.1 same live (omega arith),
         ap (λ (y : View). y.calls) whole,
       ))
-      (λ (miss : (stamp_of n ≡ stamp_of new → mark_of n ≢ 0) × (w ≡ stepping u i n CallerLoad)). absurd (miss.0 (same ∙ sym at) live)) steps.2
+      (λ (miss : (stamp_of n ≡ stamp_of new → mark_of n ≢ 0) × (w ≡ loading u i n CallerLoad)). absurd (miss.0 (same ∙ sym at) live)) steps.2
 
-  pub calls_cancel : (new : ℕ) (r : Result ℕ CallError) → new ≡ word k.stamp 1 0 → k.stamp ≤ stamp_of m → Cancels u w i new n → MatchResult r (λ d. (stamp_of n ≡ k.stamp) × (mark_of n ≡ 0) × (d ≡ field_of n)) (λ e. Refuses n k.stamp e) → IsCancel v k r w
+  pub calls_cancel : (new : ℕ) (r : Result ℕ CallError) → new ≡ word k.stamp 1 0 → k.stamp ≤ stamp_of m → CancelStep u w i new n → MatchResult r (λ d. (stamp_of n ≡ k.stamp) × (mark_of n ≡ 0) × (d ≡ field_of n)) (λ e. Refuses n k.stamp e) → CallerCancels v k r w
   calls_cancel new (Ok d) is asked steps h = accepts_cancel new d is steps h.0 h.1 h.2
   calls_cancel new (Err e) is asked steps h = refuses_cancel new e is asked steps h

@@ -5,7 +5,7 @@ use Rattle.dq_ticks.specs.Word.{stamp_of, mark_of}
 use Rattle.dq_words.specs.declared.views.View.{View}
 use Rattle.dq_words.specs.declared.views.Write.{Write}
 use Rattle.dq_words.specs.declared.views.Write.TheVariants.{Begin, Expired, Renewed, Removed}
-use Rattle.dq_words.specs.Files.{file, blank, keeper_writes, Has, IsDeadline}
+use Rattle.dq_words.specs.Files.{file, blank, keeper_writes, IsIn, IsDeadline}
 use Rattle.dq_words.specs.Rule.{Ruled}
 
 -- 1 where the word is live at the stamp s
@@ -24,7 +24,7 @@ OthersAreBlank = (rows : ℕ) (t : State ℕ View) → Ruled rows t → (i s : �
 -- Each end, and each accepted cancel, was at the deadline in force.
 abbrev pub EndsAreInForce : Type 0
 EndsAreInForce = (rows : ℕ) (t : State ℕ View) → Ruled rows t → (i s : ℕ)
-    → ((e : ℕ × ℕ) → Has (file i s t.views).ends e → IsDeadline (file i s t.views) e.1) × ((d : ℕ) → Has (file i s t.views).cancels d → IsDeadline (file i s t.views) d)
+    → ((e : ℕ × ℕ) → IsIn (file i s t.views).ends e → IsDeadline (file i s t.views) e.1) × ((d : ℕ) → IsIn (file i s t.views).cancels d → IsDeadline (file i s t.views) d)
 
 -- how many of the keeper's ends closed the entry: an end of mark 0 gave its next stamp
 abbrev pub closed_in : List (ℕ × ℕ) → ℕ
@@ -50,5 +50,5 @@ over_life f i b ws (suc k) = (if birth_at i (suc k) ws == b then f (suc k) else 
 
 -- Between any two steps each Begin's entry, over all stamps that its resets gave it, was ended once as expired, as removed or by an accepted cancel, or is live.
 abbrev pub EntriesEndOnce : Type 0
-EntriesEndOnce = (rows : ℕ) (t : State ℕ View) → Ruled rows t → (i b base : ℕ) → Has (keeper_writes t.views) (Begin i b base)
+EntriesEndOnce = (rows : ℕ) (t : State ℕ View) → Ruled rows t → (i b base : ℕ) → IsIn (keeper_writes t.views) (Begin i b base)
     → over_life (λ s. fates_at i s t) i b (keeper_writes t.views) (stamp_of (slice_index t.words i)) ≡ 1

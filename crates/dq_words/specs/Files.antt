@@ -72,13 +72,13 @@ abbrev pub file : ℕ → ℕ → List View → File
 file i s views = file_of_lists (bases_at i s (keeper_writes views)) (ends_at i s (keeper_writes views)) (gathered (extends_at i s) views) (gathered (cancels_at i s) views)
 
 -- x is in the list
-abbrev pub Has : {A : Type 0} → List A → A → Type 0
-Has [] x = ⊥
-Has (y ∷ ys) x = (x ≡ y) ⊎ Has ys x
+abbrev pub IsIn : {A : Type 0} → List A → A → Type 0
+IsIn [] x = ⊥
+IsIn (y ∷ ys) x = (x ≡ y) ⊎ IsIn ys x
 
 -- d is the base or an accepted extend
 abbrev pub Among : File → ℕ → Type 0
-Among f d = Has f.bases d ⊎ Has f.extends d
+Among f d = IsIn f.bases d ⊎ IsIn f.extends d
 
 -- the deadline in force: the greatest of the base and the accepted extends
 abbrev pub IsDeadline : File → ℕ → Type 0

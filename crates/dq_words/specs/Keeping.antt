@@ -3,7 +3,7 @@ use Rattle.std.specs.Prelude.{◌≡◌, ◌≢◌, ◌⊎◌, ℕ, ◌<◌, ◌
 use Rattle.dq_core.specs.Words.{Counts}
 use Rattle.dq_ticks.specs.Word.{word, stamp_of, mark_of, field_of}
 use Rattle.dq_words.specs.Counts.{begins_in, expiries_in, removals_in, below}
-use Rattle.dq_words.specs.Word.{Learned}
+use Rattle.dq_words.specs.Word.{LearnedWord}
 use Rattle.dq_words.specs.declared.views.View.{View}
 use Rattle.dq_words.specs.declared.views.Write.{Write}
 
@@ -24,5 +24,5 @@ abbrev pub IsOpen : ℕ → ℕ → Type 0
 IsOpen n s = (0 < s) × ((n ≡ word s 1 0) ⊎ (n ≡ word s 0 (field_of n)))
 
 -- the word at one place of the row was learned to be n
-abbrev pub Shows : List ℕ → List ℕ → ℕ → ℕ → Type 0
-Shows old new i n = Learned (slice_index old i) n × (new ≡ slice_set old i n)
+abbrev pub LearnedAt : List ℕ → List ℕ → ℕ → ℕ → Type 0
+LearnedAt old new i n = LearnedWord (slice_index old i) n × (new ≡ slice_set old i n)

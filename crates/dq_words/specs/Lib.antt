@@ -1,6 +1,6 @@
-pub mod Calls
+pub mod CallerCalls
 pub mod Counts
-pub mod Desks
+pub mod KeeperCalls
 pub mod Endings
 pub mod Files
 pub mod Keeping

@@ -6,17 +6,17 @@ use mathlib.Core.Option.{some}
 use lib.ListN.{get_elem?}
 use Rattle.atomic_table.specs.Table.{State}
 use Rattle.dq_words.specs.declared.views.View.{View}
-use Rattle.dq_words.specs.Word.{Left, Learned}
+use Rattle.dq_words.specs.Word.{Left, LearnedWord}
 use Rattle.dq_words.specs.Counts.{begins_in, expiries_in, removals_in, total, goes, gone_cancels, own_cancels, lives, below, issued_in, returns_in, given_in, InOrder}
-use Rattle.dq_words.specs.Files.{File, blank, file, keeper_writes, Has, Among, IsDeadline}
+use Rattle.dq_words.specs.Files.{File, blank, file, keeper_writes, IsIn, Among, IsDeadline}
 
 -- Of the word n of a slot, one stamp s and the stamp's file: the stamp was not given.
-pub record Unborn (n s : ℕ) (f : File) : Type 0 where
+pub record UnbornStamp (n s : ℕ) (f : File) : Type 0 where
   pub none : f ≡ blank
   pub below : n < s * stamp_unit
 
 -- It was given, and the word is live at the deadline in force.
-pub record Living (n s : ℕ) (f : File) : Type 0 where
+pub record LivingStamp (n s : ℕ) (f : File) : Type 0 where
   pub base : ℕ
   pub deadline : ℕ
   pub given : f.bases ≡ base ∷ []
@@ -27,7 +27,7 @@ pub record Living (n s : ℕ) (f : File) : Type 0 where
   pub now : n ≡ word s 0 deadline
 
 -- It was given and cancelled once, at the deadline in force.
-pub record Cancelled (n s : ℕ) (f : File) : Type 0 where
+pub record CancelledStamp (n s : ℕ) (f : File) : Type 0 where
   pub base : ℕ
   pub deadline : ℕ
   pub given : f.bases ≡ base ∷ []
@@ -38,7 +38,7 @@ pub record Cancelled (n s : ℕ) (f : File) : Type 0 where
   pub now : (n ≡ word s 1 0) ⊎ Left n s
 
 -- The keeper ended it once, at the deadline in force.
-pub record Ended (n s : ℕ) (f : File) : Type 0 where
+pub record EndedStamp (n s : ℕ) (f : File) : Type 0 where
   pub base : ℕ
   pub deadline : ℕ
   pub mark : ℕ
@@ -51,14 +51,14 @@ pub record Ended (n s : ℕ) (f : File) : Type 0 where
 
 -- what the rule says of one slot at one stamp
 abbrev pub Law : ℕ → ℕ → File → Type 0
-Law n s f = Unborn n s f ⊎ (Living n s f ⊎ (Cancelled n s f ⊎ Ended n s f))
+Law n s f = UnbornStamp n s f ⊎ (LivingStamp n s f ⊎ (CancelledStamp n s f ⊎ EndedStamp n s f))
 
 -- the slot has had the word x
 abbrev pub HadAt : ℕ → ℕ → File → Type 0
 HadAt x s f =
     ((d : ℕ) × (x ≡ word s 0 d) × (d ≤ LAST_TICK) × Among f d)
-    ⊎ (((d : ℕ) × (x ≡ word s 1 0) × Has f.cancels d)
-    ⊎ ((m : ℕ) × (d : ℕ) × (x ≡ word s m d) × (1 < m) × (m < 4) × (d ≤ LAST_TICK) × Has f.ends (m, d)))
+    ⊎ (((d : ℕ) × (x ≡ word s 1 0) × IsIn f.cancels d)
+    ⊎ ((m : ℕ) × (d : ℕ) × (x ≡ word s m d) × (1 < m) × (m < 4) × (d ≤ LAST_TICK) × IsIn f.ends (m, d)))
 
 -- the slot i has had the word x
 abbrev pub Had : ℕ → ℕ → List View → Type 0
@@ -75,7 +75,7 @@ pub record Sees (rows : ℕ) (words : List ℕ) (views : List View) (j : ℕ) (v
   pub row : length v.seen ≡ rows
   pub below : (i : ℕ) → i < rows → slice_index v.seen i ≤ slice_index words i
   pub had : (i : ℕ) → i < rows → Had (slice_index v.seen i) i views
-  pub learns : v.keeps ≡ true → (i : ℕ) → i < rows → Learned (slice_index v.seen i) (slice_index words i)
+  pub learns : v.keeps ≡ true → (i : ℕ) → i < rows → LearnedWord (slice_index v.seen i) (slice_index words i)
 
 -- Words and views agree.
 pub record Kept (rows : ℕ) (t : State ℕ View) : Type 0 where

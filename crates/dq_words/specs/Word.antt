@@ -9,8 +9,8 @@ abbrev pub Left : ℕ → ℕ → Type 0
 Left n s = s * stamp_unit + stamp_unit ≤ n
 
 -- what the word x may have become while its keeper looked away: a live word was extended or cancelled, any other stays
-abbrev pub Learned : ℕ → ℕ → Type 0
-Learned x n =
+abbrev pub LearnedWord : ℕ → ℕ → Type 0
+LearnedWord x n =
     (n ≡ x)
     ⊎ ((s : ℕ) × (d : ℕ) × (x ≡ word s 0 d) × (0 < s) × (d ≤ LAST_TICK) × (((e : ℕ) × (d ≤ e) × (e ≤ LAST_TICK) × (n ≡ word s 0 e)) ⊎ (n ≡ word s 1 0)))
 

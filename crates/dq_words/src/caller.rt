@@ -2,13 +2,13 @@
 ghost use Rattle.std.specs.Prelude.{◌≡◌, ◌≢◌, ◌+◌, ◌<◌, ◌≤◌, [], length, false, slice_index, MatchOption, MatchResult};
 ghost use Rattle.std.specs.Arc.{arc_value};
 ghost use Rattle.dq_ticks.specs.Word.{word, stamp_of, mark_of, field_of};
-ghost use Rattle.dq_words.specs.Calls.{IsCaller, IsForged, Refuses, IsExtend, IsCancel, IsLook};
+ghost use Rattle.dq_words.specs.CallerCalls.{IsCaller, IsForged, Refuses, CallerExtends, CallerCancels, CallerLooks};
 ghost use Rattle.dq_words.specs.Counts.{cancels_in};
-ghost use Rattle.dq_words.specs.Plays.{Looks, Extends, Cancels};
+ghost use Rattle.dq_words.specs.Plays.{CallerLoads, ExtendStep, CancelStep};
 
 use crate::parts::{ONE_CANCEL, cancelled, is_live, live, stamp};
-use crate::plays::{GiveUp, Leave, Look as Glance, Prolong};
-use crate::rule::{Board, Place};
+use crate::plays::{CallerLoad, Cancel, Extend, GiveBack};
+use crate::rule::{WordSeat, WordTable};
 use dq_core::vec_words::shown;
 use dq_core::{CallError, Look};
 use dq_ticks::{Key, LAST_TICK, Mark, unpack};
@@ -23,8 +23,8 @@ use std::sync::Arc;
 /// counts as out for good.
 #[derive(Drop)]
 pub struct Caller<A: Allocator = Global> {
-    board: Arc<Board<A>, A>,
-    place: Place,
+    table: Arc<WordTable<A>, A>,
+    seat: WordSeat,
     rows: usize,
     cancels: u64,
 }
@@ -37,9 +37,9 @@ impl<A: Allocator> Model for Caller<A> {
 
     ghost Value = { View };
 
-    ghost view = { λ k. k.place.me.0 };
+    ghost view = { λ k. k.seat.me.0 };
 
-    ghost invariant = { λ k. (k.place.table_id ≡ (arc_value k.board).shared.table_id) × ((arc_value k.board).shared.key ≡ k.rows) × ((arc_value k.board).shared.table_id.words ≡ k.rows + 1) × (k.place.me.0.keeps ≡ false) × (k.place.me.0.gone ≡ false) × (length k.place.me.0.seen ≡ k.rows) × (k.cancels ≡ cancels_in k.place.me.0.calls) × (k.cancels ≤ most_begins) };
+    ghost invariant = { λ k. (k.seat.table_id ≡ (arc_value k.table).shared.table_id) × ((arc_value k.table).shared.key ≡ k.rows) × ((arc_value k.table).shared.table_id.words ≡ k.rows + 1) × (k.seat.me.0.keeps ≡ false) × (k.seat.me.0.gone ≡ false) × (length k.seat.me.0.seen ≡ k.rows) × (k.cancels ≡ cancels_in k.seat.me.0.calls) × (k.cancels ≤ most_begins) };
 }
 
 // The deadline of the word that a step of a stamp found live at that stamp, or why the word refuses the stamp.
@@ -62,14 +62,14 @@ fn deadline_at(found: u64, asked: u32) -> Result<u64, CallError>
 }
 
 impl<A: Allocator> Caller<A> {
-    pub(crate) fn over(board: Arc<Board<A>, A>, place: Place, rows: usize) -> Caller<A>
-        requires board { (place.table_id ≡ (arc_value board).shared.table_id) × ((arc_value board).shared.key ≡ rows) × ((arc_value board).shared.table_id.words ≡ rows + 1) }
-        requires view { (place.me.0.keeps ≡ false) × (place.me.0.gone ≡ false) × (length place.me.0.seen ≡ rows) × (place.me.0.calls ≡ []) }
-        ensures { result ≡ place.me.0 }
+    pub(crate) fn over(table: Arc<WordTable<A>, A>, seat: WordSeat, rows: usize) -> Caller<A>
+        requires table { (seat.table_id ≡ (arc_value table).shared.table_id) × ((arc_value table).shared.key ≡ rows) × ((arc_value table).shared.table_id.words ≡ rows + 1) }
+        requires view { (seat.me.0.keeps ≡ false) × (seat.me.0.gone ≡ false) × (length seat.me.0.seen ≡ rows) × (seat.me.0.calls ≡ []) }
+        ensures { result ≡ seat.me.0 }
     {
         Caller {
-            board,
-            place,
+            table,
+            seat,
             rows,
             cancels: 0,
         }
@@ -96,39 +96,39 @@ impl<A: Allocator> Caller<A> {
         }
     }
 
-    fn load(&mut self, index: usize) -> u64
+    fn caller_load(&mut self, index: usize) -> u64
         requires { index < length self.old.seen }
-        ensures { Looks self.old self.new index result }
+        ensures { CallerLoads self.old self.new index result }
     {
-        let found = self.board.shared.load::<Glance>(&mut self.place, index);
+        let found = self.table.shared.load::<CallerLoad>(&mut self.seat, index);
         found
     }
 
     // The fetch_max of a live word, which raises a live deadline of its stamp.
-    fn raise(&mut self, index: usize, new: u64) -> u64
+    fn extend_step(&mut self, index: usize, new: u64) -> u64
         requires inside { index < length self.old.seen }
         requires new { (0 < stamp_of new) × (mark_of new ≡ 0) }
         requires given { stamp_of new ≤ stamp_of (slice_index self.old.seen index) }
-        ensures { Extends self.old self.new index new result }
+        ensures { ExtendStep self.old self.new index new result }
     {
         let found = self
-            .board
+            .table
             .shared
-            .fetch_max::<Prolong>(&mut self.place, index, new);
+            .fetch_max::<Extend>(&mut self.seat, index, new);
         found
     }
 
     // The fetch_max of a cancelled word, which ends a live word of its stamp.
-    fn give_up(&mut self, index: usize, new: u64) -> u64
+    fn cancel_step(&mut self, index: usize, new: u64) -> u64
         requires inside { index < length self.old.seen }
         requires new { (0 < stamp_of new) × (new ≡ word (stamp_of new) 1 0) }
         requires given { stamp_of new ≤ stamp_of (slice_index self.old.seen index) }
-        ensures { Cancels self.old self.new index new result }
+        ensures { CancelStep self.old self.new index new result }
     {
         let found = self
-            .board
+            .table
             .shared
-            .fetch_max::<GiveUp>(&mut self.place, index, new);
+            .fetch_max::<Cancel>(&mut self.seat, index, new);
         if is_live(found) && stamp(found) == stamp(new) {
             self.cancels += 1;
         }
@@ -139,7 +139,7 @@ impl<A: Allocator> Caller<A> {
     /// force: `when`, or a later one that it had. Refused as TooFar beyond the last tick, as Unknown where no slot has
     /// the key, as Stale where the slot has a later stamp, and as Ended where the entry isn't live.
     pub fn extend(&mut self, key: &Key, when: u64) -> Result<u64, CallError>
-        ensures { IsExtend self.old key.now when result self.new }
+        ensures { CallerExtends self.old key.now when result self.new }
     {
         if when > LAST_TICK {
             return Err(CallError::TooFar { limit: LAST_TICK });
@@ -148,41 +148,41 @@ impl<A: Allocator> Caller<A> {
             return Err(CallError::Unknown);
         };
         let asked = key.stamp();
-        let seen = self.load(index);
+        let seen = self.caller_load(index);
         if stamp(seen) < asked {
             return Err(CallError::Unknown);
         }
-        let found = self.raise(index, live(asked, when));
+        let found = self.extend_step(index, live(asked, when));
         let before = deadline_at(found, asked)?;
         Ok(before.max(when))
     }
 
     /// Cancels a live entry, and answers the deadline that it gave up. Refused as `extend` is, but never as TooFar.
     pub fn cancel(&mut self, key: &Key) -> Result<u64, CallError>
-        ensures { IsCancel self.old key.now result self.new }
+        ensures { CallerCancels self.old key.now result self.new }
     {
         let Some(index) = self.slot(key) else {
             return Err(CallError::Unknown);
         };
         let asked = key.stamp();
-        let seen = self.load(index);
+        let seen = self.caller_load(index);
         if stamp(seen) < asked {
             return Err(CallError::Unknown);
         }
-        let found = self.give_up(index, cancelled(asked));
+        let found = self.cancel_step(index, cancelled(asked));
         deadline_at(found, asked)
     }
 
     /// What the entry of a key is. Refused as Unknown where no slot has the key, and as Stale where the slot has a later
     /// stamp.
     pub fn look(&mut self, key: &Key) -> Result<Look, CallError>
-        ensures { IsLook self.old key.now result self.new }
+        ensures { CallerLooks self.old key.now result self.new }
     {
         let Some(index) = self.slot(key) else {
             return Err(CallError::Unknown);
         };
         let asked = key.stamp();
-        let seen = unpack(self.load(index));
+        let seen = unpack(self.caller_load(index));
         if seen.stamp < asked {
             return Err(CallError::Unknown);
         }
@@ -204,9 +204,9 @@ impl<A: Allocator> Caller<A> {
         ensures { result ≡ cancels_in self.calls }
     {
         let cancels = self.cancels;
-        self.board
+        self.table
             .shared
-            .fetch_add::<Leave>(&mut self.place, self.rows, 1 + ONE_CANCEL * cancels);
+            .fetch_add::<GiveBack>(&mut self.seat, self.rows, 1 + ONE_CANCEL * cancels);
         cancels
     }
 }

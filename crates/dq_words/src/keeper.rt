@@ -2,17 +2,16 @@
 ghost use Rattle.std.specs.Prelude.{◌≡◌, ◌≢◌, ◌⊎◌, ◌+◌, ◌<◌, ◌≤◌, length, true, false, slice_index, slice_set, IfOk, IfErr};
 ghost use Rattle.std.specs.Arc.{arc_value};
 ghost use Rattle.dq_ticks.specs.Word.{stamp_of, mark_of, field_of, packed};
-ghost use Rattle.dq_words.specs.Desks.{IsMade, Issues, Tells, Returns, Accounts};
+ghost use Rattle.dq_words.specs.KeeperCalls.{KeeperIsMade, Issues, Tells, Returns, Accounts};
 ghost use Rattle.dq_words.specs.Keeping.{IsFree, IsKeeper, counts_of};
-ghost use Rattle.dq_words.specs.Plays.{stepping, beginning, expiring, renewing, removing, Hears, Swaps};
-ghost use Rattle.dq_words.specs.Word.{Learned, parts_row};
-ghost use Rattle.dq_core.specs.Words.{word_at, Learned as Learns};
-ghost use Rattle.dq_words.specs.declared.views.StepKind.TheVariants.{KeeperLoad};
+ghost use Rattle.dq_words.specs.Plays.{settling, renewing, finishing, BeginStep, ExchangeStep, KeeperLoads, ReturnLoads};
+ghost use Rattle.dq_words.specs.Word.{parts_row};
+ghost use Rattle.dq_core.specs.Words.{word_at, Learned};
 
 use crate::caller::Caller;
 use crate::parts::{ONE_CANCEL, expired, field, is_live, live, removed};
-use crate::plays::{Expire, Hear, Issue, Learn, Remove, Renew, Start};
-use crate::rule::{Board, Place, WordsRule};
+use crate::plays::{Begin, Finish, Issue, KeeperLoad, Renew, ReturnLoad, Settle};
+use crate::rule::{WordSeat, WordTable, WordsRule};
 use atomic_table::Table;
 use dq_core::{Settled, SharedWords, Words};
 use dq_ticks::{Parts, unpack};
@@ -48,8 +47,8 @@ pub enum WordsError {
 /// what it knows: the words that it saw, its own writes, and how many callers it issued.
 #[derive(Drop)]
 pub struct Keeper<A: Allocator = Global> {
-    board: Arc<Board<A>, A>,
-    place: Place,
+    table: Arc<WordTable<A>, A>,
+    seat: WordSeat,
     rows: usize,
     issued: u64,
 }
@@ -62,9 +61,9 @@ impl<A: Allocator> Model for Keeper<A> {
 
     ghost Value = { View };
 
-    ghost view = { λ k. k.place.me.0 };
+    ghost view = { λ k. k.seat.me.0 };
 
-    ghost invariant = { λ k. (k.place.table_id ≡ (arc_value k.board).shared.table_id) × ((arc_value k.board).shared.key ≡ k.rows) × ((arc_value k.board).shared.table_id.words ≡ k.rows + 1) × (length k.place.me.0.seen ≡ k.rows) × (k.issued ≡ k.place.me.0.issued) × IsKeeper k.place.me.0 };
+    ghost invariant = { λ k. (k.seat.table_id ≡ (arc_value k.table).shared.table_id) × ((arc_value k.table).shared.key ≡ k.rows) × ((arc_value k.table).shared.table_id.words ≡ k.rows + 1) × (length k.seat.me.0.seen ≡ k.rows) × (k.issued ≡ k.seat.me.0.issued) × IsKeeper k.seat.me.0 };
 }
 
 impl From<AllocError> for WordsError {
@@ -82,19 +81,19 @@ impl<A: Allocator + Clone> Keeper<A> {
     /// A keeper of that many slots which were never used. Refused as BadConfig for a capacity of 0 or beyond 65536, and as
     /// NoMemory.
     pub fn new(alloc: A, capacity: usize) -> Result<Keeper<A>, WordsError>
-        ensures { IsMade capacity result }
+        ensures { KeeperIsMade capacity result }
     {
         if capacity == 0 || capacity > CAPACITY_LIMIT {
             return Err(WordsError::BadConfig);
         }
         let heap = alloc.clone()?;
         let words = vec![in &heap; 0u64; capacity + 1]?;
-        let (table, place) = Table::of_words(alloc, words.as_slice(), &capacity)?;
+        let (table, seat) = Table::of_words(alloc, words.as_slice(), &capacity)?;
         drop(words);
         match Arc::new(heap, table) {
-            Ok(board) => Ok(Keeper {
-                board,
-                place,
+            Ok(table) => Ok(Keeper {
+                table,
+                seat,
                 rows: capacity,
                 issued: 0,
             }),
@@ -112,61 +111,59 @@ impl<A: Allocator> Keeper<A> {
         let _ = &self.issued;
     }
 
-    pub(crate) fn load(&mut self, index: usize) -> u64
+    pub(crate) fn keeper_load(&mut self, index: usize) -> u64
         requires { index < length self.old.seen }
-        ensures { Learned (slice_index self.old.seen index) result × (self.new ≡ stepping self.old index result KeeperLoad) }
+        ensures { KeeperLoads self.old self.new index result }
     {
-        let found = self.board.shared.load::<Learn>(&mut self.place, index);
+        let found = self.table.shared.load::<KeeperLoad>(&mut self.seat, index);
         found
     }
 
-    pub(crate) fn store(&mut self, index: usize, new: u64)
+    pub(crate) fn begin_step(&mut self, index: usize, new: u64)
         requires inside { index < length self.old.seen }
         requires free { IsFree (slice_index self.old.seen index) }
         requires next { (stamp_of new ≡ stamp_of (slice_index self.old.seen index) + 1) × (mark_of new ≡ 0) }
-        ensures { self.new ≡ beginning self.old index new }
+        ensures { BeginStep self.old self.new index new }
     {
-        self.board
-            .shared
-            .store::<Start>(&mut self.place, index, new);
+        self.table.shared.store::<Begin>(&mut self.seat, index, new);
     }
 
-    pub(crate) fn try_expire(&mut self, index: usize, old: u64, new: u64) -> u64
+    pub(crate) fn settle_step(&mut self, index: usize, old: u64, new: u64) -> u64
         requires inside { index < length self.old.seen }
         requires old { (0 < stamp_of old) × (mark_of old ≡ 0) }
         requires new { (stamp_of new ≡ stamp_of old) × (mark_of new ≡ 2) × (field_of new ≡ field_of old) }
-        ensures { Swaps expiring self.old self.new index old new result }
+        ensures { ExchangeStep settling self.old self.new index old new result }
     {
         let found = self
-            .board
+            .table
             .shared
-            .compare_exchange::<Expire>(&mut self.place, index, old, new);
+            .compare_exchange::<Settle>(&mut self.seat, index, old, new);
         found
     }
 
-    pub(crate) fn try_renew(&mut self, index: usize, old: u64, new: u64) -> u64
+    pub(crate) fn renew_step(&mut self, index: usize, old: u64, new: u64) -> u64
         requires inside { index < length self.old.seen }
         requires old { (0 < stamp_of old) × (mark_of old ≡ 0) }
         requires new { (stamp_of new ≡ stamp_of old + 1) × (mark_of new ≡ 0) }
-        ensures { Swaps renewing self.old self.new index old new result }
+        ensures { ExchangeStep renewing self.old self.new index old new result }
     {
         let found = self
-            .board
+            .table
             .shared
-            .compare_exchange::<Renew>(&mut self.place, index, old, new);
+            .compare_exchange::<Renew>(&mut self.seat, index, old, new);
         found
     }
 
-    pub(crate) fn try_remove(&mut self, index: usize, old: u64, new: u64) -> u64
+    pub(crate) fn finish_step(&mut self, index: usize, old: u64, new: u64) -> u64
         requires inside { index < length self.old.seen }
         requires old { (0 < stamp_of old) × (mark_of old ≡ 0) }
         requires new { (stamp_of new ≡ stamp_of old) × (mark_of new ≡ 3) × (field_of new ≡ field_of old) }
-        ensures { Swaps removing self.old self.new index old new result }
+        ensures { ExchangeStep finishing self.old self.new index old new result }
     {
         let found = self
-            .board
+            .table
             .shared
-            .compare_exchange::<Remove>(&mut self.place, index, old, new);
+            .compare_exchange::<Finish>(&mut self.seat, index, old, new);
         found
     }
 
@@ -180,17 +177,20 @@ impl<A: Allocator> Keeper<A> {
                 limit: HANDLE_LIMIT,
             });
         }
-        let board = Arc::try_clone(&self.board)?;
-        let place = self.board.shared.split_seat::<Issue>(&mut self.place);
+        let table = Arc::try_clone(&self.table)?;
+        let seat = self.table.shared.split_seat::<Issue>(&mut self.seat);
         self.issued += 1;
-        Ok(Caller::over(board, place, self.rows))
+        Ok(Caller::over(table, seat, self.rows))
     }
 
     // The load of the return word.
-    fn hear(&mut self) -> u64
-        ensures { Hears self.old self.new result }
+    fn return_load(&mut self) -> u64
+        ensures { ReturnLoads self.old self.new result }
     {
-        let found = self.board.shared.load::<Hear>(&mut self.place, self.rows);
+        let found = self
+            .table
+            .shared
+            .load::<ReturnLoad>(&mut self.seat, self.rows);
         found
     }
 
@@ -198,7 +198,7 @@ impl<A: Allocator> Keeper<A> {
     pub fn out(&mut self) -> u64
         ensures { Tells self.old result self.new }
     {
-        let gone = self.hear() % ONE_CANCEL;
+        let gone = self.return_load() % ONE_CANCEL;
         self.issued - gone
     }
 
@@ -207,7 +207,7 @@ impl<A: Allocator> Keeper<A> {
         ensures told { Returns self.old result self.new }
         ensures accounts { IfOk result (λ c. Accounts self.new c) }
     {
-        let word = self.hear();
+        let word = self.return_load();
         let out = self.issued - word % ONE_CANCEL;
         if out == 0 {
             Ok(word / ONE_CANCEL)
@@ -229,24 +229,24 @@ impl<A: Allocator> Words for Keeper<A> {
     }
 
     fn begin(&mut self, index: usize, stamp: u32, when: u64) {
-        self.store(index, live(stamp, when));
+        self.begin_step(index, live(stamp, when));
     }
 
     fn look(&mut self, index: usize) -> Parts
         requires { index < length (parts_row self.old.seen) }
-        ensures learned { Learns true (word_at (parts_row self.old.seen) index) result }
+        ensures learned { Learned true (word_at (parts_row self.old.seen) index) result }
         ensures known { parts_row self.new.seen ≡ slice_set (parts_row self.old.seen) index result }
         ensures counts { counts_of self.new.writes ≡ counts_of self.old.writes }
-        ensures step { self.new ≡ stepping self.old index (packed result) KeeperLoad }
+        ensures step { KeeperLoads self.old self.new index (packed result) }
     {
-        let found = self.load(index);
+        let found = self.keeper_load(index);
         unpack(found)
     }
 
     // The expiry is decided by one try: a word that isn't live at exactly `at` is live at a later deadline or cancelled.
     fn settle(&mut self, index: usize, stamp: u32, at: u64) -> Settled {
         let old = live(stamp, at);
-        let found = self.try_expire(index, old, expired(stamp, at));
+        let found = self.settle_step(index, old, expired(stamp, at));
         if found == old {
             Settled::SettledExpired
         } else if is_live(found) {
@@ -259,9 +259,9 @@ impl<A: Allocator> Words for Keeper<A> {
     // Each try that fails shows a greater word.
     fn renew(&mut self, index: usize, stamp: u32, when: u64) -> Option<u64> {
         let new = live(stamp + 1, when);
-        let mut seen = self.load(index);
+        let mut seen = self.keeper_load(index);
         while is_live(seen) {
-            let found = self.try_renew(index, seen, new);
+            let found = self.renew_step(index, seen, new);
             if found == seen {
                 return Some(field(seen));
             }
@@ -271,10 +271,10 @@ impl<A: Allocator> Words for Keeper<A> {
     }
 
     fn finish(&mut self, index: usize, stamp: u32) -> Option<u64> {
-        let mut old = self.load(index);
+        let mut old = self.keeper_load(index);
         while is_live(old) {
             let deadline = field(old);
-            let found = self.try_remove(index, old, removed(stamp, deadline));
+            let found = self.finish_step(index, old, removed(stamp, deadline));
             if found == old {
                 return Some(deadline);
             }

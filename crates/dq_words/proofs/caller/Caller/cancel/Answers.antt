@@ -10,4 +10,4 @@ returns g c =
     let inside = slot.1 in
     let loaded = c.stamp.ensures in
     let given = c.if-stamp-asked.false in
-    calls_cancel _ _ _ c.args.key.now _ _ (omega arith) slot.2 (rw index at c.load-seen.ensures) _ _ (rw asked at c.cancelled.ensures) (omega arith) (rw index at c.give_up-found.ensures) (rw asked at c.deadline_at.ensures)
+    calls_cancel _ _ _ c.args.key.now _ _ (omega arith) slot.2 (rw index at c.caller_load-seen.ensures) _ _ (rw asked at c.cancelled.ensures) (omega arith) (rw index at c.cancel_step-found.ensures) (rw asked at c.deadline_at.ensures)

@@ -2,8 +2,8 @@ use Rattle.std.proofs.Common.{◌≡◌, ◌+◌, sym, ap, ◌∙◌, arith}
 use Rattle.dq_words.proofs.Starts.{issues}
 use Rattle.dq_words.proofs.keeper.Keeper.issue.Goals as goal
 
-pub split_seat-place-requires : goal.split_seat-place-requires
-split_seat-place-requires g c =
+pub split_seat-seat-requires : goal.split_seat-seat-requires
+split_seat-seat-requires g c =
     let i = c.self.invariant in
     let e = c.deref.ensures in
     let issued = i.4 in

@@ -11,5 +11,5 @@ of_words-requires g c =
 
 pub returns-in-Ok : goal.returns-in-Ok
 returns-in-Ok g c =
-    let is : c.in_ok-table.place.me.0 ≡ first_keeper c.args.capacity = search rules in
+    let is : c.in_ok-table.seat.me.0 ≡ first_keeper c.args.capacity = search rules in
     (omega arith, omega arith, is, fresh_view c.args.capacity _ is)

@@ -8,16 +8,16 @@ pub returns-then-found-old-clause-changed : goal.returns-then-found-old-clause-c
 returns-then-found-old-clause-changed g c =
     let shown = c.loop-deadline.invariant.0 in
     changes _ _ _ _ _ _ _ _ c.requires.in_range shown (open_on _ _ _ (open_at c.args.self.now.seen c.args.index _ _ c.requires.in_force).0 shown.0) (c.is_live.ensures.0 c.loop-deadline-test.true)
-    (ap (λ (v : View). v.seen) (c.try_remove-found.ensures.1.0 c.if-found-old.true)) (removed_is _ _ _ c.removed.ensures (omega arith)) _ c.field-deadline.ensures.0
+    (ap (λ (v : View). v.seen) (c.finish_step-found.ensures.1.0 c.if-found-old.true)) (removed_is _ _ _ c.removed.ensures (omega arith)) _ c.field-deadline.ensures.0
 
 pub returns-then-found-old-clause-known : goal.returns-then-found-old-clause-known
 returns-then-found-old-clause-known g c =
-    row_known c.args.self.now.seen _ _ _ c.requires.in_range (over_shown _ _ _ _ _ _ c.loop-deadline.invariant.0.1 (ap (λ (v : View). v.seen) (c.try_remove-found.ensures.1.0 c.if-found-old.true)))
+    row_known c.args.self.now.seen _ _ _ c.requires.in_range (over_shown _ _ _ _ _ _ c.loop-deadline.invariant.0.1 (ap (λ (v : View). v.seen) (c.finish_step-found.ensures.1.0 c.if-found-old.true)))
 
 pub loop-deadline-preserved : goal.loop-deadline-preserved
 loop-deadline-preserved g c =
-    let is = c.try_remove-found.ensures.1.1 c.if-found-old.false in
-    (shown_again _ _ _ _ _ _ c.requires.in_range c.loop-deadline.invariant.0 c.try_remove-found.ensures.0 (ap (λ (v : View). v.seen) is), search rules)
+    let is = c.finish_step-found.ensures.1.1 c.if-found-old.false in
+    (shown_again _ _ _ _ _ _ c.requires.in_range c.loop-deadline.invariant.0 c.finish_step-found.ensures.0 (ap (λ (v : View). v.seen) is), search rules)
 
 pub returns-clause-changed : goal.returns-clause-changed
 returns-clause-changed g c =

@@ -8,16 +8,16 @@ pub returns-then-found-seen-clause-changed : goal.returns-then-found-seen-clause
 returns-then-found-seen-clause-changed g c =
     let shown = c.loop-self.invariant.0 in
     changes _ _ _ _ _ _ _ _ c.requires.in_range shown (open_on _ _ _ (open_at c.args.self.now.seen c.args.index _ _ c.requires.in_force).0 shown.0) (c.is_live.ensures.0 c.loop-self-test.true)
-    (ap (λ (v : View). v.seen) (c.try_renew-found.ensures.1.0 c.if-found-seen.true)) (live_is _ _ _ c.live-new.ensures c.requires.tick) _ c.field.ensures.0
+    (ap (λ (v : View). v.seen) (c.renew_step-found.ensures.1.0 c.if-found-seen.true)) (live_is _ _ _ c.live-new.ensures c.requires.tick) _ c.field.ensures.0
 
 pub returns-then-found-seen-clause-known : goal.returns-then-found-seen-clause-known
 returns-then-found-seen-clause-known g c =
-    row_known c.args.self.now.seen _ _ _ c.requires.in_range (over_shown _ _ _ _ _ _ c.loop-self.invariant.0.1 (ap (λ (v : View). v.seen) (c.try_renew-found.ensures.1.0 c.if-found-seen.true)))
+    row_known c.args.self.now.seen _ _ _ c.requires.in_range (over_shown _ _ _ _ _ _ c.loop-self.invariant.0.1 (ap (λ (v : View). v.seen) (c.renew_step-found.ensures.1.0 c.if-found-seen.true)))
 
 pub loop-self-preserved : goal.loop-self-preserved
 loop-self-preserved g c =
-    let is = c.try_renew-found.ensures.1.1 c.if-found-seen.false in
-    (shown_again _ _ _ _ _ _ c.requires.in_range c.loop-self.invariant.0 c.try_renew-found.ensures.0 (ap (λ (v : View). v.seen) is), search rules)
+    let is = c.renew_step-found.ensures.1.1 c.if-found-seen.false in
+    (shown_again _ _ _ _ _ _ c.requires.in_range c.loop-self.invariant.0 c.renew_step-found.ensures.0 (ap (λ (v : View). v.seen) is), search rules)
 
 pub returns-clause-changed : goal.returns-clause-changed
 returns-clause-changed g c =

@@ -1,6 +1,6 @@
 use Rattle.std.proofs.Common.{◌≡◌, ◌+◌, sym, ap, ◌∙◌, arith}
-use Rattle.dq_words.proofs.Returns.{hears}
-use Rattle.dq_words.proofs.keeper.Keeper.hear.Goals as goal
+use Rattle.dq_words.proofs.Returns.{return_loads}
+use Rattle.dq_words.proofs.keeper.Keeper.return_load.Goals as goal
 
 pub load-found-requires : goal.load-found-requires
 load-found-requires g c =
@@ -9,5 +9,5 @@ load-found-requires g c =
     let words : c.deref.result.now.shared.table_id.words ≡ c.self.inside.rows + 1 = ap (λ b. b.shared.table_id.words) e ∙ i.2 in (
       i.0 ∙ sym (ap (λ b. b.shared.table_id) e),
       omega arith,
-      rw (ap (λ b. b.shared.key) e ∙ i.1) (hears c.self.inside.rows _ _ _ i.5.1 i.5.0),
+      rw (ap (λ b. b.shared.key) e ∙ i.1) (return_loads c.self.inside.rows _ _ _ i.5.1 i.5.0),
     )

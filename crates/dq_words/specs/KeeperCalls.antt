@@ -10,14 +10,14 @@ use Rattle.dq_words.specs.declared.keeper.WordsError.TheVariants.{BadConfig, NoM
 use Rattle.dq_words.specs.declared.keeper.TheConstants.{HANDLE_LIMIT}
 use Rattle.dq_words.specs.Counts.{begins_in, expiries_in, removals_in, total, goes, own_cancels, lives, below}
 use Rattle.dq_words.specs.Keeping.{counts_of}
-use Rattle.dq_words.specs.Plays.{issuing, newcomer, hearing}
+use Rattle.dq_words.specs.Plays.{issuing, newcomer, loading_return}
 use Rattle.dq_words.specs.Rule.{Ruled, first_keeper}
 use Rattle.dq_words.specs.Word.{parts_row}
 
 -- a keeper is made exactly within the limits, but where memory is refused
-abbrev pub IsMade : ℕ → Result View WordsError → Type 0
-IsMade capacity (Ok k) = (0 < capacity) × (capacity ≤ 65536) × (k ≡ first_keeper capacity) × AreFresh (parts_row k.seen) (counts_of k.writes)
-IsMade capacity (Err e) = ((e ≡ BadConfig) × ¬ ((0 < capacity) × (capacity ≤ 65536))) ⊎ ((e ≡ NoMemory) × (0 < capacity) × (capacity ≤ 65536))
+abbrev pub KeeperIsMade : ℕ → Result View WordsError → Type 0
+KeeperIsMade capacity (Ok k) = (0 < capacity) × (capacity ≤ 65536) × (k ≡ first_keeper capacity) × AreFresh (parts_row k.seen) (counts_of k.writes)
+KeeperIsMade capacity (Err e) = ((e ≡ BadConfig) × ¬ ((0 < capacity) × (capacity ≤ 65536))) ⊎ ((e ≡ NoMemory) × (0 < capacity) × (capacity ≤ 65536))
 
 -- an issue gives a newcomer, and is refused exactly past the limit, but where memory is refused
 abbrev pub Issues : View → Result View WordsError → View → Type 0
@@ -33,12 +33,12 @@ cancels_by word = word / 2048
 
 -- the callers that the return word does not show as gone
 abbrev pub Tells : View → ℕ → View → Type 0
-Tells v out w = (w ≡ hearing v w.returns) × (gone_by w.returns ≤ w.issued) × (out ≡ w.issued - gone_by w.returns)
+Tells v out w = (w ≡ loading_return v w.returns) × (gone_by w.returns ≤ w.issued) × (out ≡ w.issued - gone_by w.returns)
 
 -- the cancels that the return word shows, where it shows all callers as gone
 abbrev pub Returns : View → Result ℕ ℕ → View → Type 0
-Returns v (Ok c) w = (w ≡ hearing v w.returns) × (gone_by w.returns ≡ w.issued) × (c ≡ cancels_by w.returns)
-Returns v (Err out) w = (w ≡ hearing v w.returns) × (gone_by w.returns < w.issued) × (out ≡ w.issued - gone_by w.returns)
+Returns v (Ok c) w = (w ≡ loading_return v w.returns) × (gone_by w.returns ≡ w.issued) × (c ≡ cancels_by w.returns)
+Returns v (Err out) w = (w ≡ loading_return v w.returns) × (gone_by w.returns < w.issued) × (out ≡ w.issued - gone_by w.returns)
 
 -- There was a moment at which the rule held, the keeper had this view and all callers were gone, with that many cancels in their lists.
 -- What was begun and has not ended was then live by the words.

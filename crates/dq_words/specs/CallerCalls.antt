@@ -62,24 +62,24 @@ abbrev pub IsAccepted : View → KeyName → ℕ → Type 0
 IsAccepted v k d = Covers v.calls k.entry.index k.stamp d × NoneBeyond v.calls k.entry.index k.stamp
 
 -- An extend is accepted by one load and one step, after which the word is live at d, not before the deadline asked for. It is refused as too far exactly beyond the last tick.
-abbrev pub IsExtend : View → KeyName → ℕ → Result ℕ CallError → View → Type 0
-IsExtend v k when (Ok d) w =
+abbrev pub CallerExtends : View → KeyName → ℕ → Result ℕ CallError → View → Type 0
+CallerExtends v k when (Ok d) w =
     (when ≤ LAST_TICK) × (0 < k.stamp) × Reads v w k.entry.index × (w.steps ≡ ExtendMax ∷ CallerLoad ∷ v.steps)
     × (seen_at w k.entry.index ≡ word k.stamp 0 d) × (when ≤ d) × (d ≤ LAST_TICK) × IsAccepted v k d × (w.calls ≡ Extend k.entry.index k.stamp when ∷ v.calls)
-IsExtend v k when (Err (TooFar limit)) w = (LAST_TICK < when) × (limit ≡ LAST_TICK) × (w ≡ v)
-IsExtend v k when (Err e) w = (when ≤ LAST_TICK) × IsRefused v k e (tried e v.steps) w
+CallerExtends v k when (Err (TooFar limit)) w = (LAST_TICK < when) × (limit ≡ LAST_TICK) × (w ≡ v)
+CallerExtends v k when (Err e) w = (when ≤ LAST_TICK) × IsRefused v k e (tried e v.steps) w
 
 -- A cancel is accepted by one load and one step, after which the word is cancelled. Its answer is the deadline that it gave up; the live word of that deadline is not below the word seen before.
-abbrev pub IsCancel : View → KeyName → Result ℕ CallError → View → Type 0
-IsCancel v k (Ok d) w =
+abbrev pub CallerCancels : View → KeyName → Result ℕ CallError → View → Type 0
+CallerCancels v k (Ok d) w =
     (0 < k.stamp) × Reads v w k.entry.index × (w.steps ≡ CancelMax ∷ CallerLoad ∷ v.steps)
     × (seen_at w k.entry.index ≡ word k.stamp 1 0) × (seen_at v k.entry.index ≤ word k.stamp 0 d) × (d ≤ LAST_TICK) × IsAccepted v k d × (w.calls ≡ Cancel k.entry.index k.stamp d ∷ v.calls)
-IsCancel v k (Err e) w = IsRefused v k e (tried e v.steps) w
+CallerCancels v k (Err e) w = IsRefused v k e (tried e v.steps) w
 
 -- A look answers the word that is then seen, by one load, and that word agrees with the caller's own accepted calls. Where the word refuses it, it made that load too.
-abbrev pub IsLook : View → KeyName → Result Look CallError → View → Type 0
-IsLook v k (Ok how) w =
+abbrev pub CallerLooks : View → KeyName → Result Look CallError → View → Type 0
+CallerLooks v k (Ok how) w =
     (0 < k.stamp) × Reads v w k.entry.index × (w.steps ≡ CallerLoad ∷ v.steps)
     × (stamp_of (seen_at w k.entry.index) ≡ k.stamp) × (how ≡ look_of (seen_at w k.entry.index)) × Fair w.calls k.entry.index (seen_at w k.entry.index) × (w.calls ≡ v.calls)
-IsLook v k (Err (Ended how)) w = ⊥
-IsLook v k (Err e) w = IsRefused v k e (CallerLoad ∷ v.steps) w
+CallerLooks v k (Err (Ended how)) w = ⊥
+CallerLooks v k (Err e) w = IsRefused v k e (CallerLoad ∷ v.steps) w

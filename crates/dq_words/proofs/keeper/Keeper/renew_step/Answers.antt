@@ -2,13 +2,13 @@ use Rattle.std.proofs.Common.{◌≡◌, ◌+◌, length, sym, ap, ◌∙◌, ar
 use Rattle.dq_words.specs.declared.views.View.{View}
 use Rattle.dq_words.proofs.Writes.{renews}
 use Rattle.dq_words.proofs.Keepings.{renews_keeper}
-use Rattle.dq_words.proofs.keeper.Keeper.try_renew.Goals as goal
+use Rattle.dq_words.proofs.keeper.Keeper.renew_step.Goals as goal
 
 pub compare_exchange-found-requires : goal.compare_exchange-found-requires
 compare_exchange-found-requires g c =
     let i = c.self.invariant in
     let e = c.deref.ensures in
-    let size : length c.args.self.now.seen ≡ length c.self.inside.place.me.0.seen = ap (λ (v : View). length v.seen) (sym c.self.view_is) in
+    let size : length c.args.self.now.seen ≡ length c.self.inside.seat.me.0.seen = ap (λ (v : View). length v.seen) (sym c.self.view_is) in
     let inside = c.requires.inside in
     let rows = i.3 in
     let words : c.deref.result.now.shared.table_id.words ≡ c.self.inside.rows + 1 = ap (λ b. b.shared.table_id.words) e ∙ i.2 in (
@@ -20,7 +20,7 @@ compare_exchange-found-requires g c =
 pub invariant_of-self : goal.invariant_of-self
 invariant_of-self g c =
     let i = c.self.invariant in
-    let size : length c.args.self.now.seen ≡ length c.self.inside.place.me.0.seen = ap (λ (v : View). length v.seen) (sym c.self.view_is) in
+    let size : length c.args.self.now.seen ≡ length c.self.inside.seat.me.0.seen = ap (λ (v : View). length v.seen) (sym c.self.view_is) in
     let inside = c.requires.inside in
-    let s = renews_keeper c.self.inside.place.me.0 c.compare_exchange-found.new.seat.me.0 _ _ _ _ i.5 (omega arith) c.compare_exchange-found.ensures.2 c.requires.new.0 in
+    let s = renews_keeper c.self.inside.seat.me.0 c.compare_exchange-found.new.seat.me.0 _ _ _ _ i.5 (omega arith) c.compare_exchange-found.ensures.2 c.requires.new.0 in
     (c.compare_exchange-found.ensures.0 ∙ i.0, i.1, i.2, s.1 ∙ i.3, i.4 ∙ sym s.2, s.0)
