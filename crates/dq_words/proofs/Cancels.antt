@@ -11,12 +11,13 @@ use Rattle.dq_words.specs.Word.{LearnedWord}
 use Rattle.dq_words.specs.Counts.{lives}
 use Rattle.dq_words.specs.Files.{is_at, File, file, IsIn, Among, extends_at, cancels_at, bases_at, ends_at, gathered, keeper_writes}
 use Rattle.dq_words.specs.Rule.{LivingStamp, CancelledStamp, Law, Kept, Ruled}
-use Rattle.dq_words.specs.Plays.{WordMe, cancelling, cancel_made}
-use Rattle.dq_words.proofs.Gathers.{at_other_slot, at_other_stamp, if_here, if_other, has_with_if, gathered_same, gathered_one, gathered_grows, writes_same, file_of}
+use Rattle.dq_words.specs.Plays.{WordMe, Knowing, cancelling, cancel_made}
+use Rattle.dq_words.proofs.Gathers.{at_other_slot, at_other_stamp, if_here, if_other, has_with_if, gathered_same, gathered_one, gathered_grows, writes_same, file_of, set_at}
 use Rattle.dq_words.proofs.Advances.{by_index, by_order, Grows, Moves, still, after}
+use Rattle.dq_words.proofs.Knowing.{knows}
 use Rattle.dq_words.proofs.Tallies.{lives_yes, lives_no, counts_calls, ruled_after, all_cancels}
 use Rattle.dq_words.proofs.Steps.{law_live, fair, missed, Outcome}
-use Rattle.dq_words.proofs.Extends.{by_hit, set_at}
+use Rattle.dq_words.proofs.Extends.{by_hit}
 
 cancel_law : (n s d : ℕ) (f f' : File) → LivingStamp n s f → n ≡ word s 0 d → d ≤ 4398046511103 → f'.bases ≡ f.bases → f'.ends ≡ f.ends → f'.extends ≡ f.extends → (f.cancels ≡ [] → f'.cancels ≡ d ∷ []) → CancelledStamp (word s 1 0) s f'
 cancel_law n s d f f' l now small bs es xs cs =
@@ -87,6 +88,7 @@ module _ (rows : ℕ) (t : State ℕ View) (r : Kept rows t) (i id : ℕ) (v : V
         unused = λ h. absurd (omega arith);
         saw = refl;
         keeps = refl;
+        stays = λ _. refl;
         no_calls = λ yes. absurd (true≢false (sym yes ∙ caller));
         no_writes = λ _. refl;
         grows = cancel_grows t.views id v w at i s d refl refl;
@@ -101,8 +103,8 @@ module _ (rows : ℕ) (t : State ℕ View) (r : Kept rows t) (i id : ℕ) (v : V
 
 module _ (rows : ℕ) where
   pub cancels : (slots id : ℕ) (me : WordMe) (i k : ℕ) → i < rows → me.0.gone ≡ false → me.0.keeps ≡ false → 0 < stamp_of k → k ≡ word (stamp_of k) 1 0 → k < 18446744073709551616 → stamp_of k ≤ stamp_of (get_or me.0.seen i 0)
-      → Allows (Ruled rows) slots id me i (λ n. max n k) (cancel_made (step slots i k 0 none) me)
-  cancels slots id me i k inside here caller pos ks small given t r sized at wide =
+      → Allows (Ruled rows) slots id me i (λ n. max n k) (Knowing cancel_made (step slots i k 0 none) me)
+  cancels slots id me i k inside here caller pos ks small given = knows rows slots id me i (λ n. max n k) (cancel_made (step slots i k 0 none) me) (λ t r sized at wide.
       let n : ℕ = get_or t.words i 0 in
       let low = (r.kept.sees id me.0 at).below i inside in
       by_hit n k (Outcome rows t i id me (max n k) (cancel_made (step slots i k 0 none) me n))
@@ -116,4 +118,4 @@ module _ (rows : ℕ) where
       subst P e (w, keeps, tt, ruled, (low, fair rows t r.kept i id me.0 inside at, inl (same, nm, refl, all_cancels rows (after t i k id me.1 w) ruled id w (set_at t.views id me.0 w at)))))
       (λ no. missed rows t r i id me CallerLoad (max n k) (cancel_made (step slots i k 0 none) me n) inside at here
       (let m : stamp_of n ≡ stamp_of k → mark_of n ≢ 0 = no in by_order (stamp_of n) (stamp_of k) (max n k ≡ n) (λ le. let e : stamp_of n ≡ stamp_of k = omega arith in let z = m e in omega arith) (λ lt. omega arith))
-      (low, fair rows t r.kept i id me.0 inside at, inr (no, refl)))
+      (low, fair rows t r.kept i id me.0 inside at, inr (no, refl))))

@@ -1,6 +1,6 @@
 -- A fetch_max that extends.
-use Rattle.std.proofs.Common.{◌≡◌, ◌≢◌, ℕ, zero, suc, ◌+◌, ◌<◌, ◌≤◌, ◌⊎◌, max, false, true≢false, List, [], ◌∷◌, get_or, set, sym, refl, ap, ◌∙◌, subst, inl, inr, ⊎_elim, arith}
-use mathlib.Core.Option.{some, none, some-ne-none}
+use Rattle.std.proofs.Common.{◌≡◌, ◌≢◌, ℕ, ◌+◌, ◌<◌, ◌≤◌, ◌⊎◌, max, false, true≢false, List, ◌∷◌, get_or, set, sym, refl, ap, ◌∙◌, subst, inl, inr, ⊎_elim, arith}
+use mathlib.Core.Option.{some, none}
 use mathlib.Core.Logic.{dite}
 use native.Mathlib.Decide.{ℕ_discrete}
 use lib.ListN.{get_elem?}
@@ -13,21 +13,16 @@ use Rattle.dq_words.specs.Word.{LearnedWord}
 use Rattle.dq_words.specs.Counts.{cancels_in, lives}
 use Rattle.dq_words.specs.Files.{is_at, File, file, IsIn, Among, extends_at, cancels_at, bases_at, ends_at, gathered, keeper_writes}
 use Rattle.dq_words.specs.Rule.{LivingStamp, Law, Kept, Ruled}
-use Rattle.dq_words.specs.Plays.{WordMe, extending, extend_made}
-use Rattle.dq_words.proofs.Gathers.{at_other_slot, at_other_stamp, if_here, if_other, has_with_if, gathered_same, gathered_back, gathered_grows, gathered_own, writes_same, file_of}
+use Rattle.dq_words.specs.Plays.{WordMe, Knowing, extending, extend_made}
+use Rattle.dq_words.proofs.Gathers.{at_other_slot, at_other_stamp, if_here, if_other, has_with_if, gathered_same, gathered_back, gathered_grows, gathered_own, writes_same, file_of, set_at}
 use Rattle.dq_words.proofs.Advances.{by_index, by_order, Grows, Moves, still}
+use Rattle.dq_words.proofs.Knowing.{knows}
 use Rattle.dq_words.proofs.Tallies.{lives_yes, counts_calls, ruled_after}
 use Rattle.dq_words.proofs.Steps.{law_live, fair, missed, Outcome}
 
 -- two cases of what a fetch_max may find
 pub by_hit : (n k : ℕ) (P : Type 0) → (stamp_of n ≡ stamp_of k → mark_of n ≡ 0 → P) → ((stamp_of n ≡ stamp_of k → mark_of n ≢ 0) → P) → P
 by_hit n k P hit miss = dite (ℕ_discrete (stamp_of n) (stamp_of k)) (λ s. dite (ℕ_discrete (mark_of n) 0) (λ m. hit s m) (λ m. miss (λ _. m))) (λ s. miss (λ e. absurd (s e)))
-
--- the view that a seat was given
-pub set_at : (vs : List View) (id : ℕ) (v w : View) → get_elem? vs id ≡ some v → get_elem? (set vs id w) id ≡ some w
-set_at [] id v w at = absurd (some-ne-none v (sym at))
-set_at (u ∷ vs) zero v w at = refl
-set_at (u ∷ vs) (suc id) v w at = set_at vs id v w at
 
 -- the law of the stamp that was extended
 extend_law : (n s w : ℕ) (f f' : File) → LivingStamp n s f → w ≤ 4398046511103 → f'.bases ≡ f.bases → f'.ends ≡ f.ends → f'.cancels ≡ f.cancels
@@ -115,6 +110,7 @@ module _ (rows : ℕ) (t : State ℕ View) (r : Kept rows t) (i id : ℕ) (v : V
         unused = λ h. absurd (omega arith);
         saw = refl;
         keeps = refl;
+        stays = λ _. refl;
         no_calls = λ yes. absurd (true≢false (sym yes ∙ caller));
         no_writes = λ _. refl;
         grows = extend_grows t.views id v w at i s d refl refl;
@@ -129,8 +125,8 @@ module _ (rows : ℕ) (t : State ℕ View) (r : Kept rows t) (i id : ℕ) (v : V
 
 module _ (rows : ℕ) where
   pub extends : (slots id : ℕ) (me : WordMe) (i k : ℕ) → i < rows → me.0.gone ≡ false → me.0.keeps ≡ false → 0 < stamp_of k → mark_of k ≡ 0 → k < 18446744073709551616 → stamp_of k ≤ stamp_of (get_or me.0.seen i 0)
-      → Allows (Ruled rows) slots id me i (λ n. max n k) (extend_made (step slots i k 0 none) me)
-  extends slots id me i k inside here caller pos km small given t r sized at wide =
+      → Allows (Ruled rows) slots id me i (λ n. max n k) (Knowing extend_made (step slots i k 0 none) me)
+  extends slots id me i k inside here caller pos km small given = knows rows slots id me i (λ n. max n k) (extend_made (step slots i k 0 none) me) (λ t r sized at wide.
       let n : ℕ = get_or t.words i 0 in
       let low = (r.kept.sees id me.0 at).below i inside in
       by_hit n k (Outcome rows t i id me (max n k) (extend_made (step slots i k 0 none) me n))
@@ -144,4 +140,4 @@ module _ (rows : ℕ) where
       ))
       (λ no. missed rows t r i id me CallerLoad (max n k) (extend_made (step slots i k 0 none) me n) inside at here
       (let m : stamp_of n ≡ stamp_of k → mark_of n ≢ 0 = no in by_order (stamp_of n) (stamp_of k) (max n k ≡ n) (λ le. let e : stamp_of n ≡ stamp_of k = omega arith in let z = m e in omega arith) (λ lt. omega arith))
-      (low, fair rows t r.kept i id me.0 inside at, inr (no, refl)))
+      (low, fair rows t r.kept i id me.0 inside at, inr (no, refl))))

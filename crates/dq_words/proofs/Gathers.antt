@@ -108,6 +108,12 @@ pub writes_new : (vs : List View) (u : View) → 0 < length vs → keeper_writes
 writes_new [] u h = absurd (omega arith)
 writes_new (v ∷ vs) u h = refl
 
+-- the view that a seat was given
+pub set_at : (vs : List View) (id : ℕ) (v w : View) → get_elem? vs id ≡ some v → get_elem? (set vs id w) id ≡ some w
+set_at [] id v w at = absurd (some-ne-none v (sym at))
+set_at (u ∷ vs) zero v w at = refl
+set_at (u ∷ vs) (suc id) v w at = set_at vs id v w at
+
 -- a file from its four lists
 pub file_of : (a a' : List ℕ) (b b' : List (ℕ × ℕ)) (c c' d d' : List ℕ) → a ≡ a' → b ≡ b' → c ≡ c' → d ≡ d' → file_of_lists a b c d ≡ file_of_lists a' b' c' d'
 file_of a a' b b' c c' d d' p q r s = λ k. file_of_lists (p k) (q k) (r k) (s k)

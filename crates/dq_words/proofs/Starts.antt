@@ -37,7 +37,7 @@ starts_kept rows words is =
 
     mine : Sees rows words (first_keeper rows ∷ []) 0 (first_keeper rows)
     mine = record {
-      role = (refl, refl);
+      role = (refl, refl, refl);
       row = length-replicate rows 0;
       below = λ i h. let a = zero_at rows i in omega arith;
       had = λ i h. inl (zero_at rows i);

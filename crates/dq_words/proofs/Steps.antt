@@ -10,9 +10,10 @@ use Rattle.dq_ticks.specs.Word.{word, stamp_of, mark_of, field_of}
 use Rattle.dq_words.specs.Word.{Left}
 use Rattle.dq_words.specs.Files.{File, blank, file, IsIn, extends_at, cancels_at, gathered}
 use Rattle.dq_words.specs.Rule.{UnbornStamp, LivingStamp, CancelledStamp, EndedStamp, Law, Kept, Ruled}
-use Rattle.dq_words.specs.Plays.{Fair, loading, WordMe, caller_loaded, keeper_loaded}
+use Rattle.dq_words.specs.Plays.{Knowing, Fair, loading, WordMe, caller_loaded, keeper_loaded}
 use Rattle.dq_words.proofs.Gathers.{file_same, gathered_own, gathered_nil}
-use Rattle.dq_words.proofs.Advances.{grows_same, after, by_order}
+use Rattle.dq_words.proofs.Advances.{grows_same, after, by_order, role_here}
+use Rattle.dq_words.proofs.Knowing.{knows}
 use Rattle.dq_words.proofs.Tallies.{counts_calls, ruled_after}
 
 -- the law of a stamp, by the mark of the word
@@ -77,6 +78,7 @@ stays rows t r i id v inside at here kind held =
       unused = r.kept.unused i inside;
       saw = refl;
       keeps = refl;
+      stays = λ _. refl;
       no_calls = λ _. refl;
       no_writes = λ _. refl;
       grows = λ j s. grows_same (file j s t.views) (file j s (set t.views id w)) (same j s);
@@ -99,12 +101,12 @@ missed rows t r i id me kind n then inside at here e tells =
     subst P (sym e) (loading me.0 i (get_or t.words i 0) kind, keeps, tt, stays rows t r i id me.0 inside at here kind me.1, tells)
 
 module _ (rows : ℕ) where
-  pub caller_loads : (slots id : ℕ) (me : WordMe) (i : ℕ) → i < rows → me.0.gone ≡ false → Allows (Ruled rows) slots id me i (λ n. n) (caller_loaded (step slots i 0 0 none) me)
-  caller_loads slots id me i inside here t r sized at wide =
+  pub caller_loads : (slots id : ℕ) (me : WordMe) (i : ℕ) → i < rows → me.0.gone ≡ false → Allows (Ruled rows) slots id me i (λ n. n) (Knowing caller_loaded (step slots i 0 0 none) me)
+  caller_loads slots id me i inside here = knows rows slots id me i (λ n. n) (caller_loaded (step slots i 0 0 none) me) (λ t r sized at wide.
       missed rows t r i id me CallerLoad (get_or t.words i 0) (caller_loaded (step slots i 0 0 none) me (get_or t.words i 0)) inside at here refl
-      (refl, (r.kept.sees id me.0 at).below i inside, fair rows t r.kept i id me.0 inside at)
+      (refl, (r.kept.sees id me.0 at).below i inside, fair rows t r.kept i id me.0 inside at))
 
-  pub keeper_loads : (slots id : ℕ) (me : WordMe) (i : ℕ) → i < rows → me.0.gone ≡ false → me.0.keeps ≡ true → Allows (Ruled rows) slots id me i (λ n. n) (keeper_loaded (step slots i 0 0 none) me)
-  keeper_loads slots id me i inside here keeper t r sized at wide =
-      missed rows t r i id me KeeperLoad (get_or t.words i 0) (keeper_loaded (step slots i 0 0 none) me (get_or t.words i 0)) inside at here refl
-      (refl, (r.kept.sees id me.0 at).learns keeper i inside)
+  pub keeper_loads : (slots id : ℕ) (me : WordMe) (i : ℕ) → i < rows → me.0.keeps ≡ true → Allows (Ruled rows) slots id me i (λ n. n) (Knowing keeper_loaded (step slots i 0 0 none) me)
+  keeper_loads slots id me i inside keeper = knows rows slots id me i (λ n. n) (keeper_loaded (step slots i 0 0 none) me) (λ t r sized at wide.
+      missed rows t r i id me KeeperLoad (get_or t.words i 0) (keeper_loaded (step slots i 0 0 none) me (get_or t.words i 0)) inside at (role_here id me.0 (r.kept.sees id me.0 at).role keeper) refl
+      (refl, (r.kept.sees id me.0 at).learns keeper i inside))

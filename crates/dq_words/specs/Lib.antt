@@ -6,4 +6,5 @@ pub mod Files
 pub mod Keeping
 pub mod Plays
 pub mod Rule
+pub mod Seats
 pub mod Word

@@ -1,8 +1,6 @@
 -- What each step tells.
 use Rattle.std.specs.Prelude.{◌≡◌, ◌≢◌, ◌⊎◌, ℕ, ◌+◌, ◌/◌, ◌%◌, ◌<◌, ◌≤◌, max, List, [], ◌∷◌, length, slice_index, slice_set, true, false}
-use Rattle.atomic_table.specs.Table.{State, Me, Step}
-use mathlib.Core.Option.{some}
-use lib.ListN.{get_elem?}
+use Rattle.atomic_table.specs.Table.{Me, Step}
 use Rattle.dq_words.specs.declared.views.View.{View}
 use Rattle.dq_words.specs.declared.views.StepKind.{StepKind}
 use Rattle.dq_words.specs.declared.views.StepKind.TheVariants.{KeeperLoad, BeginStore, SettleExchange, RenewExchange, FinishExchange, CallerLoad, ExtendMax, CancelMax, GiveBackAdd, ReturnLoad}
@@ -12,8 +10,9 @@ use Rattle.dq_words.specs.declared.views.Write.TheVariants.{Begin, Expired, Rene
 use Rattle.dq_ticks.specs.Word.{stamp_of, mark_of, field_of}
 use Rattle.dq_words.specs.Word.{LearnedWord}
 use Rattle.dq_words.specs.Files.{IsIn, extends_at, cancels_at}
-use Rattle.dq_words.specs.Rule.{zeros, Ruled}
-use Rattle.dq_words.specs.Counts.{most_begins, cancels_in, begins_in, expiries_in, removals_in, total, goes, own_cancels}
+use Rattle.dq_words.specs.Rule.{zeros}
+use Rattle.dq_words.specs.Seats.{SeatGoesOn}
+use Rattle.dq_words.specs.Counts.{most_begins, cancels_in, begins_in, expiries_in, removals_in}
 
 -- The deadline d of the slot i at the stamp s covers a caller's own accepted calls: no extend of it there is later, and it cancelled nothing there.
 abbrev pub Covers : List Call → ℕ → ℕ → ℕ → Type 0
@@ -58,6 +57,10 @@ finishing v i old new = record v { seen = slice_set v.seen i new; steps = Finish
 -- a seat: its view, and no slots
 abbrev pub WordMe : Type 0
 WordMe = Me ℕ View
+
+-- what a step tells, and that the seat goes on behind it
+abbrev pub Knowing : (Step ℕ → WordMe → ℕ → WordMe → Type 0) → Step ℕ → WordMe → ℕ → WordMe → Type 0
+Knowing then st m n m' = then st m n m' × SeatGoesOn m.0 m'.0
 
 -- a caller's load that found n
 abbrev pub CallerLoads : View → View → ℕ → ℕ → Type 0
@@ -118,13 +121,12 @@ give_back_made st m n m' = m'.0 ≡ giving_back m.0
 abbrev pub loading_return : View → ℕ → View
 loading_return v n = record v { steps = ReturnLoad ∷ v.steps; returns = n }
 
--- There was a moment at which the rule held, the keeper had this view, all callers were gone and the accepted cancels of all lists were c.
-abbrev pub Audits : View → ℕ → Type 0
-Audits w c = (t : State ℕ View) × Ruled (length w.seen) t × (get_elem? t.views 0 ≡ some w) × (total goes t.views ≡ w.issued) × (total own_cancels t.views ≡ c)
-
--- The keeper's load of the return word that found n: no more callers are gone than were issued, and their cancels and its own ends are no more than its begins. Where all are gone there is such a moment.
+-- The keeper's load of the return word that found n: no more callers are gone than were issued, and their cancels and its
+-- own ends are no more than its begins.
 abbrev pub ReturnLoads : View → View → ℕ → Type 0
-ReturnLoads v w n = (w ≡ loading_return v n) × (n % 2048 ≤ v.issued) × ((expiries_in v.writes + removals_in v.writes) + n / 2048 ≤ begins_in v.writes) × (n % 2048 ≡ v.issued → Audits w (n / 2048))
+ReturnLoads v w n =
+    (w ≡ loading_return v n) × (n % 2048 ≤ v.issued)
+    × ((expiries_in v.writes + removals_in v.writes) + n / 2048 ≤ begins_in v.writes)
 
 abbrev pub return_loaded : Step ℕ → WordMe → ℕ → WordMe → Type 0
 return_loaded st m n m' = ReturnLoads m.0 m'.0 n

@@ -64,9 +64,9 @@ HadAt x s f =
 abbrev pub Had : ℕ → ℕ → List View → Type 0
 Had x i views = (x ≡ 0) ⊎ ((s : ℕ) × HadAt x s (file i s views))
 
--- the first view is the keeper's, and the keeper makes no calls; the others are callers', and a caller makes no writes
+-- the first view is the keeper's, which makes no calls and stays; the others are callers', and a caller makes no writes
 abbrev pub Role : ℕ → View → Type 0
-Role zero v = (v.keeps ≡ true) × (v.calls ≡ [])
+Role zero v = (v.keeps ≡ true) × (v.gone ≡ false) × (v.calls ≡ [])
 Role (suc j) v = (v.keeps ≡ false) × (v.writes ≡ [])
 
 -- What the seat j knows: each word that it saw is one that the slot has had, and not above the present one. What the keeper saw may have become the present word by callers' steps alone.

@@ -1,23 +1,18 @@
 //! The one seat that begins and ends entries.
-ghost use Rattle.std.specs.Prelude.{◌≡◌, ◌≢◌, ◌⊎◌, ◌+◌, ◌<◌, ◌≤◌, length, true, false, slice_index, slice_set, IfOk, IfErr};
-ghost use Rattle.std.specs.Arc.{arc_value};
-ghost use Rattle.dq_ticks.specs.Word.{stamp_of, mark_of, field_of, packed};
-ghost use Rattle.dq_words.specs.KeeperCalls.{KeeperIsMade, Issues, Tells, Returns, Accounts};
-ghost use Rattle.dq_words.specs.Keeping.{IsFree, IsKeeper, counts_of};
-ghost use Rattle.dq_words.specs.Plays.{settling, renewing, finishing, BeginStep, ExchangeStep, KeeperLoads, ReturnLoads};
-ghost use Rattle.dq_words.specs.Word.{parts_row};
-ghost use Rattle.dq_core.specs.Words.{word_at, Learned};
+ghost use Rattle.std.specs.Prelude.{◌≡◌, ◌+◌, ◌<◌, ◌≤◌, length, true, slice_set, IfOk};
+ghost use Rattle.atomic_table.specs.Seated.{TableId};
+ghost use Rattle.dq_core.specs.Words.{live, removed, word_at, begun_counts, settled_counts, finished_counts, IsChanged, IsInForce, IsOver, IsSettled, Learned};
+ghost use Rattle.dq_words.specs.KeeperCalls.{known_of, counts_by, EndsFit, KeeperIsMade, KeeperBegins, KeeperLooks, KeeperSettles, KeeperRenews, KeeperFinishes, Issues, Tells, Returns, Accounts};
+ghost use Rattle.dq_words.specs.Keeping.{IsKeeper, Stood};
 
 use crate::caller::Caller;
-use crate::parts::{ONE_CANCEL, expired, field, is_live, live, removed};
-use crate::plays::{Begin, Finish, Issue, KeeperLoad, Renew, ReturnLoad, Settle};
-use crate::rule::{WordSeat, WordTable, WordsRule};
-use atomic_table::Table;
+use crate::parts::{ONE_CANCEL, live_word};
+use crate::seated::Seated;
+use crate::tries;
 use dq_core::{Settled, SharedWords, Words};
-use dq_ticks::{Parts, unpack};
+use dq_ticks::{LAST_STAMP, LAST_TICK, Parts, unpack};
 use std::alloc::{AllocError, Allocator, Global};
 use std::marker::Model;
-use std::sync::Arc;
 use thiserror::Error;
 
 /// The most callers that a keeper issues, given back or not.
@@ -44,26 +39,22 @@ pub enum WordsError {
 }
 
 /// Begins and ends the entries of a row of words, and issues the callers that extend and cancel them. To a contract it is
-/// what it knows: the words that it saw, its own writes, and how many callers it issued.
+/// the table that it sits at and what it knows: the words that it saw, its own writes, and how many callers it issued.
 #[derive(Drop)]
 pub struct Keeper<A: Allocator = Global> {
-    table: Arc<WordTable<A>, A>,
-    seat: WordSeat,
-    rows: usize,
+    seat: Seated<A>,
     issued: u64,
 }
 
 impl<A: Allocator> Model for Keeper<A> {
-    ghost use Rattle.std.specs.Prelude.{◌≡◌, ◌+◌, length};
-    ghost use Rattle.std.specs.Arc.{arc_value};
-    ghost use Rattle.dq_words.specs.declared.views.View.{View};
-    ghost use Rattle.dq_words.specs.Keeping.{IsKeeper};
+    ghost use Rattle.std.specs.Prelude.{◌≡◌, ◌≤◌, true};
+    ghost use Rattle.dq_words.specs.Seats.{Sat};
 
-    ghost Value = { View };
+    ghost Value = { Sat };
 
-    ghost view = { λ k. k.seat.me.0 };
+    ghost view = { λ k. k.seat };
 
-    ghost invariant = { λ k. (k.seat.table_id ≡ (arc_value k.table).shared.table_id) × ((arc_value k.table).shared.key ≡ k.rows) × ((arc_value k.table).shared.table_id.words ≡ k.rows + 1) × (length k.seat.me.0.seen ≡ k.rows) × (k.issued ≡ k.seat.me.0.issued) × IsKeeper k.seat.me.0 };
+    ghost invariant = { λ k. (k.seat.view.keeps ≡ true) × (k.issued ≡ k.seat.view.issued) × (k.issued ≤ 1024) };
 }
 
 impl From<AllocError> for WordsError {
@@ -86,201 +77,144 @@ impl<A: Allocator + Clone> Keeper<A> {
         if capacity == 0 || capacity > CAPACITY_LIMIT {
             return Err(WordsError::BadConfig);
         }
-        let heap = alloc.clone()?;
-        let words = vec![in &heap; 0u64; capacity + 1]?;
-        let (table, seat) = Table::of_words(alloc, words.as_slice(), &capacity)?;
-        drop(words);
-        match Arc::new(heap, table) {
-            Ok(table) => Ok(Keeper {
-                table,
-                seat,
-                rows: capacity,
-                issued: 0,
-            }),
-            Err(_) => Err(WordsError::NoMemory),
-        }
+        let seat = Seated::at_new_table(alloc, capacity)?;
+        Ok(Keeper { seat, issued: 0 })
     }
 }
 
 impl<A: Allocator> Keeper<A> {
     /// What is known of every keeper: it issued no more than [`HANDLE_LIMIT`] callers, and began no more entries than the
-    /// stamps that it saw.
+    /// stamps that it saw; and between some two steps the rule of the words held with what it knows.
     pub fn law(&self)
-        ensures { IsKeeper self.now }
+        ensures keeper { IsKeeper self.now.view }
+        ensures stood { Stood self.now.view }
     {
-        let _ = &self.issued;
-    }
-
-    pub(crate) fn keeper_load(&mut self, index: usize) -> u64
-        requires { index < length self.old.seen }
-        ensures { KeeperLoads self.old self.new index result }
-    {
-        let found = self.table.shared.load::<KeeperLoad>(&mut self.seat, index);
-        found
-    }
-
-    pub(crate) fn begin_step(&mut self, index: usize, new: u64)
-        requires inside { index < length self.old.seen }
-        requires free { IsFree (slice_index self.old.seen index) }
-        requires next { (stamp_of new ≡ stamp_of (slice_index self.old.seen index) + 1) × (mark_of new ≡ 0) }
-        ensures { BeginStep self.old self.new index new }
-    {
-        self.table.shared.store::<Begin>(&mut self.seat, index, new);
-    }
-
-    pub(crate) fn settle_step(&mut self, index: usize, old: u64, new: u64) -> u64
-        requires inside { index < length self.old.seen }
-        requires old { (0 < stamp_of old) × (mark_of old ≡ 0) }
-        requires new { (stamp_of new ≡ stamp_of old) × (mark_of new ≡ 2) × (field_of new ≡ field_of old) }
-        ensures { ExchangeStep settling self.old self.new index old new result }
-    {
-        let found = self
-            .table
-            .shared
-            .compare_exchange::<Settle>(&mut self.seat, index, old, new);
-        found
-    }
-
-    pub(crate) fn renew_step(&mut self, index: usize, old: u64, new: u64) -> u64
-        requires inside { index < length self.old.seen }
-        requires old { (0 < stamp_of old) × (mark_of old ≡ 0) }
-        requires new { (stamp_of new ≡ stamp_of old + 1) × (mark_of new ≡ 0) }
-        ensures { ExchangeStep renewing self.old self.new index old new result }
-    {
-        let found = self
-            .table
-            .shared
-            .compare_exchange::<Renew>(&mut self.seat, index, old, new);
-        found
-    }
-
-    pub(crate) fn finish_step(&mut self, index: usize, old: u64, new: u64) -> u64
-        requires inside { index < length self.old.seen }
-        requires old { (0 < stamp_of old) × (mark_of old ≡ 0) }
-        requires new { (stamp_of new ≡ stamp_of old) × (mark_of new ≡ 3) × (field_of new ≡ field_of old) }
-        ensures { ExchangeStep finishing self.old self.new index old new result }
-    {
-        let found = self
-            .table
-            .shared
-            .compare_exchange::<Finish>(&mut self.seat, index, old, new);
-        found
+        self.seat.law();
     }
 
     /// One caller more, which may go to any thread. Refused as TooManyHandles where [`HANDLE_LIMIT`] callers were issued,
     /// given back or not, and as NoMemory where the table can't be shared once more.
     pub fn issue(&mut self) -> Result<Caller<A>, WordsError>
-        ensures { Issues self.old result self.new }
+        ensures issues { Issues self.old result self.new }
     {
         if self.issued >= HANDLE_LIMIT {
             return Err(WordsError::TooManyHandles {
                 limit: HANDLE_LIMIT,
             });
         }
-        let table = Arc::try_clone(&self.table)?;
-        let seat = self.table.shared.split_seat::<Issue>(&mut self.seat);
+        let seat = self.seat.issue()?;
         self.issued += 1;
-        Ok(Caller::over(table, seat, self.rows))
-    }
-
-    // The load of the return word.
-    fn return_load(&mut self) -> u64
-        ensures { ReturnLoads self.old self.new result }
-    {
-        let found = self
-            .table
-            .shared
-            .load::<ReturnLoad>(&mut self.seat, self.rows);
-        found
+        Ok(Caller::of(seat))
     }
 
     /// The callers that were issued and are not given back, by one load. A caller that was dropped is out for good.
     pub fn out(&mut self) -> u64
-        ensures { Tells self.old result self.new }
+        ensures tells { Tells self.old result self.new }
     {
-        let gone = self.return_load() % ONE_CANCEL;
+        let gone = self.seat.return_load() % ONE_CANCEL;
         self.issued - gone
     }
 
     /// The accepted cancels of all callers, where none is out, and else the number that is out, by one load.
     pub fn returned(&mut self) -> Result<u64, u64>
-        ensures told { Returns self.old result self.new }
+        ensures returns { Returns self.old result self.new }
         ensures accounts { IfOk result (λ c. Accounts self.new c) }
+        ensures ends { IfOk result (λ c. EndsFit (counts_by self.new) c) }
     {
-        let word = self.return_load();
+        let word = self.seat.return_load();
         let out = self.issued - word % ONE_CANCEL;
-        if out == 0 {
-            Ok(word / ONE_CANCEL)
-        } else {
-            Err(out)
+        if out > 0 {
+            return Err(out);
         }
+        Ok(word / ONE_CANCEL)
     }
 }
 
 impl<A: Allocator> Words for Keeper<A> {
-    ghost known = { λ k. parts_row k.seen };
+    ghost known = { known_of };
 
-    ghost counts = { λ k. counts_of k.writes };
+    ghost counts = { counts_by };
 
     ghost shared = { true };
 
-    fn rows(&self) -> usize {
-        self.rows
+    ghost keeps = { λ k. IsKeeper k.view × Stood k.view };
+
+    ghost Home = { TableId };
+
+    ghost home = { λ k. k.table };
+
+    fn law(&self) {
+        Keeper::law(self);
     }
 
-    fn begin(&mut self, index: usize, stamp: u32, when: u64) {
-        self.begin_step(index, live(stamp, when));
+    fn rows(&self) -> usize {
+        self.seat.rows()
+    }
+
+    fn begin(&mut self, index: usize, stamp: u32, when: u64)
+        requires in_range { index < length (known_of self.old) }
+        requires over { IsOver (word_at (known_of self.old) index) }
+        requires next { stamp ≡ (word_at (known_of self.old) index).stamp + 1 }
+        requires last { stamp ≤ LAST_STAMP }
+        requires tick { when ≤ LAST_TICK }
+        ensures known { known_of self.new ≡ slice_set (known_of self.old) index (live stamp when) }
+        ensures counts { counts_by self.new ≡ begun_counts (counts_by self.old) }
+        ensures home { self.new.table ≡ self.old.table }
+        ensures step { KeeperBegins self.old.view index stamp when self.new.view }
+    {
+        self.seat.begin(index, live_word(stamp, when));
     }
 
     fn look(&mut self, index: usize) -> Parts
-        requires { index < length (parts_row self.old.seen) }
-        ensures learned { Learned true (word_at (parts_row self.old.seen) index) result }
-        ensures known { parts_row self.new.seen ≡ slice_set (parts_row self.old.seen) index result }
-        ensures counts { counts_of self.new.writes ≡ counts_of self.old.writes }
-        ensures step { KeeperLoads self.old self.new index (packed result) }
+        requires { index < length (known_of self.old) }
+        ensures learned { Learned true (word_at (known_of self.old) index) result }
+        ensures known { known_of self.new ≡ slice_set (known_of self.old) index result }
+        ensures counts { counts_by self.new ≡ counts_by self.old }
+        ensures home { self.new.table ≡ self.old.table }
+        ensures step { KeeperLooks self.old.view index result self.new.view }
     {
-        let found = self.keeper_load(index);
-        unpack(found)
+        unpack(self.seat.keeper_load(index))
     }
 
-    // The expiry is decided by one try: a word that isn't live at exactly `at` is live at a later deadline or cancelled.
-    fn settle(&mut self, index: usize, stamp: u32, at: u64) -> Settled {
-        let old = live(stamp, at);
-        let found = self.settle_step(index, old, expired(stamp, at));
-        if found == old {
-            Settled::SettledExpired
-        } else if is_live(found) {
-            Settled::Later(field(found))
-        } else {
-            Settled::SettledCancelled
-        }
+    fn settle(&mut self, index: usize, stamp: u32, at: u64) -> Settled
+        requires in_range { index < length (known_of self.old) }
+        requires in_force { IsInForce stamp at (word_at (known_of self.old) index) }
+        requires last { stamp ≤ LAST_STAMP }
+        requires tick { at ≤ LAST_TICK }
+        ensures settled { IsSettled true stamp at (word_at (known_of self.old) index) result (word_at (known_of self.new) index) }
+        ensures known { known_of self.new ≡ slice_set (known_of self.old) index (word_at (known_of self.new) index) }
+        ensures counts { counts_by self.new ≡ settled_counts (counts_by self.old) result }
+        ensures home { self.new.table ≡ self.old.table }
+        ensures step { KeeperSettles self.old.view index stamp at result self.new.view }
+    {
+        tries::settle(&mut self.seat, index, stamp, at)
     }
 
-    // Each try that fails shows a greater word.
-    fn renew(&mut self, index: usize, stamp: u32, when: u64) -> Option<u64> {
-        let new = live(stamp + 1, when);
-        let mut seen = self.keeper_load(index);
-        while is_live(seen) {
-            let found = self.renew_step(index, seen, new);
-            if found == seen {
-                return Some(field(seen));
-            }
-            seen = found;
-        }
-        None
+    fn renew(&mut self, index: usize, stamp: u32, when: u64) -> Option<u64>
+        requires in_range { index < length (known_of self.old) }
+        requires in_force { IsInForce stamp 0 (word_at (known_of self.old) index) }
+        requires last { stamp < LAST_STAMP }
+        requires tick { when ≤ LAST_TICK }
+        ensures changed { IsChanged true stamp (λ d. live (stamp + 1) when) (word_at (known_of self.old) index) result (word_at (known_of self.new) index) }
+        ensures known { known_of self.new ≡ slice_set (known_of self.old) index (word_at (known_of self.new) index) }
+        ensures counts { counts_by self.new ≡ counts_by self.old }
+        ensures home { self.new.table ≡ self.old.table }
+        ensures step { KeeperRenews self.old.view index stamp when result self.new.view }
+    {
+        tries::renew(&mut self.seat, index, stamp, when)
     }
 
-    fn finish(&mut self, index: usize, stamp: u32) -> Option<u64> {
-        let mut old = self.keeper_load(index);
-        while is_live(old) {
-            let deadline = field(old);
-            let found = self.finish_step(index, old, removed(stamp, deadline));
-            if found == old {
-                return Some(deadline);
-            }
-            old = found;
-        }
-        None
+    fn finish(&mut self, index: usize, stamp: u32) -> Option<u64>
+        requires in_range { index < length (known_of self.old) }
+        requires in_force { IsInForce stamp 0 (word_at (known_of self.old) index) }
+        requires last { stamp ≤ LAST_STAMP }
+        ensures changed { IsChanged true stamp (removed stamp) (word_at (known_of self.old) index) result (word_at (known_of self.new) index) }
+        ensures known { known_of self.new ≡ slice_set (known_of self.old) index (word_at (known_of self.new) index) }
+        ensures counts { counts_by self.new ≡ finished_counts (counts_by self.old) result }
+        ensures home { self.new.table ≡ self.old.table }
+        ensures step { KeeperFinishes self.old.view index stamp result self.new.view }
+    {
+        tries::finish(&mut self.seat, index, stamp)
     }
 }
 

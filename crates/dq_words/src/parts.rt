@@ -33,7 +33,7 @@ pub(crate) fn field(bits: u64) -> u64
     bits & 0x3ff_ffff_ffff
 }
 
-pub(crate) fn live(stamp: u32, field: u64) -> u64
+pub(crate) fn live_word(stamp: u32, field: u64) -> u64
     requires stamp { stamp ≤ LAST_STAMP }
     requires field { field ≤ LAST_TICK }
     ensures { result ≡ word stamp 0 field }
@@ -45,7 +45,7 @@ pub(crate) fn live(stamp: u32, field: u64) -> u64
     })
 }
 
-pub(crate) fn cancelled(stamp: u32) -> u64
+pub(crate) fn cancelled_word(stamp: u32) -> u64
     requires { stamp ≤ LAST_STAMP }
     ensures { result ≡ word stamp 1 0 }
 {
@@ -56,7 +56,7 @@ pub(crate) fn cancelled(stamp: u32) -> u64
     })
 }
 
-pub(crate) fn expired(stamp: u32, field: u64) -> u64
+pub(crate) fn expired_word(stamp: u32, field: u64) -> u64
     requires stamp { stamp ≤ LAST_STAMP }
     requires field { field ≤ LAST_TICK }
     ensures { result ≡ word stamp 2 field }
@@ -68,7 +68,7 @@ pub(crate) fn expired(stamp: u32, field: u64) -> u64
     })
 }
 
-pub(crate) fn removed(stamp: u32, field: u64) -> u64
+pub(crate) fn removed_word(stamp: u32, field: u64) -> u64
     requires stamp { stamp ≤ LAST_STAMP }
     requires field { field ≤ LAST_TICK }
     ensures { result ≡ word stamp 3 field }

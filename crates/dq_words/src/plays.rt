@@ -1,5 +1,5 @@
 //! What each step on the table tells the seat that makes it.
-ghost use Rattle.dq_words.specs.Plays.{caller_loaded, keeper_loaded, extend_made, cancel_made, begin_made, exchange_made, settling, renewing, finishing, issuing, newcomer, give_back_made, return_loaded};
+ghost use Rattle.dq_words.specs.Plays.{Knowing, caller_loaded, keeper_loaded, extend_made, cancel_made, begin_made, exchange_made, settling, renewing, finishing, issuing, newcomer, give_back_made, return_loaded};
 
 use crate::views::View;
 use atomic_table::{Play, Split};
@@ -7,49 +7,49 @@ use atomic_table::{Play, Split};
 pub(crate) struct CallerLoad;
 
 impl Play<u64, View> for CallerLoad {
-    ghost then = { caller_loaded };
+    ghost then = { Knowing caller_loaded };
 }
 
 pub(crate) struct KeeperLoad;
 
 impl Play<u64, View> for KeeperLoad {
-    ghost then = { keeper_loaded };
+    ghost then = { Knowing keeper_loaded };
 }
 
 pub(crate) struct Extend;
 
 impl Play<u64, View> for Extend {
-    ghost then = { extend_made };
+    ghost then = { Knowing extend_made };
 }
 
 pub(crate) struct Cancel;
 
 impl Play<u64, View> for Cancel {
-    ghost then = { cancel_made };
+    ghost then = { Knowing cancel_made };
 }
 
 pub(crate) struct Begin;
 
 impl Play<u64, View> for Begin {
-    ghost then = { begin_made };
+    ghost then = { Knowing begin_made };
 }
 
 pub(crate) struct Settle;
 
 impl Play<u64, View> for Settle {
-    ghost then = { exchange_made settling };
+    ghost then = { Knowing (exchange_made settling) };
 }
 
 pub(crate) struct Renew;
 
 impl Play<u64, View> for Renew {
-    ghost then = { exchange_made renewing };
+    ghost then = { Knowing (exchange_made renewing) };
 }
 
 pub(crate) struct Finish;
 
 impl Play<u64, View> for Finish {
-    ghost then = { exchange_made finishing };
+    ghost then = { Knowing (exchange_made finishing) };
 }
 
 pub(crate) struct Issue;
@@ -64,12 +64,12 @@ impl Split<View> for Issue {
 pub(crate) struct GiveBack;
 
 impl Play<u64, View> for GiveBack {
-    ghost then = { give_back_made };
+    ghost then = { Knowing give_back_made };
 }
 
 // The keeper's load of the return word.
 pub(crate) struct ReturnLoad;
 
 impl Play<u64, View> for ReturnLoad {
-    ghost then = { return_loaded };
+    ghost then = { Knowing return_loaded };
 }
