@@ -1,3 +1,4 @@
+pub mod AtTheCall
 pub mod CallerCalls
 pub mod Counts
 pub mod KeeperCalls

@@ -1,8 +1,9 @@
 //! A seat that extends and cancels, from any thread.
-ghost use Rattle.std.specs.Prelude.{◌≡◌, ◌<◌, ◌≤◌, [], length, false, MatchOption, MatchResult};
+ghost use Rattle.std.specs.Prelude.{◌≡◌, ◌+◌, ◌<◌, ◌≤◌, [], length, false, IfErr, IfOk, MatchOption, MatchResult};
 ghost use Rattle.dq_ticks.specs.Word.{stamp_of, mark_of, field_of};
+ghost use Rattle.dq_words.specs.AtTheCall.{cancels_of, AgreesWithCalls, ExtendRefusedByWord, KeepsPromises, LookRefusedByWord, RefusedByWord, SeesCancelled, SeesEntry, SeesLive, StepsAtMost};
 ghost use Rattle.dq_words.specs.CallerCalls.{IsCaller, IsForged, Refuses, CallerExtends, CallerCancels, CallerLooks};
-ghost use Rattle.dq_words.specs.Counts.{cancels_in};
+ghost use Rattle.dq_words.specs.Counts.{most_begins};
 ghost use Rattle.dq_words.specs.Keeping.{Knew};
 
 use crate::parts::{cancelled_word, live_word, stamp};
@@ -91,6 +92,15 @@ impl<A: Allocator> Caller<A> {
     /// force: `when`, or a later one that it had. Refused as TooFar beyond the last tick, as Unknown where no slot has
     /// the key, as Stale where the slot has a later stamp, and as Ended where the entry isn't live.
     pub fn extend(&mut self, key: &Key, when: u64) -> Result<u64, CallError>
+        // Accepted: the word that it left is live at the answer, which keeps what was promised before.
+        ensures accepted { IfOk result (λ d. (when ≤ d) × SeesLive self.new key.now d) }
+        ensures promised { IfOk result (λ d. KeepsPromises self.old key.now d) }
+
+        // Refused: exactly by the deadline or by the word.
+        ensures refused { IfErr result (λ e. ExtendRefusedByWord self.new key.now when e) }
+        ensures two_steps { StepsAtMost 2 self.old self.new }
+
+        // All that it does.
         ensures extends { CallerExtends self.old.view key.now when result self.new.view }
         ensures table { self.new.table ≡ self.old.table }
     {
@@ -112,6 +122,16 @@ impl<A: Allocator> Caller<A> {
 
     /// Cancels a live entry, and answers the deadline that it gave up. Refused as `extend` is, but never as TooFar.
     pub fn cancel(&mut self, key: &Key) -> Result<u64, CallError>
+        // Accepted: the word that it left is cancelled, by this call, and the answer keeps what was promised before.
+        ensures accepted { IfOk result (λ _. SeesCancelled self.new key.now) }
+        ensures promised { IfOk result (λ d. KeepsPromises self.old key.now d) }
+        ensures counted { IfOk result (λ _. cancels_of self.new ≡ cancels_of self.old + 1) }
+
+        // Refused: exactly by the word.
+        ensures refused { IfErr result (λ e. RefusedByWord self.new key.now e) }
+        ensures two_steps { StepsAtMost 2 self.old self.new }
+
+        // All that it does.
         ensures cancels { CallerCancels self.old.view key.now result self.new.view }
         ensures table { self.new.table ≡ self.old.table }
     {
@@ -132,6 +152,15 @@ impl<A: Allocator> Caller<A> {
     /// What the entry of a key is. Refused as Unknown where no slot has the key, and as Stale where the slot has a later
     /// stamp.
     pub fn look(&mut self, key: &Key) -> Result<Look, CallError>
+        // Shown: what the loaded word shows, which agrees with the caller's own accepted calls.
+        ensures shown { IfOk result (λ how. SeesEntry self.new key.now how) }
+        ensures own_calls { IfOk result (λ _. AgreesWithCalls self.new key.now) }
+
+        // Refused: exactly by the word, and not where it has ended.
+        ensures refused { IfErr result (λ e. LookRefusedByWord self.new key.now e) }
+        ensures one_step { StepsAtMost 1 self.old self.new }
+
+        // All that it does.
         ensures looks { CallerLooks self.old.view key.now result self.new.view }
         ensures table { self.new.table ≡ self.old.table }
     {
@@ -151,14 +180,15 @@ impl<A: Allocator> Caller<A> {
 
     /// The number of its accepted cancels.
     pub fn cancels(&self) -> u64
-        ensures { result ≡ cancels_in self.now.view.calls }
+        ensures { result ≡ cancels_of self.now }
     {
         self.cancels
     }
 
     /// Counts the caller as gone and its cancels with it, by one step on the return word, and answers its cancels.
     pub fn give_back(mut self) -> u64
-        ensures { result ≡ cancels_in self.view.calls }
+        ensures cancels { result ≡ cancels_of self }
+        ensures few { result ≤ most_begins }
     {
         let cancels = self.cancels;
         self.seat.give_back(cancels);

@@ -1,7 +1,8 @@
 //! The one seat that begins and ends entries.
-ghost use Rattle.std.specs.Prelude.{◌≡◌, ◌+◌, ◌<◌, ◌≤◌, length, true, slice_set, IfOk};
+ghost use Rattle.std.specs.Prelude.{◌≡◌, ◌+◌, ◌<◌, ◌≤◌, length, true, slice_set, IfErr, IfOk};
 ghost use Rattle.atomic_table.specs.Seated.{TableId};
-ghost use Rattle.dq_core.specs.Words.{live, removed, word_at, begun_counts, settled_counts, finished_counts, IsChanged, IsInForce, IsOver, IsSettled, Learned};
+ghost use Rattle.dq_core.specs.Words.{AreFresh, live, removed, word_at, begun_counts, settled_counts, finished_counts, IsChanged, IsInForce, IsOver, IsSettled, Learned};
+ghost use Rattle.dq_words.specs.AtTheCall.{KnowsNothing, NoCallerAfter, NoKeeperFor, StepsAtMost};
 ghost use Rattle.dq_words.specs.KeeperCalls.{known_of, counts_by, EndsFit, KeeperIsMade, KeeperBegins, KeeperLooks, KeeperSettles, KeeperRenews, KeeperFinishes, Issues, Tells, Returns, Accounts};
 ghost use Rattle.dq_words.specs.Keeping.{IsKeeper, Stood};
 
@@ -72,7 +73,16 @@ impl<A: Allocator + Clone> Keeper<A> {
     /// A keeper of that many slots which were never used. Refused as BadConfig for a capacity of 0 or beyond 65536, and as
     /// NoMemory.
     pub fn new(alloc: A, capacity: usize) -> Result<Keeper<A>, WordsError>
-        ensures { KeeperIsMade capacity result }
+        // Made: each word was never used, and nothing is known, written or issued yet.
+        ensures rows { IfOk result (λ k. length (known_of k) ≡ capacity) }
+        ensures fresh { IfOk result (λ k. AreFresh (known_of k) (counts_by k)) }
+        ensures nothing { IfOk result (λ k. KnowsNothing k) }
+
+        // Refused: exactly by the capacity, but where memory is refused.
+        ensures refused { IfErr result (λ e. NoKeeperFor capacity e) }
+
+        // All that it is.
+        ensures made { KeeperIsMade capacity result }
     {
         if capacity == 0 || capacity > CAPACITY_LIMIT {
             return Err(WordsError::BadConfig);
@@ -95,7 +105,18 @@ impl<A: Allocator> Keeper<A> {
     /// One caller more, which may go to any thread. Refused as TooManyHandles where [`HANDLE_LIMIT`] callers were issued,
     /// given back or not, and as NoMemory where the table can't be shared once more.
     pub fn issue(&mut self) -> Result<Caller<A>, WordsError>
+        // Issued: one more, which sits at this keeper's table and knows nothing yet.
+        ensures counted { IfOk result (λ _. self.new.view.issued ≡ self.old.view.issued + 1) }
+        ensures same_table { IfOk result (λ c. c.table ≡ self.old.table) }
+        ensures newcomer { IfOk result (λ c. KnowsNothing c) }
+
+        // Refused: exactly past the limit, but where memory is refused; then nothing changes.
+        ensures refused { IfErr result (λ e. NoCallerAfter self.old.view.issued e) }
+        ensures unchanged { IfErr result (λ _. self.new ≡ self.old) }
+
+        // All that it does.
         ensures issues { Issues self.old result self.new }
+        ensures table { self.new.table ≡ self.old.table }
     {
         if self.issued >= HANDLE_LIMIT {
             return Err(WordsError::TooManyHandles {
@@ -109,7 +130,13 @@ impl<A: Allocator> Keeper<A> {
 
     /// The callers that were issued and are not given back, by one load. A caller that was dropped is out for good.
     pub fn out(&mut self) -> u64
+        ensures at_most { result ≤ self.new.view.issued }
+        ensures one_step { StepsAtMost 1 self.old self.new }
+        ensures words { (known_of self.new ≡ known_of self.old) × (counts_by self.new ≡ counts_by self.old) }
+
+        // All that it does.
         ensures tells { Tells self.old result self.new }
+        ensures table { self.new.table ≡ self.old.table }
     {
         let gone = self.seat.return_load() % ONE_CANCEL;
         self.issued - gone
@@ -117,9 +144,17 @@ impl<A: Allocator> Keeper<A> {
 
     /// The accepted cancels of all callers, where none is out, and else the number that is out, by one load.
     pub fn returned(&mut self) -> Result<u64, u64>
-        ensures returns { Returns self.old result self.new }
+        // Nobody is out: the cancels account for all that was begun.
         ensures accounts { IfOk result (λ c. Accounts self.new c) }
         ensures ends { IfOk result (λ c. EndsFit (counts_by self.new) c) }
+
+        // Somebody is out: so many.
+        ensures out { IfErr result (λ n. (0 < n) × (n ≤ self.new.view.issued)) }
+        ensures one_step { StepsAtMost 1 self.old self.new }
+
+        // All that it does.
+        ensures returns { Returns self.old result self.new }
+        ensures table { self.new.table ≡ self.old.table }
     {
         let word = self.seat.return_load();
         let out = self.issued - word % ONE_CANCEL;
