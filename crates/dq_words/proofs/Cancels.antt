@@ -115,7 +115,7 @@ module _ (rows : ℕ) where
       (counts_calls rows t i id me.0 w n k inside at refl small here refl refl refl refl (omega arith) (sym same)) me.1 in
       let P : ℕ → Type 0 = λ m. Outcome rows t i id me m (cancel_made (step slots i k 0 none) me n) in
       let e : k ≡ max n k = omega arith in
-      subst P e (w, keeps, tt, ruled, (low, fair rows t r.kept i id me.0 inside at, inl (same, nm, refl, all_cancels rows (after t i k id me.1 w) ruled id w (set_at t.views id me.0 w at)))))
+      subst P e (w, keeps, tt, ruled, (low, fair rows t r.kept i id me.0 inside at, inl ((same, nm), refl, all_cancels rows (after t i k id me.1 w) ruled id w (set_at t.views id me.0 w at)))))
       (λ no. missed rows t r i id me CallerLoad (max n k) (cancel_made (step slots i k 0 none) me n) inside at here
       (let m : stamp_of n ≡ stamp_of k → mark_of n ≢ 0 = no in by_order (stamp_of n) (stamp_of k) (max n k ≡ n) (λ le. let e : stamp_of n ≡ stamp_of k = omega arith in let z = m e in omega arith) (λ lt. omega arith))
       (low, fair rows t r.kept i id me.0 inside at, inr (no, refl))))

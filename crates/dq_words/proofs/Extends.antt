@@ -136,7 +136,7 @@ module _ (rows : ℕ) where
         tt,
         ruled_after rows t r i id me.0 w n (max n k) (accepted rows t r.kept i id me.0 inside at caller n k refl pos km same nm)
             (counts_calls rows t i id me.0 w n (max n k) inside at refl (omega arith) here refl refl refl refl (ap (λ z. cancels_in me.0.calls + z) live) (omega arith)) me.1,
-        (low, fair rows t r.kept i id me.0 inside at, inl (same, nm, refl)),
+        (low, fair rows t r.kept i id me.0 inside at, inl ((same, nm), refl)),
       ))
       (λ no. missed rows t r i id me CallerLoad (max n k) (extend_made (step slots i k 0 none) me n) inside at here
       (let m : stamp_of n ≡ stamp_of k → mark_of n ≢ 0 = no in by_order (stamp_of n) (stamp_of k) (max n k ≡ n) (λ le. let e : stamp_of n ≡ stamp_of k = omega arith in let z = m e in omega arith) (λ lt. omega arith))

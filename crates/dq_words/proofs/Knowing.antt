@@ -7,7 +7,7 @@ use Rattle.dq_words.specs.declared.views.View.{View}
 use Rattle.dq_words.specs.Counts.{issued_in}
 use Rattle.dq_words.specs.Plays.{WordMe}
 use Rattle.dq_words.specs.Rule.{Ruled}
-use Rattle.dq_words.specs.Seats.{SeatGoesOn}
+use Rattle.dq_words.specs.Plays.{SeatGoesOn}
 use Rattle.dq_words.proofs.Advances.{role_first, role_same}
 use Rattle.dq_words.proofs.Gathers.{set_at}
 

@@ -12,7 +12,8 @@ use Rattle.dq_words.specs.Files.{keeper_writes}
 use Rattle.dq_words.specs.Keeping.{IsKeeper, Stood, Knew}
 use Rattle.dq_words.specs.Plays.{issuing, newcomer}
 use Rattle.dq_words.specs.Rule.{Ruled, first_keeper}
-use Rattle.dq_words.specs.Seats.{Sat, FitsTable}
+use Rattle.dq_words.specs.Plays.{FitsTable}
+use Rattle.dq_words.specs.Seats.{Sat}
 use Rattle.dq_words.proofs.Advances.{role_first}
 use Rattle.dq_words.proofs.Gathers.{writes_own}
 use Rattle.dq_words.proofs.Keepings.{learned_stamp}

@@ -10,7 +10,7 @@ use Rattle.dq_ticks.specs.Word.{word, stamp_of, mark_of, field_of}
 use Rattle.dq_words.specs.Word.{Left}
 use Rattle.dq_words.specs.Files.{File, blank, file, IsIn, extends_at, cancels_at, gathered}
 use Rattle.dq_words.specs.Rule.{UnbornStamp, LivingStamp, CancelledStamp, EndedStamp, Law, Kept, Ruled}
-use Rattle.dq_words.specs.Plays.{Knowing, Fair, loading, WordMe, caller_loaded, keeper_loaded}
+use Rattle.dq_words.specs.Plays.{Knowing, Fair, stepping, WordMe, caller_loaded, keeper_loaded}
 use Rattle.dq_words.proofs.Gathers.{file_same, gathered_own, gathered_nil}
 use Rattle.dq_words.proofs.Advances.{grows_same, after, by_order, role_here}
 use Rattle.dq_words.proofs.Knowing.{knows}
@@ -64,10 +64,10 @@ module _ (rows : ℕ) (t : State ℕ View) (r : Kept rows t) (i id : ℕ) (v : V
   )
 
 -- a step that leaves the word
-pub stays : (rows : ℕ) (t : State ℕ View) (r : Ruled rows t) (i id : ℕ) (v : View) → i < rows → get_elem? t.views id ≡ some v → v.gone ≡ false → (kind : StepKind) (held : List (ℕ × ℕ)) → Ruled rows (after t i (get_or t.words i 0) id held (loading v i (get_or t.words i 0) kind))
+pub stays : (rows : ℕ) (t : State ℕ View) (r : Ruled rows t) (i id : ℕ) (v : View) → i < rows → get_elem? t.views id ≡ some v → v.gone ≡ false → (kind : StepKind) (held : List (ℕ × ℕ)) → Ruled rows (after t i (get_or t.words i 0) id held (stepping v i (get_or t.words i 0) kind))
 stays rows t r i id v inside at here kind held =
     let n : ℕ = get_or t.words i 0 in
-    let w : View = loading v i n kind in
+    let w : View = stepping v i n kind in
     let same = λ (j s : ℕ). file_same t.views id v w j s at refl refl in
     ruled_after rows t r i id v w n n
     (record {
@@ -95,10 +95,10 @@ Outcome rows t i id me n then = (w : View) × (a : Act ℕ) × Valid t.homes me.
 
 -- a step that changes nothing
 pub missed : (rows : ℕ) (t : State ℕ View) (r : Ruled rows t) (i id : ℕ) (me : WordMe) (kind : StepKind) (n : ℕ) (then : WordMe → Type 0) → i < rows → get_elem? t.views id ≡ some me.0 → me.0.gone ≡ false
-    → n ≡ get_or t.words i 0 → then (loading me.0 i (get_or t.words i 0) kind, me.1) → Outcome rows t i id me n then
+    → n ≡ get_or t.words i 0 → then (stepping me.0 i (get_or t.words i 0) kind, me.1) → Outcome rows t i id me n then
 missed rows t r i id me kind n then inside at here e tells =
     let P : ℕ → Type 0 = λ m. Outcome rows t i id me m then in
-    subst P (sym e) (loading me.0 i (get_or t.words i 0) kind, keeps, tt, stays rows t r i id me.0 inside at here kind me.1, tells)
+    subst P (sym e) (stepping me.0 i (get_or t.words i 0) kind, keeps, tt, stays rows t r i id me.0 inside at here kind me.1, tells)
 
 module _ (rows : ℕ) where
   pub caller_loads : (slots id : ℕ) (me : WordMe) (i : ℕ) → i < rows → me.0.gone ≡ false → Allows (Ruled rows) slots id me i (λ n. n) (Knowing caller_loaded (step slots i 0 0 none) me)

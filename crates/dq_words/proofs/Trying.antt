@@ -5,8 +5,8 @@ use Rattle.dq_words.specs.declared.views.View.{View}
 use Rattle.dq_words.specs.declared.views.StepKind.TheVariants.{KeeperLoad}
 use Rattle.dq_words.specs.Keeping.{IsOpen}
 use Rattle.dq_words.specs.KeeperCalls.{loads_on, loaded, KeeperRenews, KeeperFinishes}
-use Rattle.dq_words.specs.Plays.{loading, renewing, finishing, KeeperLoads}
-use Rattle.dq_words.specs.Seats.{SeatGoesOn}
+use Rattle.dq_words.specs.Plays.{stepping, renewing, finishing, KeeperLoads}
+use Rattle.dq_words.specs.Plays.{SeatGoesOn}
 use Rattle.dq_words.specs.Word.{LearnedWord}
 use Rattle.dq_words.proofs.Keepings.{learned_on, open_live, open_on, open_shut}
 
@@ -20,14 +20,14 @@ pub record Loaded (v w : View) (i s x : ℕ) : Type 0 where
 pub loaded_once : (v w : View) (i s x : ℕ) → IsOpen (get_or v.seen i 0) s → KeeperLoads v w i x → Loaded v w i s x
 loaded_once v w i s x was h = record { many = 0; is = h.0; learned = h.1; open_word = open_on (get_or v.seen i 0) x s was h.1 }
 
-pub loaded_more : (v u w : View) (i s x y : ℕ) → i < length v.seen → Loaded v u i s x → LearnedWord (get_or u.seen i 0) y → w ≡ loading u i y KeeperLoad → Loaded v w i s y
+pub loaded_more : (v u w : View) (i s x y : ℕ) → i < length v.seen → Loaded v u i s x → LearnedWord (get_or u.seen i 0) y → w ≡ stepping u i y KeeperLoad → Loaded v w i s y
 loaded_more v u w i s x y inside l learned is =
     let here : get_or u.seen i 0 ≡ x = ap (λ (z : View). get_or z.seen i 0) l.is ∙ get_or-set_same v.seen i x 0 inside in
     let P : ℕ → Type 0 = λ k. LearnedWord k y in
     let new : LearnedWord x y = subst P here learned in
     record {
       many = suc l.many;
-      is = is ∙ ap (λ (z : View). loading z i y KeeperLoad) l.is ∙ (λ q. record v { seen = set-set v.seen i x y q; steps = loads_on (suc (suc l.many)) v.steps });
+      is = is ∙ ap (λ (z : View). stepping z i y KeeperLoad) l.is ∙ (λ q. record v { seen = set-set v.seen i x y q; steps = loads_on (suc (suc l.many)) v.steps });
       learned = learned_on (get_or v.seen i 0) x y l.learned new;
       open_word = open_on x y s l.open_word new;
     }

@@ -1,5 +1,5 @@
--- What one reads first at a call. Each of these facts follows from the exact relation that stands behind it.
-use Rattle.std.specs.Prelude.{◌≡◌, ◌≢◌, ◌⊎◌, ℕ, zero, suc, ◌+◌, ◌<◌, ◌≤◌, List, [], length}
+-- What one reads first at a call. Each of these facts follows from the exact relation behind it.
+use Rattle.std.specs.Prelude.{◌≡◌, ◌≢◌, ◌⊎◌, ℕ, ◌+◌, ◌<◌, ◌≤◌, List, [], length}
 use Rattle.dq_core.specs.declared.words.Look.{Look}
 use Rattle.dq_core.specs.declared.words.CallError.{CallError}
 use Rattle.dq_core.specs.declared.words.CallError.TheVariants.{TooFar, Unknown, Stale, Ended}
@@ -7,7 +7,8 @@ use Rattle.dq_ticks.specs.declared.TheConstants.{LAST_TICK}
 use Rattle.dq_ticks.specs.Keys.{KeyName}
 use Rattle.dq_ticks.specs.Word.{word, stamp_of, mark_of}
 use Rattle.dq_words.specs.declared.keeper.WordsError.{WordsError}
-use Rattle.dq_words.specs.declared.keeper.WordsError.TheVariants.{BadConfig, NoMemory, TooManyHandles}
+use Rattle.dq_words.specs.declared.keeper.WordsError.TheVariants.{BadConfig, NoMemory}
+use Rattle.dq_words.specs.declared.keeper.WordsError.TheVariants.{TooManyHandles}
 use Rattle.dq_words.specs.declared.keeper.TheConstants.{HANDLE_LIMIT}
 use Rattle.dq_words.specs.CallerCalls.{seen_at, look_of, IsForged}
 use Rattle.dq_words.specs.Counts.{cancels_in}
@@ -35,13 +36,14 @@ SeesEntry c k how = (stamp_of (word_seen c k) ≡ k.stamp) × (how ≡ look_of (
 abbrev pub asked_for : Sat → KeyName → List ℕ
 asked_for c k = extends_at k.entry.index k.stamp c.view.calls
 
--- d is before no deadline that the caller was promised: none that it asked for, and none that it saw in force
+-- d is before no deadline that the caller was promised: none that it asked for, and none that it
+-- saw in force
 abbrev pub KeepsPromises : Sat → KeyName → ℕ → Type 0
 KeepsPromises c k d =
     ((x : ℕ) → IsIn (asked_for c k) x → x ≤ d) × (word_seen c k ≤ word k.stamp 0 d)
 
--- no slot has the key, or the word that is then seen refuses it: it has an earlier stamp than the key, a later one, or the
--- key's own and isn't live
+-- no slot has the key, or the word that is then seen refuses it: it has an earlier stamp than the
+-- key, a later one, or the key's own and isn't live
 abbrev pub RefusedByWord : Sat → KeyName → CallError → Type 0
 RefusedByWord c k Unknown = IsForged c.view k ⊎ (stamp_of (word_seen c k) < k.stamp)
 RefusedByWord c k (Stale seen) = (seen ≡ stamp_of (word_seen c k)) × (k.stamp < seen)
@@ -58,8 +60,9 @@ abbrev pub LookRefusedByWord : Sat → KeyName → CallError → Type 0
 LookRefusedByWord c k (Ended how) = ⊥
 LookRefusedByWord c k e = RefusedByWord c k e
 
--- The word that is seen agrees with the caller's own accepted calls: unless it is cancelled, its deadline is before none that
--- they asked for, and they cancelled nothing at its stamp. No call was accepted at a later stamp.
+-- The word that is seen agrees with the caller's own accepted calls: unless it is cancelled, its
+-- deadline is before none that they asked for, and they cancelled nothing at its stamp. No call was
+-- accepted at a later stamp.
 abbrev pub AgreesWithCalls : Sat → KeyName → Type 0
 AgreesWithCalls c k = Fair c.view.calls k.entry.index (word_seen c k)
 

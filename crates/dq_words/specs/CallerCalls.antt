@@ -1,5 +1,6 @@
 -- What a caller's calls answer.
-use Rattle.std.specs.Prelude.{◌≡◌, ◌≢◌, ◌⊎◌, ℕ, ◌<◌, ◌≤◌, false, List, ◌∷◌, length, slice_index, slice_set, Result, Ok, Err}
+use Rattle.std.specs.Prelude.{◌≡◌, ◌≢◌, ◌⊎◌, ℕ, ◌<◌, ◌≤◌, false, List, ◌∷◌, length, slice_index}
+use Rattle.std.specs.Prelude.{slice_set, Result, Ok, Err}
 use Rattle.dq_ticks.specs.declared.TheConstants.{LAST_TICK}
 use Rattle.dq_ticks.specs.Keys.{KeyName}
 use Rattle.dq_ticks.specs.Word.{word, stamp_of, mark_of, parts_of}
@@ -26,12 +27,14 @@ look_of n = look_by (parts_of n).mark (parts_of n).field
 abbrev pub seen_at : View → ℕ → ℕ
 seen_at v i = slice_index v.seen i
 
--- A call whose view went from v to w read the word of the slot i, which is then seen. It lowered no seen word, and changed nothing else but the steps and the calls.
+-- A call whose view went from v to w read the word of the slot i, which is then seen. It lowered no
+-- seen word, and changed nothing else but the steps and the calls.
 pub record Reads (v w : View) (i : ℕ) : Type 0 where
   pub inside : i < length v.seen
   pub counted : length v.steps < length w.steps
   pub rises : seen_at v i ≤ seen_at w i
-  pub only : w ≡ record v { seen = slice_set v.seen i (seen_at w i); steps = w.steps; calls = w.calls }
+  pub only :
+      w ≡ record v { seen = slice_set v.seen i (seen_at w i); steps = w.steps; calls = w.calls }
 
 -- a key that no slot has
 abbrev pub IsForged : View → KeyName → Type 0
@@ -44,13 +47,24 @@ Refuses n s Unknown = stamp_of n < s
 Refuses n s (Stale seen) = (seen ≡ stamp_of n) × (s < seen)
 Refuses n s (Ended how) = (stamp_of n ≡ s) × (mark_of n ≢ 0) × (how ≡ look_of n)
 
--- A call of a key was refused: at once and with no step where no slot has the key, else by the steps `made` and the word that is then seen, which agrees with the caller's own accepted calls.
-abbrev pub IsRefused : View → KeyName → CallError → List StepKind → View → Type 0
-IsRefused v k e made w =
-    (IsForged v k × (e ≡ Unknown) × (w ≡ v))
-    ⊎ (¬ IsForged v k × Reads v w k.entry.index × (w.steps ≡ made) × Refuses (seen_at w k.entry.index) k.stamp e × Fair w.calls k.entry.index (seen_at w k.entry.index) × (w.calls ≡ v.calls))
+-- The word of the key's slot refused it, by the steps `made`. It is then seen, and agrees with the
+-- caller's own accepted calls.
+pub record WordRefuses
+    (v : View) (k : KeyName) (e : CallError) (made : List StepKind) (w : View) : Type 0 where
+  pub named : ¬ IsForged v k
+  pub reads : Reads v w k.entry.index
+  pub steps : w.steps ≡ made
+  pub shows : Refuses (seen_at w k.entry.index) k.stamp e
+  pub fair : Fair w.calls k.entry.index (seen_at w k.entry.index)
+  pub calls : w.calls ≡ v.calls
 
--- The steps of an extend or a cancel that the word refused: the load, and where that showed no lower stamp than the key's the step that failed, which counts as a load.
+-- A call of a key was refused: at once and with no step where no slot has the key, else by the
+-- word.
+abbrev pub IsRefused : View → KeyName → CallError → List StepKind → View → Type 0
+IsRefused v k e made w = (IsForged v k × (e ≡ Unknown) × (w ≡ v)) ⊎ WordRefuses v k e made w
+
+-- The steps of an extend or a cancel that the word refused: the load, and where that showed no
+-- lower stamp than the key's the step that failed, which counts as a load.
 abbrev pub tried : CallError → List StepKind → List StepKind
 tried (TooFar limit) steps = steps
 tried Unknown steps = CallerLoad ∷ steps
@@ -59,27 +73,61 @@ tried (Ended how) steps = CallerLoad ∷ CallerLoad ∷ steps
 
 -- A call of a key was accepted at the deadline d, in agreement with the caller's calls before.
 abbrev pub IsAccepted : View → KeyName → ℕ → Type 0
-IsAccepted v k d = Covers v.calls k.entry.index k.stamp d × NoneBeyond v.calls k.entry.index k.stamp
+IsAccepted v k d =
+    Covers v.calls k.entry.index k.stamp d × NoneBeyond v.calls k.entry.index k.stamp
 
--- An extend is accepted by one load and one step, after which the word is live at d, not before the deadline asked for. It is refused as too far exactly beyond the last tick.
+-- An extend to `when` was accepted by one load and one step: the word is then live at d, not before
+-- the deadline asked for, and the call is recorded.
+pub record ExtendAccepted (v : View) (k : KeyName) (when d : ℕ) (w : View) : Type 0 where
+  pub in_range : when ≤ LAST_TICK
+  pub stamped : 0 < k.stamp
+  pub reads : Reads v w k.entry.index
+  pub steps : w.steps ≡ ExtendMax ∷ CallerLoad ∷ v.steps
+  pub now : seen_at w k.entry.index ≡ word k.stamp 0 d
+  pub asked : when ≤ d
+  pub small : d ≤ LAST_TICK
+  pub agrees : IsAccepted v k d
+  pub calls : w.calls ≡ Extend k.entry.index k.stamp when ∷ v.calls
+
+-- An extend is refused as too far exactly beyond the last tick, and then by the key.
 abbrev pub CallerExtends : View → KeyName → ℕ → Result ℕ CallError → View → Type 0
-CallerExtends v k when (Ok d) w =
-    (when ≤ LAST_TICK) × (0 < k.stamp) × Reads v w k.entry.index × (w.steps ≡ ExtendMax ∷ CallerLoad ∷ v.steps)
-    × (seen_at w k.entry.index ≡ word k.stamp 0 d) × (when ≤ d) × (d ≤ LAST_TICK) × IsAccepted v k d × (w.calls ≡ Extend k.entry.index k.stamp when ∷ v.calls)
-CallerExtends v k when (Err (TooFar limit)) w = (LAST_TICK < when) × (limit ≡ LAST_TICK) × (w ≡ v)
+CallerExtends v k when (Ok d) w = ExtendAccepted v k when d w
+CallerExtends v k when (Err (TooFar limit)) w =
+    (LAST_TICK < when) × (limit ≡ LAST_TICK) × (w ≡ v)
 CallerExtends v k when (Err e) w = (when ≤ LAST_TICK) × IsRefused v k e (tried e v.steps) w
 
--- A cancel is accepted by one load and one step, after which the word is cancelled. Its answer is the deadline that it gave up; the live word of that deadline is not below the word seen before.
+-- A cancel was accepted by one load and one step: the word is then cancelled, d is the deadline
+-- that it gave up, of which the live word is not below the one seen before, and the call is
+-- recorded.
+pub record CancelAccepted (v : View) (k : KeyName) (d : ℕ) (w : View) : Type 0 where
+  pub stamped : 0 < k.stamp
+  pub reads : Reads v w k.entry.index
+  pub steps : w.steps ≡ CancelMax ∷ CallerLoad ∷ v.steps
+  pub now : seen_at w k.entry.index ≡ word k.stamp 1 0
+  pub gave_up : seen_at v k.entry.index ≤ word k.stamp 0 d
+  pub small : d ≤ LAST_TICK
+  pub agrees : IsAccepted v k d
+  pub calls : w.calls ≡ Cancel k.entry.index k.stamp d ∷ v.calls
+
+-- A cancel is refused by the key.
 abbrev pub CallerCancels : View → KeyName → Result ℕ CallError → View → Type 0
-CallerCancels v k (Ok d) w =
-    (0 < k.stamp) × Reads v w k.entry.index × (w.steps ≡ CancelMax ∷ CallerLoad ∷ v.steps)
-    × (seen_at w k.entry.index ≡ word k.stamp 1 0) × (seen_at v k.entry.index ≤ word k.stamp 0 d) × (d ≤ LAST_TICK) × IsAccepted v k d × (w.calls ≡ Cancel k.entry.index k.stamp d ∷ v.calls)
+CallerCancels v k (Ok d) w = CancelAccepted v k d w
 CallerCancels v k (Err e) w = IsRefused v k e (tried e v.steps) w
 
--- A look answers the word that is then seen, by one load, and that word agrees with the caller's own accepted calls. Where the word refuses it, it made that load too.
+-- A look was answered by one load: it tells what the word that is then seen shows, and that word
+-- agrees with the caller's own accepted calls.
+pub record LookAnswered (v : View) (k : KeyName) (how : Look) (w : View) : Type 0 where
+  pub stamped : 0 < k.stamp
+  pub reads : Reads v w k.entry.index
+  pub steps : w.steps ≡ CallerLoad ∷ v.steps
+  pub stamp : stamp_of (seen_at w k.entry.index) ≡ k.stamp
+  pub answer : how ≡ look_of (seen_at w k.entry.index)
+  pub fair : Fair w.calls k.entry.index (seen_at w k.entry.index)
+  pub calls : w.calls ≡ v.calls
+
+-- A look is refused by the key, and not where the word has ended. Where the word refuses it, it
+-- made that load too.
 abbrev pub CallerLooks : View → KeyName → Result Look CallError → View → Type 0
-CallerLooks v k (Ok how) w =
-    (0 < k.stamp) × Reads v w k.entry.index × (w.steps ≡ CallerLoad ∷ v.steps)
-    × (stamp_of (seen_at w k.entry.index) ≡ k.stamp) × (how ≡ look_of (seen_at w k.entry.index)) × Fair w.calls k.entry.index (seen_at w k.entry.index) × (w.calls ≡ v.calls)
+CallerLooks v k (Ok how) w = LookAnswered v k how w
 CallerLooks v k (Err (Ended how)) w = ⊥
 CallerLooks v k (Err e) w = IsRefused v k e (CallerLoad ∷ v.steps) w

@@ -1,8 +1,12 @@
 //! A seat that extends and cancels, from any thread.
-ghost use Rattle.std.specs.Prelude.{◌≡◌, ◌+◌, ◌<◌, ◌≤◌, [], length, false, IfErr, IfOk, MatchOption, MatchResult};
+ghost use Rattle.std.specs.Prelude.{◌≡◌, ◌+◌, ◌<◌, ◌≤◌, [], length, false, IfErr, IfOk};
+ghost use Rattle.std.specs.Prelude.{MatchOption, MatchResult};
 ghost use Rattle.dq_ticks.specs.Word.{stamp_of, mark_of, field_of};
-ghost use Rattle.dq_words.specs.AtTheCall.{cancels_of, AgreesWithCalls, ExtendRefusedByWord, KeepsPromises, LookRefusedByWord, RefusedByWord, SeesCancelled, SeesEntry, SeesLive, StepsAtMost};
-ghost use Rattle.dq_words.specs.CallerCalls.{IsCaller, IsForged, Refuses, CallerExtends, CallerCancels, CallerLooks};
+ghost use Rattle.dq_words.specs.AtTheCall.{cancels_of, AgreesWithCalls, ExtendRefusedByWord};
+ghost use Rattle.dq_words.specs.AtTheCall.{KeepsPromises, LookRefusedByWord, RefusedByWord};
+ghost use Rattle.dq_words.specs.AtTheCall.{SeesCancelled, SeesEntry, SeesLive, StepsAtMost};
+ghost use Rattle.dq_words.specs.CallerCalls.{IsCaller, IsForged, Refuses, CallerExtends};
+ghost use Rattle.dq_words.specs.CallerCalls.{CallerCancels, CallerLooks};
 ghost use Rattle.dq_words.specs.Counts.{most_begins};
 ghost use Rattle.dq_words.specs.Keeping.{Knew};
 
@@ -34,7 +38,8 @@ impl<A: Allocator> Model for Caller<A> {
 
     ghost view = { λ k. k.seat };
 
-    ghost invariant = { λ k. (k.seat.view.keeps ≡ false) × (k.seat.view.gone ≡ false) × (k.cancels ≡ cancels_in k.seat.view.calls) × (k.cancels ≤ most_begins) };
+    ghost invariant = { λ k. (k.seat.view.keeps ≡ false) × (k.seat.view.gone ≡ false)
+        × (k.cancels ≡ cancels_in k.seat.view.calls) × (k.cancels ≤ most_begins) };
 }
 
 // The deadline of the word that a step of a stamp found live at that stamp, or why the word refuses the stamp.
@@ -78,7 +83,8 @@ impl<A: Allocator> Caller<A> {
     fn slot(&self, key: &Key) -> Option<usize>
         ensures { MatchOption result
             (IsForged self.now.view key.now)
-            (λ i. (i ≡ key.now.entry.index) × (i < length self.now.view.seen) × (0 < key.now.stamp)) }
+            (λ i. (i ≡ key.now.entry.index) × (i < length self.now.view.seen)
+            × (0 < key.now.stamp)) }
     {
         let index = key.entry().index() as usize;
         if index < self.seat.rows() && key.stamp() > 0 {

@@ -1,9 +1,14 @@
 //! The one seat that begins and ends entries.
 ghost use Rattle.std.specs.Prelude.{◌≡◌, ◌+◌, ◌<◌, ◌≤◌, length, true, slice_set, IfErr, IfOk};
 ghost use Rattle.atomic_table.specs.Seated.{TableId};
-ghost use Rattle.dq_core.specs.Words.{AreFresh, live, removed, word_at, begun_counts, settled_counts, finished_counts, IsChanged, IsInForce, IsOver, IsSettled, Learned};
+ghost use Rattle.dq_core.specs.Words.{AreFresh, live, removed, begun_counts, settled_counts};
+ghost use Rattle.dq_core.specs.Words.{finished_counts, IsChanged, IsInForce, IsOver, IsSettled};
+ghost use Rattle.dq_core.specs.Words.{Learned};
 ghost use Rattle.dq_words.specs.AtTheCall.{KnowsNothing, NoCallerAfter, NoKeeperFor, StepsAtMost};
-ghost use Rattle.dq_words.specs.KeeperCalls.{known_of, counts_by, EndsFit, KeeperIsMade, KeeperBegins, KeeperLooks, KeeperSettles, KeeperRenews, KeeperFinishes, Issues, Tells, Returns, Accounts};
+ghost use Rattle.dq_words.specs.KeeperCalls.{known_of, known_word, counts_by, EndsFit};
+ghost use Rattle.dq_words.specs.KeeperCalls.{KeeperIsMade, KeeperBegins, KeeperLooks};
+ghost use Rattle.dq_words.specs.KeeperCalls.{KeeperSettles, KeeperRenews, KeeperFinishes, Issues};
+ghost use Rattle.dq_words.specs.KeeperCalls.{Tells, Returns, Accounts};
 ghost use Rattle.dq_words.specs.Keeping.{IsKeeper, Stood};
 
 use crate::caller::Caller;
@@ -55,7 +60,8 @@ impl<A: Allocator> Model for Keeper<A> {
 
     ghost view = { λ k. k.seat };
 
-    ghost invariant = { λ k. (k.seat.view.keeps ≡ true) × (k.issued ≡ k.seat.view.issued) × (k.issued ≤ 1024) };
+    ghost invariant = { λ k. (k.seat.view.keeps ≡ true)
+        × (k.issued ≡ k.seat.view.issued) × (k.issued ≤ 1024) };
 }
 
 impl From<AllocError> for WordsError {
@@ -132,7 +138,8 @@ impl<A: Allocator> Keeper<A> {
     pub fn out(&mut self) -> u64
         ensures at_most { result ≤ self.new.view.issued }
         ensures one_step { StepsAtMost 1 self.old self.new }
-        ensures words { (known_of self.new ≡ known_of self.old) × (counts_by self.new ≡ counts_by self.old) }
+        ensures words { known_of self.new ≡ known_of self.old }
+        ensures counts { counts_by self.new ≡ counts_by self.old }
 
         // All that it does.
         ensures tells { Tells self.old result self.new }
@@ -188,8 +195,8 @@ impl<A: Allocator> Words for Keeper<A> {
 
     fn begin(&mut self, index: usize, stamp: u32, when: u64)
         requires in_range { index < length (known_of self.old) }
-        requires over { IsOver (word_at (known_of self.old) index) }
-        requires next { stamp ≡ (word_at (known_of self.old) index).stamp + 1 }
+        requires over { IsOver (known_word self.old index) }
+        requires next { stamp ≡ (known_word self.old index).stamp + 1 }
         requires last { stamp ≤ LAST_STAMP }
         requires tick { when ≤ LAST_TICK }
         ensures known { known_of self.new ≡ slice_set (known_of self.old) index (live stamp when) }
@@ -202,7 +209,7 @@ impl<A: Allocator> Words for Keeper<A> {
 
     fn look(&mut self, index: usize) -> Parts
         requires { index < length (known_of self.old) }
-        ensures learned { Learned true (word_at (known_of self.old) index) result }
+        ensures learned { Learned true (known_word self.old index) result }
         ensures known { known_of self.new ≡ slice_set (known_of self.old) index result }
         ensures counts { counts_by self.new ≡ counts_by self.old }
         ensures home { self.new.table ≡ self.old.table }
@@ -213,11 +220,13 @@ impl<A: Allocator> Words for Keeper<A> {
 
     fn settle(&mut self, index: usize, stamp: u32, at: u64) -> Settled
         requires in_range { index < length (known_of self.old) }
-        requires in_force { IsInForce stamp at (word_at (known_of self.old) index) }
+        requires in_force { IsInForce stamp at (known_word self.old index) }
         requires last { stamp ≤ LAST_STAMP }
         requires tick { at ≤ LAST_TICK }
-        ensures settled { IsSettled true stamp at (word_at (known_of self.old) index) result (word_at (known_of self.new) index) }
-        ensures known { known_of self.new ≡ slice_set (known_of self.old) index (word_at (known_of self.new) index) }
+        ensures settled { IsSettled true stamp at
+            (known_word self.old index) result (known_word self.new index) }
+        ensures known { known_of self.new
+            ≡ slice_set (known_of self.old) index (known_word self.new index) }
         ensures counts { counts_by self.new ≡ settled_counts (counts_by self.old) result }
         ensures home { self.new.table ≡ self.old.table }
         ensures step { KeeperSettles self.old.view index stamp at result self.new.view }
@@ -227,11 +236,13 @@ impl<A: Allocator> Words for Keeper<A> {
 
     fn renew(&mut self, index: usize, stamp: u32, when: u64) -> Option<u64>
         requires in_range { index < length (known_of self.old) }
-        requires in_force { IsInForce stamp 0 (word_at (known_of self.old) index) }
+        requires in_force { IsInForce stamp 0 (known_word self.old index) }
         requires last { stamp < LAST_STAMP }
         requires tick { when ≤ LAST_TICK }
-        ensures changed { IsChanged true stamp (λ d. live (stamp + 1) when) (word_at (known_of self.old) index) result (word_at (known_of self.new) index) }
-        ensures known { known_of self.new ≡ slice_set (known_of self.old) index (word_at (known_of self.new) index) }
+        ensures changed { IsChanged true stamp (λ d. live (stamp + 1) when)
+            (known_word self.old index) result (known_word self.new index) }
+        ensures known { known_of self.new
+            ≡ slice_set (known_of self.old) index (known_word self.new index) }
         ensures counts { counts_by self.new ≡ counts_by self.old }
         ensures home { self.new.table ≡ self.old.table }
         ensures step { KeeperRenews self.old.view index stamp when result self.new.view }
@@ -241,10 +252,12 @@ impl<A: Allocator> Words for Keeper<A> {
 
     fn finish(&mut self, index: usize, stamp: u32) -> Option<u64>
         requires in_range { index < length (known_of self.old) }
-        requires in_force { IsInForce stamp 0 (word_at (known_of self.old) index) }
+        requires in_force { IsInForce stamp 0 (known_word self.old index) }
         requires last { stamp ≤ LAST_STAMP }
-        ensures changed { IsChanged true stamp (removed stamp) (word_at (known_of self.old) index) result (word_at (known_of self.new) index) }
-        ensures known { known_of self.new ≡ slice_set (known_of self.old) index (word_at (known_of self.new) index) }
+        ensures changed { IsChanged true stamp (removed stamp)
+            (known_word self.old index) result (known_word self.new index) }
+        ensures known { known_of self.new
+            ≡ slice_set (known_of self.old) index (known_word self.new index) }
         ensures counts { counts_by self.new ≡ finished_counts (counts_by self.old) result }
         ensures home { self.new.table ≡ self.old.table }
         ensures step { KeeperFinishes self.old.view index stamp result self.new.view }

@@ -1,5 +1,7 @@
 //! What each step on the table tells the seat that makes it.
-ghost use Rattle.dq_words.specs.Plays.{Knowing, caller_loaded, keeper_loaded, extend_made, cancel_made, begin_made, exchange_made, settling, renewing, finishing, issuing, newcomer, give_back_made, return_loaded};
+ghost use Rattle.dq_words.specs.Plays.{Knowing, caller_loaded, keeper_loaded, extend_made};
+ghost use Rattle.dq_words.specs.Plays.{cancel_made, begin_made, exchange_made, settling, renewing};
+ghost use Rattle.dq_words.specs.Plays.{finishing, issuing, newcomer, give_back_made, return_loaded};
 
 use crate::views::View;
 use atomic_table::{Play, Split};

@@ -1,12 +1,14 @@
 //! A seat at a table of words. This module alone names a table, and each of its functions but the readers makes one step at
 //! most, of the kind that the seat records: so the keeper and its callers reach the words by these steps and by nothing else.
-ghost use Rattle.std.specs.Prelude.{◌≡◌, ◌+◌, ◌*◌, ◌<◌, ◌≤◌, length, true, false, slice_index, IfOk, IfErr};
+ghost use Rattle.std.specs.Prelude.{◌≡◌, ◌+◌, ◌*◌, ◌<◌, ◌≤◌, length, true, false, slice_index};
+ghost use Rattle.std.specs.Prelude.{IfOk, IfErr};
 ghost use Rattle.dq_ticks.specs.Word.{word, stamp_of, mark_of, field_of};
 ghost use Rattle.dq_words.specs.Counts.{most_begins, cancels_in};
 ghost use Rattle.dq_words.specs.Keeping.{IsFree, Knew};
-ghost use Rattle.dq_words.specs.Plays.{settling, renewing, finishing, issuing, newcomer, giving_back, CallerLoads, KeeperLoads, ReturnLoads, BeginStep, ExchangeStep, ExtendStep, CancelStep};
+ghost use Rattle.dq_words.specs.Plays.{settling, renewing, finishing, issuing, newcomer};
+ghost use Rattle.dq_words.specs.Plays.{giving_back, CallerLoads, KeeperLoads, ReturnLoads};
+ghost use Rattle.dq_words.specs.Plays.{BeginStep, ExchangeStep, ExtendStep, CancelStep, SeatGoesOn};
 ghost use Rattle.dq_words.specs.Rule.{first_keeper};
-ghost use Rattle.dq_words.specs.Seats.{SeatGoesOn};
 
 use crate::parts::ONE_CANCEL;
 use crate::plays::{
@@ -29,13 +31,16 @@ pub(crate) struct Seated<A: Allocator> {
 impl<A: Allocator> Model for Seated<A> {
     ghost use Rattle.std.specs.Arc.{arc_value};
     ghost use Rattle.dq_words.specs.Keeping.{Knew};
-    ghost use Rattle.dq_words.specs.Seats.{Sat, FitsTable};
+    ghost use Rattle.dq_words.specs.Plays.{FitsTable};
+    ghost use Rattle.dq_words.specs.Seats.{Sat};
 
     ghost Value = { Sat };
 
     ghost view = { λ s. record { table = s.seat.table_id; view = s.seat.me.0 } };
 
-    ghost invariant = { λ s. FitsTable s.seat.table_id (arc_value s.table).shared.table_id (arc_value s.table).shared.key s.rows s.seat.me.0 × Knew s.seat.me.0 };
+    ghost invariant = { λ s. FitsTable s.seat.table_id
+        (arc_value s.table).shared.table_id (arc_value s.table).shared.key s.rows s.seat.me.0
+        × Knew s.seat.me.0 };
 }
 
 impl<A: Allocator + Clone> Seated<A> {
@@ -96,7 +101,8 @@ impl<A: Allocator> Seated<A> {
         requires inside { index < length self.old.view.seen }
         requires keeper { self.old.view.keeps ≡ true }
         requires old { (0 < stamp_of old) × (mark_of old ≡ 0) }
-        requires new { (stamp_of new ≡ stamp_of old) × (mark_of new ≡ 2) × (field_of new ≡ field_of old) }
+        requires same { (stamp_of new ≡ stamp_of old) × (field_of new ≡ field_of old) }
+        requires expired { mark_of new ≡ 2 }
         ensures step { ExchangeStep settling self.old.view self.new.view index old new result }
         ensures table { self.new.table ≡ self.old.table }
         ensures seat { SeatGoesOn self.old.view self.new.view }
@@ -128,7 +134,8 @@ impl<A: Allocator> Seated<A> {
         requires inside { index < length self.old.view.seen }
         requires keeper { self.old.view.keeps ≡ true }
         requires old { (0 < stamp_of old) × (mark_of old ≡ 0) }
-        requires new { (stamp_of new ≡ stamp_of old) × (mark_of new ≡ 3) × (field_of new ≡ field_of old) }
+        requires same { (stamp_of new ≡ stamp_of old) × (field_of new ≡ field_of old) }
+        requires removed { mark_of new ≡ 3 }
         ensures step { ExchangeStep finishing self.old.view self.new.view index old new result }
         ensures table { self.new.table ≡ self.old.table }
         ensures seat { SeatGoesOn self.old.view self.new.view }
@@ -144,7 +151,9 @@ impl<A: Allocator> Seated<A> {
     pub(crate) fn issue(&mut self) -> Result<Seated<A>, AllocError>
         requires keeper { self.old.view.keeps ≡ true }
         requires few { self.old.view.issued < 1024 }
-        ensures issued { IfOk result (λ c. (c.view ≡ newcomer self.old.view) × (c.table ≡ self.old.table) × (self.new.view ≡ issuing self.old.view)) }
+        ensures newcomer { IfOk result (λ c. c.view ≡ newcomer self.old.view) }
+        ensures same_table { IfOk result (λ c. c.table ≡ self.old.table) }
+        ensures issued { IfOk result (λ _. self.new.view ≡ issuing self.old.view) }
         ensures refused { IfErr result (λ _. self.new.view ≡ self.old.view) }
         ensures table { self.new.table ≡ self.old.table }
     {

@@ -3,7 +3,7 @@ ghost use Rattle.std.specs.Prelude.{◌≡◌, ◌<◌, ◌≤◌, length, true,
 ghost use Rattle.dq_ticks.specs.declared.TheConstants.{LAST_TICK, LAST_STAMP};
 ghost use Rattle.dq_words.specs.KeeperCalls.{KeeperSettles, KeeperRenews, KeeperFinishes};
 ghost use Rattle.dq_words.specs.Keeping.{IsOpen, IsOpenFrom};
-ghost use Rattle.dq_words.specs.Seats.{SeatGoesOn};
+ghost use Rattle.dq_words.specs.Plays.{SeatGoesOn};
 
 use crate::parts::{expired_word, field, is_live, live_word, removed_word};
 use crate::seated::Seated;

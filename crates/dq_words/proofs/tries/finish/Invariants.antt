@@ -1,5 +1,5 @@
 use Rattle.std.proofs.Common.{◌≡◌, ◌-◌}
-use Rattle.dq_words.specs.Seats.{SeatGoesOn}
+use Rattle.dq_words.specs.Plays.{SeatGoesOn}
 use Rattle.dq_words.proofs.Trying.{Loaded}
 use Rattle.dq_words.proofs.tries.finish.Given as goal
 
