@@ -20,9 +20,9 @@ use Rattle.dq_words.specs.Seats.{Sat}
 abbrev pub word_seen : Sat → KeyName → ℕ
 word_seen c k = seen_at c.view k.entry.index
 
--- it is live at the key's stamp, and d is the deadline in force
+-- it is live at the key's stamp, and the tick d is the deadline in force
 abbrev pub SeesLive : Sat → KeyName → ℕ → Type 0
-SeesLive c k d = word_seen c k ≡ word k.stamp 0 d
+SeesLive c k d = (d ≤ LAST_TICK) × (word_seen c k ≡ word k.stamp 0 d)
 
 -- it is cancelled at the key's stamp
 abbrev pub SeesCancelled : Sat → KeyName → Type 0
@@ -36,11 +36,12 @@ SeesEntry c k how = (stamp_of (word_seen c k) ≡ k.stamp) × (how ≡ look_of (
 abbrev pub asked_for : Sat → KeyName → List ℕ
 asked_for c k = extends_at k.entry.index k.stamp c.view.calls
 
--- d is before no deadline that the caller was promised: none that it asked for, and none that it
--- saw in force
+-- The tick d is before no deadline that the caller was promised: none that it asked for, and none
+-- that it saw in force
 abbrev pub KeepsPromises : Sat → KeyName → ℕ → Type 0
 KeepsPromises c k d =
-    ((x : ℕ) → IsIn (asked_for c k) x → x ≤ d) × (word_seen c k ≤ word k.stamp 0 d)
+    (d ≤ LAST_TICK) × ((x : ℕ) → IsIn (asked_for c k) x → x ≤ d)
+    × (word_seen c k ≤ word k.stamp 0 d)
 
 -- no slot has the key, or the word that is then seen refuses it: it has an earlier stamp than the
 -- key, a later one, or the key's own and isn't live
