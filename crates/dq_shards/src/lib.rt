@@ -1,14 +1,19 @@
 //! Delay queues behind locks, one a shard, whose entries are extended and cancelled without them.
 #![tactic(auto)]
 
+mod callers;
 pub mod errors;
+pub mod locked;
 pub mod parked;
 mod poller;
+pub mod queue;
 mod readers;
 pub mod state;
 pub mod totals;
 
 pub use errors::{QueueConfig, QueueError};
+pub use locked::LockedShard;
 pub use parked::Parked;
+pub use queue::{SHARD_LIMIT, SharedDelayQueue};
 pub use state::ShardState;
 pub use totals::{HandlesOut, Totals};

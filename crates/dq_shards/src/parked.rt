@@ -1,5 +1,5 @@
 //! A poller that waits for a shard's next wake.
-ghost use Rattle.std.specs.Prelude.{◌≡◌};
+ghost use Rattle.std.specs.Prelude.{◌≡◌, None};
 ghost use Rattle.dq_shards.specs.Parking.{still_parked, after_ring, is_due};
 
 use futures::task::Waker;
@@ -13,18 +13,42 @@ pub struct Parked {
     pub waker: Waker,
 }
 
-// Takes the poller out and wakes it, where it stands parked against the parked law at this next wake.
-pub(crate) fn settle(parked: &mut Option<Parked>, wake: Option<u64>)
-    ensures { parked.new ≡ still_parked parked.old wake }
+// Takes the poller out and wakes its task.
+fn wake(parked: &mut Option<Parked>)
+    ensures { parked.new ≡ None }
+{
+    if let Some(poller) = parked.take() {
+        poller.waker.wake();
+    }
+}
+
+// Wakes the poller where it stands parked against the parked law at this next wake.
+pub(crate) fn settle(parked: &mut Option<Parked>, next_wake: Option<u64>)
+    ensures { parked.new ≡ still_parked parked.old next_wake }
 {
     let Some(poller) = parked else {
         return;
     };
-    let stays = match wake {
+    let stays = match next_wake {
         Some(wake) => poller.next <= wake,
         None => false,
     };
     if !stays {
-        *parked = None;
+        wake(parked);
     }
+}
+
+// Wakes the poller where it is parked at or before a tick, and answers whether it was.
+pub(crate) fn ring(parked: &mut Option<Parked>, tick: u64) -> bool
+    ensures is_due { result ≡ is_due parked.old tick }
+    ensures left { parked.new ≡ after_ring parked.old tick }
+{
+    let Some(poller) = parked else {
+        return false;
+    };
+    if poller.next > tick {
+        return false;
+    }
+    wake(parked);
+    true
 }

@@ -4,7 +4,7 @@ ghost use Rattle.dq_shards.specs.Parking.{poller};
 ghost use Rattle.dq_shards.specs.Shard.{IsParked};
 ghost use Rattle.dq_shards.specs.Changes.{Unparks, Rings};
 
-use crate::parked::Parked;
+use crate::parked::{Parked, ring};
 use crate::state::ShardState;
 use futures::task::Waker;
 use std::alloc::Allocator;
@@ -48,12 +48,6 @@ impl<T: Drop, A: Allocator> ShardState<T, A> {
     pub fn ring(&mut self, tick: u64) -> bool
         ensures { Rings self.old tick result self.new }
     {
-        match &self.parked {
-            Some(poller) if poller.next <= tick => {
-                self.parked = None;
-                true
-            }
-            _ => false,
-        }
+        ring(&mut self.parked, tick)
     }
 }
