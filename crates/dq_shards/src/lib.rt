@@ -2,6 +2,7 @@
 #![tactic(auto)]
 
 mod callers;
+mod calls;
 pub mod errors;
 pub mod locked;
 pub mod parked;

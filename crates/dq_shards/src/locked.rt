@@ -1,7 +1,7 @@
 //! A shard's state while its lock is held.
 ghost use Rattle.std.specs.Prelude.{◌≡◌, Some};
 ghost use Rattle.dq_shards.specs.Parking.{poller};
-ghost use Rattle.dq_shards.specs.Shard.{IsParked};
+ghost use Rattle.dq_shards.specs.Shard.{IsParked, IsShard};
 ghost use Rattle.dq_shards.specs.Changes.{ShardInserts, ShardResets, ShardRemoves, ShardDeadline, ShardPolls, ShardSweeps, ShardClears, Unparks, Rings, ShardIssues, ShardTells};
 
 use crate::state::ShardState;
@@ -43,6 +43,13 @@ impl<T, A: Allocator> Deref for LockedShard<'_, T, A> {
 }
 
 impl<'q, T: Drop, A: Allocator> LockedShard<'q, T, A> {
+    /// What every shard keeps.
+    pub fn law(&self)
+        ensures { IsShard self.now }
+    {
+        self.state.law();
+    }
+
     /// As [`ShardState::insert`].
     pub fn insert(&mut self, value: T, when: u64) -> Result<Key, (CoreError, T)>
         ensures { ShardInserts self.old value when result self.new }

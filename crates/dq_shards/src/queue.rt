@@ -1,7 +1,7 @@
 //! Shards behind locks.
-ghost use Rattle.std.specs.Prelude.{◌≡◌, ◌↔◌, ◌<◌, ◌≤◌, IsTrue, IsErrOf, IfOk, IfErr, vec_len};
+ghost use Rattle.std.specs.Prelude.{◌≡◌, ◌↔◌, ◌<◌, ◌≤◌, IsTrue, IfOk, IfErr, OnOk, vec_len};
 ghost use Rattle.std.specs.Fn.{FnOnceReturnsAtMut};
-ghost use Rattle.dq_shards.specs.declared.errors.QueueError.{QueueError};
+ghost use Rattle.dq_shards.specs.declared.errors.QueueError.TheVariants.{Unknown};
 ghost use Rattle.dq_shards.specs.Shard.{IsShard};
 ghost use Rattle.dq_shards.specs.Changes.{OnSome};
 ghost use Rattle.dq_shards.specs.Answers.{IsQueueConfig, QueueIsMade, IsNewShard};
@@ -114,22 +114,33 @@ impl<T, A: Allocator> SharedDelayQueue<T, A> {
     {
         self.shards.len()
     }
+}
 
+impl<T: Drop, A: Allocator> SharedDelayQueue<T, A> {
     /// The shard, with its lock held until the answer is dropped. Refused as Unknown exactly out of range.
     pub fn enter<R: Wait>(
         &self,
         rt: &R,
         shard: usize,
     ) -> Result<LockedShard<'_, T, A>, QueueError>
-        ensures unknown { IsErrOf result QueueError.Unknown ↔ (self.now ≤ shard) }
-        ensures no_other { IfErr result (λ e. e ≡ QueueError.Unknown) }
+        ensures entered { IfOk result (λ state. (shard < self.now) × IsShard state) }
+        ensures refused { IfErr result (λ e. (self.now ≤ shard) × (e ≡ Unknown)) }
     {
         if shard >= self.shards.len() {
             return Err(QueueError::Unknown);
         }
-        Ok(LockedShard {
+        Ok(self.lock(rt, shard))
+    }
+
+    pub(crate) fn lock<R: Wait>(&self, rt: &R, shard: usize) -> LockedShard<'_, T, A>
+        requires { shard < self.now }
+        ensures { IsShard result }
+    {
+        let locked = LockedShard {
             state: self.shards[shard].lock(rt),
-        })
+        };
+        locked.law();
+        locked
     }
 }
 
@@ -143,9 +154,9 @@ impl<T: Drop> SharedDelayQueue<T> {
         f: F,
     ) -> Result<O, QueueError>
         requires { F.IsAlwaysCallable f }
+        ensures lent { OnOk result (shard < self.now) }
         ensures answer { IfOk result (λ answer. OnSome (λ old r new. FnOnceReturnsAtMut F.FnOnce f old r new) answer) }
-        ensures unknown { IsErrOf result QueueError.Unknown ↔ (self.now ≤ shard) }
-        ensures no_other { IfErr result (λ e. e ≡ QueueError.Unknown) }
+        ensures refused { IfErr result (λ e. (self.now ≤ shard) × (e ≡ Unknown)) }
     {
         if shard >= self.shards.len() {
             return Err(QueueError::Unknown);
