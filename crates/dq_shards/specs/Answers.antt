@@ -28,8 +28,8 @@ QueueIsMade config (Err e) =
 abbrev pub IsNewShard : {T : Type 0} → QueueConfig → ℕ → ShardView T → Type 0
 IsNewShard config number s =
     (s.core.shard ≡ number)
-    × (length s.core.shelf.rows ≡ config.capacity)
-    × (s.core.shelf.last_stamp ≡ config.last_stamp)
+    × (length s.core.slots.rows ≡ config.capacity)
+    × (s.core.slots.last_stamp ≡ config.last_stamp)
     × (s.parked ≡ None)
 
 -- the same key in another shard

@@ -10,7 +10,7 @@ use Rattle.dq_core.specs.Sweeps.{Sweeps, Clears}
 use Rattle.dq_core.specs.Readers.{with_words}
 use Rattle.dq_words.specs.declared.views.View.{View}
 use Rattle.dq_words.specs.declared.keeper.WordsError.{WordsError}
-use Rattle.dq_words.specs.Desks.{Issues, Tells}
+use Rattle.dq_words.specs.KeeperCalls.{Issues, Tells}
 use Rattle.dq_shards.specs.Parking.{is_due, after_ring}
 use Rattle.dq_shards.specs.Shard.{ShardView, IsShard, Settles}
 

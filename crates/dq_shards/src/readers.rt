@@ -21,21 +21,21 @@ impl<T: Drop, A: Allocator> ShardState<T, A> {
 
     /// The number of linked entries.
     pub fn len(&self) -> usize
-        ensures { result ≡ count_by is_held self.now.core.shelf.rows }
+        ensures { result ≡ count_by is_held self.now.core.slots.rows }
     {
         self.core.len()
     }
 
     /// Whether nothing is linked.
     pub fn is_empty(&self) -> bool
-        ensures { IsTrue result ↔ (count_by is_held self.now.core.shelf.rows ≡ 0) }
+        ensures { IsTrue result ↔ (count_by is_held self.now.core.slots.rows ≡ 0) }
     {
         self.core.is_empty()
     }
 
     /// The number of slots.
     pub fn capacity(&self) -> usize
-        ensures { result ≡ length self.now.core.shelf.rows }
+        ensures { result ≡ length self.now.core.slots.rows }
     {
         self.core.capacity()
     }
