@@ -4,6 +4,7 @@
 mod callers;
 mod calls;
 pub mod errors;
+pub mod handle;
 pub mod locked;
 pub mod parked;
 mod poller;
@@ -13,6 +14,7 @@ pub mod state;
 pub mod totals;
 
 pub use errors::{QueueConfig, QueueError};
+pub use handle::Handle;
 pub use locked::LockedShard;
 pub use parked::Parked;
 pub use queue::{SHARD_LIMIT, SharedDelayQueue};

@@ -1,5 +1,5 @@
 //! Shards behind locks.
-ghost use Rattle.std.specs.Prelude.{◌≡◌, ◌↔◌, ◌<◌, ◌≤◌, IsTrue, IfOk, IfErr, OnOk, vec_len};
+ghost use Rattle.std.specs.Prelude.{◌≡◌, ◌↔◌, ◌<◌, ◌≤◌, IsTrue, IfOk, IfErr, OnOk, vec_len, vec_capacity};
 ghost use Rattle.std.specs.Fn.{FnOnceReturnsAtMut};
 ghost use Rattle.dq_shards.specs.declared.errors.QueueError.TheVariants.{Unknown};
 ghost use Rattle.dq_shards.specs.Shard.{IsShard};
@@ -11,7 +11,7 @@ use crate::locked::LockedShard;
 use crate::state::ShardState;
 use dq_core::{CoreConfig, CoreError, DelayCore};
 use dq_ticks::LAST_STAMP;
-use dq_words::{CAPACITY_LIMIT, Keeper};
+use dq_words::{CAPACITY_LIMIT, Caller, Keeper};
 use std::alloc::{AllocError, Allocator, Global};
 use std::marker::Model;
 use std::sync::{Mutex, Wait};
@@ -141,6 +141,15 @@ impl<T: Drop, A: Allocator> SharedDelayQueue<T, A> {
         };
         locked.law();
         locked
+    }
+}
+
+impl<T, A: Allocator + Clone> SharedDelayQueue<T, A> {
+    // Room for a caller of each shard.
+    pub(crate) fn room_for_callers(&self) -> Result<Vec<Caller<A>, A>, AllocError>
+        ensures { IfOk result (λ room. (vec_len room ≡ 0) × (self.now ≤ vec_capacity room)) }
+    {
+        Vec::with_capacity(self.shards.allocator().clone()?, self.shards.len())
     }
 }
 
