@@ -1,5 +1,5 @@
 -- The parked law stands where the words are known alike.
-use Rattle.std.proofs.Common.{◌≡◌, Option, Some, None, subst, sym}
+use Rattle.std.proofs.Common.{◌≡◌, Option, Some, None}
 use Rattle.dq_core.specs.Core.{Core}
 use Rattle.dq_core.specs.Readers.{with_words}
 use Rattle.dq_words.specs.declared.views.View.{View}

@@ -1,5 +1,5 @@
 -- What a queue of shards answers: of a shard behind its lock no more is known than what every shard keeps.
-use Rattle.std.specs.Prelude.{◌≡◌, ℕ, ◌<◌, ◌≤◌, ◌%◌, ◌⊎◌, Option, None, Result, Ok, Err, length}
+use Rattle.std.specs.Prelude.{◌≡◌, ℕ, ◌<◌, ◌≤◌, ◌%◌, ◌⊎◌, None, Result, Ok, Err, length}
 use Rattle.dq_ticks.specs.declared.TheConstants.{LAST_STAMP}
 use Rattle.dq_ticks.specs.declared.keys.Key.{Key}
 use Rattle.dq_core.specs.declared.errors.CoreError.{CoreError}
@@ -37,7 +37,7 @@ abbrev pub in_shard : Key → ℕ → Key
 in_shard k shard =
     record {
       entry = record { shard = shard; index = k.entry.index; born = k.entry.born };
-      stamp = k.stamp
+      stamp = k.stamp;
     }
 
 module _ {T : Type 0} where

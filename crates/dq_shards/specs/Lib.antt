@@ -1,5 +1,6 @@
 pub mod Answers
 pub mod Changes
+pub mod Endings
 pub mod Handles
 pub mod Issuing
 pub mod Parking

@@ -1,5 +1,5 @@
 -- When a parked poller stays parked.
-use Rattle.std.specs.Prelude.{◌≡◌, ℕ, ◌≤◌, nat_le, if◌then◌else◌, Bool, true, false, Option, Some, None}
+use Rattle.std.specs.Prelude.{ℕ, nat_le, if◌then◌else◌, Bool, false, Option, Some, None}
 use Rattle.futures.specs.declared.task.waker.Waker.{Waker}
 use Rattle.dq_shards.specs.declared.parked.Parked.{Parked}
 

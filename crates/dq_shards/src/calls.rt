@@ -17,7 +17,10 @@ fn to_shard(key: Key, shard: u32) -> Key
     ensures { result ≡ in_shard key shard }
 {
     let entry = key.entry();
-    Key::new(EntryId::new(shard, entry.index(), entry.born()), key.stamp())
+    Key::new(
+        EntryId::new(shard, entry.index(), entry.born()),
+        key.stamp(),
+    )
 }
 
 impl<T: Drop, A: Allocator> SharedDelayQueue<T, A> {

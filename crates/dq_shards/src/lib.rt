@@ -3,6 +3,7 @@
 
 mod callers;
 mod calls;
+pub mod endings;
 pub mod errors;
 pub mod handle;
 pub mod locked;

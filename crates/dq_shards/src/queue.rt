@@ -118,11 +118,7 @@ impl<T, A: Allocator> SharedDelayQueue<T, A> {
 
 impl<T: Drop, A: Allocator> SharedDelayQueue<T, A> {
     /// The shard, with its lock held until the answer is dropped. Refused as Unknown exactly out of range.
-    pub fn enter<R: Wait>(
-        &self,
-        rt: &R,
-        shard: usize,
-    ) -> Result<LockedShard<'_, T, A>, QueueError>
+    pub fn enter<R: Wait>(&self, rt: &R, shard: usize) -> Result<LockedShard<'_, T, A>, QueueError>
         ensures entered { IfOk result (λ state. (shard < self.now) × IsShard state) }
         ensures refused { IfErr result (λ e. (self.now ≤ shard) × (e ≡ Unknown)) }
     {

@@ -1,4 +1,4 @@
-use Rattle.std.proofs.Common.{ap, arith, ◌≡◌, ◌+◌}
+use Rattle.std.proofs.Common.{arith, ◌≡◌, ◌+◌}
 use Rattle.dq_words.specs.Counts.{cancels_in}
 use Rattle.dq_shards.specs.Handles.{all_cancels}
 use Rattle.dq_shards.proofs.Summing.{total_append}

@@ -1,4 +1,4 @@
-use Rattle.std.proofs.Common.{◌≡◌, ◌≤◌, ◌+◌, ◌*◌, ◌-◌, length}
+use Rattle.std.proofs.Common.{◌≡◌, ◌≤◌, ◌+◌, ◌*◌}
 use Rattle.std.specs.Prelude.{vec_len}
 use Rattle.dq_words.specs.Counts.{most_begins}
 use Rattle.dq_shards.specs.Handles.{all_cancels}

@@ -1,5 +1,5 @@
-use Rattle.std.proofs.Common.{◌≡◌, ◌≤◌, ◌+◌, ◌*◌, length, drop}
-use Rattle.dq_words.specs.Counts.{cancels_in, most_begins}
+use Rattle.std.proofs.Common.{◌≡◌, ◌≤◌, ◌+◌, ◌*◌, drop}
+use Rattle.dq_words.specs.Counts.{most_begins}
 use Rattle.dq_shards.specs.Handles.{all_cancels}
 use Rattle.dq_shards.proofs.handle.Handle.cancels.Given as goal
 
