@@ -24,7 +24,8 @@ fn to_shard(key: Key, shard: u32) -> Key
 }
 
 impl<T: Drop, A: Allocator> SharedDelayQueue<T, A> {
-    /// As [`dq_core::DelayCore::insert`], in the shard `route` modulo the number of shards.
+    /// Puts an entry into the shard `route` modulo the number of shards, as [`ShardState::insert`] does, and answers its key
+    /// there. Refused as TooFar and as Full; the value comes back then.
     pub fn insert<R: Wait>(
         &self,
         rt: &R,
@@ -44,9 +45,10 @@ impl<T: Drop, A: Allocator> SharedDelayQueue<T, A> {
         }
     }
 
-    /// As [`dq_core::DelayCore::reset`].
+    /// As [`ShardState::reset`], and refused as Unknown for a shard out of range, before all else.
     pub fn reset<R: Wait>(&self, rt: &R, entry: &EntryId, when: u64) -> Result<Key, QueueError>
-        ensures { OnShardOr {T = T} self.now entry.now.shard (λ old r new. ShardResets old entry.now when r new) result }
+        ensures { OnShardOr {T = T} self.now entry.now.shard
+            (λ old r new. ShardResets old entry.now when r new) result }
     {
         let mut shard = self.enter(rt, entry.shard() as usize)?;
         let answer = shard.reset(entry, when);
@@ -57,9 +59,10 @@ impl<T: Drop, A: Allocator> SharedDelayQueue<T, A> {
         }
     }
 
-    /// As [`dq_core::DelayCore::remove`].
+    /// As [`ShardState::remove`], and refused as Unknown for a shard out of range, before all else.
     pub fn remove<R: Wait>(&self, rt: &R, entry: &EntryId) -> Result<Removed<T>, QueueError>
-        ensures { OnShardOr {T = T} self.now entry.now.shard (λ old r new. ShardRemoves old entry.now r new) result }
+        ensures { OnShardOr {T = T} self.now entry.now.shard
+            (λ old r new. ShardRemoves old entry.now r new) result }
     {
         let mut shard = self.enter(rt, entry.shard() as usize)?;
         let answer = shard.remove(entry);
@@ -70,9 +73,10 @@ impl<T: Drop, A: Allocator> SharedDelayQueue<T, A> {
         }
     }
 
-    /// As [`dq_core::DelayCore::deadline`].
+    /// As [`ShardState::deadline`], and refused as Unknown for a shard out of range, before all else.
     pub fn deadline<R: Wait>(&self, rt: &R, entry: &EntryId) -> Result<u64, QueueError>
-        ensures { OnShardOr {T = T} self.now entry.now.shard (λ old r new. ShardDeadline old entry.now r new) result }
+        ensures { OnShardOr {T = T} self.now entry.now.shard
+            (λ old r new. ShardDeadline old entry.now r new) result }
     {
         let mut shard = self.enter(rt, entry.shard() as usize)?;
         let answer = shard.deadline(entry);
@@ -83,9 +87,27 @@ impl<T: Drop, A: Allocator> SharedDelayQueue<T, A> {
         }
     }
 
-    /// As [`dq_core::DelayCore::poll`].
+    /// As [`ShardState::poll`], and refused as Unknown for a shard out of range, before all else.
+    ///
+    /// Each call takes the shard's lock. Whoever wants many entries out polls in a loop under one lock, by
+    /// [`SharedDelayQueue::lend`]:
+    ///
+    /// ```ignore
+    /// let out = queue.lend(&rt, shard, |state| {
+    ///     let mut out = 0;
+    ///     for _ in 0..state.len() {
+    ///         let Ok(Turn::Out(expired)) = state.poll(tick) else {
+    ///             break;
+    ///         };
+    ///         deliver(expired.value);
+    ///         out += 1;
+    ///     }
+    ///     out
+    /// })?;
+    /// ```
     pub fn poll<R: Wait>(&self, rt: &R, shard: usize, tick: u64) -> Result<Turn<T>, QueueError>
-        ensures { OnShardOr {T = T} self.now shard (λ old r new. ShardPolls old tick r new) result }
+        ensures { OnShardOr {T = T} self.now shard
+            (λ old r new. ShardPolls old tick r new) result }
     {
         let mut shard = self.enter(rt, shard)?;
         let answer = shard.poll(tick);
@@ -96,17 +118,19 @@ impl<T: Drop, A: Allocator> SharedDelayQueue<T, A> {
         }
     }
 
-    /// As [`dq_core::DelayCore::next_wake`].
+    /// As [`ShardState::next_wake`]. Refused as Unknown for a shard out of range.
     pub fn next_wake<R: Wait>(&self, rt: &R, shard: usize) -> Result<Option<u64>, QueueError>
-        ensures { OnShard {T = T} self.now shard (λ old r new. TellsWake new.core r × (new ≡ old)) result }
+        ensures { OnShard {T = T} self.now shard
+            (λ old r new. TellsWake new.core r × (new ≡ old)) result }
     {
         let shard = self.enter(rt, shard)?;
         Ok(shard.next_wake())
     }
 
-    /// As [`dq_core::DelayCore::sweep`].
+    /// As [`ShardState::sweep`]. Refused as Unknown for a shard out of range.
     pub fn sweep<R: Wait>(&self, rt: &R, shard: usize) -> Result<usize, QueueError>
-        ensures { OnShard {T = T} self.now shard (λ old r new. ShardSweeps old r new) result }
+        ensures { OnShard {T = T} self.now shard
+            (λ old r new. ShardSweeps old r new) result }
     {
         let mut shard = self.enter(rt, shard)?;
         let reaped = shard.sweep();
@@ -114,9 +138,10 @@ impl<T: Drop, A: Allocator> SharedDelayQueue<T, A> {
         Ok(reaped)
     }
 
-    /// As [`dq_core::DelayCore::clear`].
+    /// As [`ShardState::clear`]. Refused as Unknown for a shard out of range.
     pub fn clear<R: Wait>(&self, rt: &R, shard: usize) -> Result<usize, QueueError>
-        ensures { OnShard {T = T} self.now shard (λ old r new. ShardClears old r new) result }
+        ensures { OnShard {T = T} self.now shard
+            (λ old r new. ShardClears old r new) result }
     {
         let mut shard = self.enter(rt, shard)?;
         let removed = shard.clear();
@@ -124,17 +149,20 @@ impl<T: Drop, A: Allocator> SharedDelayQueue<T, A> {
         Ok(removed)
     }
 
-    /// As [`dq_core::DelayCore::tally`].
+    /// As [`ShardState::tally`]. Refused as Unknown for a shard out of range.
     pub fn tally<R: Wait>(&self, rt: &R, shard: usize) -> Result<Tally, QueueError>
-        ensures { OnShard {T = T} self.now shard (λ old r new. IsTally new.core r × (new ≡ old)) result }
+        ensures { OnShard {T = T} self.now shard
+            (λ old r new. IsTally new.core r × (new ≡ old)) result }
     {
         let shard = self.enter(rt, shard)?;
         Ok(shard.tally())
     }
 
-    /// Takes out and wakes a poller that is parked at or before `tick`. True where there was one.
+    /// Takes out and wakes a poller that is parked at or before `tick`. True where there was one. Refused as Unknown for a
+    /// shard out of range.
     pub fn ring<R: Wait>(&self, rt: &R, shard: usize, tick: u64) -> Result<bool, QueueError>
-        ensures { OnShard {T = T} self.now shard (λ old r new. Rings old tick r new) result }
+        ensures { OnShard {T = T} self.now shard
+            (λ old r new. Rings old tick r new) result }
     {
         let mut shard = self.enter(rt, shard)?;
         let rung = shard.ring(tick);
@@ -142,9 +170,10 @@ impl<T: Drop, A: Allocator> SharedDelayQueue<T, A> {
         Ok(rung)
     }
 
-    /// The tick at which a poller is parked.
+    /// The tick until which a poller is parked. Refused as Unknown for a shard out of range.
     pub fn parked<R: Wait>(&self, rt: &R, shard: usize) -> Result<Option<u64>, QueueError>
-        ensures { OnShard {T = T} self.now shard (λ old r new. (r ≡ option_map (λ p. p.next) old.parked) × (new ≡ old)) result }
+        ensures { OnShard {T = T} self.now shard
+            (λ old r new. (r ≡ option_map (λ p. p.next) old.parked) × (new ≡ old)) result }
     {
         let shard = self.enter(rt, shard)?;
         Ok(shard.parked())

@@ -11,7 +11,7 @@ use std::alloc::Allocator;
 use std::mem;
 
 impl<T: Drop, A: Allocator> ShardState<T, A> {
-    /// The tick at which a poller is parked.
+    /// The tick until which a poller is parked; none where none is.
     pub fn parked(&self) -> Option<u64>
         ensures { result ≡ option_map (λ p. p.next) self.now.parked }
     {
@@ -21,7 +21,8 @@ impl<T: Drop, A: Allocator> ShardState<T, A> {
         }
     }
 
-    /// Parks a poller until `next`. One that was parked before is not woken.
+    /// Parks a poller until the tick `next`, which is not after the next wake. It takes the place of one that was parked
+    /// before, which is not woken.
     pub fn park(&mut self, next: u64, waker: Waker)
         requires { IsParked self.old.core (Some (poller next waker)) }
         ensures { self.new ≡ record self.old { parked = Some (poller next waker) } }

@@ -160,7 +160,8 @@ impl<T: Drop> SharedDelayQueue<T> {
     ) -> Result<O, QueueError>
         requires { F.IsAlwaysCallable f }
         ensures lent { OnOk result (shard < self.now) }
-        ensures answer { IfOk result (λ answer. OnSome (λ old r new. FnOnceReturnsAtMut F.FnOnce f old r new) answer) }
+        ensures answer { IfOk result
+            (λ answer. OnSome (λ old r new. FnOnceReturnsAtMut F.FnOnce f old r new) answer) }
         ensures refused { IfErr result (λ e. (self.now ≤ shard) × (e ≡ Unknown)) }
     {
         if shard >= self.shards.len() {

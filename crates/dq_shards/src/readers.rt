@@ -12,14 +12,14 @@ use dq_wheel::Place;
 use std::alloc::Allocator;
 
 impl<T: Drop, A: Allocator> ShardState<T, A> {
-    /// As [`dq_core::DelayCore::next_wake`].
+    /// The next wake: the tick at which the queue has something to do, none where nothing is linked.
     pub fn next_wake(&self) -> Option<u64>
         ensures { TellsWake self.now.core result }
     {
         self.core.next_wake()
     }
 
-    /// The number of linked entries.
+    /// The number of linked entries, live or cancelled and not yet reaped.
     pub fn len(&self) -> usize
         ensures { result ≡ count_by is_held self.now.core.slots.rows }
     {
@@ -40,7 +40,7 @@ impl<T: Drop, A: Allocator> ShardState<T, A> {
         self.core.capacity()
     }
 
-    /// The wheel's tick.
+    /// The wheel's tick, which is not after the noted one.
     pub fn tick(&self) -> u64
         ensures { result ≡ self.now.core.wheel.filing.tick }
     {
@@ -54,28 +54,28 @@ impl<T: Drop, A: Allocator> ShardState<T, A> {
         self.core.noted()
     }
 
-    /// As [`dq_core::DelayCore::tally`].
+    /// How many entries came and went. Its `cancelled` counts those that were reaped.
     pub fn tally(&self) -> Tally
         ensures { IsTally self.now.core result }
     {
         self.core.tally()
     }
 
-    /// As [`dq_core::DelayCore::peek`].
+    /// A linked entry that is filed least, possibly a cancelled one; none where nothing is linked.
     pub fn peek(&self) -> Option<Key>
         ensures { TellsLeast self.now.core result }
     {
         self.core.peek()
     }
 
-    /// As [`dq_core::DelayCore::place`].
+    /// Where an entry's index stands in the wheel; none where the entry is missing.
     pub fn place(&self, entry: &EntryId) -> Option<Place>
         ensures { TellsPlace self.now.core entry.now result }
     {
         self.core.place(entry)
     }
 
-    /// As [`dq_core::DelayCore::filed`].
+    /// The tick by which an entry is filed; none where the entry is missing.
     pub fn filed(&self, entry: &EntryId) -> Option<u64>
         ensures { TellsFiled self.now.core entry.now result }
     {

@@ -45,7 +45,9 @@ impl<T: Drop, A: Allocator> ShardState<T, A> {
         self.core.law();
     }
 
-    /// As [`DelayCore::insert`].
+    /// Puts an entry in that is live until `when`, a tick of one millisecond, or until the wheel's tick where `when` lies
+    /// before it, and answers its key. Constant time. Refused as TooFar beyond the last tick, and else as Full where no slot
+    /// is free; the value comes back then.
     pub fn insert(&mut self, value: T, when: u64) -> Result<Key, (CoreError, T)>
         ensures { ShardInserts self.old value when result self.new }
     {
@@ -54,7 +56,9 @@ impl<T: Drop, A: Allocator> ShardState<T, A> {
         answer
     }
 
-    /// As [`DelayCore::reset`].
+    /// Gives a live entry another deadline, earlier or later, but not before the wheel's tick, and its slot's next stamp:
+    /// the keys from before are stale for callers. Answers the new key. Constant time. Refused as TooFar beyond the last
+    /// tick, then as Missing, as WasCancelled, and as Worn where the slot has no stamp left.
     pub fn reset(&mut self, entry: &EntryId, when: u64) -> Result<Key, CoreError>
         ensures { ShardResets self.old entry.now when result self.new }
     {
@@ -63,7 +67,8 @@ impl<T: Drop, A: Allocator> ShardState<T, A> {
         answer
     }
 
-    /// As [`DelayCore::remove`].
+    /// Takes a live entry out, with its key, its deadline in force and its value. Constant time. Refused as Missing where no
+    /// entry is linked with that shard, index and birth stamp, and as WasCancelled where a caller cancelled it.
     pub fn remove(&mut self, entry: &EntryId) -> Result<Removed<T>, CoreError>
         ensures { ShardRemoves self.old entry.now result self.new }
     {
@@ -72,14 +77,17 @@ impl<T: Drop, A: Allocator> ShardState<T, A> {
         answer
     }
 
-    /// As [`DelayCore::deadline`].
+    /// The deadline in force of a live entry, a tick of one millisecond, by one look at its word. Refused as `remove` is. The
+    /// poller stays.
     pub fn deadline(&mut self, entry: &EntryId) -> Result<u64, CoreError>
         ensures { ShardDeadline self.old entry.now result self.new }
     {
         self.core.deadline(entry)
     }
 
-    /// As [`DelayCore::poll`].
+    /// Notes a tick of one millisecond, and takes out one entry whose deadline in force is reached by the greatest tick
+    /// noted: call again until the answer is Waiting (nothing is due; `next` is the next tick at which there is something to
+    /// do) or Idle (nothing is linked). Refused as TickTooLarge beyond the last tick, which is not noted then.
     pub fn poll(&mut self, tick: u64) -> Result<Turn<T>, CoreError>
         ensures { ShardPolls self.old tick result self.new }
     {
@@ -88,7 +96,7 @@ impl<T: Drop, A: Allocator> ShardState<T, A> {
         answer
     }
 
-    /// As [`DelayCore::sweep`].
+    /// Reaps each linked entry that is found cancelled, and answers how many. It looks at every slot.
     pub fn sweep(&mut self) -> usize
         ensures { ShardSweeps self.old result self.new }
     {
@@ -97,7 +105,8 @@ impl<T: Drop, A: Allocator> ShardState<T, A> {
         reaped
     }
 
-    /// As [`DelayCore::clear`].
+    /// Ends every linked entry, and drops its value: each live one as removed, and those that were cancelled are reaped. It
+    /// answers how many it ended as removed, and goes over every slot. No poller is left parked.
     pub fn clear(&mut self) -> usize
         ensures { ShardClears self.old result self.new }
     {
