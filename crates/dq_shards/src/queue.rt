@@ -164,14 +164,9 @@ impl<T: Drop> SharedDelayQueue<T> {
             (λ answer. OnSome (λ old r new. FnOnceReturnsAtMut F.FnOnce f old r new) answer) }
         ensures refused { IfErr result (λ e. (self.now ≤ shard) × (e ≡ Unknown)) }
     {
-        if shard >= self.shards.len() {
-            return Err(QueueError::Unknown);
-        }
-        let mut guard = self.shards[shard].lock(rt);
-        let state = &mut *guard;
-        state.law();
-        let answer = f(state);
-        state.law();
+        let mut locked = self.enter(rt, shard)?;
+        let answer = f(&mut locked.state);
+        locked.law();
         Ok(answer)
     }
 }
