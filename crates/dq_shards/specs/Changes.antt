@@ -8,16 +8,21 @@ use Rattle.dq_core.specs.declared.outcomes.Turn.{Turn}
 use Rattle.dq_core.specs.Calls.{SameCore, Inserts, Resets, Removes, Polls, TellsDeadline}
 use Rattle.dq_core.specs.Sweeps.{Sweeps, Clears}
 use Rattle.dq_core.specs.Readers.{with_words}
-use Rattle.dq_words.specs.declared.views.View.{View}
+use Rattle.dq_words.specs.Seats.{Sat}
 use Rattle.dq_words.specs.declared.keeper.WordsError.{WordsError}
 use Rattle.dq_words.specs.KeeperCalls.{Issues, Tells}
 use Rattle.dq_shards.specs.Parking.{is_due, after_ring}
 use Rattle.dq_shards.specs.Shard.{ShardView, IsShard, Settles}
 
 module _ {T : Type 0} where
+  -- the keeper sits at the same table
+  abbrev pub SameTable : ShardView T → ShardView T → Type 0
+  SameTable old new = new.core.words.table ≡ old.core.words.table
+
   -- a call of the queue, after which the poller is settled
   abbrev pub Changes : ShardView T → ShardView T → Type 0
-  Changes old new = SameCore old.core new.core × Settles new.core old.parked new.parked
+  Changes old new =
+      SameCore old.core new.core × SameTable old new × Settles new.core old.parked new.parked
 
   abbrev pub ShardInserts : ShardView T → T → ℕ → Result Key (CoreError × T) → ShardView T → Type 0
   ShardInserts old value when result new =
@@ -43,7 +48,7 @@ module _ {T : Type 0} where
   abbrev pub ShardDeadline : ShardView T → EntryId → Result ℕ CoreError → ShardView T → Type 0
   ShardDeadline old id result new =
       TellsDeadline true old.core id result new.core
-      × SameCore old.core new.core
+      × SameCore old.core new.core × SameTable old new
       × (new.parked ≡ old.parked)
 
   -- unpark answers whether a poller was parked, and leaves none
@@ -58,11 +63,11 @@ module _ {T : Type 0} where
       × (new ≡ record old { parked = after_ring old.parked tick })
 
   -- the shard with other words that are known alike
-  abbrev pub with_keeper : ShardView T → View → ShardView T
+  abbrev pub with_keeper : ShardView T → Sat → ShardView T
   with_keeper s w = record { core = with_words s.core w; parked = s.parked }
 
   -- one caller more, or its refusal
-  abbrev pub ShardIssues : ShardView T → Result View WordsError → ShardView T → Type 0
+  abbrev pub ShardIssues : ShardView T → Result Sat WordsError → ShardView T → Type 0
   ShardIssues old result new =
       Issues old.core.words result new.core.words × (new ≡ with_keeper old new.core.words)
 

@@ -6,19 +6,21 @@ use Rattle.dq_core.specs.declared.words.CallError.{CallError}
 use Rattle.dq_core.specs.declared.words.CallError.TheVariants.{TooFar, Unknown}
 use Rattle.dq_core.specs.declared.words.Look.{Look}
 use Rattle.dq_words.specs.declared.views.View.{View}
+use Rattle.dq_words.specs.Seats.{Sat}
 use Rattle.dq_words.specs.Counts.{cancels_in}
 use Rattle.dq_words.specs.CallerCalls.{CallerExtends, CallerCancels, CallerLooks}
 use Rattle.dq_shards.specs.Sums.{total_of}
 
 -- a handle as what its callers know, by their shards
 abbrev pub Callers : Type 0
-Callers = List View
+Callers = List Sat
 
--- the caller of one shard goes from what it knew to what it knows now, and the others stay
+-- the caller of one shard goes from what it knew to what it knows now, at the table where it sits,
+-- and the others stay
 abbrev pub OfShard : Callers → ℕ → (View → View → Type 0) → Callers → Type 0
 OfShard old shard goes new =
-    (v : View) × (w : View) × (slice_get old shard ≡ Some v) × goes v w
-    × (new ≡ slice_set old shard w)
+    (v : Sat) × (w : Sat) × (slice_get old shard ≡ Some v) × goes v.view w.view
+    × (w.table ≡ v.table) × (new ≡ slice_set old shard w)
 
 -- the shard is out of range, and nothing changed
 abbrev pub OutOfRange : Callers → ℕ → Callers → Type 0
@@ -50,4 +52,4 @@ HandleLooks old k result new =
 
 -- the accepted cancels of all callers
 abbrev pub all_cancels : Callers → ℕ
-all_cancels vs = total_of (λ (v : View). cancels_in v.calls) vs
+all_cancels vs = total_of (λ (v : Sat). cancels_in v.view.calls) vs

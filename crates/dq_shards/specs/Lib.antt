@@ -1,4 +1,5 @@
 pub mod Answers
+pub mod Audits
 pub mod Changes
 pub mod Endings
 pub mod Handles

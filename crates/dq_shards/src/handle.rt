@@ -93,7 +93,7 @@ impl<A: Allocator> Handle<A> {
 
 // The accepted cancels of a caller, which are few.
 fn cancels_of<A: Allocator>(caller: &Caller<A>) -> u64
-    ensures value { result ≡ cancels_in caller.now.calls }
+    ensures value { result ≡ cancels_in caller.now.view.calls }
     ensures few { result ≤ most_begins }
 {
     caller.law();

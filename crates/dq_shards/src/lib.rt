@@ -1,6 +1,7 @@
 //! Delay queues behind locks, one a shard, whose entries are extended and cancelled without them.
 #![tactic(auto)]
 
+mod audit;
 mod callers;
 mod calls;
 pub mod endings;

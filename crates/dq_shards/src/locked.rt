@@ -2,9 +2,11 @@
 ghost use Rattle.std.specs.Prelude.{◌≡◌, Some};
 ghost use Rattle.dq_shards.specs.Parking.{poller};
 ghost use Rattle.dq_shards.specs.Shard.{IsParked, IsShard};
+ghost use Rattle.dq_shards.specs.Audits.{ShardAudits};
 ghost use Rattle.dq_shards.specs.Changes.{ShardInserts, ShardResets, ShardRemoves, ShardDeadline, ShardPolls, ShardSweeps, ShardClears, Unparks, Rings, ShardIssues, ShardTells};
 
 use crate::state::ShardState;
+use crate::totals::{HandlesOut, Totals};
 use dq_core::{CoreError, Removed, Turn};
 use dq_ticks::{EntryId, Key};
 use dq_words::{Caller, WordsError};
@@ -133,5 +135,11 @@ impl<'q, T: Drop, A: Allocator> LockedShard<'q, T, A> {
         ensures { ShardTells self.old result self.new }
     {
         self.state.out()
+    }
+    /// As [`ShardState::audit`].
+    pub fn audit(&mut self) -> Result<Totals, HandlesOut>
+        ensures { ShardAudits self.old result self.new }
+    {
+        self.state.audit()
     }
 }
