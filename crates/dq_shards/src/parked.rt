@@ -22,8 +22,8 @@ fn wake(parked: &mut Option<Parked>)
     }
 }
 
-// Wakes the poller where it stands parked against the parked law at this next wake.
-pub(crate) fn settle(parked: &mut Option<Parked>, next_wake: Option<u64>)
+// Wakes the poller unless the tick that it waits for is at or before this next wake.
+pub(crate) fn keep_until(parked: &mut Option<Parked>, next_wake: Option<u64>)
     ensures { parked.new ≡ still_parked parked.old next_wake }
 {
     let Some(poller) = parked else {

@@ -1,4 +1,4 @@
-use Rattle.std.proofs.Common.{refl}
+use Rattle.std.proofs.Common.{refl, ap}
 use Rattle.dq_shards.proofs.Parking.{parked_still}
 use Rattle.dq_shards.proofs.Auditing.{audited, refused}
 use Rattle.dq_shards.proofs.state.ShardState.audit.Goals as goal
@@ -6,7 +6,7 @@ use Rattle.dq_shards.proofs.state.ShardState.audit.Goals.{in-Ok, in-Err}
 
 pub invariant_of-self : goal.invariant_of-self
 invariant_of-self g c =
-    parked_still c.self.inside.core _ _ c.returned.ensures.same c.self.invariant
+    parked_still c.self.inside.core c.returned.new.self _ (ap (λ k. k.wheel) c.returned.ensures.same) c.self.invariant
 
 pub returns : goal.returns
 returns g c =
