@@ -1,5 +1,5 @@
 -- The numbers of an audit.
-use Rattle.std.proofs.Common.{◌≡◌, ℕ, zero, suc, ◌+◌, ◌*◌, ◌<◌, ◌≤◌, List, [], ◌∷◌, Option, Ok, Err, length, get_or, sym, ap, ◌∙◌, arith}
+use Rattle.std.proofs.Common.{◌≡◌, ℕ, zero, suc, ◌+◌, ◌*◌, ◌<◌, ◌≤◌, List, [], ◌∷◌, Option, Result, Ok, Err, IfOk, length, get_or, sym, ap, ◌∙◌, arith}
 use Rattle.std.specs.List.{AllByRecursion}
 use mathlib.Core.Option.{some, some-injective, some-ne-none}
 use lib.ListN.{get_elem?}
@@ -76,6 +76,10 @@ module _ {T : Type 0} (b n : Core T Sat) (p : Option Parked) where
   pub refused : (out : ℕ) (e : HandlesOut) → e ≡ record { out = out } → Returns b.words (Err out) n.words
       → n ≡ with_words b n.words → ShardAudits (over b) (Err e) (over n)
   refused out e is returned same = rw is (returned, same_shard same)
+
+pub few_told : {T : Type 0} (old new : ShardView T) (r : Result Totals HandlesOut) → ShardAudits old r new → IfOk r (λ t. FewInserted t)
+few_told old new (Ok t) told = told.0.3
+few_told old new (Err e) told = tt
 
 -- the totals of n shards
 abbrev pub SumsOf : (T : Type 0) → ℕ → Totals → Type 0

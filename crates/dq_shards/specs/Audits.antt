@@ -9,7 +9,7 @@ use Rattle.dq_words.specs.KeeperCalls.{Returns}
 use Rattle.dq_shards.specs.declared.totals.Totals.{Totals}
 use Rattle.dq_shards.specs.declared.totals.HandlesOut.{HandlesOut}
 use Rattle.dq_shards.specs.Shard.{ShardView, keeper_of}
-use Rattle.dq_shards.specs.Changes.{with_keeper, OnSome}
+use Rattle.dq_shards.specs.Changes.{OnlyKeeperGoesOn, OnSome}
 use Rattle.dq_shards.specs.Endings.{InEveryTable}
 use Rattle.dq_shards.specs.Sums.{total_of}
 
@@ -57,7 +57,7 @@ Audited old (Err e) new = Returns old.core.words (Err e.out) new.core.words
 
 -- the same, and nothing changed but what the keeper knows of the return word
 abbrev pub ShardAudits : {T : Type 0} → ShardView T → Result Totals HandlesOut → ShardView T → Type 0
-ShardAudits old result new = Audited old result new × (new ≡ with_keeper old new.core.words)
+ShardAudits old result new = Audited old result new × OnlyKeeperGoesOn old new
 
 -- the sum of two totals
 pub record IsSum (one other t : Totals) : Type 0 where

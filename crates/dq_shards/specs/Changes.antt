@@ -66,15 +66,19 @@ module _ {T : Type 0} where
   abbrev pub with_keeper : ShardView T → Sat → ShardView T
   with_keeper s w = record { core = with_words s.core w; parked = s.parked }
 
+  -- nothing changes but what the keeper knows, by a step that tells nothing of the entries
+  abbrev pub OnlyKeeperGoesOn : ShardView T → ShardView T → Type 0
+  OnlyKeeperGoesOn old new = new ≡ with_keeper old new.core.words
+
   -- one caller more, or its refusal
   abbrev pub ShardIssues : ShardView T → Result Sat WordsError → ShardView T → Type 0
   ShardIssues old result new =
-      Issues old.core.words result new.core.words × (new ≡ with_keeper old new.core.words)
+      Issues old.core.words result new.core.words × OnlyKeeperGoesOn old new
 
   -- how many callers are out
   abbrev pub ShardTells : ShardView T → ℕ → ShardView T → Type 0
   ShardTells old out new =
-      Tells old.core.words out new.core.words × (new ≡ with_keeper old new.core.words)
+      Tells old.core.words out new.core.words × OnlyKeeperGoesOn old new
 
   -- a call gives an answer on some state that every shard may have
   abbrev pub OnSome : {R : Type 0} → (ShardView T → R → ShardView T → Type 0) → R → Type 0

@@ -1,8 +1,10 @@
 //! The totals of all shards.
-ghost use Rattle.std.specs.Prelude.{◌<◌, ◌≤◌, ◌*◌};
+ghost use Rattle.std.specs.Prelude.{◌<◌, ◌≤◌, ◌*◌, IfOk, IfErr};
 ghost use Rattle.dq_words.specs.Counts.{most_begins};
-ghost use Rattle.dq_shards.specs.Changes.{OnSome};
-ghost use Rattle.dq_shards.specs.Audits.{AddUp, FewInserted, IsSum, EndsAreBegun, AreTotalsOf, ShardAudits, QueueAudits};
+ghost use Rattle.dq_shards.specs.Changes.{OnSome, OnlyKeeperGoesOn};
+ghost use Rattle.dq_shards.specs.Shard.{keeper_of};
+ghost use Rattle.dq_shards.specs.Audits.{AddUp, FewInserted, IsSum, IsTotals};
+ghost use Rattle.dq_shards.specs.Audits.{EndsAreBegun, AreTotalsOf, ShardAudits, QueueAudits};
 
 use crate::queue::SharedDelayQueue;
 use crate::state::ShardState;
@@ -51,7 +53,17 @@ impl<T: Drop, A: Allocator> ShardState<T, A> {
     /// The totals, where every caller is given back: what was inserted is what expired, was removed, was cancelled (reaped
     /// or not) and is live. Refused with the number of callers that are out.
     pub fn audit(&mut self) -> Result<Totals, HandlesOut>
-        ensures { ShardAudits self.old result self.new }
+        // All that was ever inserted is accounted for, by what the true words say.
+        ensures adds_up { IfOk result (λ t. AddUp t) }
+        ensures totals { IfOk result (λ t. IsTotals (keeper_of self.new) t) }
+        ensures few { IfOk result (λ t. FewInserted t) }
+
+        // Else some callers are out. The queue and the poller stay.
+        ensures out { IfErr result (λ e. 0 < e.out) }
+        ensures stays { OnlyKeeperGoesOn self.old self.new }
+
+        // All that it does.
+        ensures audits { ShardAudits self.old result self.new }
     {
         let tally = self.core.tally();
         match self.core.returned() {
@@ -78,7 +90,12 @@ impl<T: Drop, A: Allocator> SharedDelayQueue<T, A> {
     ///
     /// A handle that was dropped and not given back is out for good: then no audit tells totals any more.
     pub fn audit<R: Wait>(&self, rt: &R) -> Result<Totals, HandlesOut>
-        ensures { QueueAudits T self.now result }
+        // All that was ever inserted is accounted for, or some callers are out.
+        ensures adds_up { IfOk result (λ t. AddUp t) }
+        ensures out { IfErr result (λ e. 0 < e.out) }
+
+        // All that it answers.
+        ensures audits { QueueAudits T self.now result }
     {
         let mut sums = NOTHING;
         for shard in 0..self.shards() {

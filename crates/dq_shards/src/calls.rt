@@ -1,9 +1,13 @@
 //! The calls of a queue of shards by name: each takes one shard's lock and makes the state's call.
-ghost use Rattle.std.specs.Prelude.{◌≡◌, option_map};
+ghost use Rattle.std.specs.Prelude.{◌≡◌, ◌%◌, ◌<◌, ◌≤◌, ◌↔◌, option_map, IfOk, IfErr, IsErrOf, IsErrAnd};
+ghost use Rattle.dq_ticks.specs.declared.TheConstants.{LAST_TICK};
+ghost use Rattle.dq_core.specs.declared.errors.CoreError.TheVariants.{TooFar};
+ghost use Rattle.dq_shards.specs.declared.errors.QueueError.TheVariants.{Core, Unknown};
 ghost use Rattle.dq_core.specs.Calls.{TellsWake};
 ghost use Rattle.dq_core.specs.Readers.{IsTally};
 ghost use Rattle.dq_shards.specs.Answers.{in_shard, OnShard, OnShardOr, QueueInserts};
-ghost use Rattle.dq_shards.specs.Changes.{ShardResets, ShardRemoves, ShardDeadline, ShardPolls, ShardSweeps, ShardClears, Rings};
+ghost use Rattle.dq_shards.specs.Changes.{ShardResets, ShardRemoves, ShardDeadline};
+ghost use Rattle.dq_shards.specs.Changes.{ShardPolls, ShardSweeps, ShardClears, Rings};
 
 use crate::errors::QueueError;
 use crate::queue::SharedDelayQueue;
@@ -33,7 +37,14 @@ impl<T: Drop, A: Allocator> SharedDelayQueue<T, A> {
         value: T,
         when: u64,
     ) -> Result<Key, (QueueError, T)>
-        ensures { QueueInserts self.now route value when result }
+        // The key is in the shard of the route. Refused, the value comes back; as too far exactly
+        // beyond the last tick.
+        ensures shard { IfOk result (λ k. k.entry.shard ≡ route % self.now) }
+        ensures back { IfErr result (λ e. e.1 ≡ value) }
+        ensures too_far { IsErrAnd result (λ e. e.0 ≡ Core (TooFar LAST_TICK)) ↔ (LAST_TICK < when) }
+
+        // All that it answers.
+        ensures inserts { QueueInserts self.now route value when result }
     {
         let shard = route % self.shards() as u64;
         let mut state = self.lock(rt, shard as usize);
@@ -47,7 +58,8 @@ impl<T: Drop, A: Allocator> SharedDelayQueue<T, A> {
 
     /// As [`ShardState::reset`], and refused as Unknown for a shard out of range, before all else.
     pub fn reset<R: Wait>(&self, rt: &R, entry: &EntryId, when: u64) -> Result<Key, QueueError>
-        ensures { OnShardOr {T = T} self.now entry.now.shard
+        ensures unknown { IsErrOf result Unknown ↔ (self.now ≤ entry.now.shard) }
+        ensures answers { OnShardOr {T = T} self.now entry.now.shard
             (λ old r new. ShardResets old entry.now when r new) result }
     {
         let mut shard = self.enter(rt, entry.shard() as usize)?;
@@ -61,7 +73,8 @@ impl<T: Drop, A: Allocator> SharedDelayQueue<T, A> {
 
     /// As [`ShardState::remove`], and refused as Unknown for a shard out of range, before all else.
     pub fn remove<R: Wait>(&self, rt: &R, entry: &EntryId) -> Result<Removed<T>, QueueError>
-        ensures { OnShardOr {T = T} self.now entry.now.shard
+        ensures unknown { IsErrOf result Unknown ↔ (self.now ≤ entry.now.shard) }
+        ensures answers { OnShardOr {T = T} self.now entry.now.shard
             (λ old r new. ShardRemoves old entry.now r new) result }
     {
         let mut shard = self.enter(rt, entry.shard() as usize)?;
@@ -75,7 +88,8 @@ impl<T: Drop, A: Allocator> SharedDelayQueue<T, A> {
 
     /// As [`ShardState::deadline`], and refused as Unknown for a shard out of range, before all else.
     pub fn deadline<R: Wait>(&self, rt: &R, entry: &EntryId) -> Result<u64, QueueError>
-        ensures { OnShardOr {T = T} self.now entry.now.shard
+        ensures unknown { IsErrOf result Unknown ↔ (self.now ≤ entry.now.shard) }
+        ensures answers { OnShardOr {T = T} self.now entry.now.shard
             (λ old r new. ShardDeadline old entry.now r new) result }
     {
         let mut shard = self.enter(rt, entry.shard() as usize)?;
@@ -106,7 +120,8 @@ impl<T: Drop, A: Allocator> SharedDelayQueue<T, A> {
     /// })?;
     /// ```
     pub fn poll<R: Wait>(&self, rt: &R, shard: usize, tick: u64) -> Result<Turn<T>, QueueError>
-        ensures { OnShardOr {T = T} self.now shard
+        ensures unknown { IsErrOf result Unknown ↔ (self.now ≤ shard) }
+        ensures answers { OnShardOr {T = T} self.now shard
             (λ old r new. ShardPolls old tick r new) result }
     {
         let mut shard = self.enter(rt, shard)?;
@@ -120,7 +135,8 @@ impl<T: Drop, A: Allocator> SharedDelayQueue<T, A> {
 
     /// As [`ShardState::next_wake`]. Refused as Unknown for a shard out of range.
     pub fn next_wake<R: Wait>(&self, rt: &R, shard: usize) -> Result<Option<u64>, QueueError>
-        ensures { OnShard {T = T} self.now shard
+        ensures unknown { IsErrOf result Unknown ↔ (self.now ≤ shard) }
+        ensures answers { OnShard {T = T} self.now shard
             (λ old r new. TellsWake new.core r × (new ≡ old)) result }
     {
         let shard = self.enter(rt, shard)?;
@@ -129,7 +145,8 @@ impl<T: Drop, A: Allocator> SharedDelayQueue<T, A> {
 
     /// As [`ShardState::sweep`]. Refused as Unknown for a shard out of range.
     pub fn sweep<R: Wait>(&self, rt: &R, shard: usize) -> Result<usize, QueueError>
-        ensures { OnShard {T = T} self.now shard
+        ensures unknown { IsErrOf result Unknown ↔ (self.now ≤ shard) }
+        ensures answers { OnShard {T = T} self.now shard
             (λ old r new. ShardSweeps old r new) result }
     {
         let mut shard = self.enter(rt, shard)?;
@@ -140,7 +157,8 @@ impl<T: Drop, A: Allocator> SharedDelayQueue<T, A> {
 
     /// As [`ShardState::clear`]. Refused as Unknown for a shard out of range.
     pub fn clear<R: Wait>(&self, rt: &R, shard: usize) -> Result<usize, QueueError>
-        ensures { OnShard {T = T} self.now shard
+        ensures unknown { IsErrOf result Unknown ↔ (self.now ≤ shard) }
+        ensures answers { OnShard {T = T} self.now shard
             (λ old r new. ShardClears old r new) result }
     {
         let mut shard = self.enter(rt, shard)?;
@@ -151,7 +169,8 @@ impl<T: Drop, A: Allocator> SharedDelayQueue<T, A> {
 
     /// As [`ShardState::tally`]. Refused as Unknown for a shard out of range.
     pub fn tally<R: Wait>(&self, rt: &R, shard: usize) -> Result<Tally, QueueError>
-        ensures { OnShard {T = T} self.now shard
+        ensures unknown { IsErrOf result Unknown ↔ (self.now ≤ shard) }
+        ensures answers { OnShard {T = T} self.now shard
             (λ old r new. IsTally new.core r × (new ≡ old)) result }
     {
         let shard = self.enter(rt, shard)?;
@@ -161,7 +180,8 @@ impl<T: Drop, A: Allocator> SharedDelayQueue<T, A> {
     /// Takes out and wakes a poller that is parked at or before `tick`. True where there was one. Refused as Unknown for a
     /// shard out of range.
     pub fn ring<R: Wait>(&self, rt: &R, shard: usize, tick: u64) -> Result<bool, QueueError>
-        ensures { OnShard {T = T} self.now shard
+        ensures unknown { IsErrOf result Unknown ↔ (self.now ≤ shard) }
+        ensures answers { OnShard {T = T} self.now shard
             (λ old r new. Rings old tick r new) result }
     {
         let mut shard = self.enter(rt, shard)?;
@@ -172,7 +192,8 @@ impl<T: Drop, A: Allocator> SharedDelayQueue<T, A> {
 
     /// The tick until which a poller is parked. Refused as Unknown for a shard out of range.
     pub fn parked<R: Wait>(&self, rt: &R, shard: usize) -> Result<Option<u64>, QueueError>
-        ensures { OnShard {T = T} self.now shard
+        ensures unknown { IsErrOf result Unknown ↔ (self.now ≤ shard) }
+        ensures answers { OnShard {T = T} self.now shard
             (λ old r new. (r ≡ option_map (λ p. p.next) old.parked) × (new ≡ old)) result }
     {
         let shard = self.enter(rt, shard)?;

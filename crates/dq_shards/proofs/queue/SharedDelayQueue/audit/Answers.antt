@@ -2,8 +2,8 @@ use Rattle.std.proofs.lemmas.Result.{err_from_is_err_and}
 use Rattle.dq_shards.proofs.Auditing.{one_more}
 use Rattle.dq_shards.proofs.queue.SharedDelayQueue.audit.Goals as goal
 
-pub returns-in_err-audit_of : goal.returns-in_err-audit_of
-returns-in_err-audit_of g c =
+pub returns-in_err-audit_of-clause-audits : goal.returns-in_err-audit_of-clause-audits
+returns-in_err-audit_of-clause-audits g c =
     let refused = err_from_is_err_and c.from_residual.result c.from_residual.ensures.1 in
     rw (refused.1, refused.2) c.in_err-audit_of.ensures
 

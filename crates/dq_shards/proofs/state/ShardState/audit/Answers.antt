@@ -1,6 +1,6 @@
 use Rattle.std.proofs.Common.{refl, ap}
 use Rattle.dq_shards.proofs.Parking.{parked_still}
-use Rattle.dq_shards.proofs.Auditing.{audited, refused}
+use Rattle.dq_shards.proofs.Auditing.{audited, refused, few_told}
 use Rattle.dq_shards.proofs.state.ShardState.audit.Goals as goal
 use Rattle.dq_shards.proofs.state.ShardState.audit.Goals.{in-Ok, in-Err}
 
@@ -8,8 +8,8 @@ pub invariant_of-self : goal.invariant_of-self
 invariant_of-self g c =
     parked_still c.self.inside.core c.returned.new.self _ (ap (λ k. k.wheel) c.returned.ensures.same) c.self.invariant
 
-pub returns : goal.returns
-returns g c =
+pub returns-clause-audits : goal.returns-clause-audits
+returns-clause-audits g c =
     let b = c.self.inside.core in
     let n = c.returned.new.self in
     let p = c.self.inside.parked in
@@ -21,3 +21,8 @@ returns g c =
       | in-Err w ↦ rw (← c.self.view_is, w.result-is)
           (refused b n p w.in-Err.out _ refl w.in-Err.ensures.returned heard.same)
     ]
+
+pub returns-clause-few : goal.returns-clause-few
+returns-clause-few g c =
+    few_told c.args.self.now (record { core = c.returned.new.self; parked = c.self.inside.parked }) c.match-returned.result
+    (returns-clause-audits g c)
