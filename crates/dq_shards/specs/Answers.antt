@@ -1,9 +1,11 @@
--- What a queue of shards answers: of a shard behind its lock no more is known than what every shard keeps.
+-- What a queue of shards answers: of a shard behind its lock no more is known than what every shard
+-- keeps.
 use Rattle.std.specs.Prelude.{◌≡◌, ℕ, ◌<◌, ◌≤◌, ◌%◌, ◌⊎◌, None, Result, Ok, Err, length}
-use Rattle.dq_ticks.specs.declared.TheConstants.{LAST_STAMP}
+use Rattle.dq_ticks.specs.declared.TheConstants.{CAPACITY_LIMIT, LAST_STAMP}
 use Rattle.dq_ticks.specs.declared.keys.Key.{Key}
 use Rattle.dq_core.specs.declared.errors.CoreError.{CoreError}
 use Rattle.dq_core.specs.declared.errors.CoreError.TheVariants.{BadConfig, NoMemory}
+use Rattle.dq_shards.specs.declared.errors.TheConstants.{SHARD_LIMIT}
 use Rattle.dq_shards.specs.declared.errors.QueueConfig.{QueueConfig}
 use Rattle.dq_shards.specs.declared.errors.QueueError.{QueueError}
 use Rattle.dq_shards.specs.declared.errors.QueueError.TheVariants.{Core, Unknown, TooManyHandles}
@@ -13,8 +15,8 @@ use Rattle.dq_shards.specs.Changes.{OnSome, ShardInserts}
 -- the numbers of a configuration are in their ranges
 abbrev pub IsQueueConfig : QueueConfig → Type 0
 IsQueueConfig c =
-    (0 < c.shards) × (c.shards ≤ 64)
-    × (0 < c.capacity) × (c.capacity ≤ 65536)
+    (0 < c.shards) × (c.shards ≤ SHARD_LIMIT)
+    × (0 < c.capacity) × (c.capacity ≤ CAPACITY_LIMIT)
     × (0 < c.last_stamp) × (c.last_stamp ≤ LAST_STAMP)
 
 -- a queue is made exactly where they are, but where memory is refused

@@ -4,7 +4,8 @@ use Rattle.std.specs.List.{AllByRecursion}
 use Rattle.atomic_table.specs.Table.{State}
 use Rattle.dq_core.specs.declared.outcomes.Tally.{Tally}
 use Rattle.dq_words.specs.declared.views.View.{View}
-use Rattle.dq_words.specs.Counts.{begins_in, expiries_in, removals_in, total, goes, own_cancels, lives, below, most_begins}
+use Rattle.dq_words.specs.Counts.{begins_in, expiries_in, removals_in, total, goes, own_cancels}
+use Rattle.dq_words.specs.Counts.{lives, below, most_begins}
 use Rattle.dq_words.specs.KeeperCalls.{Returns}
 use Rattle.dq_shards.specs.declared.totals.Totals.{Totals}
 use Rattle.dq_shards.specs.declared.totals.HandlesOut.{HandlesOut}
@@ -56,7 +57,8 @@ Audited old (Ok t) new =
 Audited old (Err e) new = Returns old.core.words (Err e.out) new.core.words
 
 -- the same, and nothing changed but what the keeper knows of the return word
-abbrev pub ShardAudits : {T : Type 0} → ShardView T → Result Totals HandlesOut → ShardView T → Type 0
+abbrev pub ShardAudits :
+    {T : Type 0} → ShardView T → Result Totals HandlesOut → ShardView T → Type 0
 ShardAudits old result new = Audited old result new × OnlyKeeperGoesOn old new
 
 -- the sum of two totals

@@ -32,7 +32,8 @@ module _ {T : Type 0} where
   ShardResets old id when result new =
       Resets true old.core id when result new.core × Changes old new
 
-  abbrev pub ShardRemoves : ShardView T → EntryId → Result (Removed T) CoreError → ShardView T → Type 0
+  abbrev pub ShardRemoves :
+      ShardView T → EntryId → Result (Removed T) CoreError → ShardView T → Type 0
   ShardRemoves old id result new = Removes true old.core id result new.core × Changes old new
 
   abbrev pub ShardPolls : ShardView T → ℕ → Result (Turn T) CoreError → ShardView T → Type 0

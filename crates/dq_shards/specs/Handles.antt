@@ -1,5 +1,6 @@
 -- What a handle's calls answer. A handle is seen as what its callers know, one for each shard.
-use Rattle.std.specs.Prelude.{◌≡◌, ℕ, ◌<◌, ◌≤◌, ◌⊎◌, Some, List, Result, Err, length, slice_get, slice_set}
+use Rattle.std.specs.Prelude.{◌≡◌, ℕ, ◌<◌, ◌≤◌, ◌⊎◌, Some, List, Result, Err, length, slice_get}
+use Rattle.std.specs.Prelude.{slice_set}
 use Rattle.dq_ticks.specs.declared.TheConstants.{LAST_TICK}
 use Rattle.dq_ticks.specs.Keys.{KeyName}
 use Rattle.dq_core.specs.declared.words.CallError.{CallError}

@@ -19,7 +19,7 @@ pub record ShardView (T : Type 0) : Type 0 where
 abbrev pub keeper_of : {T : Type 0} → ShardView T → View
 keeper_of s = s.core.words.view
 
--- the parked law: where a poller is parked there is a next wake, and the parked tick is not after it
+-- the parked law: where a poller is parked there is a next wake, and the parked tick isn't after it
 abbrev pub IsParked : {T : Type 0} → Core T Sat → Option Parked → Type 0
 IsParked c None = Unit {0}
 IsParked c (Some p) = (wake : ℕ) × TellsWake c (Some wake) × (p.next ≤ wake)

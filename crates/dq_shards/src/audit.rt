@@ -1,6 +1,7 @@
 //! The totals of all shards.
 ghost use Rattle.std.specs.Prelude.{◌<◌, ◌≤◌, ◌*◌, IfOk, IfErr};
 ghost use Rattle.dq_words.specs.Counts.{most_begins};
+ghost use Rattle.dq_shards.specs.declared.errors.TheConstants.{SHARD_LIMIT};
 ghost use Rattle.dq_shards.specs.Changes.{OnSome, OnlyKeeperGoesOn};
 ghost use Rattle.dq_shards.specs.Shard.{keeper_of};
 ghost use Rattle.dq_shards.specs.Audits.{AddUp, FewInserted, IsSum, IsTotals};
@@ -23,7 +24,7 @@ const NOTHING: Totals = Totals {
 
 fn sum(one: &Totals, other: &Totals) -> Totals
     requires sums { AddUp one.now × AddUp other.now }
-    requires few { (one.now.inserted ≤ 64 * most_begins) × FewInserted other.now }
+    requires few { (one.now.inserted ≤ SHARD_LIMIT * most_begins) × FewInserted other.now }
     ensures { IsSum one.now other.now result }
 {
     Totals {
@@ -50,8 +51,8 @@ fn totals_of(tally: &Tally, cancelled: u64) -> Totals
 }
 
 impl<T: Drop, A: Allocator> ShardState<T, A> {
-    /// The totals, where every caller is given back: what was inserted is what expired, was removed, was cancelled (reaped
-    /// or not) and is live. Refused with the number of callers that are out.
+    /// The totals, where every caller is given back: what was inserted is what expired, was removed, was cancelled
+    /// (reaped or not) and is live. Refused with the number of callers that are out.
     pub fn audit(&mut self) -> Result<Totals, HandlesOut>
         // All that was ever inserted is accounted for, by what the true words say.
         ensures adds_up { IfOk result (λ t. AddUp t) }
@@ -85,8 +86,8 @@ impl<T: Drop, A: Allocator> SharedDelayQueue<T, A> {
         audited
     }
 
-    /// The totals of all shards, each taken under its own lock, where every caller of every handle is given back. Refused
-    /// with the number that is out by the first shard that has one.
+    /// The totals of all shards, each taken under its own lock, where every caller of every handle is given back.
+    /// Refused with the number that is out by the first shard that has one.
     ///
     /// A handle that was dropped and not given back is out for good: then no audit tells totals any more.
     pub fn audit<R: Wait>(&self, rt: &R) -> Result<Totals, HandlesOut>

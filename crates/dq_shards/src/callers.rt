@@ -9,8 +9,8 @@ use dq_words::{Caller, WordsError};
 use std::alloc::Allocator;
 
 impl<T: Drop, A: Allocator> ShardState<T, A> {
-    /// One caller more of this shard's words, which may go to any thread. Refused as TooManyHandles where 1,024 callers were
-    /// issued, given back or not, and as NoMemory.
+    /// One caller more of this shard's words, which may go to any thread. Refused as TooManyHandles where 1,024
+    /// callers were issued, given back or not, and as NoMemory.
     pub fn issue(&mut self) -> Result<Caller<A>, WordsError>
         // One more, which sits at the table of this shard's keeper and knows nothing yet.
         ensures counted { OnOk result

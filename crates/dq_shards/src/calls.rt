@@ -28,8 +28,8 @@ fn to_shard(key: Key, shard: u32) -> Key
 }
 
 impl<T: Drop, A: Allocator> SharedDelayQueue<T, A> {
-    /// Puts an entry into the shard `route` modulo the number of shards, as [`ShardState::insert`] does, and answers its key
-    /// there. Refused as TooFar and as Full; the value comes back then.
+    /// Puts an entry into the shard `route` modulo the number of shards, as [`ShardState::insert`] does, and answers
+    /// its key there. Refused as TooFar and as Full; the value comes back then.
     pub fn insert<R: Wait>(
         &self,
         rt: &R,
@@ -41,7 +41,8 @@ impl<T: Drop, A: Allocator> SharedDelayQueue<T, A> {
         // beyond the last tick.
         ensures shard { IfOk result (λ k. k.entry.shard ≡ route % self.now) }
         ensures back { IfErr result (λ e. e.1 ≡ value) }
-        ensures too_far { IsErrAnd result (λ e. e.0 ≡ Core (TooFar LAST_TICK)) ↔ (LAST_TICK < when) }
+        ensures too_far { IsErrAnd result (λ e. e.0 ≡ Core (TooFar LAST_TICK))
+            ↔ (LAST_TICK < when) }
 
         // All that it answers.
         ensures inserts { QueueInserts self.now route value when result }
@@ -177,8 +178,8 @@ impl<T: Drop, A: Allocator> SharedDelayQueue<T, A> {
         Ok(shard.tally())
     }
 
-    /// Takes out and wakes a poller that is parked at or before `tick`. True where there was one. Refused as Unknown for a
-    /// shard out of range.
+    /// Takes out and wakes a poller that is parked at or before `tick`. True where there was one. Refused as Unknown
+    /// for a shard out of range.
     pub fn ring<R: Wait>(&self, rt: &R, shard: usize, tick: u64) -> Result<bool, QueueError>
         ensures unknown { IsErrOf result Unknown ↔ (self.now ≤ shard) }
         ensures answers { OnShard {T = T} self.now shard

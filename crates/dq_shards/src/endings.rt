@@ -1,5 +1,5 @@
-//! The headline of the shards: each inserted entry ends exactly once or is still queued, and expires only at its deadline
-//! in force, at a tick already noted.
+//! The headline of the shards: each inserted entry ends exactly once or is still queued, and expires only at its
+//! deadline in force, at a tick already noted.
 ghost use Rattle.dq_words.specs.declared.views.View.{View};
 ghost use Rattle.dq_shards.specs.Endings.{OutsAreInForce, EveryEntryEndsOnce, InsertsAreGiven};
 

@@ -6,21 +6,25 @@ use dq_core::CoreError;
 use dq_ticks::LAST_STAMP;
 use thiserror::Error;
 
+/// The most shards of a queue.
+pub const SHARD_LIMIT: usize = 64;
+
 /// What a queue of shards is made by.
 #[derive(Clone, Copy, Debug, PartialEq, Eq)]
 pub struct QueueConfig {
-    /// The number of shards, from 1 to 64.
+    /// The number of shards, from 1 to [`SHARD_LIMIT`].
     pub shards: usize,
-    /// The number of slots of each shard, from 1 to 65536.
+    /// The number of slots of each shard, from 1 to [`dq_ticks::CAPACITY_LIMIT`].
     pub capacity: usize,
-    /// The stamp after which a slot is worn, from 1 to the last stamp of a word.
+    /// The stamp after which a slot is worn, from 1 to [`LAST_STAMP`].
     pub last_stamp: u32,
 }
 
 impl QueueConfig {
     /// So many shards of that capacity, whose slots are worn as late as may be.
     pub const fn of(shards: usize, capacity: usize) -> QueueConfig
-        ensures { result ≡ record { shards = shards; capacity = capacity; last_stamp = LAST_STAMP } }
+        ensures { result
+            ≡ record { shards = shards; capacity = capacity; last_stamp = LAST_STAMP } }
     {
         QueueConfig {
             shards,

@@ -2,6 +2,7 @@
 ghost use Rattle.std.specs.Prelude.{◌≡◌, ◌≢◌, ◌≤◌, ◌<◌, vec_len};
 ghost use Rattle.dq_words.specs.Counts.{cancels_in, most_begins};
 ghost use Rattle.dq_words.specs.declared.keeper.WordsError.TheVariants.{BadConfig};
+ghost use Rattle.dq_shards.specs.declared.errors.TheConstants.{SHARD_LIMIT};
 ghost use Rattle.dq_shards.specs.Changes.{OnSome, ShardIssues};
 ghost use Rattle.dq_shards.specs.Handles.{HandleExtends, HandleCancels, HandleLooks, all_cancels};
 ghost use Rattle.dq_shards.specs.Issuing.{QueueHandles, IsHandleRefused};
@@ -15,8 +16,8 @@ use std::alloc::{AllocError, Allocator, Global};
 use std::marker::Model;
 use std::sync::Wait;
 
-/// Extends and cancels entries of a queue of shards, and looks at them, from any thread. It has one caller for each shard.
-/// Its calls take no lock and no memory, and wait for nobody.
+/// Extends and cancels entries of a queue of shards, and looks at them, from any thread. It has one caller for each
+/// shard. Its calls take no lock and no memory, and wait for nobody.
 ///
 /// A handle that is dropped counts as out for good.
 #[derive(Drop)]
@@ -26,13 +27,14 @@ pub struct Handle<A: Allocator = Global> {
 
 impl<A: Allocator> Model for Handle<A> {
     ghost use Rattle.std.specs.Prelude.{◌≤◌, length};
+    ghost use Rattle.dq_shards.specs.declared.errors.TheConstants.{SHARD_LIMIT};
     ghost use Rattle.dq_shards.specs.Handles.{Callers};
 
     ghost Value = { Callers };
 
     ghost view = { λ h. h.callers.items };
 
-    ghost invariant = { λ h. length h.callers.items ≤ 64 };
+    ghost invariant = { λ h. length h.callers.items ≤ SHARD_LIMIT };
 }
 
 impl<A: Allocator> Handle<A> {
@@ -102,7 +104,7 @@ fn cancels_of<A: Allocator>(caller: &Caller<A>) -> u64
 
 // Gives back callers, and answers the number of their accepted cancels.
 fn give_back_all<A: Allocator>(mut callers: Vec<Caller<A>, A>) -> u64
-    requires { vec_len callers ≤ 64 }
+    requires { vec_len callers ≤ SHARD_LIMIT }
     ensures { result ≡ all_cancels callers.items }
 {
     let mut cancels = 0;
@@ -139,9 +141,9 @@ impl<T: Drop, A: Allocator> SharedDelayQueue<T, A> {
 }
 
 impl<T: Drop, A: Allocator + Clone + Drop> SharedDelayQueue<T, A> {
-    /// A handle, with a caller of each shard, each issued under that shard's lock. Refused as TooManyHandles where a shard
-    /// has issued as many as it may, and as NoMemory; the callers that were issued before are given back then, but stay
-    /// counted.
+    /// A handle, with a caller of each shard, each issued under that shard's lock. Refused as TooManyHandles where a
+    /// shard has issued as many as it may, and as NoMemory; the callers that were issued before are given back then,
+    /// but stay counted.
     pub fn handle<R: Wait>(&self, rt: &R) -> Result<Handle<A>, QueueError>
         ensures { QueueHandles T self.now result }
     {

@@ -15,10 +15,10 @@ mod readers;
 pub mod state;
 pub mod totals;
 
-pub use errors::{QueueConfig, QueueError};
+pub use errors::{QueueConfig, QueueError, SHARD_LIMIT};
 pub use handle::Handle;
 pub use locked::LockedShard;
 pub use parked::Parked;
-pub use queue::{SHARD_LIMIT, SharedDelayQueue};
+pub use queue::SharedDelayQueue;
 pub use state::ShardState;
 pub use totals::{HandlesOut, Totals};

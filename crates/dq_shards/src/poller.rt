@@ -21,8 +21,8 @@ impl<T: Drop, A: Allocator> ShardState<T, A> {
         }
     }
 
-    /// Parks a poller until the tick `next`, which is not after the next wake. It takes the place of one that was parked
-    /// before, which is not woken.
+    /// Parks a poller until the tick `next`, which is not after the next wake. It takes the place of one that was
+    /// parked before, which is not woken.
     pub fn park(&mut self, next: u64, waker: Waker)
         requires { IsParked self.old.core (Some (poller next waker)) }
         ensures { self.new ≡ record self.old { parked = Some (poller next waker) } }

@@ -1,23 +1,21 @@
 //! Shards behind locks.
 ghost use Rattle.std.specs.Prelude.{◌≡◌, ◌↔◌, ◌<◌, ◌≤◌, IsTrue, IfOk, IfErr, OnOk, vec_len, vec_capacity};
 ghost use Rattle.std.specs.Fn.{FnOnceReturnsAtMut};
+ghost use Rattle.dq_shards.specs.declared.errors.TheConstants.{SHARD_LIMIT};
 ghost use Rattle.dq_shards.specs.declared.errors.QueueError.TheVariants.{Unknown};
 ghost use Rattle.dq_shards.specs.Shard.{IsShard};
 ghost use Rattle.dq_shards.specs.Changes.{OnSome};
 ghost use Rattle.dq_shards.specs.Answers.{IsQueueConfig, QueueIsMade, IsNewShard};
 
-use crate::errors::{QueueConfig, QueueError};
+use crate::errors::{QueueConfig, QueueError, SHARD_LIMIT};
 use crate::locked::LockedShard;
 use crate::state::ShardState;
 use dq_core::{CoreConfig, CoreError, DelayCore};
-use dq_ticks::LAST_STAMP;
-use dq_words::{CAPACITY_LIMIT, Caller, Keeper};
+use dq_ticks::{CAPACITY_LIMIT, LAST_STAMP};
+use dq_words::{Caller, Keeper};
 use std::alloc::{AllocError, Allocator, Global};
 use std::marker::Model;
 use std::sync::{Mutex, Wait};
-
-/// The most shards of a queue.
-pub const SHARD_LIMIT: usize = 64;
 
 /// A delay queue in shards, each behind a lock of its own, so that many threads may fill and poll it. To a contract it
 /// is the number of its shards.
@@ -31,12 +29,13 @@ pub struct SharedDelayQueue<T, A: Allocator = Global> {
 
 impl<T, A: Allocator> Model for SharedDelayQueue<T, A> {
     ghost use Rattle.std.specs.Prelude.{ℕ, ◌<◌, ◌≤◌, vec_len};
+    ghost use Rattle.dq_shards.specs.declared.errors.TheConstants.{SHARD_LIMIT};
 
     ghost Value = { ℕ };
 
     ghost view = { λ q. vec_len q.shards };
 
-    ghost invariant = { λ q. (0 < vec_len q.shards) × (vec_len q.shards ≤ 64) };
+    ghost invariant = { λ q. (0 < vec_len q.shards) × (vec_len q.shards ≤ SHARD_LIMIT) };
 }
 
 fn is_config(config: &QueueConfig) -> bool
@@ -56,7 +55,7 @@ fn shard_of<T: Drop, A: Allocator + Clone + Drop>(
     number: usize,
     config: &QueueConfig,
 ) -> Result<ShardState<T, A>, AllocError>
-    requires number { number < 64 }
+    requires number { number < SHARD_LIMIT }
     requires config { IsQueueConfig config.now }
     ensures { IfOk result (λ s. IsNewShard config.now number s) }
 {
@@ -107,10 +106,10 @@ impl<T: Drop, A: Allocator + Clone + Drop> SharedDelayQueue<T, A> {
 }
 
 impl<T, A: Allocator> SharedDelayQueue<T, A> {
-    /// The number of shards, from 1 to 64.
+    /// The number of shards, from 1 to [`SHARD_LIMIT`].
     pub fn shards(&self) -> usize
         ensures value { result ≡ self.now }
-        ensures range { (0 < result) × (result ≤ 64) }
+        ensures range { (0 < result) × (result ≤ SHARD_LIMIT) }
     {
         self.shards.len()
     }
@@ -150,8 +149,8 @@ impl<T, A: Allocator + Clone> SharedDelayQueue<T, A> {
 }
 
 impl<T: Drop> SharedDelayQueue<T> {
-    /// Calls `f` once with the shard's state while its lock is held, and gives back its answer. Refused as Unknown exactly
-    /// out of range; `f` isn't called then.
+    /// Calls `f` once with the shard's state while its lock is held, and gives back its answer. Refused as Unknown
+    /// exactly out of range; `f` isn't called then.
     pub fn lend<R: Wait, O, F: FnOnce(&mut ShardState<T>) -> O + Drop>(
         &self,
         rt: &R,
