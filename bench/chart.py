@@ -10,12 +10,13 @@ COLOURS = {
     "fetch-max": "#000000",
     "heap-note": "#56b4e9",
     "heap-note-locked": "#0072b2",
+    "heap-tight": "#8a6fd1",
     "heap-push": "#9ad9c3",
     "heap-push-locked": "#009e73",
     "delay-queue": "#f0c800",
     "delay-queue-locked": "#b08900",
 }
-WIDTH = 1180
+WIDTH = 1900
 LEFT, RIGHT = 56, 16
 PANEL, GAP, TOP = 190, 62, 96
 STEPS = [1, 2, 5, 10, 20, 50, 100, 200, 500, 1_000, 2_000, 5_000]

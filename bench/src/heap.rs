@@ -84,6 +84,7 @@ impl Queue for HeapQueue {
     type Key = HeapKey;
     type Out = (u64, u64);
 
+    #[inline(always)]
     fn insert(&mut self, value: u64, deadline: u64) -> HeapKey {
         let index = self.free.pop().expect("an entry is free");
         let entry = &mut self.entries[index as usize];
@@ -95,6 +96,7 @@ impl Queue for HeapQueue {
         key
     }
 
+    #[inline(always)]
     fn extend(&mut self, key: HeapKey, deadline: u64) -> u64 {
         let extending = self.extending;
         let entry = self.entry(key);
@@ -108,6 +110,7 @@ impl Queue for HeapQueue {
         entry.deadline
     }
 
+    #[inline(always)]
     fn reset(&mut self, key: HeapKey, deadline: u64) -> HeapKey {
         let entry = self.entry(key);
         entry.stamp += 1;
@@ -117,10 +120,12 @@ impl Queue for HeapQueue {
         key
     }
 
+    #[inline(always)]
     fn remove(&mut self, key: HeapKey) -> u64 {
         self.end(key)
     }
 
+    #[inline(always)]
     fn cancel(&mut self, key: HeapKey) {
         self.end(key);
     }

@@ -2,10 +2,12 @@
 //! One line for each peer and round; README.md says what stands in it.
 
 mod floor;
+mod free;
 mod heap;
 mod plan;
 mod queue;
 mod rows;
+mod tight;
 mod tokio_queue;
 
 use std::process::ExitCode;
@@ -14,10 +16,11 @@ use floor::Floor;
 use heap::{Extending, HeapQueue};
 use queue::{Locked, Queue, Shared};
 use rows::{Clock, Counts, Load, NoClock, Row, Sample};
+use tight::TightHeap;
 use tokio_queue::{PausedClock, TokioQueue};
 
 const USAGE: &str = "usage: peers time ROW ENTRIES THREADS ROUNDS [PEER..]
-rows: insert extend reset remove cancel poll mixed callers
+rows: insert extend reset remove cancel poll insert+poll reset+poll remove+poll mixed churn heartbeat callers
 entries: 1 to 65536; threads: 1, and 1 to 64 for callers";
 
 /// What one call of the program times.
@@ -61,13 +64,20 @@ fn peers_of(row: Row) -> &'static [&'static str] {
             "heap-push-locked",
             "heap-note",
             "heap-note-locked",
+            "heap-tight",
             "fetch-max",
         ],
-        Row::Mixed => {
-            &["delay-queue", "delay-queue-locked", "heap-push", "heap-push-locked", "heap-note", "heap-note-locked"]
-        }
+        Row::Mixed => &[
+            "delay-queue",
+            "delay-queue-locked",
+            "heap-push",
+            "heap-push-locked",
+            "heap-note",
+            "heap-note-locked",
+            "heap-tight",
+        ],
         Row::Callers => &["fetch-max", "heap-push-locked", "heap-note-locked", "delay-queue-locked"],
-        _ => &["delay-queue", "delay-queue-locked", "heap-note", "heap-note-locked"],
+        _ => &["delay-queue", "delay-queue-locked", "heap-note", "heap-note-locked", "heap-tight"],
     }
 }
 
@@ -108,6 +118,7 @@ fn rounds_of<'a>(asked: &'a Asked, peer: &str, clock: &'a PausedClock) -> Rounds
         "heap-push-locked" => shared(asked, Locked::new(HeapQueue::new(Extending::Push, entries)), &NoClock),
         "heap-note" => owned(asked, HeapQueue::new(Extending::Note, entries), &NoClock),
         "heap-note-locked" => shared(asked, Locked::new(HeapQueue::new(Extending::Note, entries)), &NoClock),
+        "heap-tight" => owned(asked, TightHeap::new(entries), &NoClock),
         _ => shared(asked, Floor::new(entries), &NoClock),
     }
 }
@@ -213,5 +224,6 @@ mod tests {
             keeps_deadlines(HeapQueue::new(extending, 4), &NoClock);
             keeps_deadlines(Locked::new(HeapQueue::new(extending, 4)), &NoClock);
         }
+        keeps_deadlines(TightHeap::new(4), &NoClock);
     }
 }

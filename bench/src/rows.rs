@@ -4,7 +4,7 @@ use std::sync::atomic::{AtomicBool, Ordering};
 use std::thread;
 use std::time::{Duration, Instant};
 
-use crate::plan::{passes, SplitMix64, BEAT, BEATS, IDLE, KEPT, PASS, REST, SEED, STRIDE, TOUCHES, TURNS};
+use crate::plan::{passes, SplitMix64, BEAT, BEATS, HEARTBEATS, IDLE, KEPT, PASS, REST, SEED, STRIDE, TOUCHES, TURNS};
 use crate::queue::{Queue, Shared};
 
 /// Where a peer reads the time from. It is moved outside of what is timed.
@@ -34,21 +34,41 @@ pub enum Row {
     Remove,
     Cancel,
     Poll,
+    InsertPoll,
+    ResetPoll,
+    RemovePoll,
     Mixed,
+    Churn,
+    Heartbeat,
     Callers,
 }
 
 impl Row {
-    pub const ALL: [(&'static str, Row); 8] = [
+    pub const ALL: [(&'static str, Row); 13] = [
         ("insert", Row::Insert),
         ("extend", Row::Extend),
         ("reset", Row::Reset),
         ("remove", Row::Remove),
         ("cancel", Row::Cancel),
         ("poll", Row::Poll),
+        ("insert+poll", Row::InsertPoll),
+        ("reset+poll", Row::ResetPoll),
+        ("remove+poll", Row::RemovePoll),
         ("mixed", Row::Mixed),
+        ("churn", Row::Churn),
+        ("heartbeat", Row::Heartbeat),
         ("callers", Row::Callers),
     ];
+
+    /// Whether a round is one pass, which is long.
+    fn is_long(self) -> bool {
+        matches!(self, Row::Mixed | Row::Churn | Row::Heartbeat)
+    }
+
+    /// Whether what the calls leave behind is polled for within the time.
+    fn polls_after(self) -> bool {
+        matches!(self, Row::InsertPoll | Row::ResetPoll | Row::RemovePoll)
+    }
 }
 
 /// What a round did. Every peer does the same.
@@ -93,7 +113,7 @@ impl<'a, Q: Queue> Load<'a, Q> {
     /// One round of a row for one owner.
     pub fn round(&mut self, row: Row) -> Sample {
         self.sample = Sample::default();
-        let passes = if row == Row::Mixed { 1 } else { passes(self.entries) };
+        let passes = if row.is_long() { 1 } else { passes(self.entries) };
         for _ in 0..passes {
             self.pass(row);
         }
@@ -103,13 +123,15 @@ impl<'a, Q: Queue> Load<'a, Q> {
     /// One pass of a row for one owner: from an empty queue to an empty queue.
     pub fn pass(&mut self, row: Row) {
         match row {
-            Row::Insert => self.insert(),
+            Row::Insert | Row::InsertPoll => self.insert(row),
             Row::Extend => self.extend(),
-            Row::Reset => self.reset(),
-            Row::Remove => self.remove(),
+            Row::Reset | Row::ResetPoll => self.reset(row),
+            Row::Remove | Row::RemovePoll => self.remove(row),
             Row::Cancel => self.cancel(),
             Row::Poll => self.poll(),
             Row::Mixed => self.mixed(),
+            Row::Churn => self.churn(),
+            Row::Heartbeat => self.heartbeat(),
             Row::Callers => panic!("the row of the callers wants a queue that is shared"),
         }
         self.end_pass();
@@ -165,11 +187,27 @@ impl<'a, Q: Queue> Load<'a, Q> {
         self.now = tick;
     }
 
-    fn insert(&mut self) {
+    /// In a row that asks for it: polls past all deadlines, for what the timed calls left behind.
+    fn poll_after(&mut self, row: Row) {
+        if row.polls_after() {
+            self.poll_within(self.now + IDLE);
+        }
+    }
+
+    /// Polls at a tick until nothing is given, and adds the time to that of the calls before.
+    fn poll_within(&mut self, tick: u64) {
+        self.clock.moment(tick);
+        let since = Instant::now();
+        self.poll_all(tick);
+        self.spend(since, 0);
+    }
+
+    fn insert(&mut self, row: Row) {
         let deadlines = self.draws.deadlines(self.now, self.entries);
         let since = Instant::now();
         let keys = self.insert_all(&deadlines);
         self.spend(since, keys.len());
+        self.poll_after(row);
     }
 
     fn extend(&mut self) {
@@ -188,7 +226,7 @@ impl<'a, Q: Queue> Load<'a, Q> {
         counts.deadlines = counts.deadlines.wrapping_add(deadlines.wrapping_sub(self.now * touched.len() as u64));
     }
 
-    fn reset(&mut self) {
+    fn reset(&mut self, row: Row) {
         let mut keys = self.fill();
         let picks = self.draws.picks(self.entries, self.entries);
         let deadlines = self.draws.deadlines(self.now, self.entries);
@@ -198,9 +236,10 @@ impl<'a, Q: Queue> Load<'a, Q> {
         }
         self.spend(since, picks.len());
         self.sample.counts.resets += picks.len() as u64;
+        self.poll_after(row);
     }
 
-    fn remove(&mut self) {
+    fn remove(&mut self, row: Row) {
         let ended = self.fill_shuffled();
         let mut values = 0u64;
         let since = Instant::now();
@@ -211,6 +250,7 @@ impl<'a, Q: Queue> Load<'a, Q> {
         let counts = &mut self.sample.counts;
         counts.removes += ended.len() as u64;
         counts.values = counts.values.wrapping_add(values);
+        self.poll_after(row);
     }
 
     /// Cancels every entry, and polls once past all deadlines, which reaps what is still filed.
@@ -236,14 +276,16 @@ impl<'a, Q: Queue> Load<'a, Q> {
         self.spend(since, keys.len());
     }
 
+    /// For each place in a beat, the ticks from the start of the beat.
+    fn steps(&self) -> Vec<u64> {
+        (0..self.entries as u64).map(|place| place * BEAT / self.entries as u64).collect()
+    }
+
     /// Idle timeouts: the sessions begin in one beat, each is touched once in each of the beats after it, and then most
     /// are cancelled and the others expire.
     fn mixed(&mut self) {
-        let steps: Vec<u64> = (0..self.entries as u64).map(|place| place * BEAT / self.entries as u64).collect();
-        let begun: Vec<u64> = steps.iter().map(|step| self.now + step + IDLE).collect();
-        let since = Instant::now();
-        let keys = self.insert_all(&begun);
-        self.spend(since, keys.len());
+        let steps = self.steps();
+        let keys = self.begin(&steps);
 
         for beat in 1..=BEATS {
             self.beat(&keys, &steps, beat * BEAT);
@@ -260,6 +302,70 @@ impl<'a, Q: Queue> Load<'a, Q> {
         self.poll_all(tick);
         self.spend(since, self.entries);
         self.sample.counts.cancels += ended.len() as u64;
+    }
+
+    /// Begins a session at each step, to expire by the idle limit.
+    fn begin(&mut self, steps: &[u64]) -> Vec<Q::Key> {
+        let begun: Vec<u64> = steps.iter().map(|step| self.now + step + IDLE).collect();
+        let since = Instant::now();
+        let keys = self.insert_all(&begun);
+        self.spend(since, keys.len());
+        keys
+    }
+
+    /// Requests with a time limit: in each beat each ends in a fresh order, and another begins at once in its place.
+    /// The limits that are drawn lie past the next beat, so none expires before it ends. At last all expire.
+    fn churn(&mut self) {
+        let steps = self.steps();
+        let mut keys = self.begin(&steps);
+        for beat in 1..=HEARTBEATS {
+            self.churn_beat(&mut keys, &steps, beat * BEAT);
+        }
+        self.poll_within(self.now + HEARTBEATS * BEAT + 2 * IDLE);
+    }
+
+    /// Every request ends, another begins in its place, and then the queue is polled.
+    fn churn_beat(&mut self, keys: &mut [Q::Key], steps: &[u64], begin: u64) {
+        let order = self.draws.shuffled(self.entries);
+        let mut deadlines = self.draws.deadlines(self.now + begin + 2 * BEAT, self.entries);
+        for (deadline, step) in deadlines.iter_mut().zip(steps) {
+            *deadline += step;
+        }
+        let mut values = 0u64;
+        let since = Instant::now();
+        for (index, deadline) in order.iter().zip(&deadlines) {
+            values = values.wrapping_add(self.queue.remove(keys[*index]));
+            keys[*index] = self.queue.insert(*index as u64, *deadline);
+        }
+        self.spend(since, order.len());
+        self.poll_within(self.now + begin + BEAT);
+        let counts = &mut self.sample.counts;
+        counts.removes += order.len() as u64;
+        counts.inserts += order.len() as u64;
+        counts.values = counts.values.wrapping_add(values);
+    }
+
+    /// Heartbeats: each session is touched in each beat by a reset, in a fresh order. At last all expire.
+    fn heartbeat(&mut self) {
+        let steps = self.steps();
+        let mut keys = self.begin(&steps);
+        for beat in 1..=HEARTBEATS {
+            self.heart_beat(&mut keys, &steps, beat * BEAT);
+        }
+        self.poll_within(self.now + HEARTBEATS * BEAT + 2 * IDLE);
+    }
+
+    /// Every session is reset once, and then the queue is polled.
+    fn heart_beat(&mut self, keys: &mut [Q::Key], steps: &[u64], begin: u64) {
+        let order = self.draws.shuffled(self.entries);
+        let later = self.now + begin + IDLE;
+        let since = Instant::now();
+        for (index, step) in order.iter().zip(steps) {
+            keys[*index] = self.queue.reset(keys[*index], later + step);
+        }
+        self.spend(since, order.len());
+        self.poll_within(self.now + begin + BEAT);
+        self.sample.counts.resets += order.len() as u64;
     }
 
     /// Every session is touched once, in a fresh order, and then the queue is polled.

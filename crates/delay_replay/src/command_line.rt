@@ -33,15 +33,19 @@ pub fn capacity_given<R: Env + AllocGlobal>(rt: &R) -> Result<usize, Refusal> {
     let Ok(words) = words else {
         return Err(Refusal::NoMemory);
     };
-    match capacity_of(rt.alloc(), words.as_slice()) {
+    capacity_of(rt.alloc(), words.as_slice())
+}
+
+/// The capacity that the words of a command line ask for.
+pub fn capacity_of<S: AsStr>(alloc: Global, words: &[S]) -> Result<usize, Refusal> {
+    match parse(alloc, words) {
         Ok(capacity) => Ok(capacity),
         Err(error) if error.kind() == ErrorKind::OutOfMemory => Err(Refusal::NoMemory),
         Err(error) => Err(Refusal::Told(error)),
     }
 }
 
-/// The capacity that the words of a command line ask for.
-fn capacity_of<S: AsStr>(alloc: Global, words: &[S]) -> Result<usize, Error> {
+fn parse<S: AsStr>(alloc: Global, words: &[S]) -> Result<usize, Error> {
     let capacity = Arg::new(alloc, "capacity")
         .long("capacity")
         .value_name("N")
@@ -74,7 +78,7 @@ mod tests {
             (["delay-replay", "--capacity", "1"].as_slice(), 1),
             (["delay-replay", "--capacity=65536"].as_slice(), 65536),
         ] {
-            let given = capacity_of(rt.alloc(), words)?;
+            let given = parse(rt.alloc(), words)?;
             assert_eq!(rt; given, capacity);
         }
         Ok(())
@@ -91,7 +95,7 @@ mod tests {
             ("script", ErrorKind::UnknownArgument),
             ("--help", ErrorKind::DisplayHelp),
         ] {
-            match capacity_of(rt.alloc(), ["delay-replay", word].as_slice()) {
+            match parse(rt.alloc(), ["delay-replay", word].as_slice()) {
                 Ok(_) => assert!(rt; false, "{word}"),
                 Err(error) => assert!(rt; error.kind() == kind, "{word}"),
             }

@@ -56,26 +56,4 @@ fn refuse<R: Print + Eprint, W: Write>(rt: &R, refusal: &Refusal, errors: &mut W
 }
 
 #[cfg(test)]
-mod tests {
-    use super::*;
-
-    #[test]
-    fn refusals_have_their_status(rt: HostRuntime) {
-        for (refusal, text, status) in [
-            (
-                Refusal::NoMemory,
-                b"delay-replay: out of memory\n".as_slice(),
-                4,
-            ),
-            (
-                Refusal::NotText,
-                b"delay-replay: an argument isn't text\n".as_slice(),
-                2,
-            ),
-        ] {
-            let mut told = Vec::new(rt.alloc());
-            assert_eq!(rt; refuse(&rt, &refusal, &mut told), status);
-            assert!(rt; told.as_slice() == text);
-        }
-    }
-}
+mod tests;

@@ -4,11 +4,18 @@ pub mod CallWords
 mod Cells
 pub mod Clearing
 pub mod Finds
+pub mod FreeBits
 pub mod Inserts
 pub mod Law
 pub mod Leaving
 pub mod Looks
 pub mod Rests
+pub mod PackedWords
+pub mod RunsEnding
+pub mod RunsKept
+pub mod RunsMoves
+pub mod RunsOfCalls
+pub mod RunsOrdered
 pub mod Searches
 pub mod SlotRows
 pub mod Slotwise

@@ -1,13 +1,14 @@
-use Rattle.std.proofs.Common.{◌≡◌, ◌≢◌, ℕ, ◌+◌, ◌-◌, ◌*◌, ◌<◌, ◌≤◌, zero, suc, Bool, true, false, cond, not, ◌&&◌, eqb, ltb, leb, replicate, List, [], ◌∷◌, ◌++◌, length, get_or, set, Option, Some, None, is_some, is_none, refl, sym, ◌∙◌, ap, subst, ⊎_elim, arith}
+use Rattle.std.proofs.Common.{◌≡◌, ◌≢◌, ℕ, ◌+◌, ◌-◌, ◌*◌, ◌<◌, ◌≤◌, zero, suc, Bool, true, false, cond, not, ◌&&◌, ltb, replicate, List, [], ◌∷◌, length, get_or, set, Option, Some, None, is_some, is_none, refl, sym, ◌∙◌, ap, subst, ⊎_elim, arith}
 use Rattle.std.specs.List.{count_by}
-use Rattle.std.proofs.lemmas.List.{get_or-set_same, get_or-set_other, length-set, length_push, get_or_default, length-replicate, get_or-replicate, get_or_past}
-use Rattle.std.proofs.lemmas.List.Sums.{sum_by-set, sum_by-cons, sum_by_push, get_or-le-sum_by}
-use Rattle.std.proofs.lemmas.List.Elements.{All-set, All-get_or, All-replicate}
-use Rattle.std.proofs.lemmas.Bool.{and_parts, and_left, and_right, cases_eq, cases_lt, eq-eqb, ne_eqb, lt-ltb, le-ltb, ltb-true, le-leb, lt-leb}
+use Rattle.std.proofs.lemmas.List.{get_or-set_same, get_or-set_other, length-set, get_or_default, length-replicate, get_or-replicate, get_or_past}
+use Rattle.std.proofs.lemmas.List.Sums.{sum_by-set, sum_by-cons, sum_by-le}
+use Rattle.std.proofs.lemmas.List.Elements.{All-set, All-get_or, All-replicate, All-from_get_or}
+use Rattle.std.proofs.lemmas.Bool.{and_parts, and_left, and_right, cases_eq, cases_lt, lt-ltb, le-ltb, ltb-true}
 use Rattle.dq_core.specs.declared.slots.Held.{Held}
 use Rattle.dq_ticks.specs.declared.TheConstants.{CAPACITY_LIMIT, LAST_STAMP}
 use Rattle.dq_core.specs.Slots.{Row, SlotRows, unused, row_at, is_held, is_free, is_worn, IsRow, IsSlotRows, filled_row, vacated_row, raised_row}
-use Rattle.dq_core.specs.SlotRowsKept.{times, is_open, IsSlotRowsKept}
+use Rattle.dq_core.specs.FreeSlots.{FreeIndexes, free_times, room_of, GivesBack}
+use Rattle.dq_core.specs.SlotRowsKept.{is_open, IsSlotRowsKept}
 
 -- one where the test holds
 abbrev one : Bool → ℕ
@@ -38,24 +39,14 @@ parted last [] = refl
 parted last (r ∷ rows) =
     omega (arith, parted last rows, row_is_one last r, sum_by-cons (λ x. one (is_free last x)) r rows, sum_by-cons (λ x. one (is_worn last x)) r rows, sum_by-cons (λ x. one (is_held x)) r rows)
 
--- how often an index stands in a list with one more at its end
-times_push : (i : ℕ) (xs : List ℕ) (x : ℕ) → times i (xs ++ x ∷ []) ≡ times i xs + one (eqb x i)
-times_push i xs x = sum_by_push (λ k. cond (eqb k i) 1 0) xs x
-
-times_push_same : (i : ℕ) (xs : List ℕ) → times i (xs ++ i ∷ []) ≡ times i xs + 1
-times_push_same i xs = times_push i xs i ∙ ap (λ b. times i xs + one b) (eq-eqb i i refl)
-
-times_push_other : (i : ℕ) (xs : List ℕ) (x : ℕ) → i ≢ x → times i (xs ++ x ∷ []) ≡ times i xs
-times_push_other i xs x ne = times_push i xs x ∙ ap (λ b. times i xs + one b) (ne_eqb x i (λ e. ne (sym e))) ∙ omega arith
-
 open_parts : {T : Type 0} (last : ℕ) (rows : List (Row T)) (i n : ℕ) (b : Bool) → is_open last rows i ≡ b → n + 1 ≡ one b → (i < length rows) × (is_free last (row_at rows i) ≡ true) × (n ≡ 0)
 open_parts last rows i n true is e = let p = and_parts _ _ is in (ltb-true _ _ (p.0), p.1, omega arith)
 open_parts last rows i n false is e = absurd (omega arith)
 
--- the top of the stack is a free slot, and stands nowhere below
-pub top_is : {T : Type 0} {last : ℕ} {rows : List (Row T)} {stack : List ℕ} {taken space : ℕ} → IsSlotRowsKept last rows stack taken space → (rest : List ℕ) (top : ℕ) → stack ≡ rest ++ top ∷ [] → (top < length rows) × (is_free last (row_at rows top) ≡ true) × (times top rest ≡ 0)
-top_is {last = last} {rows = rows} s rest top e =
-    open_parts last rows top (times top rest) (is_open last rows top) refl (sym (times_push_same top rest) ∙ ap (times top) (sym e) ∙ s.stacked top)
+-- the index that was taken is that of a free slot, and is free no more
+pub taken_is : {T : Type 0} {last : ℕ} {rows : List (Row T)} {free : FreeIndexes} {taken spared : ℕ} → IsSlotRowsKept last rows free taken spared → (rest : FreeIndexes) (i : ℕ) → GivesBack rest i free → (i < length rows) × (is_free last (row_at rows i) ≡ true) × (free_times rest i ≡ 0)
+taken_is {last = last} {rows = rows} s rest i g =
+    open_parts last rows i (free_times rest i) (is_open last rows i) refl (sym g.one_more ∙ s.freed i)
 
 open_other : {T : Type 0} (last : ℕ) (rows : List (Row T)) (i : ℕ) (r : Row T) (j : ℕ) → j ≢ i → is_open last (set rows i r) j ≡ is_open last rows j
 open_other last rows i r j ne = rw (length-set rows i r, get_or-set_other rows i j r unused ne)
@@ -113,31 +104,30 @@ filled_good last r v left =
     born_of None = 0
     born_of (Some h) = h.born
 
--- after the top of the stack was filled
-pub filled_is : {T : Type 0} {last : ℕ} {rows : List (Row T)} {stack : List ℕ} {taken space : ℕ} → IsSlotRowsKept last rows stack taken space → (rest : List ℕ) (top : ℕ) (v : T) → stack ≡ rest ++ top ∷ [] → IsSlotRowsKept last (set rows top (filled_row (row_at rows top) v)) rest (taken + 1) space
-filled_is {T = T} {last = last} {rows = rows} {stack = stack} {taken = taken} s rest top v e =
-    let t = top_is s rest top e in
-    let r : Row T = row_at rows top in
+-- after a free slot was filled
+pub filled_is : {T : Type 0} {last : ℕ} {rows : List (Row T)} {free : FreeIndexes} {taken spared : ℕ} → IsSlotRowsKept last rows free taken spared → (rest : FreeIndexes) (i : ℕ) (v : T) → GivesBack rest i free → IsSlotRowsKept last (set rows i (filled_row (row_at rows i) v)) rest (taken + 1) (spared - 1)
+filled_is {T = T} {last = last} {rows = rows} {free = free} {taken = taken} s rest i v g =
+    let t = taken_is s rest i g in
+    let r : Row T = row_at rows i in
     let f = free_is last r t.1 in
-    let frees = count_set (is_free last) rows top (filled_row r v) t.0 in
-    let helds = count_set is_held rows top (filled_row r v) t.0 in
+    let frees = count_set (is_free last) rows i (filled_row r v) t.0 in
+    let helds = count_set is_held rows i (filled_row r v) t.0 in
     let was_free : one (is_free last r) ≡ 1 = ap one t.1 in
     let was_held : one (is_held r) ≡ 0 = ap (λ o. one (is_some o)) f.0 in
-    let size : length stack ≡ length rest + 1 = ap length e ∙ length_push rest top in
     record {
-      slots = slot_rows_set s.slots top (filled_row r v) (filled_good last r v f.1);
-      stacked = λ i. ⊎_elim
-          (λ same. subst (λ j. times j rest ≡ one (is_open last (set rows top (filled_row r v)) j)) (sym same) (t.2 ∙ sym (ap one (open_same last rows top (filled_row r v) t.0))))
-          (λ ne. sym (times_push_other i rest top ne) ∙ ap (times i) (sym e) ∙ s.stacked i ∙ sym (ap one (open_other last rows top (filled_row r v) i ne)))
-          (cases_eq i top);
+      slots = slot_rows_set s.slots i (filled_row r v) (filled_good last r v f.1);
+      freed = λ j. ⊎_elim
+          (λ same. subst (λ k. free_times rest k ≡ one (is_open last (set rows i (filled_row r v)) k)) (sym same) (t.2 ∙ sym (ap one (open_same last rows i (filled_row r v) t.0))))
+          (λ ne. sym (g.others j ne) ∙ s.freed j ∙ sym (ap one (open_other last rows i (filled_row r v) j ne)))
+          (cases_eq j i);
       spare = let k = s.spare in omega arith;
       counted = let k = s.counted in omega arith;
-      room = rw (length-set rows top (filled_row r v)) s.room;
+      room = let k = s.room in let l = g.room in rw (length-set rows i (filled_row r v)) (omega arith);
     }
 
--- where a slot is held, another write that leaves it held changes neither stack nor counts
-pub raised_is : {T : Type 0} {last : ℕ} {rows : List (Row T)} {stack : List ℕ} {taken space : ℕ} → IsSlotRowsKept last rows stack taken space → (i : ℕ) → is_held (row_at rows i) ≡ true → (row_at rows i).stamp < last → IsSlotRowsKept last (set rows i (raised_row (row_at rows i))) stack taken space
-raised_is {T = T} {last = last} {rows = rows} {stack = stack} {taken = taken} s i held left =
+-- where a slot is held, another write that leaves it held changes neither the free indexes nor the counts
+pub raised_is : {T : Type 0} {last : ℕ} {rows : List (Row T)} {free : FreeIndexes} {taken spared : ℕ} → IsSlotRowsKept last rows free taken spared → (i : ℕ) → is_held (row_at rows i) ≡ true → (row_at rows i).stamp < last → IsSlotRowsKept last (set rows i (raised_row (row_at rows i))) free taken spared
+raised_is {T = T} {last = last} {rows = rows} {free = free} {taken = taken} s i held left =
     let inside = held_inside rows i held in
     let r : Row T = row_at rows i in
     let good = row_is s.slots i inside in
@@ -147,21 +137,28 @@ raised_is {T = T} {last = last} {rows = rows} {stack = stack} {taken = taken} s 
     let now_free : one (is_free last (raised_row r)) ≡ 0 = ap one (held_not_free last (raised_row r) held) in
     record {
       slots = slot_rows_set s.slots i (raised_row r) (record { bound = omega arith; birth = λ h e. let b = good.birth h e in (b.0, omega arith) });
-      stacked = λ j. ⊎_elim
-          (λ same. subst (λ k. times k stack ≡ one (is_open last (set rows i (raised_row r)) k)) (sym same) (s.stacked i ∙ ap one (and_right (ltb i (length rows)) _ (held_not_free last r held)) ∙ sym now_free ∙ sym (ap one (open_same last rows i (raised_row r) inside))))
-          (λ ne. s.stacked j ∙ sym (ap one (open_other last rows i (raised_row r) j ne)))
+      freed = λ j. ⊎_elim
+          (λ same. subst (λ k. free_times free k ≡ one (is_open last (set rows i (raised_row r)) k)) (sym same) (s.freed i ∙ ap one (and_right (ltb i (length rows)) _ (held_not_free last r held)) ∙ sym now_free ∙ sym (ap one (open_same last rows i (raised_row r) inside))))
+          (λ ne. s.freed j ∙ sym (ap one (open_other last rows i (raised_row r) j ne)))
           (cases_eq j i);
       spare = let k = s.spare in omega arith;
       counted = let k = s.counted in omega arith;
       room = rw (length-set rows i (raised_row r)) s.room;
     }
 
+-- an index whose slot is held has its bit, and is not free
+pub not_free : {T : Type 0} {last : ℕ} {rows : List (Row T)} {free : FreeIndexes} {taken spared : ℕ} → IsSlotRowsKept last rows free taken spared → (i : ℕ) → is_held (row_at rows i) ≡ true → (i < room_of free) × (free_times free i ≡ 0)
+not_free {last = last} {rows = rows} s i held =
+    let inside = held_inside rows i held in
+    let k = s.room in
+    (omega arith, s.freed i ∙ ap one (and_right (ltb i (length rows)) _ (held_not_free last (row_at rows i) held)))
+
 vacated_good : {T : Type 0} (last : ℕ) (r : Row T) → IsRow last r → IsRow last (vacated_row r)
 vacated_good last r good = record { bound = good.bound; birth = λ h e. cc }
 
 -- a held slot that is vacated at the last stamp is worn
-pub worn_is : {T : Type 0} {last : ℕ} {rows : List (Row T)} {stack : List ℕ} {taken space : ℕ} → IsSlotRowsKept last rows stack taken space → (i : ℕ) → is_held (row_at rows i) ≡ true → last ≤ (row_at rows i).stamp → IsSlotRowsKept last (set rows i (vacated_row (row_at rows i))) stack (taken - 1) space
-worn_is {T = T} {last = last} {rows = rows} {stack = stack} {taken = taken} s i held over =
+pub worn_is : {T : Type 0} {last : ℕ} {rows : List (Row T)} {free : FreeIndexes} {taken spared : ℕ} → IsSlotRowsKept last rows free taken spared → (i : ℕ) → is_held (row_at rows i) ≡ true → last ≤ (row_at rows i).stamp → IsSlotRowsKept last (set rows i (vacated_row (row_at rows i))) free (taken - 1) spared
+worn_is {T = T} {last = last} {rows = rows} {free = free} {taken = taken} s i held over =
     let inside = held_inside rows i held in
     let r : Row T = row_at rows i in
     let frees = count_set (is_free last) rows i (vacated_row r) inside in
@@ -171,9 +168,9 @@ worn_is {T = T} {last = last} {rows = rows} {stack = stack} {taken = taken} s i 
     let now_free : one (is_free last (vacated_row r)) ≡ 0 = ap one (le-ltb r.stamp last over) in
     record {
       slots = slot_rows_set s.slots i (vacated_row r) (vacated_good last r (row_is s.slots i inside));
-      stacked = λ j. ⊎_elim
-          (λ same. subst (λ k. times k stack ≡ one (is_open last (set rows i (vacated_row r)) k)) (sym same) (s.stacked i ∙ ap one (and_right (ltb i (length rows)) _ (held_not_free last r held)) ∙ sym now_free ∙ sym (ap one (open_same last rows i (vacated_row r) inside))))
-          (λ ne. s.stacked j ∙ sym (ap one (open_other last rows i (vacated_row r) j ne)))
+      freed = λ j. ⊎_elim
+          (λ same. subst (λ k. free_times free k ≡ one (is_open last (set rows i (vacated_row r)) k)) (sym same) (s.freed i ∙ ap one (and_right (ltb i (length rows)) _ (held_not_free last r held)) ∙ sym now_free ∙ sym (ap one (open_same last rows i (vacated_row r) inside))))
+          (λ ne. s.freed j ∙ sym (ap one (open_other last rows i (vacated_row r) j ne)))
           (cases_eq j i);
       spare = let k = s.spare in omega arith;
       counted = let k = s.counted in omega arith;
@@ -181,8 +178,8 @@ worn_is {T = T} {last = last} {rows = rows} {stack = stack} {taken = taken} s i 
     }
 
 -- a held slot that is vacated below the last stamp is free
-pub freed_is : {T : Type 0} {last : ℕ} {rows : List (Row T)} {stack : List ℕ} {taken space : ℕ} → IsSlotRowsKept last rows stack taken space → (i : ℕ) → is_held (row_at rows i) ≡ true → (row_at rows i).stamp < last → IsSlotRowsKept last (set rows i (vacated_row (row_at rows i))) (stack ++ i ∷ []) (taken - 1) space
-freed_is {T = T} {last = last} {rows = rows} {stack = stack} {taken = taken} s i held left =
+pub freed_is : {T : Type 0} {last : ℕ} {rows : List (Row T)} {free : FreeIndexes} {taken spared : ℕ} → IsSlotRowsKept last rows free taken spared → (more : FreeIndexes) (i : ℕ) → is_held (row_at rows i) ≡ true → (row_at rows i).stamp < last → GivesBack free i more → IsSlotRowsKept last (set rows i (vacated_row (row_at rows i))) more (taken - 1) (spared + 1)
+freed_is {T = T} {last = last} {rows = rows} {free = free} {taken = taken} s more i held left g =
     let inside = held_inside rows i held in
     let r : Row T = row_at rows i in
     let frees = count_set (is_free last) rows i (vacated_row r) inside in
@@ -190,31 +187,29 @@ freed_is {T = T} {last = last} {rows = rows} {stack = stack} {taken = taken} s i
     let was_free : one (is_free last r) ≡ 0 = ap one (held_not_free last r held) in
     let was_held : one (is_held r) ≡ 1 = ap one held in
     let now_free : one (is_free last (vacated_row r)) ≡ 1 = ap one (lt-ltb r.stamp last left) in
-    let before : times i stack ≡ 0 = s.stacked i ∙ ap one (and_right (ltb i (length rows)) _ (held_not_free last r held)) in
+    let before = not_free s i held in
     record {
       slots = slot_rows_set s.slots i (vacated_row r) (vacated_good last r (row_is s.slots i inside));
-      stacked = λ j. ⊎_elim
-          (λ same. subst (λ k. times k (stack ++ i ∷ []) ≡ one (is_open last (set rows i (vacated_row r)) k)) (sym same) (times_push_same i stack ∙ ap (λ n. n + 1) before ∙ sym now_free ∙ sym (ap one (open_same last rows i (vacated_row r) inside))))
-          (λ ne. times_push_other j stack i ne ∙ s.stacked j ∙ sym (ap one (open_other last rows i (vacated_row r) j ne)))
+      freed = λ j. ⊎_elim
+          (λ same. subst (λ k. free_times more k ≡ one (is_open last (set rows i (vacated_row r)) k)) (sym same) (g.one_more ∙ ap (λ n. n + 1) before.1 ∙ sym now_free ∙ sym (ap one (open_same last rows i (vacated_row r) inside))))
+          (λ ne. g.others j ne ∙ s.freed j ∙ sym (ap one (open_other last rows i (vacated_row r) j ne)))
           (cases_eq j i);
-      spare = let k = s.spare in let l = length_push stack i in omega arith;
+      spare = let k = s.spare in omega arith;
       counted = let k = s.counted in omega arith;
-      room = rw (length-set rows i (vacated_row r)) s.room;
+      room = let k = s.room in let l = g.room in rw (length-set rows i (vacated_row r)) (omega arith);
     }
 
--- while a slot is held, the stack has room for it
-pub has_room : {T : Type 0} {last : ℕ} {rows : List (Row T)} {stack : List ℕ} {taken space : ℕ} → IsSlotRowsKept last rows stack taken space → (i : ℕ) → is_held (row_at rows i) ≡ true → length stack < space
-has_room {last = last} {rows = rows} s i held =
-    let inside = held_inside rows i held in
-    let some : one (is_held (row_at rows i)) ≤ count_by is_held rows = get_or-le-sum_by (λ x. cond (is_held x) 1 0) rows i unused inside in
-    let was_held : one (is_held (row_at rows i)) ≡ 1 = ap one held in
-    let all = parted last rows in
-    let a = s.spare in
-    let b = s.room in
-    omega arith
+-- where no index is free, no slot is
+pub none_open : {T : Type 0} {last : ℕ} {rows : List (Row T)} {free : FreeIndexes} {taken spared : ℕ} → IsSlotRowsKept last rows free taken spared → ((i : ℕ) → free_times free i ≡ 0) → count_by (is_free last) rows ≡ 0
+none_open {T = T} {last = last} {rows = rows} s none =
+    let all = sum_by-le (λ r. one (is_free last r)) 0 rows (All-from_get_or (λ r. one (is_free last r) ≤ 0) rows unused (λ i inside.
+    let shut : one (ltb i (length rows) && is_free last (row_at rows i)) ≡ 0 = sym (s.freed i) ∙ none i in
+    let zero : one (is_free last (row_at rows i)) ≡ 0 = rw (lt-ltb i (length rows) inside) at shut in
+    omega arith)) in
+    omega (arith, all)
 
 -- the slots that are worn are those that are neither held nor free
-pub worn_count : {T : Type 0} {last : ℕ} {rows : List (Row T)} {stack : List ℕ} {taken space : ℕ} → IsSlotRowsKept last rows stack taken space → (length stack + taken ≤ length rows) × (length rows - taken - length stack ≡ count_by (is_worn last) rows)
+pub worn_count : {T : Type 0} {last : ℕ} {rows : List (Row T)} {free : FreeIndexes} {taken spared : ℕ} → IsSlotRowsKept last rows free taken spared → (spared + taken ≤ length rows) × (length rows - taken - spared ≡ count_by (is_worn last) rows)
 worn_count {last = last} {rows = rows} s =
     let all = parted last rows in
     let a = s.spare in
@@ -225,33 +220,28 @@ worn_count {last = last} {rows = rows} s =
 pub read_is : {T : Type 0} (rows : List (Row T)) (i : ℕ) (r : Row T) → i < length rows → r ≡ get_or rows i r → row_at rows i ≡ r
 read_is rows i r inside read = get_or_default rows i unused r inside ∙ sym read
 
--- a new stack of n indexes, after k of them were put there, the greatest first
-pub record IsNewStack (n k : ℕ) (stack : List ℕ) : Type 0 where
-  pub size : length stack ≡ k
-  pub stacked : (i : ℕ) → times i stack ≡ one (ltb i n && leb (n - k) i)
+-- the indexes below n are free, and no others
+abbrev pub AreFirstFree : ℕ → FreeIndexes → Type 0
+AreFirstFree n free = (i : ℕ) → free_times free i ≡ one (ltb i n)
 
-stacked_more : (n k i : ℕ) → k < n → one (ltb i n && leb (n - k) i) + one (eqb (n - 1 - k) i) ≡ one (ltb i n && leb (n - (k + 1)) i)
-stacked_more n k i inside =
+-- where no index is free, none is among the first
+pub first_none : (free : FreeIndexes) → ((i : ℕ) → free_times free i ≡ 0) → AreFirstFree 0 free
+first_none free none i = none i ∙ sym (ap one (le-ltb i 0 (omega arith)))
+
+-- the next index is not free yet
+pub first_next : (n : ℕ) (free : FreeIndexes) → AreFirstFree n free → free_times free n ≡ 0
+first_next n free s = s n ∙ ap one (le-ltb n n (omega arith))
+
+-- one more index of a new row is freed
+pub first_more : (n : ℕ) (free more : FreeIndexes) → AreFirstFree n free → GivesBack free n more → AreFirstFree (n + 1) more
+first_more n free more s g i =
     ⊎_elim
-    (λ below. rw (lt-ltb i n below)
-    (⊎_elim
-    (λ same. rw (lt-leb (n - k) i (omega arith), eq-eqb (n - 1 - k) i (sym same), le-leb (n - (k + 1)) i (omega arith)))
-    (λ ne. rw (ne_eqb (n - 1 - k) i (λ e. ne (sym e)))
-    (⊎_elim
-    (λ low. rw (lt-leb (n - k) i low, lt-leb (n - (k + 1)) i (omega arith)))
-    (λ high. rw (le-leb (n - k) i high, le-leb (n - (k + 1)) i (omega arith)))
-    (cases_lt i (n - k))))
-    (cases_eq i (n - 1 - k))))
-    (λ above. rw (le-ltb i n above, ne_eqb (n - 1 - k) i (λ e. omega arith)))
-    (cases_lt i n)
-
--- one more index on a new stack
-pub stack_more : {n k : ℕ} {stack : List ℕ} → IsNewStack n k stack → k < n → IsNewStack n (k + 1) (stack ++ (n - 1 - k) ∷ [])
-stack_more {n = n} {k = k} {stack = stack} s inside =
-    record {
-      size = let a = s.size in let b = length_push stack (n - 1 - k) in omega arith;
-      stacked = λ i. times_push i stack (n - 1 - k) ∙ ap (λ m. m + one (eqb (n - 1 - k) i)) (s.stacked i) ∙ stacked_more n k i inside;
-    }
+    (λ same. rw same (g.one_more ∙ ap (λ m. m + 1) (first_next n free s) ∙ sym (ap one (lt-ltb n (n + 1) (omega arith)))))
+    (λ ne. g.others i ne ∙ s i ∙ ap one (⊎_elim
+    (λ below. lt-ltb i n below ∙ sym (lt-ltb i (n + 1) (omega arith)))
+    (λ above. le-ltb i n above ∙ sym (le-ltb i (n + 1) (omega arith)))
+    (cases_lt i n)))
+    (cases_eq i n)
 
 count_replicate : {T : Type 0} (p : Row T → Bool) (r : Row T) (m : ℕ) → one (p r) ≡ m → (n : ℕ) → count_by p (replicate n r) ≡ n * m
 count_replicate p r m is zero = omega arith
@@ -267,16 +257,20 @@ unused_at {T = T} n i =
     (λ past. get_or_past (replicate n unused) i unused (rw (length-replicate n (unused {T = T})) past))
     (cases_lt i n)
 
+and_true : (b : Bool) → b && true ≡ b
+and_true true = refl
+and_true false = refl
+
 -- a new row
-pub new_is : {T : Type 0} (last n space : ℕ) (rows : List (Row T)) (stack : List ℕ) → 0 < last → last ≤ LAST_STAMP → n ≤ CAPACITY_LIMIT → rows ≡ replicate n unused → IsNewStack n n stack → n ≤ space → IsSlotRowsKept last rows stack 0 space
-new_is {T = T} last n space rows stack used bound size are s room =
+pub new_is : {T : Type 0} (last n : ℕ) (rows : List (Row T)) (free : FreeIndexes) → 0 < last → last ≤ LAST_STAMP → n ≤ CAPACITY_LIMIT → rows ≡ replicate n unused → AreFirstFree n free → n ≤ room_of free → IsSlotRowsKept last rows free 0 n
+new_is {T = T} last n rows free used bound size are s room =
     let left : is_free last (unused {T = T}) ≡ true = lt-ltb 0 last used in
     let good : IsRow last (unused {T = T}) = record { bound = omega arith; birth = λ h e. cc } in
-    subst (λ rs. IsSlotRowsKept last rs stack 0 space) (sym are)
+    subst (λ rs. IsSlotRowsKept last rs free 0 n) (sym are)
     (record {
       slots = record { used = used; bound = bound; size = rw (length-replicate n (unused {T = T})) size; each = All-replicate (IsRow last) n unused good };
-      stacked = λ i. s.stacked i ∙ rw (length-replicate n (unused {T = T}), unused_at {T = T} n i, left, le-leb (n - n) i (omega arith));
-      spare = let a = s.size in let b = count_replicate (is_free last) (unused {T = T}) 1 (ap one left) n in omega arith;
+      freed = λ i. s i ∙ rw (length-replicate n (unused {T = T}), unused_at {T = T} n i, left, and_true (ltb i n)) refl;
+      spare = let b = count_replicate (is_free last) (unused {T = T}) 1 (ap one left) n in omega arith;
       counted = let b = count_replicate is_held (unused {T = T}) 0 refl n in omega arith;
       room = rw (length-replicate n (unused {T = T})) room;
     })

@@ -2,11 +2,14 @@ pub mod AtTheCall
 pub mod Calls
 pub mod Cells
 pub mod Core
+pub mod FreeSlots
 pub mod KeyCalls
 pub mod Machine
 pub mod Plain
 pub mod Readers
 pub mod Rests
+pub mod Runs
+pub mod RunsOfCalls
 pub mod SlotRowsKept
 pub mod Slots
 pub mod Soonest

@@ -126,8 +126,3 @@ IsNamed ws k (Ok w) =
     (k.entry.index < length ws) × (0 < k.stamp) × (w ≡ word_at ws k.entry.index)
     × (w.stamp ≡ k.stamp)
 IsNamed ws k (Err e) = LookRefused ws k e
-
--- the deadline of the live word that a key names
-abbrev pub IsCalled : List Parts → Key → Result ℕ CallError → Type 0
-IsCalled ws k (Ok d) = IsCallable ws k × (d ≡ (word_at ws k.entry.index).field)
-IsCalled ws k (Err e) = CallRefused ws k e

@@ -11,12 +11,15 @@
 
 mod callers;
 pub mod errors;
+mod free_slots;
 mod key_calls;
 pub mod laws;
 mod outcomes;
+mod packed_row;
 pub mod plain;
 pub mod queue;
 mod readers;
+pub mod runs;
 pub mod slots;
 mod sweeps;
 pub mod vec_words;

@@ -1,4 +1,4 @@
-//! The fixed row of slots, with a stack of those that are free.
+//! The fixed row of slots, and which of them are free.
 //!
 //! A slot has a stamp, at first 0, which rises by one with each value that is put there and with each reset of what is
 //! held there. A slot that holds nothing at the last stamp is worn: it is never used again. All the memory is taken by
@@ -6,6 +6,7 @@
 ghost use Rattle.std.specs.Prelude.{◌≡◌, ℕ, ◌+◌, ◌<◌, ◌≤◌, ◌^◌, length, replicate, IfOk, Some, true};
 ghost use Rattle.std.specs.List.{count_by};
 
+use crate::free_slots::FreeSlots;
 use std::alloc::{AllocError, Allocator, Global};
 use std::marker::Model;
 
@@ -110,12 +111,13 @@ impl<T: Drop> Cell<T> {
 pub struct Slots<T, A: Allocator = Global> {
     last: u32,
     taken: usize,
+    /// How many slots are free.
+    spare: usize,
     cells: Vec<Cell<T>, A>,
-    free: Vec<u16, A>,
+    free: FreeSlots<A>,
 }
 
 impl<T, A: Allocator> Model for Slots<T, A> {
-    ghost use Rattle.std.specs.Prelude.{vec_capacity};
     ghost use Rattle.dq_core.specs.Slots.{SlotRows};
     ghost use Rattle.dq_core.specs.SlotRowsKept.{IsSlotRowsKept};
 
@@ -123,8 +125,7 @@ impl<T, A: Allocator> Model for Slots<T, A> {
 
     ghost view = { λ a. record { last_stamp = a.last; rows = a.cells.items } };
 
-    ghost invariant = { λ a.
-        IsSlotRowsKept a.last a.cells.items a.free.items a.taken (vec_capacity a.free) };
+    ghost invariant = { λ a. IsSlotRowsKept a.last a.cells.items a.free a.taken a.spare };
 }
 
 impl<T: Drop, A: Allocator + Clone> Slots<T, A> {
@@ -140,15 +141,15 @@ impl<T: Drop, A: Allocator + Clone> Slots<T, A> {
             (λ s. s ≡ record { last_stamp = last; rows = replicate capacity unused }) }
     {
         let mut cells = Vec::with_capacity(alloc.clone()?, capacity)?;
-        let mut free = Vec::with_capacity(alloc, capacity)?;
-        // The lowest index goes on top.
-        for turn in 0..capacity {
+        let mut free = FreeSlots::new(alloc, capacity)?;
+        for index in 0..capacity {
             cells.push_reserved(Cell::unused());
-            free.push_reserved((capacity - 1 - turn) as u16);
+            free.set(index);
         }
         Ok(Slots {
             last,
             taken: 0,
+            spare: capacity,
             cells,
             free,
         })
@@ -186,7 +187,7 @@ impl<T: Drop, A: Allocator> Slots<T, A> {
     pub fn worn(&self) -> usize
         ensures { result ≡ count_by (is_worn self.now.last_stamp) self.now.rows }
     {
-        self.cells.len() - self.taken - self.free.len()
+        self.cells.len() - self.taken - self.spare
     }
 
     /// The last stamp.
@@ -233,13 +234,13 @@ impl<T: Drop, A: Allocator> Slots<T, A> {
     pub fn fill(&mut self, value: T) -> Result<usize, T>
         ensures { IsFilled self.old value result self.new }
     {
-        let Some(top) = self.free.pop() else {
+        let Some(index) = self.free.take() else {
             return Err(value);
         };
-        let index = top as usize;
         let cell = &mut self.cells[index];
         cell.fill(value);
         self.taken += 1;
+        self.spare -= 1;
         Ok(index)
     }
 
@@ -253,7 +254,8 @@ impl<T: Drop, A: Allocator> Slots<T, A> {
         let cell = &mut self.cells[index];
         let held = cell.vacate();
         if cell.stamp() < self.last {
-            self.free.push_reserved(index as u16);
+            self.free.give(index);
+            self.spare += 1;
         }
         self.taken -= 1;
         held

@@ -1,10 +1,12 @@
 //! A plain row of words, for a queue that nobody shares.
 
-ghost use Rattle.std.specs.Prelude.{◌≡◌, ℕ, ◌+◌, ◌<◌, ◌≤◌, length, slice_set, replicate, false, max, MatchResult};
+ghost use Rattle.std.specs.Prelude.{◌≡◌, ℕ, ◌+◌, ◌<◌, ◌≤◌, length, slice_set, replicate, false, max, MatchOption, MatchResult};
 ghost use Rattle.dq_core.specs.Words.{Counts, word_at, look_by};
-ghost use Rattle.dq_core.specs.WordRows.{IsMadeRow, IsWordRow, IsNamed, IsCalled, IsExtend, IsCancel, IsLook};
+ghost use Rattle.dq_core.specs.WordRows.{IsMadeRow, IsWordRow, IsNamed, IsCallable, CallRefused, IsExtend, IsCancel, IsLook};
+ghost use Rattle.dq_ticks.specs.declared.TheConstants.{LAST_STAMP, LAST_TICK};
 
 use crate::errors::CoreError;
+use crate::packed_row::PackedRow;
 use crate::words::{CallError, Look, Settled, Words};
 use dq_ticks::{CAPACITY_LIMIT, Key, LAST_TICK, Mark, Parts};
 use std::alloc::{Allocator, Global};
@@ -13,7 +15,7 @@ use std::marker::Model;
 /// A row of words that its owner alone changes: so nothing comes between the steps of a queue over it.
 #[derive(Drop)]
 pub struct VecWords<A: Allocator = Global> {
-    row: Vec<Parts, A>,
+    row: PackedRow<A>,
     begins: u64,
     expiries: u64,
     removals: u64,
@@ -25,19 +27,13 @@ impl<A: Allocator> Model for VecWords<A> {
     ghost Value = { WordRow };
 
     ghost view = { λ a. record {
-      known = a.row.items;
+      known = a.row;
       counts = record { begins = a.begins; expiries = a.expiries; removals = a.removals };
     } };
 
-    ghost invariant = { λ a. IsWordRow a.row.items
+    ghost invariant = { λ a. IsWordRow a.row
         (record { begins = a.begins; expiries = a.expiries; removals = a.removals }) };
 }
-
-const UNUSED: Parts = Parts {
-    stamp: 0,
-    mark: Mark::LiveMark,
-    field: 0,
-};
 
 impl<A: Allocator> VecWords<A> {
     /// A row of words that were never used; BadConfig for a capacity of 0 or beyond [`CAPACITY_LIMIT`].
@@ -47,7 +43,7 @@ impl<A: Allocator> VecWords<A> {
         if capacity == 0 || capacity > CAPACITY_LIMIT {
             return Err(CoreError::BadConfig);
         }
-        let row = vec![in alloc; UNUSED; capacity]?;
+        let row = PackedRow::new(alloc, capacity)?;
         Ok(VecWords {
             row,
             begins: 0,
@@ -65,7 +61,7 @@ impl<A: Allocator> VecWords<A> {
         if index >= self.row.len() || key.stamp() == 0 {
             return Err(CallError::Unknown);
         }
-        let word = self.row[index];
+        let word = self.row.get(index);
         if word.stamp < key.stamp() {
             return Err(CallError::Unknown);
         }
@@ -75,17 +71,32 @@ impl<A: Allocator> VecWords<A> {
         Ok(word)
     }
 
-    /// The deadline of the word that a key names, where it is live.
+    /// The deadline of the word that a key names, where it is live at the key's stamp.
     #[inline]
-    fn callable(&self, key: &Key) -> Result<u64, CallError>
-        ensures { IsCalled self.now.known key.now result }
+    fn live_by(&self, key: &Key) -> Option<u64>
+        ensures { MatchOption result
+            (¬ IsCallable self.now.known key.now)
+            (λ d. IsCallable self.now.known key.now
+            × (d ≡ (word_at self.now.known key.now.entry.index).field)
+            × (key.now.stamp ≤ LAST_STAMP) × (d ≤ LAST_TICK)) }
     {
-        let word = self.named(key)?;
-        match word.mark {
-            Mark::LiveMark => Ok(word.field),
-            _ => Err(CallError::Ended {
+        let index = key.entry().index() as usize;
+        if index >= self.row.len() || key.stamp() == 0 {
+            return None;
+        }
+        self.row.live_at(index, key.stamp())
+    }
+
+    /// Why a call by a key is refused.
+    fn refusal(&self, key: &Key) -> CallError
+        requires { ¬ IsCallable self.now.known key.now }
+        ensures { CallRefused self.now.known key.now result }
+    {
+        match self.named(key) {
+            Err(refused) => refused,
+            Ok(word) => CallError::Ended {
                 how: shown(word.mark, word.field),
-            }),
+            },
         }
     }
 
@@ -97,12 +108,18 @@ impl<A: Allocator> VecWords<A> {
         if when > LAST_TICK {
             return Err(CallError::TooFar { limit: LAST_TICK });
         }
-        let deadline = self.callable(key)?.max(when);
-        self.row[key.entry().index() as usize] = Parts {
-            stamp: key.stamp(),
-            mark: Mark::LiveMark,
-            field: deadline,
+        let Some(deadline) = self.live_by(key) else {
+            return Err(self.refusal(key));
         };
+        let deadline = deadline.max(when);
+        self.row.set(
+            key.entry().index() as usize,
+            Parts {
+                stamp: key.stamp(),
+                mark: Mark::LiveMark,
+                field: deadline,
+            },
+        );
         Ok(deadline)
     }
 
@@ -111,12 +128,17 @@ impl<A: Allocator> VecWords<A> {
     pub fn cancel(&mut self, key: &Key) -> Result<u64, CallError>
         ensures { IsCancel self.old key.now result self.new }
     {
-        let deadline = self.callable(key)?;
-        self.row[key.entry().index() as usize] = Parts {
-            stamp: key.stamp(),
-            mark: Mark::CancelledMark,
-            field: 0,
+        let Some(deadline) = self.live_by(key) else {
+            return Err(self.refusal(key));
         };
+        self.row.set(
+            key.entry().index() as usize,
+            Parts {
+                stamp: key.stamp(),
+                mark: Mark::CancelledMark,
+                field: 0,
+            },
+        );
         Ok(deadline)
     }
 
@@ -164,29 +186,35 @@ impl<A: Allocator> Words for VecWords<A> {
 
     #[inline]
     fn begin(&mut self, index: usize, stamp: u32, when: u64) {
-        self.row[index] = Parts {
-            stamp,
-            mark: Mark::LiveMark,
-            field: when,
-        };
+        self.row.set(
+            index,
+            Parts {
+                stamp,
+                mark: Mark::LiveMark,
+                field: when,
+            },
+        );
         self.begins += 1;
     }
 
     #[inline]
     fn look(&mut self, index: usize) -> Parts {
-        self.row[index]
+        self.row.get(index)
     }
 
     #[inline]
     fn settle(&mut self, index: usize, stamp: u32, at: u64) -> Settled {
-        let word = self.row[index];
+        let word = self.row.get(index);
         match word.mark {
             Mark::LiveMark if word.field == at => {
-                self.row[index] = Parts {
-                    stamp,
-                    mark: Mark::ExpiredMark,
-                    field: at,
-                };
+                self.row.set(
+                    index,
+                    Parts {
+                        stamp,
+                        mark: Mark::ExpiredMark,
+                        field: at,
+                    },
+                );
                 self.expiries += 1;
                 Settled::SettledExpired
             }
@@ -197,14 +225,17 @@ impl<A: Allocator> Words for VecWords<A> {
 
     #[inline]
     fn renew(&mut self, index: usize, stamp: u32, when: u64) -> Option<u64> {
-        let word = self.row[index];
+        let word = self.row.get(index);
         match word.mark {
             Mark::LiveMark => {
-                self.row[index] = Parts {
-                    stamp: stamp + 1,
-                    mark: Mark::LiveMark,
-                    field: when,
-                };
+                self.row.set(
+                    index,
+                    Parts {
+                        stamp: stamp + 1,
+                        mark: Mark::LiveMark,
+                        field: when,
+                    },
+                );
                 Some(word.field)
             }
             _ => None,
@@ -213,14 +244,17 @@ impl<A: Allocator> Words for VecWords<A> {
 
     #[inline]
     fn finish(&mut self, index: usize, stamp: u32) -> Option<u64> {
-        let word = self.row[index];
+        let word = self.row.get(index);
         match word.mark {
             Mark::LiveMark => {
-                self.row[index] = Parts {
-                    stamp,
-                    mark: Mark::RemovedMark,
-                    field: word.field,
-                };
+                self.row.set(
+                    index,
+                    Parts {
+                        stamp,
+                        mark: Mark::RemovedMark,
+                        field: word.field,
+                    },
+                );
                 self.removals += 1;
                 Some(word.field)
             }

@@ -4,14 +4,19 @@ use crate::load::Row;
 use std::fmt;
 
 /// The rows of one owner.
-pub const ROWS: [(&str, Row); 7] = [
+pub const ROWS: [(&str, Row); 12] = [
     ("insert", Row::Insert),
     ("extend", Row::Extend),
     ("reset", Row::Reset),
     ("remove", Row::Remove),
     ("cancel", Row::Cancel),
     ("poll", Row::Poll),
+    ("insert+poll", Row::InsertPoll),
+    ("reset+poll", Row::ResetPoll),
+    ("remove+poll", Row::RemovePoll),
     ("mixed", Row::Mixed),
+    ("churn", Row::Churn),
+    ("heartbeat", Row::Heartbeat),
 ];
 
 /// What is timed: a row of one owner, or the callers.

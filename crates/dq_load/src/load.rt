@@ -1,9 +1,9 @@
 //! The rows of one owner: what is timed, and what is counted. All arithmetic of the plan is modulo 2^64.
 
-use crate::plan::{BEAT, BEATS, IDLE, KEPT, PASS, SEED, SplitMix64, passes};
-use crate::queues::Queue;
+use crate::plan::{BEAT, BEATS, HEARTBEATS, IDLE, KEPT, PASS, SEED, SplitMix64, passes};
+use crate::queues::{Queue, Refusal};
 use crate::sample::Sample;
-use anyhow::{Result, anyhow};
+use anyhow::Result;
 use dq_ticks::Key;
 use std::alloc::Global;
 use std::rt::Clock;
@@ -18,7 +18,24 @@ pub enum Row {
     Remove,
     Cancel,
     Poll,
+    InsertPoll,
+    ResetPoll,
+    RemovePoll,
     Mixed,
+    Churn,
+    Heartbeat,
+}
+
+impl Row {
+    /// Whether a round is one pass, which is long.
+    fn is_long(self) -> bool {
+        matches!(self, Row::Mixed | Row::Churn | Row::Heartbeat)
+    }
+
+    /// Whether what the calls leave behind is polled for within the time.
+    fn polls_after(self) -> bool {
+        matches!(self, Row::InsertPoll | Row::ResetPoll | Row::RemovePoll)
+    }
 }
 
 /// A queue under load, with its own copy of the plan.
@@ -47,7 +64,7 @@ impl<Q: Queue> Load<Q> {
     /// One round of a row.
     pub fn round(&mut self, rt: &impl Clock, row: Row) -> Result<Sample> {
         self.sample = Sample::default();
-        let passes = if row == Row::Mixed {
+        let passes = if row.is_long() {
             1
         } else {
             passes(self.entries)
@@ -61,13 +78,18 @@ impl<Q: Queue> Load<Q> {
     /// One pass of a row: from an empty queue to an empty queue.
     pub fn pass(&mut self, rt: &impl Clock, row: Row) -> Result<()> {
         match row {
-            Row::Insert => self.insert(rt)?,
+            Row::Insert | Row::InsertPoll => self.insert(rt)?,
             Row::Extend => self.extend(rt)?,
-            Row::Reset => self.reset(rt)?,
-            Row::Remove => self.remove(rt)?,
+            Row::Reset | Row::ResetPoll => self.reset(rt)?,
+            Row::Remove | Row::RemovePoll => self.remove(rt)?,
             Row::Cancel => self.cancel(rt)?,
             Row::Poll => self.poll(rt)?,
             Row::Mixed => self.mixed(rt)?,
+            Row::Churn => self.churn(rt)?,
+            Row::Heartbeat => self.heartbeat(rt)?,
+        }
+        if row.polls_after() {
+            self.poll_within(rt, self.now.wrapping_add(IDLE))?;
         }
         self.end_pass()
     }
@@ -98,7 +120,7 @@ impl<Q: Queue> Load<Q> {
     pub fn keys_at(&self, keys: &[Key], indexes: &[usize]) -> Result<Vec<Key>> {
         let mut chosen = Vec::with_capacity(self.alloc, indexes.len())?;
         for index in indexes {
-            chosen.push(*keys.get(*index).ok_or_else(|| anyhow!("no entry {index}"))?)?;
+            chosen.push(*keys.get(*index).ok_or(Refusal::NoEntry)?)?;
         }
         Ok(chosen)
     }
@@ -124,6 +146,35 @@ impl<Q: Queue> Load<Q> {
         counts.outs = counts.outs.wrapping_add(outs);
         counts.values = counts.values.wrapping_add(values);
         Ok(())
+    }
+
+    /// Polls at a tick until nothing is given, and adds the time to that of the calls before.
+    fn poll_within(&mut self, rt: &impl Clock, tick: u64) -> Result<()> {
+        let since = Instant::now(rt)?;
+        self.poll_all(tick)?;
+        self.spend(rt, since, 0)
+    }
+
+    /// Resets the entry of a key, and keeps the new key. An error of its own keeps the timed loops short.
+    #[inline]
+    fn reset_at(&mut self, keys: &mut [Key], index: usize, deadline: u64) -> Result<(), Refusal> {
+        let key = keys.get_mut(index).ok_or(Refusal::NoEntry)?;
+        *key = self.queue.reset(key, deadline)?;
+        Ok(())
+    }
+
+    /// Removes the entry of a key, inserts another in its place, and gives the value that was removed.
+    #[inline]
+    fn replace_at(
+        &mut self,
+        keys: &mut [Key],
+        index: usize,
+        deadline: u64,
+    ) -> Result<u64, Refusal> {
+        let key = keys.get_mut(index).ok_or(Refusal::NoEntry)?;
+        let value = self.queue.remove(key)?;
+        *key = self.queue.insert(index as u64, deadline)?;
+        Ok(value)
     }
 
     /// Takes out what is left, and goes to the start of the next pass.
@@ -181,10 +232,7 @@ impl<Q: Queue> Load<Q> {
         let deadlines = self.draws.deadlines(self.alloc, self.now, self.entries)?;
         let since = Instant::now(rt)?;
         for (pick, deadline) in picks.iter().zip(deadlines.iter()) {
-            let key = keys
-                .get_mut(*pick)
-                .ok_or_else(|| anyhow!("no entry {pick}"))?;
-            *key = self.queue.reset(key, *deadline)?;
+            self.reset_at(keys.as_mut_slice(), *pick, *deadline)?;
         }
         self.spend(rt, since, picks.len())?;
         let counts = &mut self.sample.counts;
@@ -247,14 +295,7 @@ impl<Q: Queue> Load<Q> {
     /// are cancelled and the others expire.
     fn mixed(&mut self, rt: &impl Clock) -> Result<()> {
         let steps = self.steps()?;
-        let mut begun = Vec::with_capacity(self.alloc, self.entries)?;
-        for step in steps.iter() {
-            begun.push(self.now.wrapping_add(*step).wrapping_add(IDLE))?;
-        }
-        let since = Instant::now(rt)?;
-        let keys = self.insert_all(begun.as_slice())?;
-        self.spend(rt, since, keys.len())?;
-
+        let keys = self.begin(rt, steps.as_slice())?;
         for beat in 1..=BEATS {
             self.beat(rt, keys.as_slice(), steps.as_slice(), beat * BEAT)?;
         }
@@ -267,6 +308,90 @@ impl<Q: Queue> Load<Q> {
         self.cancel_all(ended.as_slice())?;
         self.poll_all(tick)?;
         self.spend(rt, since, self.entries)
+    }
+
+    /// Begins a session at each step, to expire by the idle limit.
+    fn begin(&mut self, rt: &impl Clock, steps: &[u64]) -> Result<Vec<Key>> {
+        let mut begun = Vec::with_capacity(self.alloc, steps.len())?;
+        for step in steps {
+            begun.push(self.now.wrapping_add(*step).wrapping_add(IDLE))?;
+        }
+        let since = Instant::now(rt)?;
+        let keys = self.insert_all(begun.as_slice())?;
+        self.spend(rt, since, keys.len())?;
+        Ok(keys)
+    }
+
+    /// Requests with a time limit: in each beat each ends in a fresh order, and another begins at once in its place. The
+    /// limits that are drawn lie past the next beat, so none expires before it ends. At last all expire.
+    fn churn(&mut self, rt: &impl Clock) -> Result<()> {
+        let steps = self.steps()?;
+        let mut keys = self.begin(rt, steps.as_slice())?;
+        for beat in 1..=HEARTBEATS {
+            self.churn_beat(rt, keys.as_mut_slice(), steps.as_slice(), beat * BEAT)?;
+        }
+        self.poll_within(rt, self.now.wrapping_add(HEARTBEATS * BEAT + 2 * IDLE))
+    }
+
+    /// Every request ends, another begins in its place, and then the queue is polled.
+    fn churn_beat(
+        &mut self,
+        rt: &impl Clock,
+        keys: &mut [Key],
+        steps: &[u64],
+        begin: u64,
+    ) -> Result<()> {
+        let order = self.draws.shuffled(self.alloc, self.entries)?;
+        let begin = self.now.wrapping_add(begin);
+        let earliest = begin.wrapping_add(2 * BEAT);
+        let mut deadlines = self.draws.deadlines(self.alloc, earliest, self.entries)?;
+        for (deadline, step) in deadlines.iter_mut().zip(steps) {
+            *deadline = deadline.wrapping_add(*step);
+        }
+        let mut values = 0u64;
+        let since = Instant::now(rt)?;
+        for (index, deadline) in order.iter().zip(deadlines.iter()) {
+            values = values.wrapping_add(self.replace_at(keys, *index, *deadline)?);
+        }
+        self.spend(rt, since, order.len())?;
+        self.poll_within(rt, begin.wrapping_add(BEAT))?;
+        let counts = &mut self.sample.counts;
+        counts.removes = counts.removes.wrapping_add(order.len() as u64);
+        counts.inserts = counts.inserts.wrapping_add(order.len() as u64);
+        counts.values = counts.values.wrapping_add(values);
+        Ok(())
+    }
+
+    /// Heartbeats: each session is touched in each beat by a reset, in a fresh order. At last all expire.
+    fn heartbeat(&mut self, rt: &impl Clock) -> Result<()> {
+        let steps = self.steps()?;
+        let mut keys = self.begin(rt, steps.as_slice())?;
+        for beat in 1..=HEARTBEATS {
+            self.heart_beat(rt, keys.as_mut_slice(), steps.as_slice(), beat * BEAT)?;
+        }
+        self.poll_within(rt, self.now.wrapping_add(HEARTBEATS * BEAT + 2 * IDLE))
+    }
+
+    /// Every session is reset once, and then the queue is polled.
+    fn heart_beat(
+        &mut self,
+        rt: &impl Clock,
+        keys: &mut [Key],
+        steps: &[u64],
+        begin: u64,
+    ) -> Result<()> {
+        let order = self.draws.shuffled(self.alloc, self.entries)?;
+        let begin = self.now.wrapping_add(begin);
+        let later = begin.wrapping_add(IDLE);
+        let since = Instant::now(rt)?;
+        for (index, step) in order.iter().zip(steps) {
+            self.reset_at(keys, *index, later.wrapping_add(*step))?;
+        }
+        self.spend(rt, since, order.len())?;
+        self.poll_within(rt, begin.wrapping_add(BEAT))?;
+        let counts = &mut self.sample.counts;
+        counts.resets = counts.resets.wrapping_add(order.len() as u64);
+        Ok(())
     }
 
     /// Every session is touched once, in a fresh order, and then the queue is polled.

@@ -12,6 +12,9 @@ pub const IDLE: u64 = 60_000;
 /// How often a session is touched in the row of mixed calls.
 pub const BEATS: u64 = 100;
 
+/// The beats of the rows of churn and of heartbeats.
+pub const HEARTBEATS: u64 = 30;
+
 /// The ticks from one touch of a session to its next.
 pub const BEAT: u64 = 1_000;
 

@@ -7,13 +7,15 @@ use dq_words::{Caller, Keeper};
 use std::alloc::Global;
 use thiserror::Error;
 
-/// Why a call was refused. No row wants a refusal.
+/// Why a call was refused, or what it was asked of isn't there. No row wants a refusal.
 #[derive(Clone, Copy, Debug, PartialEq, Eq, Drop, Error)]
 pub enum Refusal {
     #[error("the queue refused a call: {0}")]
     Core(CoreError),
     #[error("a caller was refused: {0}")]
     Call(CallError),
+    #[error("the plan asks for an entry that isn't there")]
+    NoEntry,
 }
 
 /// A queue of values with deadlines. Ticks are of one millisecond.

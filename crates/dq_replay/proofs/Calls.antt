@@ -8,18 +8,18 @@ use Rattle.dq_ticks.specs.declared.TheConstants.{LAST_STAMP}
 use Rattle.dq_core.specs.Words.{never}
 use Rattle.dq_core.specs.Slots.{unused}
 use Rattle.dq_core.specs.Machine.{TableRow, Machine, Event, table_at, put, Note, Pass, Insert, Reset, Extend, Cancel, Remove, Reap, Expire, Step, Run, IsClearing}
-use Rattle.dq_core.specs.Machine.{Entry as Linked}
+use Rattle.dq_core.specs.Machine.{Entry}
 use Rattle.dq_core.specs.Core.{Core, machine, table_of}
 use Rattle.dq_core.specs.Calls.{SameCore}
 use Rattle.dq_core.specs.Sweeps.{Clears}
-use Rattle.dq_replay.specs.declared.session.Entry.{Entry}
-use Rattle.dq_replay.specs.Script.{with_entry}
-use Rattle.dq_replay.specs.Leases.{lease_of, with_lease, live_of, vacant, live_entry, key_at, AreKeyed, NameTable, found_in, IsPutIn, one_if}
-use Rattle.dq_replay.specs.Leased.{leased, IsLeased, IsLiveKey, IsSameQueue, IsChangedAt, IsResetTo, IsExtendedTo, NoneDue, IsGone, IsResting, moved_lease, without_lease, ResetsLease, ExtendsLease, EndsLease, ExpiresLease}
-use Rattle.dq_replay.proofs.Ordered.{length-with_entry}
+use Rattle.dq_replay.specs.declared.session.Lease.{Lease}
+use Rattle.dq_replay.specs.Script.{with_lease}
+use Rattle.dq_replay.specs.Leases.{lease_of, with_lease_if, live_of, vacant, live_entry, key_at, AreKeyed, NameTable, found_in, IsPutIn, one_if}
+use Rattle.dq_replay.specs.LeasesState.{leases_state, AreLeases, IsLiveKey, IsSameQueue, IsChangedAt, IsResetTo, IsExtendedTo, NoneDue, IsGone, IsResting, moved_lease, without_lease, ResetsLease, ExtendsLease, EndsLease, ExpiresLease}
+use Rattle.dq_replay.proofs.Ordered.{length-with_lease}
 use Rattle.dq_replay.proofs.LiveSlots.{put_here, put_there, inside_slots, live_set, live_here}
 use Rattle.dq_replay.proofs.Keyed.{keyed_put}
-use Rattle.dq_replay.proofs.Tied.{leased_path, put_in_other, put_in_same}
+use Rattle.dq_replay.proofs.Tied.{leases_path, put_in_other, put_in_same}
 use Rattle.dq_replay.proofs.Moves.{changed_tick, changed_noted, key_put, key_moved, key_moved_size, key_ended, key_ended_size, key_deadline}
 
 none_some : {T : Type 0} (x : T) → ◌≡◌ {A = Option T} None (Some x) → ⊥
@@ -29,9 +29,9 @@ one_key : (t : NameTable) (name : List ℕ) (k : KeyName) → found_in t name �
 one_key t name k at = ap one_if at
 
 -- reset
-module _ {W : Type 0} (b c : Core (List ℕ) W) (t u : NameTable) (given : ℕ) (name : List ℕ) (d when : ℕ) (k new : KeyName) (l : IsLeased b t given) (at : found_in t name ≡ Some k) (live : IsLiveKey b k name d)
+module _ {W : Type 0} (b c : Core (List ℕ) W) (t u : NameTable) (given : ℕ) (name : List ℕ) (d when : ℕ) (k new : KeyName) (l : AreLeases b t given) (at : found_in t name ≡ Some k) (live : IsLiveKey b k name d)
     (reset : IsResetTo b k when new c name) where
-  pub reset_tied : IsPutIn t name (Some new) u → length u.entries + one_if (found_in t name) ≡ length t.entries + 1 → IsLeased c u (given + 1)
+  pub reset_tied : IsPutIn t name (Some new) u → length u.entries + one_if (found_in t name) ≡ length t.entries + 1 → AreLeases c u (given + 1)
   reset_tied put_in size =
       let below = l.stamps k.entry.index in
       let one = one_key t name k at in
@@ -42,14 +42,14 @@ module _ {W : Type 0} (b c : Core (List ℕ) W) (t u : NameTable) (given : ℕ) 
       (put_in_other t u name (Some new) put_in)
       (omega (arith, size, one, count, sizes))
 
-  pub reset_shown : (asked limit : ℕ) → asked ≤ limit → when ≡ max asked b.noted → b.wheel.filing.tick ≤ b.noted → ResetsLease (leased b given) name asked limit (Ok when) (leased c (given + 1))
+  pub reset_shown : (asked limit : ℕ) → asked ≤ limit → when ≡ max asked b.noted → b.wheel.filing.tick ≤ b.noted → ResetsLease (leases_state b given) name asked limit (Ok when) (leases_state c (given + 1))
   reset_shown asked limit within is reached =
       let here : max when (machine b).tick ≡ when = omega (arith, is, reached) in (
         d,
         key_deadline b t given name d k l live,
         within,
         is,
-        leased_path c (given + 1) (moved_lease (leased b given) name when (given + 1)) reset.0.same.rows
+        leases_path c (given + 1) (moved_lease (leases_state b given) name when (given + 1)) reset.0.same.rows
             (changed_tick b c k.entry.index ((table_at (machine b) k.entry.index).stamp + 1) (Some (live_entry k.entry.born name (max when (machine b).tick))) reset.0)
             (changed_noted b c k.entry.index ((table_at (machine b) k.entry.index).stamp + 1) (Some (live_entry k.entry.born name (max when (machine b).tick))) reset.0) refl
             (key_moved b c t u given (given + 1) ((table_at (machine b) k.entry.index).stamp + 1) (Some (live_entry k.entry.born name (max when (machine b).tick))) name d k l at live reset.0 when
@@ -57,13 +57,13 @@ module _ {W : Type 0} (b c : Core (List ℕ) W) (t u : NameTable) (given : ℕ) 
       )
 
 -- extend
-module _ {W : Type 0} (b c : Core (List ℕ) W) (t : NameTable) (given : ℕ) (name : List ℕ) (d when x : ℕ) (k : KeyName) (l : IsLeased b t given) (at : found_in t name ≡ Some k) (live : IsLiveKey b k name d)
+module _ {W : Type 0} (b c : Core (List ℕ) W) (t : NameTable) (given : ℕ) (name : List ℕ) (d when x : ℕ) (k : KeyName) (l : AreLeases b t given) (at : found_in t name ≡ Some k) (live : IsLiveKey b k name d)
     (extended : IsExtendedTo b k when x c name d) where
-  pub extend_tied : IsLeased c t given
+  pub extend_tied : AreLeases c t given
   extend_tied =
       let below = l.stamps k.entry.index in
       let s : ℕ = (table_at (machine b) k.entry.index).stamp in
-      let e : Option (Linked (List ℕ)) = Some (live_entry k.entry.born name x) in
+      let e : Option (Entry (List ℕ)) = Some (live_entry k.entry.born name x) in
       let stamp : (table_at (machine b) k.entry.index).stamp ≡ (table_at (put (machine b) k.entry.index s e) k.entry.index).stamp = ap (λ z. z.stamp) (sym (put_here (machine b) k.entry.index s e extended.1.inside)) in
       let count = l.count in
       let sizes = key_moved_size b c t t given given s e name d k l at live extended.1 x refl in
@@ -72,22 +72,22 @@ module _ {W : Type 0} (b c : Core (List ℕ) W) (t : NameTable) (given : ℕ) (n
       (λ q other. refl)
       (omega (arith, count, sizes))
 
-  pub extend_shown : (limit : ℕ) → when ≤ limit → ExtendsLease (leased b given) name when limit (Ok x) (leased c given)
+  pub extend_shown : (limit : ℕ) → when ≤ limit → ExtendsLease (leases_state b given) name when limit (Ok x) (leases_state c given)
   extend_shown limit within = (
     d,
     key_deadline b t given name d k l live,
     within,
     extended.0,
-    leased_path c given (moved_lease (leased b given) name x given) extended.1.same.rows
+    leases_path c given (moved_lease (leases_state b given) name x given) extended.1.same.rows
         (changed_tick b c k.entry.index (table_at (machine b) k.entry.index).stamp (Some (live_entry k.entry.born name x)) extended.1)
         (changed_noted b c k.entry.index (table_at (machine b) k.entry.index).stamp (Some (live_entry k.entry.born name x)) extended.1) refl
         (key_moved b c t t given given (table_at (machine b) k.entry.index).stamp (Some (live_entry k.entry.born name x)) name d k l at live extended.1 x refl),
   )
 
 -- the end of a live name: as cancelled, or as removed
-module _ {W : Type 0} (b c : Core (List ℕ) W) (t u : NameTable) (given : ℕ) (e : Option (Linked (List ℕ))) (name : List ℕ) (d x : ℕ) (k : KeyName) (l : IsLeased b t given) (at : found_in t name ≡ Some k) (live : IsLiveKey b k name d)
+module _ {W : Type 0} (b c : Core (List ℕ) W) (t u : NameTable) (given : ℕ) (e : Option (Entry (List ℕ))) (name : List ℕ) (d x : ℕ) (k : KeyName) (l : AreLeases b t given) (at : found_in t name ≡ Some k) (live : IsLiveKey b k name d)
     (told : x ≡ d) (changed : IsChangedAt b k.entry.index (table_at (machine b) k.entry.index).stamp e c) (none : lease_of e ≡ None) where
-  pub end_tied : IsPutIn t name None u → length u.entries + one_if (found_in t name) ≡ length t.entries → IsLeased c u given
+  pub end_tied : IsPutIn t name None u → length u.entries + one_if (found_in t name) ≡ length t.entries → AreLeases c u given
   end_tied put_in size =
       let below = l.stamps k.entry.index in
       let one = one_key t name k at in
@@ -98,17 +98,17 @@ module _ {W : Type 0} (b c : Core (List ℕ) W) (t u : NameTable) (given : ℕ) 
       (put_in_other t u name None put_in)
       (omega (arith, size, one, count, sizes))
 
-  pub end_shown : EndsLease (leased b given) name (Some x) (leased c given)
+  pub end_shown : EndsLease (leases_state b given) name (Some x) (leases_state c given)
   end_shown = (
     key_deadline b t given name d k l live ∙ ap Some (sym told),
-    leased_path c given (without_lease (leased b given) name) changed.same.rows
+    leases_path c given (without_lease (leases_state b given) name) changed.same.rows
         (changed_tick b c k.entry.index (table_at (machine b) k.entry.index).stamp e changed)
         (changed_noted b c k.entry.index (table_at (machine b) k.entry.index).stamp e changed) refl
         (key_ended b c t u given given (table_at (machine b) k.entry.index).stamp e name d k l at live changed none),
   )
 
 -- the machine as it was
-pub same_tied : {W : Type 0} (b c : Core (List ℕ) W) (t : NameTable) (given : ℕ) → IsLeased b t given → machine c ≡ machine b → IsSameQueue b c → IsLeased c t given
+pub same_tied : {W : Type 0} (b c : Core (List ℕ) W) (t : NameTable) (given : ℕ) → AreLeases b t given → machine c ≡ machine b → IsSameQueue b c → AreLeases c t given
 same_tied b c t given l is same = record {
   last = same.last ∙ l.last;
   keyed = subst (λ m. AreKeyed c.shard m (found_in t)) (sym is) (subst (λ s. AreKeyed s (machine b) (found_in t)) (sym same.shard) l.keyed);
@@ -116,14 +116,14 @@ same_tied b c t given l is same = record {
   stamps = λ i. subst (λ m. (table_at m i).stamp ≤ given) (sym is) (l.stamps i);
 }
 
-pub same_shown : {W : Type 0} (b c : Core (List ℕ) W) (given : ℕ) → machine c ≡ machine b → IsSameQueue b c → leased c given ≡ leased b given
-same_shown b c given is same = leased_path c given (leased b given) same.rows (ap (λ m. m.tick) is) (ap (λ m. m.noted) is) refl (ap (λ m. live_of m.table) is)
+pub same_shown : {W : Type 0} (b c : Core (List ℕ) W) (given : ℕ) → machine c ≡ machine b → IsSameQueue b c → leases_state c given ≡ leases_state b given
+same_shown b c given is same = leases_path c given (leases_state b given) same.rows (ap (λ m. m.tick) is) (ap (λ m. m.noted) is) refl (ap (λ m. live_of m.table) is)
 
 -- clear
 
 none_linked_live : (ss : List (TableRow (List ℕ))) → ((i : ℕ) → (get_or ss i vacant).entry ≡ None) → live_of ss ≡ []
 none_linked_live [] h = refl
-none_linked_live (s ∷ ss) h = ap (λ o. with_lease (lease_of o) (live_of ss)) (h 0) ∙ none_linked_live ss (λ i. h (suc i))
+none_linked_live (s ∷ ss) h = ap (λ o. with_lease_if (lease_of o) (live_of ss)) (h 0) ∙ none_linked_live ss (λ i. h (suc i))
 
 no_names : (t : NameTable) → t.entries ≡ [] → (name : List ℕ) → found_in t name ≡ None
 no_names t empty name = ap (λ es. found_in (record { entries = es; spare = 0 }) name) empty
@@ -158,7 +158,7 @@ cleared_run last m n (e ∷ es) a (k, step, rest) =
     let more = cleared_run last k n es a.1 rest in
     (λ i. more.0 i ∙ one.0 i, more.1 ∙ one.1)
 
-pub cleared_tied : {W : Type 0} (b c : Core (List ℕ) W) (t u : NameTable) (given n : ℕ) → IsLeased b t given → SameCore b c → Clears false b n c → u.entries ≡ [] → IsLeased c u given
+pub cleared_tied : {W : Type 0} (b c : Core (List ℕ) W) (t u : NameTable) (given n : ℕ) → AreLeases b t given → SameCore b c → Clears false b n c → u.entries ≡ [] → AreLeases c u given
 cleared_tied b c t u given n l same cl empty =
     let run = cl.ended.1.run in
     let way = cleared_run b.slots.last_stamp (machine b) (machine c) run.0 run.1 run.2 in
@@ -169,15 +169,15 @@ cleared_tied b c t u given n l same cl empty =
       stamps = λ i. subst (λ s. s ≤ given) (sym (way.0 i)) (l.stamps i);
     }
 
-pub cleared_shown : {W : Type 0} (b c : Core (List ℕ) W) (given n : ℕ) → SameCore b c → Clears false b n c → leased c given ≡ record { capacity = length b.slots.rows; tick = b.wheel.filing.tick; noted = b.noted; given = given; live = [] }
+pub cleared_shown : {W : Type 0} (b c : Core (List ℕ) W) (given n : ℕ) → SameCore b c → Clears false b n c → leases_state c given ≡ record { capacity = length b.slots.rows; tick = b.wheel.filing.tick; noted = b.noted; given = given; live = [] }
 cleared_shown b c given n same cl =
     let run = cl.ended.1.run in
     let way = cleared_run b.slots.last_stamp (machine b) (machine c) run.0 run.1 run.2 in
-    leased_path c given (record { capacity = length b.slots.rows; tick = b.wheel.filing.tick; noted = b.noted; given = given; live = [] }) same.2 way.1 cl.ended.1.out.noted refl (none_linked_live (machine c).table cl.none)
+    leases_path c given (record { capacity = length b.slots.rows; tick = b.wheel.filing.tick; noted = b.noted; given = given; live = [] }) same.2 way.1 cl.ended.1.out.noted refl (none_linked_live (machine c).table cl.none)
 
 -- polls
 
-pub rest_tied : {W : Type 0} (b c : Core (List ℕ) W) (t : NameTable) (given now : ℕ) → IsLeased b t given → IsResting b now c → IsLeased c t given
+pub rest_tied : {W : Type 0} (b c : Core (List ℕ) W) (t : NameTable) (given now : ℕ) → AreLeases b t given → IsResting b now c → AreLeases c t given
 rest_tied b c t given now l r = record {
   last = r.same.last ∙ l.last;
   keyed = subst (λ s. AreKeyed s (machine c) (found_in t)) (sym r.same.shard) (r.kept.keyed (found_in t) l.keyed);
@@ -185,13 +185,13 @@ rest_tied b c t given now l r = record {
   stamps = λ i. subst (λ s. s ≤ given) (sym (r.kept.stamps i)) (l.stamps i);
 }
 
-pub rest_shown : {W : Type 0} (b c : Core (List ℕ) W) (given now : ℕ) → IsResting b now c → ExpiresLease (leased b given) now None (leased c given)
+pub rest_shown : {W : Type 0} (b c : Core (List ℕ) W) (given now : ℕ) → IsResting b now c → ExpiresLease (leases_state b given) now None (leases_state c given)
 rest_shown b c given now r = (
-  leased_path c given (record { capacity = length b.slots.rows; tick = now; noted = now; given = given; live = live_of (machine b).table }) r.same.rows r.tick r.noted refl r.kept.live,
+  leases_path c given (record { capacity = length b.slots.rows; tick = now; noted = now; given = given; live = live_of (machine b).table }) r.same.rows r.tick r.noted refl r.kept.live,
   subst (NoneDue now) r.kept.live r.none_due,
 )
 
-module _ {W : Type 0} (b c : Core (List ℕ) W) (t : NameTable) (given now : ℕ) (x : Entry) (l : IsLeased b t given) (gone : IsGone b now x c) where
+module _ {W : Type 0} (b c : Core (List ℕ) W) (t : NameTable) (given now : ℕ) (x : Lease) (l : AreLeases b t given) (gone : IsGone b now x c) where
   gone_keyed : AreKeyed b.shard gone.way.0 (found_in t)
   gone_keyed = gone.way.3.keyed (found_in t) l.keyed
 
@@ -204,17 +204,17 @@ module _ {W : Type 0} (b c : Core (List ℕ) W) (t : NameTable) (given now : ℕ
   gone_rest : live_of (machine c).table ≡ live_of (set gone.way.0.table gone.way.1 vacant)
   gone_rest = ap (λ m. live_of m.table) gone.way.5 ∙ live_set gone.way.0.table gone.way.1 (record { stamp = (table_at gone.way.0 gone.way.1).stamp; entry = None }) gone_inside
 
-  gone_live : live_of (machine b).table ≡ with_entry x (live_of (machine c).table)
+  gone_live : live_of (machine b).table ≡ with_lease x (live_of (machine c).table)
   gone_live =
-      sym gone.way.3.live ∙ (live_here gone.way.0.table gone.way.1 gone_inside ∙ (ap (λ o. with_lease (lease_of o) (live_of (set gone.way.0.table gone.way.1 vacant))) gone.way.4 ∙ ap (with_entry x) (sym gone_rest)))
+      sym gone.way.3.live ∙ (live_here gone.way.0.table gone.way.1 gone_inside ∙ (ap (λ o. with_lease_if (lease_of o) (live_of (set gone.way.0.table gone.way.1 vacant))) gone.way.4 ∙ ap (with_lease x) (sym gone_rest)))
 
   gone_size : length (live_of (machine b).table) ≡ suc (length (live_of (machine c).table))
-  gone_size = ap length gone_live ∙ length-with_entry x (live_of (machine c).table)
+  gone_size = ap length gone_live ∙ length-with_lease x (live_of (machine c).table)
 
-  pub gone_shown : ExpiresLease (leased b given) now (Some x) (leased c given)
+  pub gone_shown : ExpiresLease (leases_state b given) now (Some x) (leases_state c given)
   gone_shown = (gone_live, gone.due, gone.noted, gone.same.rows, refl)
 
-  pub gone_tied : (u : NameTable) → IsPutIn t x.name None u → length u.entries + one_if (found_in t x.name) ≡ length t.entries → IsLeased c u given
+  pub gone_tied : (u : NameTable) → IsPutIn t x.name None u → length u.entries + one_if (found_in t x.name) ≡ length t.entries → AreLeases c u given
   gone_tied u put_in size =
       let m : Machine (List ℕ) = gone.way.0 in
       let i : ℕ = gone.way.1 in
@@ -235,7 +235,7 @@ module _ {W : Type 0} (b c : Core (List ℕ) W) (t : NameTable) (given now : ℕ
         stamps = λ j. subst (λ z. (table_at z j).stamp ≤ given) (sym gone.way.5) (subst (λ z. z ≤ given) (sym (put_stamp m i j gone_inside)) (subst (λ z. z ≤ given) (sym (gone.way.3.stamps j)) (l.stamps j)));
       }
     where
-      name_of : (a e : ℕ) (o n : List ℕ) (d f : ℕ) → ◌≡◌ {A = Option (Linked (List ℕ))} (Some (live_entry a o d)) (Some (live_entry e n f)) → n ≡ o
+      name_of : (a e : ℕ) (o n : List ℕ) (d f : ℕ) → ◌≡◌ {A = Option (Entry (List ℕ))} (Some (live_entry a o d)) (Some (live_entry e n f)) → n ≡ o
       name_of a e o n d f h = let same : live_entry a o d ≡ live_entry e n f = cc in sym (ap (λ y. y.value) same)
 
       key_same : (a e : KeyName) → ◌≡◌ {A = Option KeyName} (Some a) (Some e) → a ≡ e
@@ -248,7 +248,7 @@ fresh_slots zero i = refl
 fresh_slots (suc n) zero = refl
 fresh_slots (suc n) (suc i) = fresh_slots n i
 
-pub fresh_tied : {W : Type 0} (c : Core (List ℕ) W) (t : NameTable) (n : ℕ) → c.slots ≡ record { last_stamp = LAST_STAMP; rows = replicate n unused } → c.known ≡ replicate n never → t.entries ≡ [] → IsLeased c t 0
+pub fresh_tied : {W : Type 0} (c : Core (List ℕ) W) (t : NameTable) (n : ℕ) → c.slots ≡ record { last_stamp = LAST_STAMP; rows = replicate n unused } → c.known ≡ replicate n never → t.entries ≡ [] → AreLeases c t 0
 fresh_tied c t n slots known empty =
     let table : (machine c).table ≡ table_of (replicate n unused) (replicate n never) = λ j. table_of (slots j).rows (known j) in
     let at : (i : ℕ) → table_at (machine c) i ≡ vacant = λ i. ap (λ ss. get_or ss i vacant) table ∙ fresh_slots n i in
@@ -265,9 +265,9 @@ length-replicate zero x = refl
 length-replicate (suc n) x = ap suc (length-replicate n x)
 
 pub fresh_shown : {W : Type 0} (c : Core (List ℕ) W) (n : ℕ) → c.slots ≡ record { last_stamp = LAST_STAMP; rows = replicate n unused } → c.known ≡ replicate n never → c.wheel.filing.tick ≡ 0 → c.noted ≡ 0
-    → leased c 0 ≡ record { capacity = n; tick = 0; noted = 0; given = 0; live = [] }
+    → leases_state c 0 ≡ record { capacity = n; tick = 0; noted = 0; given = 0; live = [] }
 fresh_shown c n slots known tick noted =
     let table : (machine c).table ≡ table_of (replicate n unused) (replicate n never) = λ j. table_of (slots j).rows (known j) in
     let at : (i : ℕ) → table_at (machine c) i ≡ vacant = λ i. ap (λ ss. get_or ss i vacant) table ∙ fresh_slots n i in
-    leased_path c 0 (record { capacity = n; tick = 0; noted = 0; given = 0; live = [] }) (ap (λ s. length s.rows) slots ∙ length-replicate n unused) tick noted refl
+    leases_path c 0 (record { capacity = n; tick = 0; noted = 0; given = 0; live = [] }) (ap (λ s. length s.rows) slots ∙ length-replicate n unused) tick noted refl
     (none_linked_live (machine c).table (λ i. ap (λ s. s.entry) (at i)))

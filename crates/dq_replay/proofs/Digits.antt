@@ -16,18 +16,18 @@ digits_over (b ∷ bs) n large =
     ]
 
 -- a byte that is no digit, or a digit that makes the number too large
-pub digits_stop : (word : List ℕ) (n i : ℕ) → i < length word
-    → (is_ascii_digit (get_or word i 0) ≡ false) ⊎ (2 ^ 64 ≤ 10 * n + (get_or word i 0 - 48)) → digits_behind n (drop i word) ≡ None
-digits_stop word n i within (inl other) = rw (drop-cons word i 0 within, other) refl
-digits_stop word n i within (inr large) =
-    rw (drop-cons word i 0 within) (elim (is_ascii_digit (get_or word i 0)) as (λ t. cond t (digits_behind (10 * n + (get_or word i 0 - 48)) (drop (suc i) word)) None ≡ None) [
-      | true ↦ digits_over (drop (suc i) word) (10 * n + (get_or word i 0 - 48)) large
+pub digits_stop : (token : List ℕ) (n i : ℕ) → i < length token
+    → (is_ascii_digit (get_or token i 0) ≡ false) ⊎ (2 ^ 64 ≤ 10 * n + (get_or token i 0 - 48)) → digits_behind n (drop i token) ≡ None
+digits_stop token n i within (inl other) = rw (drop-cons token i 0 within, other) refl
+digits_stop token n i within (inr large) =
+    rw (drop-cons token i 0 within) (elim (is_ascii_digit (get_or token i 0)) as (λ t. cond t (digits_behind (10 * n + (get_or token i 0 - 48)) (drop (suc i) token)) None ≡ None) [
+      | true ↦ digits_over (drop (suc i) token) (10 * n + (get_or token i 0 - 48)) large
       | false ↦ refl
     ])
 
-pub digits_more : (word : List ℕ) (n i : ℕ) → i < length word → is_ascii_digit (get_or word i 0) ≡ true
-    → digits_behind n (drop i word) ≡ digits_behind (10 * n + (get_or word i 0 - 48)) (drop (i + 1) word)
-digits_more word n i within digit = rw (drop-cons word i 0 within, digit, add-one) refl
+pub digits_more : (token : List ℕ) (n i : ℕ) → i < length token → is_ascii_digit (get_or token i 0) ≡ true
+    → digits_behind n (drop i token) ≡ digits_behind (10 * n + (get_or token i 0 - 48)) (drop (i + 1) token)
+digits_more token n i within digit = rw (drop-cons token i 0 within, digit, add-one) refl
 
-pub digits_end : (word : List ℕ) (n i : ℕ) → length word ≤ i → n < 2 ^ 64 → digits_behind n (drop i word) ≡ Some n
-digits_end word n i past small = rw (drop_all i word past, lt-ltb n (2 ^ 64) small) refl
+pub digits_end : (token : List ℕ) (n i : ℕ) → length token ≤ i → n < 2 ^ 64 → digits_behind n (drop i token) ≡ Some n
+digits_end token n i past small = rw (drop_all i token past, lt-ltb n (2 ^ 64) small) refl

@@ -5,11 +5,11 @@ use Rattle.dq_ticks.specs.Keys.{KeyName}
 use Rattle.dq_core.specs.declared.outcomes.Removed.{Removed}
 use Rattle.dq_core.specs.Words.{word_at}
 use Rattle.dq_core.specs.Machine.{Machine, table_at, put, Has, Step, Reset, Extend, Cancel, Remove}
-use Rattle.dq_core.specs.Machine.{Entry as Linked}
+use Rattle.dq_core.specs.Machine.{Entry}
 use Rattle.dq_core.specs.Core.{Core, machine, IsLawfulCore}
 use Rattle.dq_core.specs.Calls.{SameCore, IsInserted, IsReset, IsRemoved, IsFoundLive}
 use Rattle.dq_replay.specs.Leases.{live_entry, key_at}
-use Rattle.dq_replay.specs.Leased.{IsLiveKey, IsSameQueue, IsNewLease, IsResetTo, IsExtendedTo, IsCancelledAt, IsRemovedAt, IsToldOf}
+use Rattle.dq_replay.specs.LeasesState.{IsLiveKey, IsSameQueue, IsNewLease, IsResetTo, IsExtendedTo, IsCancelledLease, IsRemovedLease, IsToldOf}
 use Rattle.dq_replay.proofs.LiveSlots.{put_here}
 use Rattle.dq_replay.proofs.Runs.{alone}
 use Rattle.dq_replay.proofs.Refused.{word_live}
@@ -17,14 +17,14 @@ use Rattle.dq_replay.proofs.Refused.{word_live}
 pub same_queue : {W : Type 0} (b c : Core (List ℕ) W) → SameCore b c → IsSameQueue b c
 same_queue b c s = record { shard = s.0; last = s.1; rows = s.2 }
 
-some_entry : (a b : Linked (List ℕ)) → ◌≡◌ {A = Option (Linked (List ℕ))} (Some a) (Some b) → a ≡ b
+some_entry : (a b : Entry (List ℕ)) → ◌≡◌ {A = Option (Entry (List ℕ))} (Some a) (Some b) → a ≡ b
 some_entry a b q = cc
 
 some_number : (a b : ℕ) → ◌≡◌ {A = Option ℕ} (Some a) (Some b) → a ≡ b
 some_number a b q = cc
 
 -- the entry of a live name
-entry_is : {W : Type 0} (b : Core (List ℕ) W) (k : KeyName) (name : List ℕ) (d : ℕ) (e : Linked (List ℕ)) → IsLiveKey b k name d → Has (machine b) k.entry.index e → e ≡ live_entry k.entry.born name d
+entry_is : {W : Type 0} (b : Core (List ℕ) W) (k : KeyName) (name : List ℕ) (d : ℕ) (e : Entry (List ℕ)) → IsLiveKey b k name d → Has (machine b) k.entry.index e → e ≡ live_entry k.entry.born name d
 entry_is b k name d e live has = some_entry e (live_entry k.entry.born name d) (sym has.1 ∙ live.0)
 
 -- the key of an entry of the queue
@@ -71,7 +71,7 @@ extend_changed b c k when result name d law same told step live =
     )
 
 pub cancel_changed : {W : Type 0} (b c : Core (List ℕ) W) (k : KeyName) (result : ℕ) (name : List ℕ) (d : ℕ) → IsLawfulCore b → SameCore b c → result ≡ (word_at b.known k.entry.index).field
-    → Step b.slots.last_stamp (machine b) (Cancel k.entry.index k.stamp) (machine c) → IsLiveKey b k name d → IsCancelledAt b k result c name d
+    → Step b.slots.last_stamp (machine b) (Cancel k.entry.index k.stamp) (machine c) → IsLiveKey b k name d → IsCancelledLease b k result c name d
 cancel_changed b c k result name d law same told step live =
     let is : step.0 ≡ live_entry k.entry.born name d = entry_is b k name d step.0 live step.2 in
     let stamp : k.stamp ≡ (table_at (machine b) k.entry.index).stamp = sym step.3 in (
@@ -83,7 +83,7 @@ cancel_changed b c k result name d law same told step live =
       },
     )
 
-pub remove_changed : {W : Type 0} (b c : Core (List ℕ) W) (k : KeyName) (x : Removed (List ℕ)) (name : List ℕ) (d : ℕ) → SameCore b c → IsRemoved false b k.entry x c → IsLiveKey b k name d → IsRemovedAt b k x.deadline c name d
+pub remove_changed : {W : Type 0} (b c : Core (List ℕ) W) (k : KeyName) (x : Removed (List ℕ)) (name : List ℕ) (d : ℕ) → SameCore b c → IsRemoved false b k.entry x c → IsLiveKey b k name d → IsRemovedLease b k x.deadline c name d
 remove_changed b c k x name d same r live =
     let here : r.run.0 ≡ machine b = alone b.slots.last_stamp (machine b) r.run.0 r.run.1 in
     let step = subst (λ m. Step b.slots.last_stamp m (Remove k.entry.index k.entry.born) (machine c)) here r.run.2 in

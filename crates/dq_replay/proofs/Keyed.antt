@@ -4,12 +4,12 @@ use Rattle.std.specs.Prelude.{Option, Some, None, bytes_eq}
 use Rattle.std.proofs.lemmas.Bool.{true≢false, cases_Bool, cases_eq}
 use Rattle.dq_ticks.specs.Keys.{KeyName}
 use Rattle.dq_core.specs.Machine.{Machine, table_at, put}
-use Rattle.dq_core.specs.Machine.{Entry as Linked}
-use Rattle.dq_replay.specs.declared.session.Entry.{Entry}
+use Rattle.dq_core.specs.Machine.{Entry}
+use Rattle.dq_replay.specs.declared.session.Lease.{Lease}
 use Rattle.dq_replay.specs.Leases.{lease_of, live_entry, key_at, AreKeyed}
 use Rattle.dq_replay.proofs.LiveSlots.{put_here, put_there, name_is, name_same}
 
-no_lease : (born : ℕ) (name : List ℕ) (d : ℕ) → ◌≡◌ {A = Option Entry} (lease_of (Some (live_entry born name d))) None → ⊥
+no_lease : (born : ℕ) (name : List ℕ) (d : ℕ) → ◌≡◌ {A = Option Lease} (lease_of (Some (live_entry born name d))) None → ⊥
 no_lease born name d e = cc
 
 -- two keys of one name stand at one slot
@@ -17,13 +17,13 @@ key_place : (o : Option KeyName) (a b : KeyName) → o ≡ Some a → o ≡ Some
 key_place o a b p q = let same : Some a ≡ Some b = sym p ∙ q in let twin : a ≡ b = cc in ap (λ k. k.entry.index) twin
 
 -- what stands at a slot that is put, for the name n: nothing live and no key, or the name live under its key
-abbrev pub IsPut : ℕ → Machine (List ℕ) → ℕ → List ℕ → Option (Linked (List ℕ)) → Option KeyName → Type 0
+abbrev pub IsPut : ℕ → Machine (List ℕ) → ℕ → List ℕ → Option (Entry (List ℕ)) → Option KeyName → Type 0
 IsPut shard m i n e key =
     ((lease_of e ≡ None) × (key ≡ None))
     ⊎ ((born : ℕ) × (d : ℕ) × (e ≡ Some (live_entry born n d)) × (key ≡ Some (key_at shard m i born)))
 
 -- slot i changes; only the name n was there, or nothing; and n was nowhere else
-module _ (shard : ℕ) (m : Machine (List ℕ)) (keys news : List ℕ → Option KeyName) (i s : ℕ) (e : Option (Linked (List ℕ))) (n : List ℕ)
+module _ (shard : ℕ) (m : Machine (List ℕ)) (keys news : List ℕ → Option KeyName) (i s : ℕ) (e : Option (Entry (List ℕ))) (n : List ℕ)
     (inside : i < length m.table) (tied : AreKeyed shard m keys)
     (only : (born : ℕ) (name : List ℕ) (d : ℕ) → (table_at m i).entry ≡ Some (live_entry born name d) → name ≡ n)
     (nowhere : (k : KeyName) → keys n ≡ Some k → k.entry.index ≡ i)

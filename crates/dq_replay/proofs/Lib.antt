@@ -3,7 +3,6 @@ mod Digits
 mod Known
 mod Reading
 mod Splits
-mod Places
 mod Steps
 mod Ends
 mod Outcomes

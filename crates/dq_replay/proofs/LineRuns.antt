@@ -11,7 +11,7 @@ use Rattle.dq_replay.specs.declared.fault.FaultKind.{FaultKind}
 use Rattle.dq_replay.specs.declared.fault.FaultKind.TheVariants.{LineTooLong, UnfinishedLine, BadHeader}
 use Rattle.dq_replay.specs.declared.line.LineEnd.TheVariants.{Whole, Unfinished, Nothing, TooLong}
 use Rattle.dq_replay.specs.declared.line.TheConstants.{LINE_LIMIT, LAST_LINE}
-use Rattle.dq_replay.specs.Text.{lines_of, words_of}
+use Rattle.dq_replay.specs.Text.{lines_of, tokens_of}
 use Rattle.dq_replay.specs.Lines.{HasNoEnd, TakesLine}
 use Rattle.dq_replay.specs.Script.{State, Outcome, outcome_from, ends_by, command_of, step, line_does, rest_fault}
 use Rattle.dq_replay.specs.Replay.{Answers, StopsInLine, Ends, LineRan, IsLineFault, IsOutcome}
@@ -75,7 +75,7 @@ ends_faulty left number s kind taken faulty = record { of_taken = rw (← append
 
 -- a line that says a command does something, in every state
 pub command_line : (number : ℕ) (s : State) (line : List ℕ) (command : Command) → number ≤ LAST_LINE → length line ≤ LINE_LIMIT → (number == 1) ≡ false
-    → command_of (words_of line) ≡ Ok command → IsLineFault number NoMemory (line_does number s line)
+    → command_of (tokens_of line) ≡ Ok command → IsLineFault number NoMemory (line_does number s line)
 command_line number s line command known short later says =
     let does : line_does number s line ≡ Ok (step s command) = rw (le-ltb LAST_LINE number known, le-ltb LINE_LIMIT (length line) short, later, says) refl in
     ((step s command).0, (step s command).1, does)

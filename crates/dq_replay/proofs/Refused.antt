@@ -17,13 +17,13 @@ use Rattle.dq_core.specs.Slots.{row_at, is_held, is_worn, unused}
 use Rattle.dq_core.specs.Words.{word_at}
 use Rattle.dq_core.specs.WordRows.{CallRefused}
 use Rattle.dq_core.specs.Machine.{table_at}
-use Rattle.dq_core.specs.Machine.{Entry as Linked}
+use Rattle.dq_core.specs.Machine.{Entry}
 use Rattle.dq_core.specs.Core.{Core, machine, entry_of, due_by, IsLawfulCore, IsPlaced}
 use Rattle.dq_core.specs.TableRows.{table_row_of}
 use Rattle.dq_core.specs.KeyCalls.{KeyRefused, ExtendingRefused}
 use Rattle.dq_core.specs.Calls.{InsertRefused, FindRefused, ResetRefused, IsMissing, IsFoundCancelled}
 use Rattle.dq_replay.specs.Leases.{live_entry}
-use Rattle.dq_replay.specs.Leased.{IsLiveKey, IsSomeKey}
+use Rattle.dq_replay.specs.LeasesState.{IsLiveKey, IsSomeKey}
 use Rattle.dq_replay.proofs.LiveSlots.{inside_slots}
 use Rattle.dq_replay.proofs.Runs.{slot_is, length-slots, count_none, alone}
 
@@ -31,7 +31,7 @@ use Rattle.dq_replay.proofs.Runs.{slot_is, length-slots, count_none, alone}
 pub slot_here : {W : Type 0} (b : Core (List ℕ) W) → IsLawfulCore b → (i : ℕ) → table_at (machine b) i ≡ table_row_of (row_at b.slots.rows i) (word_at b.known i)
 slot_here b law i = slot_is b.slots.rows b.known law.as_known i
 
-pub inside_rows : {W : Type 0} (b : Core (List ℕ) W) → IsLawfulCore b → (i : ℕ) (e : Linked (List ℕ)) → (table_at (machine b) i).entry ≡ Some e → i < length b.slots.rows
+pub inside_rows : {W : Type 0} (b : Core (List ℕ) W) → IsLawfulCore b → (i : ℕ) (e : Entry (List ℕ)) → (table_at (machine b) i).entry ≡ Some e → i < length b.slots.rows
 inside_rows b law i e h = let within = inside_slots (machine b) i e h in let same = length-slots b.slots.rows b.known law.as_known in omega (arith, within, same)
 
 -- an insert where there is room, to a tick that there is
@@ -62,7 +62,7 @@ there : {W : Type 0} (b : Core (List ℕ) W) (k : KeyName) (name : List ℕ) (d 
 there b k name d live missing = missing (ap (λ z. z.entry.shard) live.1) (live_entry k.entry.born name d) live.0 refl
 
 -- and it isn't cancelled
-due_two : (x : Linked (List ℕ)) (born : ℕ) (name : List ℕ) (d : ℕ) → ◌≡◌ {A = Option (Linked (List ℕ))} (Some x) (Some (live_entry born name d)) → x.due ≡ None → ⊥
+due_two : (x : Entry (List ℕ)) (born : ℕ) (name : List ℕ) (d : ℕ) → ◌≡◌ {A = Option (Entry (List ℕ))} (Some x) (Some (live_entry born name d)) → x.due ≡ None → ⊥
 due_two x born name d is none =
     let same : x ≡ live_entry born name d = cc in
     let gone : ◌≡◌ {A = Option ℕ} None (Some d) = sym none ∙ ap (λ y. y.due) same in
@@ -109,13 +109,13 @@ due_mark RemovedMark field d h = cc
 held_due : (held : Option (Held (List ℕ))) (w : Parts) (born : ℕ) (name : List ℕ) (d : ℕ) → entry_of held w ≡ Some (live_entry born name d) → (w.mark ≡ LiveMark) × (w.field ≡ d)
 held_due None w born name d h = absurd (none_entry (live_entry born name d) h)
   where
-    none_entry : (x : Linked (List ℕ)) → ◌≡◌ {A = Option (Linked (List ℕ))} None (Some x) → ⊥
+    none_entry : (x : Entry (List ℕ)) → ◌≡◌ {A = Option (Entry (List ℕ))} None (Some x) → ⊥
     none_entry x q = cc
 held_due (Some x) w born name d h =
     let same : record { born = x.born; value = x.value; due = due_by w.mark w.field } ≡ live_entry born name d = some_same (record { born = x.born; value = x.value; due = due_by w.mark w.field }) (live_entry born name d) h in
     due_mark w.mark w.field d (ap (λ e. e.due) same)
   where
-    some_same : (a b : Linked (List ℕ)) → ◌≡◌ {A = Option (Linked (List ℕ))} (Some a) (Some b) → a ≡ b
+    some_same : (a b : Entry (List ℕ)) → ◌≡◌ {A = Option (Entry (List ℕ))} (Some a) (Some b) → a ≡ b
     some_same a b q = cc
 
 pub word_live : {W : Type 0} (b : Core (List ℕ) W) (k : KeyName) (name : List ℕ) (d : ℕ) → IsLawfulCore b → IsLiveKey b k name d → ((word_at b.known k.entry.index).mark ≡ LiveMark) × ((word_at b.known k.entry.index).field ≡ d)
@@ -127,10 +127,10 @@ word_stamp b k name d law live =
     let inside = inside_rows b law k.entry.index (live_entry k.entry.born name d) live.0 in
     (law.each k.entry.index inside).stamp ∙ (ap (λ s. s.stamp) (sym (slot_here b law k.entry.index)) ∙ ap (λ z. z.stamp) (sym live.1))
 
-force_some : (tick noted stamp : ℕ) (held : Option (Held (List ℕ))) (w : Parts) (f : Option ℕ) (e : Linked (List ℕ)) → IsPlaced tick noted stamp held w f → entry_of held w ≡ Some e → 0 < stamp
+force_some : (tick noted stamp : ℕ) (held : Option (Held (List ℕ))) (w : Parts) (f : Option ℕ) (e : Entry (List ℕ)) → IsPlaced tick noted stamp held w f → entry_of held w ≡ Some e → 0 < stamp
 force_some tick noted stamp None w f e p is = absurd (none_entry e is)
   where
-    none_entry : (x : Linked (List ℕ)) → ◌≡◌ {A = Option (Linked (List ℕ))} None (Some x) → ⊥
+    none_entry : (x : Entry (List ℕ)) → ◌≡◌ {A = Option (Entry (List ℕ))} None (Some x) → ⊥
     none_entry x q = cc
 force_some tick noted stamp (Some h) w None e p is = absurd p
 force_some tick noted stamp (Some h) w (Some f) e p is = p.0.0

@@ -10,7 +10,7 @@ use Rattle.dq_core.specs.Calls.{SameCore, IsPolled, noting}
 use Rattle.dq_core.specs.declared.outcomes.Turn.TheVariants.{Out, Waiting, Idle}
 use Rattle.dq_core.specs.Sweeps.{Sweeps}
 use Rattle.dq_replay.specs.Leases.{live_of}
-use Rattle.dq_replay.specs.Leased.{IsKept, IsRoomy, IsGone, IsResting}
+use Rattle.dq_replay.specs.LeasesState.{IsKept, IsRoomy, IsGone, IsResting}
 use Rattle.dq_replay.proofs.Runs.{kept_same, kept_then, kept_way, kept_sweep, count_live, none_due}
 use Rattle.dq_replay.proofs.KeyCalls.{same_queue}
 

@@ -9,13 +9,13 @@ use Rattle.dq_core.specs.declared.slots.Held.{Held}
 use Rattle.dq_core.specs.Slots.{Row, row_at, is_held}
 use Rattle.dq_core.specs.Words.{word_at}
 use Rattle.dq_core.specs.Machine.{TableRow, Machine, Event, table_at, put, Note, Pass, Insert, Reset, Extend, Cancel, Remove, Reap, Expire, Step, Run, RunOf, IsCallers, IsOnTheWay, IsReaping, Callers, Has, is_due_entry, is_due_by}
-use Rattle.dq_core.specs.Machine.{Entry as Linked}
+use Rattle.dq_core.specs.Machine.{Entry}
 use Rattle.dq_core.specs.Core.{table_of, entry_of, due_by}
 use Rattle.dq_core.specs.TableRows.{table_row_of}
-use Rattle.dq_replay.specs.declared.session.Entry.{Entry}
-use Rattle.dq_replay.specs.Leases.{lease_by, lease_of, with_lease, live_of, vacant, live_entry}
-use Rattle.dq_replay.specs.Leased.{IsKept, NoneDue}
-use Rattle.dq_replay.proofs.Ordered.{filter-with_entry_no, length-with_entry}
+use Rattle.dq_replay.specs.declared.session.Lease.{Lease}
+use Rattle.dq_replay.specs.Leases.{lease_by, lease_of, with_lease_if, live_of, vacant, live_entry}
+use Rattle.dq_replay.specs.LeasesState.{IsKept, NoneDue}
+use Rattle.dq_replay.proofs.Ordered.{filter-with_lease_no, length-with_lease}
 use Rattle.dq_replay.proofs.LiveSlots.{put_here, put_there, live_set, live_here}
 
 -- a slot of a queue's machine, past its rows too
@@ -54,28 +54,28 @@ kept_then shard a b c p q = record {
   stamps = λ i. q.stamps i ∙ p.stamps i;
 }
 
-not_live : (e : Linked (List ℕ)) (born : ℕ) (name : List ℕ) (d : ℕ) → e.due ≡ None → ◌≡◌ {A = Option (Linked (List ℕ))} (Some e) (Some (live_entry born name d)) → ⊥
+not_live : (e : Entry (List ℕ)) (born : ℕ) (name : List ℕ) (d : ℕ) → e.due ≡ None → ◌≡◌ {A = Option (Entry (List ℕ))} (Some e) (Some (live_entry born name d)) → ⊥
 not_live e born name d none is =
     let same : e ≡ live_entry born name d = cc in
     let gone : ◌≡◌ {A = Option ℕ} None (Some d) = sym none ∙ ap (λ x. x.due) same in
     cc
 
-lease_none : (e : Linked (List ℕ)) → e.due ≡ None → lease_of (Some e) ≡ None
+lease_none : (e : Entry (List ℕ)) → e.due ≡ None → lease_of (Some e) ≡ None
 lease_none e h = ap (lease_by e.value) h
 
 -- a cancelled entry is reaped
-pub kept_reap : (shard : ℕ) (m : Machine (List ℕ)) (i : ℕ) (e : Linked (List ℕ)) → Has m i e → e.due ≡ None → IsKept shard m (put m i (table_at m i).stamp None)
+pub kept_reap : (shard : ℕ) (m : Machine (List ℕ)) (i : ℕ) (e : Entry (List ℕ)) → Has m i e → e.due ≡ None → IsKept shard m (put m i (table_at m i).stamp None)
 kept_reap shard m i e has none =
     let n : Machine (List ℕ) = put m i (table_at m i).stamp None in
     let here : table_at n i ≡ record { stamp = (table_at m i).stamp; entry = None } = put_here m i (table_at m i).stamp None has.0 in
     let there : (j : ℕ) → (j ≡ i → ⊥) → table_at n j ≡ table_at m j = λ j away. put_there m i (table_at m i).stamp None j away in
     record {
       live = live_set m.table i (record { stamp = (table_at m i).stamp; entry = None }) has.0
-          ∙ sym (live_here m.table i has.0 ∙ ap (λ o. with_lease o (live_of (set m.table i vacant))) (ap lease_of has.1 ∙ lease_none e none));
+          ∙ sym (live_here m.table i has.0 ∙ ap (λ o. with_lease_if o (live_of (set m.table i vacant))) (ap lease_of has.1 ∙ lease_none e none));
       keyed = λ keys tied. record {
         found = λ j born name d is. elim (cases_eq j i) [
           | inl q ↦
-              let gone : ◌≡◌ {A = Option (Linked (List ℕ))} None (Some (live_entry born name d)) = ap (λ s. s.entry) (sym here) ∙ (ap (λ z. (table_at n z).entry) (sym q) ∙ is) in
+              let gone : ◌≡◌ {A = Option (Entry (List ℕ))} None (Some (live_entry born name d)) = ap (λ s. s.entry) (sym here) ∙ (ap (λ z. (table_at n z).entry) (sym q) ∙ is) in
               absurd (none_entry (live_entry born name d) gone)
           | inr away ↦ tied.found j born name d (ap (λ s. s.entry) (sym (there j away)) ∙ is)
               ∙ ap (λ s. Some (record { entry = record { shard = shard; index = j; born = born }; stamp = s.stamp })) (sym (there j away))
@@ -91,7 +91,7 @@ kept_reap shard m i e has none =
       ];
     }
   where
-    none_entry : (x : Linked (List ℕ)) → ◌≡◌ {A = Option (Linked (List ℕ))} None (Some x) → ⊥
+    none_entry : (x : Entry (List ℕ)) → ◌≡◌ {A = Option (Entry (List ℕ))} None (Some x) → ⊥
     none_entry x q = cc
 
 -- one event on the way of a poll
@@ -166,15 +166,15 @@ count_none p d (x ∷ xs) h =
     let rest = count_none p d xs (λ i within. h (suc i) (omega arith)) in
     count-cons p x xs ∙ rw (first, rest) refl
 
-held_by : (r : Row (List ℕ)) (w : Parts) (held : Option (Held (List ℕ))) (live : List Entry) → ((e : Linked (List ℕ)) → entry_of held w ≡ Some e → e.due ≢ None) → length (with_lease (lease_of (entry_of held w)) live) ≡ cond (is_some held) 1 0 + length live
+held_by : (r : Row (List ℕ)) (w : Parts) (held : Option (Held (List ℕ))) (live : List Lease) → ((e : Entry (List ℕ)) → entry_of held w ≡ Some e → e.due ≢ None) → length (with_lease_if (lease_of (entry_of held w)) live) ≡ cond (is_some held) 1 0 + length live
 held_by r w None live h = omega arith
 held_by r w (Some x) live h = by (due_by w.mark w.field) refl
   where
-    by : (o : Option ℕ) → due_by w.mark w.field ≡ o → length (with_lease (lease_by x.value (due_by w.mark w.field)) live) ≡ 1 + length live
+    by : (o : Option ℕ) → due_by w.mark w.field ≡ o → length (with_lease_if (lease_by x.value (due_by w.mark w.field)) live) ≡ 1 + length live
     by None is = absurd (h (record { born = x.born; value = x.value; due = due_by w.mark w.field }) refl is)
-    by (Some d) is = rw is (length-with_entry (record { name = x.value; deadline = d }) live ∙ (omega arith))
+    by (Some d) is = rw is (length-with_lease (record { name = x.value; deadline = d }) live ∙ (omega arith))
 
-pub count_live : (rows : List (Row (List ℕ))) (known : List Parts) → length known ≡ length rows → ((i : ℕ) (e : Linked (List ℕ)) → (get_or (table_of rows known) i (record { stamp = 0; entry = None })).entry ≡ Some e → e.due ≢ None)
+pub count_live : (rows : List (Row (List ℕ))) (known : List Parts) → length known ≡ length rows → ((i : ℕ) (e : Entry (List ℕ)) → (get_or (table_of rows known) i (record { stamp = 0; entry = None })).entry ≡ Some e → e.due ≢ None)
     → length (live_of (table_of rows known)) ≡ count_by is_held rows
 count_live [] ws e h = refl
 count_live (r ∷ rs) [] e h = absurd (omega arith)
@@ -184,15 +184,15 @@ count_live (r ∷ rs) (w ∷ ws) e h =
 
 -- what is due of the slots is due of the live names
 
-not_due_lease : (now : ℕ) (o : Option (Linked (List ℕ))) (live : List Entry) → is_due_entry now o ≡ false → filter (λ e. nat_le e.deadline now) (with_lease (lease_of o) live) ≡ filter (λ e. nat_le e.deadline now) live
+not_due_lease : (now : ℕ) (o : Option (Entry (List ℕ))) (live : List Lease) → is_due_entry now o ≡ false → filter (λ e. nat_le e.deadline now) (with_lease_if (lease_of o) live) ≡ filter (λ e. nat_le e.deadline now) live
 not_due_lease now None live h = refl
 not_due_lease now (Some e) live h = by e.due refl
   where
-    by : (o : Option ℕ) → e.due ≡ o → filter (λ x. nat_le x.deadline now) (with_lease (lease_by e.value e.due) live) ≡ filter (λ x. nat_le x.deadline now) live
+    by : (o : Option ℕ) → e.due ≡ o → filter (λ x. nat_le x.deadline now) (with_lease_if (lease_by e.value e.due) live) ≡ filter (λ x. nat_le x.deadline now) live
     by None is = rw is refl
     by (Some d) is =
         let late : nat_le d now ≡ false = sym (ap (is_due_by now) is) ∙ h in
-        rw is (filter-with_entry_no (λ x. nat_le x.deadline now) (record { name = e.value; deadline = d }) live late)
+        rw is (filter-with_lease_no (λ x. nat_le x.deadline now) (record { name = e.value; deadline = d }) live late)
 
 pub none_due : (now : ℕ) (ss : List (TableRow (List ℕ))) → filter (λ s. is_due_entry now s.entry) ss ≡ [] → NoneDue now (live_of ss)
 none_due now [] h = refl

@@ -1,4 +1,4 @@
--- Where the words of a line end.
+-- Where the tokens of a line end.
 use Rattle.std.proofs.Common.{◌≡◌, ℕ, ◌+◌, inl, inr, Bool, List, [], ◌∷◌, length, take, drop, refl, arith}
 use Rattle.std.specs.Prelude.{Some, None, position}
 use Rattle.std.specs.List.{position_or_len, slice_split}

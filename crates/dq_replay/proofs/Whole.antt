@@ -9,7 +9,7 @@ use Rattle.dq_replay.specs.declared.fault.FaultKind.TheVariants.{TooManyLines}
 use Rattle.dq_replay.specs.declared.line.TheConstants.{LAST_LINE}
 use Rattle.dq_replay.specs.Text.{lines_of}
 use Rattle.dq_replay.specs.Lines.{TakesByte}
-use Rattle.dq_replay.specs.Script.{State, Outcome, start, outcome_from, after_answer}
+use Rattle.dq_replay.specs.Script.{State, Outcome, first_state, outcome_from, after_answer}
 use Rattle.dq_replay.specs.Replay.{Answers, StopsInLine, StopsBeforeAnswer, StopsInAnswer, AnswersAll, Ends, Runs, LineRan, Ran, IsOutcome}
 use Rattle.dq_replay.proofs.Known.{appends_none, appends_two, consumes_none, consumes_two}
 use Rattle.dq_replay.proofs.Outcomes.{too_many}
@@ -120,10 +120,10 @@ runs_behind (Err BadConfig) first second s t left taken more_taken written more_
 
 -- so much was taken and written, whole lines with their answers, and the line `number` and the state s come next
 abbrev pub Stands : Option (List ℕ) → Option (List ℕ) → Option (List ℕ) → Option (List ℕ) → ℕ → ℕ → State → Type 0
-Stands had left held holds capacity number s = (taken written : List ℕ) × Consumes had left taken × Appends held holds written × Answers 1 (start capacity) taken written number s
+Stands had left held holds capacity number s = (taken written : List ℕ) × Consumes had left taken × Appends held holds written × Answers 1 (first_state capacity) taken written number s
 
-pub stands_first : (had held : Option (List ℕ)) (capacity : ℕ) → Stands had had held held capacity 1 (start capacity)
-stands_first had held capacity = ([], [], consumes_none had, appends_none held, answers_none 1 (start capacity))
+pub stands_first : (had held : Option (List ℕ)) (capacity : ℕ) → Stands had had held held capacity 1 (first_state capacity)
+stands_first had held capacity = ([], [], consumes_none had, appends_none held, answers_none 1 (first_state capacity))
 
 pub stands_next : (had mid left held midst holds : Option (List ℕ)) (capacity number : ℕ) (s new : State) → Stands had mid held midst capacity number s
     → LineRan mid left midst holds number s new (Ok true) → Stands had left held holds capacity (number + 1) new
@@ -132,25 +132,25 @@ stands_next had mid left held midst holds capacity number s new (taken, written,
   written ++ more_written,
   consumes_two had mid left taken more_taken took takes,
   appends_two held midst holds written more_written wrote writes,
-  answers_then 1 number (number + 1) (start capacity) s new taken more_taken written more_written a b,
+  answers_then 1 number (number + 1) (first_state capacity) s new taken more_taken written more_written a b,
 )
 
 ran_behind : {T : Type 0} (r : Result T ReplayFault) (had mid left held midst holds : Option (List ℕ)) (capacity number : ℕ) (s : State) → Stands had mid held midst capacity number s
-    → (r ≡ Err BadConfig → ⊥) → Ran mid left midst holds number s r → Ran had left held holds 1 (start capacity) r
+    → (r ≡ Err BadConfig → ⊥) → Ran mid left midst holds number s r → Ran had left held holds 1 (first_state capacity) r
 ran_behind r had mid left held midst holds capacity number s (taken, written, took, wrote, a) config (more_taken, more_written, takes, writes, ran) = (
   taken ++ more_taken,
   written ++ more_written,
   consumes_two had mid left taken more_taken took takes,
   appends_two held midst holds written more_written wrote writes,
-  runs_behind r 1 number (start capacity) s left taken more_taken written more_written a config ran,
+  runs_behind r 1 number (first_state capacity) s left taken more_taken written more_written a config ran,
 )
 
 pub ran_to_end : (had mid left held midst holds : Option (List ℕ)) (capacity number : ℕ) (s new : State) → Stands had mid held midst capacity number s
-    → LineRan mid left midst holds number s new (Ok false) → Ran had left held holds 1 (start capacity) (Ok (tt {0}))
+    → LineRan mid left midst holds number s new (Ok false) → Ran had left held holds 1 (first_state capacity) (Ok (tt {0}))
 ran_to_end had mid left held midst holds capacity number s new stands ran = ran_behind (Ok (tt {0})) had mid left held midst holds capacity number s stands (λ e. cc) ran
 
 pub ran_to_fault : (had mid left held midst holds : Option (List ℕ)) (capacity number : ℕ) (s new : State) (fault : ReplayFault) → Stands had mid held midst capacity number s
-    → LineRan mid left midst holds number s new (Err fault) → Ran {T = Unit {0}} had left held holds 1 (start capacity) (Err fault)
+    → LineRan mid left midst holds number s new (Err fault) → Ran {T = Unit {0}} had left held holds 1 (first_state capacity) (Err fault)
 ran_to_fault had mid left held midst holds capacity number s new (Script line kind) stands ran =
     ran_behind {T = Unit {0}} (Err (Script line kind)) had mid left held midst holds capacity number s stands (λ e. cc) ran
 ran_to_fault had mid left held midst holds capacity number s new Read stands ran = ran_behind {T = Unit {0}} (Err Read) had mid left held midst holds capacity number s stands (λ e. cc) ran
@@ -159,8 +159,8 @@ ran_to_fault had mid left held midst holds capacity number s new NoMemory stands
 ran_to_fault had mid left held midst holds capacity number s new BadConfig stands ran = absurd ran.4
 
 -- nothing was read where there is no memory to begin with
-pub ran_unstarted : (had held : Option (List ℕ)) (capacity : ℕ) → Ran {T = Unit {0}} had had held held 1 (start capacity) (Err NoMemory)
-ran_unstarted had held capacity = ([], [], consumes_none had, appends_none held, inl (nothing_in_line 1 (start capacity)))
+pub ran_unstarted : (had held : Option (List ℕ)) (capacity : ℕ) → Ran {T = Unit {0}} had had held held 1 (first_state capacity) (Err NoMemory)
+ran_unstarted had held capacity = ([], [], consumes_none had, appends_none held, inl (nothing_in_line 1 (first_state capacity)))
 
 -- no line answers a bad capacity
 pub no_config : (had left held holds : Option (List ℕ)) (number : ℕ) (old new : State) (fault : ReplayFault) → LineRan had left held holds number old new (Err fault) → fault ≡ BadConfig → ⊥
@@ -172,17 +172,17 @@ no_config had left held holds number old new Write ran is = cc
 
 -- behind the last line that a script may have
 pub ran_past : (had mid left held holds : Option (List ℕ)) (capacity number : ℕ) (s : State) → LAST_LINE < number → Stands had mid held holds capacity number s
-    → TakesByte mid left (Ok None) → Ran had left held holds 1 (start capacity) (Ok (tt {0}))
+    → TakesByte mid left (Ok None) → Ran had left held holds 1 (first_state capacity) (Ok (tt {0}))
 ran_past had mid left held holds capacity number s past stands (takes, end) =
     ran_behind (Ok (tt {0})) had mid left held holds holds capacity number s stands (λ e. cc) ([], [], takes, appends_none holds, ends_nothing left number s (ne_eqb number 1 (λ e. omega arith)) end)
 
 pub ran_over : (had mid left held holds : Option (List ℕ)) (capacity number : ℕ) (s : State) (b : ℕ) → LAST_LINE < number → Stands had mid held holds capacity number s
-    → TakesByte mid left (Ok (Some b)) → Ran {T = Unit {0}} had left held holds 1 (start capacity) (Err (Script number TooManyLines))
+    → TakesByte mid left (Ok (Some b)) → Ran {T = Unit {0}} had left held holds 1 (first_state capacity) (Err (Script number TooManyLines))
 ran_over had mid left held holds capacity number s b past stands takes =
     ran_behind {T = Unit {0}} (Err (Script number TooManyLines)) had mid left held holds holds capacity number s stands (λ e. cc)
     (b ∷ [], [], takes, appends_none holds, ends_faulty left number s TooManyLines (b ∷ []) (λ more. too_many number s b more past))
 
 pub ran_past_unread : (had mid left held holds : Option (List ℕ)) (capacity number : ℕ) (s : State) (fault : ReplayFault) → Stands had mid held holds capacity number s
-    → TakesByte mid left (Err fault) → Ran {T = Unit {0}} had left held holds 1 (start capacity) (Err fault)
+    → TakesByte mid left (Err fault) → Ran {T = Unit {0}} had left held holds 1 (first_state capacity) (Err fault)
 ran_past_unread had mid left held holds capacity number s fault stands (takes, is) = rw is (
     ran_behind {T = Unit {0}} (Err Read) had mid left held holds holds capacity number s stands (λ e. cc) ([], [], takes, appends_none holds, nothing_in_line number s))

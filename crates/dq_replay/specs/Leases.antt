@@ -3,34 +3,34 @@ use Rattle.std.specs.Prelude.{◌≡◌, ℕ, List, [], ◌∷◌, Option, Some,
 use Rattle.std.specs.Map.{lookup}
 use Rattle.dq_ticks.specs.Keys.{KeyName}
 use Rattle.dq_core.specs.Machine.{TableRow, Machine, table_at}
-use Rattle.dq_core.specs.Machine.{Entry as Linked}
-use Rattle.dq_replay.specs.declared.session.Entry.{Entry}
-use Rattle.dq_replay.specs.Script.{with_entry}
+use Rattle.dq_core.specs.Machine.{Entry}
+use Rattle.dq_replay.specs.declared.session.Lease.{Lease}
+use Rattle.dq_replay.specs.Script.{with_lease}
 
 -- a linked name with its deadline in force, none where it is cancelled
-abbrev pub lease_by : List ℕ → Option ℕ → Option Entry
+abbrev pub lease_by : List ℕ → Option ℕ → Option Lease
 lease_by name None = None
 lease_by name (Some deadline) = Some (record { name = name; deadline = deadline })
 
-abbrev pub lease_of : Option (Linked (List ℕ)) → Option Entry
+abbrev pub lease_of : Option (Entry (List ℕ)) → Option Lease
 lease_of None = None
 lease_of (Some e) = lease_by e.value e.due
 
-abbrev pub with_lease : Option Entry → List Entry → List Entry
-with_lease None live = live
-with_lease (Some e) live = with_entry e live
+abbrev pub with_lease_if : Option Lease → List Lease → List Lease
+with_lease_if None live = live
+with_lease_if (Some e) live = with_lease e live
 
 -- the live names of the slots, in order
-abbrev pub live_of : List (TableRow (List ℕ)) → List Entry
+abbrev pub live_of : List (TableRow (List ℕ)) → List Lease
 live_of [] = []
-live_of (s ∷ ss) = with_lease (lease_of s.entry) (live_of ss)
+live_of (s ∷ ss) = with_lease_if (lease_of s.entry) (live_of ss)
 
 -- a slot without an entry
 abbrev pub vacant : TableRow (List ℕ)
 vacant = record { stamp = 0; entry = None }
 
 -- an entry that is linked and live
-abbrev pub live_entry : ℕ → List ℕ → ℕ → Linked (List ℕ)
+abbrev pub live_entry : ℕ → List ℕ → ℕ → Entry (List ℕ)
 live_entry born name deadline = record { born = born; value = name; due = Some deadline }
 
 -- the key of the entry that was born at that stamp at slot i, at the slot's present stamp

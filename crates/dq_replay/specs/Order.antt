@@ -4,32 +4,32 @@ use Rattle.std.specs.List.{AllByRecursion}
 use Rattle.std.specs.Cmp.Lexicographic.{slice_cmp}
 use Rattle.std.specs.Ordering.{nat_cmp, ordering_then}
 use Rattle.std.specs.declared.cmp.Ordering.{Ordering}
-use Rattle.dq_replay.specs.declared.session.Entry.{Entry}
-use Rattle.dq_replay.specs.Script.{State, comes_before, is_live, line_does}
+use Rattle.dq_replay.specs.declared.session.Lease.{Lease}
+use Rattle.dq_replay.specs.Script.{State, comes_before, has_name, line_does}
 
 -- the order as `cmp` has it: by the deadline, and then by the name's bytes
-abbrev pub entry_cmp : Entry → Entry → Ordering
-entry_cmp a b = ordering_then (nat_cmp a.deadline b.deadline) (slice_cmp nat_cmp a.name b.name)
+abbrev pub lease_cmp : Lease → Lease → Ordering
+lease_cmp a b = ordering_then (nat_cmp a.deadline b.deadline) (slice_cmp nat_cmp a.name b.name)
 
 -- no entry comes before an earlier one of the list
-abbrev pub IsLined : List Entry → Type 0
+abbrev pub IsLined : List Lease → Type 0
 IsLined [] = Unit {0}
 IsLined (x ∷ xs) = AllByRecursion (λ y. comes_before y x ≡ false) xs × IsLined xs
 
 -- an entry comes before each of these
-abbrev pub ComesBeforeAll : Entry → List Entry → Type 0
+abbrev pub ComesBeforeAll : Lease → List Lease → Type 0
 ComesBeforeAll e [] = Unit {0}
 ComesBeforeAll e (x ∷ xs) = (comes_before e x ≡ true) × ComesBeforeAll e xs
 
 -- each entry comes before all behind it
-abbrev pub IsInOrder : List Entry → Type 0
+abbrev pub IsInOrder : List Lease → Type 0
 IsInOrder [] = Unit {0}
 IsInOrder (e ∷ es) = ComesBeforeAll e es × IsInOrder es
 
 -- no name stands twice
-abbrev pub HasDistinctNames : List Entry → Type 0
+abbrev pub HasDistinctNames : List Lease → Type 0
 HasDistinctNames [] = Unit {0}
-HasDistinctNames (e ∷ es) = (is_live e.name es ≡ false) × HasDistinctNames es
+HasDistinctNames (e ∷ es) = (has_name e.name es ≡ false) × HasDistinctNames es
 
 -- the live names of a state are distinct and in order
 abbrev pub IsOrdered : State → Type 0

@@ -10,47 +10,47 @@ use Rattle.dq_replay.specs.declared.command.Command.{Command}
 use Rattle.dq_replay.specs.declared.command.Command.TheVariants.{Insert, Reset, Extend, Cancel, Remove, Deadline, Live, Clear, Tick}
 use Rattle.dq_replay.specs.declared.command.Verb.{Verb}
 use Rattle.dq_replay.specs.declared.command.Verb.TheVariants.{ToInsert, ToReset, ToExtend, ToCancel, ToRemove, ToTell, ToCount, ToClear, ToTick}
-use Rattle.dq_replay.specs.declared.session.Entry.{Entry}
+use Rattle.dq_replay.specs.declared.session.Lease.{Lease}
 use Rattle.dq_replay.specs.declared.header.TheConstants.{FIRST_EDITION_LIMIT}
 use Rattle.dq_replay.specs.declared.line.TheConstants.{LINE_LIMIT, LAST_LINE}
-use Rattle.dq_replay.specs.Text.{lines_of, words_of, name_of, number_of}
+use Rattle.dq_replay.specs.Text.{lines_of, tokens_of, name_of, number_of}
 
 -- The live names with their deadlines in force, least deadline first and then by the name's bytes;
 -- the greatest tick that was noted; the last tick that the script's edition knows; and the capacity.
 pub record State : Type 0 where
   pub capacity : ℕ
   pub limit : ℕ
-  pub live : List Entry
+  pub live : List Lease
   pub noted : ℕ
 
 -- before the first line
-abbrev pub start : ℕ → State
-start capacity = record { capacity = capacity; limit = FIRST_EDITION_LIMIT; live = []; noted = 0 }
+abbrev pub first_state : ℕ → State
+first_state capacity = record { capacity = capacity; limit = FIRST_EDITION_LIMIT; live = []; noted = 0 }
 
 -- an earlier deadline, or the same one and a lesser name
-abbrev pub comes_before : Entry → Entry → Bool
+abbrev pub comes_before : Lease → Lease → Bool
 comes_before a b = nat_lt a.deadline b.deadline || ((a.deadline == b.deadline) && is_lt (slice_cmp nat_cmp a.name b.name))
 
 -- the list with one more entry at its place
-abbrev pub with_entry : Entry → List Entry → List Entry
-with_entry e [] = e ∷ []
-with_entry e (x ∷ xs) = if comes_before e x then e ∷ x ∷ xs else x ∷ with_entry e xs
+abbrev pub with_lease : Lease → List Lease → List Lease
+with_lease e [] = e ∷ []
+with_lease e (x ∷ xs) = if comes_before e x then e ∷ x ∷ xs else x ∷ with_lease e xs
 
-abbrev pub is_live : List ℕ → List Entry → Bool
-is_live name live = list_any (λ e. bytes_eq e.name name) live
+abbrev pub has_name : List ℕ → List Lease → Bool
+has_name name live = list_any (λ e. bytes_eq e.name name) live
 
 -- the deadline in force of a name, none where it isn't live
-abbrev pub deadline_of : List ℕ → List Entry → Option ℕ
+abbrev pub deadline_of : List ℕ → List Lease → Option ℕ
 deadline_of name [] = None
 deadline_of name (e ∷ es) = if bytes_eq e.name name then Some e.deadline else deadline_of name es
 
 -- the list without a name
-abbrev pub without : List ℕ → List Entry → List Entry
+abbrev pub without : List ℕ → List Lease → List Lease
 without name live = filter (λ e. not (bytes_eq e.name name)) live
 
 -- the list with a name at that deadline, where it was at another
-abbrev pub moved : List ℕ → ℕ → List Entry → List Entry
-moved name deadline live = with_entry (record { name = name; deadline = deadline }) (without name live)
+abbrev pub moved : List ℕ → ℕ → List Lease → List Lease
+moved name deadline live = with_lease (record { name = name; deadline = deadline }) (without name live)
 
 -- an answer line: its text and its end
 abbrev pub line : List ℕ → List ℕ
@@ -71,7 +71,7 @@ live_line count = line (codes "live " ++ decimal count)
 abbrev pub cleared_line : ℕ → List ℕ
 cleared_line count = line (codes "cleared " ++ decimal count)
 
-abbrev pub expired_line : Entry → List ℕ
+abbrev pub expired_line : Lease → List ℕ
 expired_line e = line (e.name ++ codes " expired " ++ decimal e.deadline)
 
 abbrev pub tick_line : ℕ → List ℕ
@@ -80,10 +80,10 @@ tick_line now = line (codes "tick " ++ decimal now)
 -- the deadline is the greater of what was asked and what was noted
 abbrev pub insert_in : State → List ℕ → ℕ → State × List ℕ
 insert_in s name when =
-    if is_live name s.live then (s, line (codes "refused name-taken"))
+    if has_name name s.live then (s, line (codes "refused name-taken"))
     else if nat_lt s.limit when then (s, line (codes "refused too-far"))
     else if nat_le s.capacity (length s.live) then (s, line (codes "refused full"))
-    else (record s { live = with_entry (record { name = name; deadline = max when s.noted }) s.live }, at_line name (max when s.noted))
+    else (record s { live = with_lease (record { name = name; deadline = max when s.noted }) s.live }, at_line name (max when s.noted))
 
 -- the commands on one name, by its deadline in force
 
@@ -139,7 +139,7 @@ step s Live = (s, live_line (length s.live))
 step s Clear = clear_in s
 step s (Tick to) = tick_in s to
 
--- the words behind a command's first: a name and a number
+-- the tokens behind a command's first: a name and a number
 abbrev pub name_and_number : Option (List ℕ) → Option ℕ → Result (List ℕ × ℕ) FaultKind
 name_and_number None number = Err BadName
 name_and_number (Some name) None = Err BadNumber
@@ -172,26 +172,26 @@ abbrev pub alone : Command → List (List ℕ) → Result Command FaultKind
 alone command [] = Ok command
 alone command _ = Err BadShape
 
--- the command that those words make, or their fault
+-- the command that those tokens make, or their fault
 abbrev pub makes : {A : Type 0} → (A → Command) → Result A FaultKind → Result Command FaultKind
-makes f (Ok words) = Ok (f words)
+makes f (Ok tokens) = Ok (f tokens)
 makes f (Err kind) = Err kind
 
--- the command that a line's first word begins
+-- the command that a line's first token begins
 abbrev pub verb_of : List ℕ → Option Verb
-verb_of word =
-    if bytes_eq word (codes "insert") then Some ToInsert
-    else if bytes_eq word (codes "reset") then Some ToReset
-    else if bytes_eq word (codes "extend") then Some ToExtend
-    else if bytes_eq word (codes "cancel") then Some ToCancel
-    else if bytes_eq word (codes "remove") then Some ToRemove
-    else if bytes_eq word (codes "deadline") then Some ToTell
-    else if bytes_eq word (codes "live") then Some ToCount
-    else if bytes_eq word (codes "clear") then Some ToClear
-    else if bytes_eq word (codes "tick") then Some ToTick
+verb_of token =
+    if bytes_eq token (codes "insert") then Some ToInsert
+    else if bytes_eq token (codes "reset") then Some ToReset
+    else if bytes_eq token (codes "extend") then Some ToExtend
+    else if bytes_eq token (codes "cancel") then Some ToCancel
+    else if bytes_eq token (codes "remove") then Some ToRemove
+    else if bytes_eq token (codes "deadline") then Some ToTell
+    else if bytes_eq token (codes "live") then Some ToCount
+    else if bytes_eq token (codes "clear") then Some ToClear
+    else if bytes_eq token (codes "tick") then Some ToTick
     else None
 
--- the command that the words behind the first complete
+-- the command that the tokens behind the first complete
 abbrev pub completed : Option Verb → List (List ℕ) → Result Command FaultKind
 completed None rest = Err UnknownCommand
 completed (Some ToInsert) rest = makes (λ w. Insert w.0 w.1) (both_of rest)
@@ -204,7 +204,7 @@ completed (Some ToCount) rest = alone Live rest
 completed (Some ToClear) rest = alone Clear rest
 completed (Some ToTick) rest = makes Tick (one_number rest)
 
--- the command that the words of a line say
+-- the command that the tokens of a line say
 abbrev pub command_of : List (List ℕ) → Result Command FaultKind
 command_of [] = Err UnknownCommand
 command_of (first ∷ rest) = completed (verb_of first) rest
@@ -232,7 +232,7 @@ line_does number s text =
     if nat_lt LAST_LINE number then Err TooManyLines
     else if nat_lt LINE_LIMIT (length text) then Err LineTooLong
     else if number == 1 then header_does s (limit_of text)
-    else command_does s (command_of (words_of text))
+    else command_does s (command_of (tokens_of text))
 
 -- the fault of what stands after the last line's end: none where it is nothing, behind a first line
 abbrev pub rest_fault : ℕ → List ℕ → Option FaultKind
@@ -265,4 +265,4 @@ outcome_from number s (text ∷ next ∷ more) = elim (line_does number s text) 
 
 -- the outcome of a script
 abbrev pub outcome_of : ℕ → List ℕ → Outcome
-outcome_of capacity bytes = outcome_from 1 (start capacity) (lines_of bytes)
+outcome_of capacity bytes = outcome_from 1 (first_state capacity) (lines_of bytes)

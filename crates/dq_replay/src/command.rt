@@ -1,9 +1,9 @@
 //! The commands of a script, and how a line says them.
 ghost use Rattle.std.specs.Prelude.{◌≡◌, ℕ, ◌+◌, ◌<◌, ◌^◌, ◌*◌, ◌-◌, ◌≤◌, ◌⊎◌, ◌==◌, true, false, List, [], ◌∷◌, length, Some, None, MatchOption, position, IfSome, OnSome, IfNone};
 ghost use Rattle.std.specs.Char.{is_ascii_digit};
-ghost use Rattle.dq_replay.specs.Text.{words_of, number_of, digits_behind};
+ghost use Rattle.dq_replay.specs.Text.{tokens_of, number_of, digits_behind};
 ghost use Rattle.dq_replay.specs.Script.{command_of, verb_of, completed, both_of, one_name, one_number, alone};
-ghost use Rattle.dq_replay.specs.Words.{words_behind};
+ghost use Rattle.dq_replay.specs.Tokens.{tokens_behind};
 
 use crate::fault::FaultKind;
 use crate::name::Name;
@@ -32,7 +32,7 @@ pub enum Command {
     Tick { to: u64 },
 }
 
-/// What a line's first word asks for.
+/// What a line's first token asks for.
 #[derive(Clone, Copy)]
 pub enum Verb {
     ToInsert,
@@ -48,82 +48,82 @@ pub enum Verb {
 
 /// The command that a line says.
 pub fn parse(line: &[u8]) -> Result<Command, FaultKind>
-    ensures { result ≡ command_of (words_of line.now) }
+    ensures { result ≡ command_of (tokens_of line.now) }
 {
-    let mut words = Words::of(line);
-    let Some(first) = words.next() else {
+    let mut tokens = Tokens::of(line);
+    let Some(first) = tokens.next() else {
         return Err(FaultKind::UnknownCommand);
     };
     let Some(verb) = verb_of(first) else {
         return Err(FaultKind::UnknownCommand);
     };
-    complete(verb, &mut words)
+    complete(verb, &mut tokens)
 }
 
-fn verb_of(word: &[u8]) -> Option<Verb>
-    ensures { result ≡ verb_of word.now }
+fn verb_of(token: &[u8]) -> Option<Verb>
+    ensures { result ≡ verb_of token.now }
 {
-    if word == b"insert".as_slice() {
+    if token == b"insert".as_slice() {
         Some(Verb::ToInsert)
-    } else if word == b"reset".as_slice() {
+    } else if token == b"reset".as_slice() {
         Some(Verb::ToReset)
-    } else if word == b"extend".as_slice() {
+    } else if token == b"extend".as_slice() {
         Some(Verb::ToExtend)
-    } else if word == b"cancel".as_slice() {
+    } else if token == b"cancel".as_slice() {
         Some(Verb::ToCancel)
-    } else if word == b"remove".as_slice() {
+    } else if token == b"remove".as_slice() {
         Some(Verb::ToRemove)
-    } else if word == b"deadline".as_slice() {
+    } else if token == b"deadline".as_slice() {
         Some(Verb::ToTell)
-    } else if word == b"live".as_slice() {
+    } else if token == b"live".as_slice() {
         Some(Verb::ToCount)
-    } else if word == b"clear".as_slice() {
+    } else if token == b"clear".as_slice() {
         Some(Verb::ToClear)
-    } else if word == b"tick".as_slice() {
+    } else if token == b"tick".as_slice() {
         Some(Verb::ToTick)
     } else {
         None
     }
 }
 
-/// The command that the words behind the first complete.
-fn complete(verb: Verb, words: &mut Words<'_>) -> Result<Command, FaultKind>
-    ensures { result ≡ completed (Some verb) words.old }
+/// The command that the tokens behind the first complete.
+fn complete(verb: Verb, tokens: &mut Tokens<'_>) -> Result<Command, FaultKind>
+    ensures { result ≡ completed (Some verb) tokens.old }
 {
     match verb {
         Verb::ToInsert => {
-            let (name, when) = name_and_number(words)?;
+            let (name, when) = name_and_number(tokens)?;
             Ok(Command::Insert { name, when })
         }
         Verb::ToReset => {
-            let (name, when) = name_and_number(words)?;
+            let (name, when) = name_and_number(tokens)?;
             Ok(Command::Reset { name, when })
         }
         Verb::ToExtend => {
-            let (name, when) = name_and_number(words)?;
+            let (name, when) = name_and_number(tokens)?;
             Ok(Command::Extend { name, when })
         }
         Verb::ToCancel => Ok(Command::Cancel {
-            name: one_name(words)?,
+            name: one_name(tokens)?,
         }),
         Verb::ToRemove => Ok(Command::Remove {
-            name: one_name(words)?,
+            name: one_name(tokens)?,
         }),
         Verb::ToTell => Ok(Command::Deadline {
-            name: one_name(words)?,
+            name: one_name(tokens)?,
         }),
-        Verb::ToCount => alone(words, Command::Live),
-        Verb::ToClear => alone(words, Command::Clear),
+        Verb::ToCount => alone(tokens, Command::Live),
+        Verb::ToClear => alone(tokens, Command::Clear),
         Verb::ToTick => Ok(Command::Tick {
-            to: one_number(words)?,
+            to: one_number(tokens)?,
         }),
     }
 }
 
-fn name_and_number(words: &mut Words<'_>) -> Result<(Name, u64), FaultKind>
-    ensures { result ≡ both_of words.old }
+fn name_and_number(tokens: &mut Tokens<'_>) -> Result<(Name, u64), FaultKind>
+    ensures { result ≡ both_of tokens.old }
 {
-    let (Some(name), Some(number), None) = (words.next(), words.next(), words.next()) else {
+    let (Some(name), Some(number), None) = (tokens.next(), tokens.next(), tokens.next()) else {
         return Err(FaultKind::BadShape);
     };
     let Some(name) = Name::parse(name) else {
@@ -135,67 +135,67 @@ fn name_and_number(words: &mut Words<'_>) -> Result<(Name, u64), FaultKind>
     Ok((name, number))
 }
 
-fn one_name(words: &mut Words<'_>) -> Result<Name, FaultKind>
-    ensures { result ≡ one_name words.old }
+fn one_name(tokens: &mut Tokens<'_>) -> Result<Name, FaultKind>
+    ensures { result ≡ one_name tokens.old }
 {
-    let (Some(name), None) = (words.next(), words.next()) else {
+    let (Some(name), None) = (tokens.next(), tokens.next()) else {
         return Err(FaultKind::BadShape);
     };
     Name::parse(name).ok_or(FaultKind::BadName)
 }
 
-fn one_number(words: &mut Words<'_>) -> Result<u64, FaultKind>
-    ensures { result ≡ one_number words.old }
+fn one_number(tokens: &mut Tokens<'_>) -> Result<u64, FaultKind>
+    ensures { result ≡ one_number tokens.old }
 {
-    let (Some(number), None) = (words.next(), words.next()) else {
+    let (Some(number), None) = (tokens.next(), tokens.next()) else {
         return Err(FaultKind::BadShape);
     };
     number_of(number).ok_or(FaultKind::BadNumber)
 }
 
-fn alone(words: &mut Words<'_>, command: Command) -> Result<Command, FaultKind>
-    ensures { result ≡ alone command words.old }
+fn alone(tokens: &mut Tokens<'_>, command: Command) -> Result<Command, FaultKind>
+    ensures { result ≡ alone command tokens.old }
 {
-    match words.next() {
+    match tokens.next() {
         None => Ok(command),
         Some(_) => Err(FaultKind::BadShape),
     }
 }
 
-/// The words of a line that are left, between single spaces.
+/// The tokens of a line that are left, between single spaces.
 #[derive(Drop)]
-struct Words<'t> {
+struct Tokens<'t> {
     rest: Option<&'t [u8]>,
 }
 
-impl<'t> Model for Words<'t> {
+impl<'t> Model for Tokens<'t> {
     ghost use Rattle.std.specs.Prelude.{ℕ, List};
-    ghost use Rattle.dq_replay.specs.Words.{words_behind};
+    ghost use Rattle.dq_replay.specs.Tokens.{tokens_behind};
 
     ghost Value = { List (List ℕ) };
 
-    ghost view = { λ w. words_behind w.rest };
+    ghost view = { λ w. tokens_behind w.rest };
 }
 
-impl<'t> Words<'t> {
-    fn of(line: &'t [u8]) -> Words<'t>
-        ensures { result ≡ words_of line.now }
+impl<'t> Tokens<'t> {
+    fn of(line: &'t [u8]) -> Tokens<'t>
+        ensures { result ≡ tokens_of line.now }
     {
-        Words { rest: Some(line) }
+        Tokens { rest: Some(line) }
     }
 
     fn next(&mut self) -> Option<&'t [u8]>
-        ensures { MatchOption result ((self.old ≡ []) × (self.new ≡ [])) (λ word. self.old ≡ word.now ∷ self.new) }
+        ensures { MatchOption result ((self.old ≡ []) × (self.new ≡ [])) (λ token. self.old ≡ token.now ∷ self.new) }
     {
-        let (word, rest) = split_word(self.rest?);
+        let (token, rest) = split_token(self.rest?);
         self.rest = rest;
-        Some(word)
+        Some(token)
     }
 }
 
-/// The first word of a line, and what stands behind the space that ends it.
-fn split_word(text: &[u8]) -> (&[u8], Option<&[u8]>)
-    ensures { words_of text.now ≡ result.0.now ∷ words_behind result.1 }
+/// The first token of a line, and what stands behind the space that ends it.
+fn split_token(text: &[u8]) -> (&[u8], Option<&[u8]>)
+    ensures { tokens_of text.now ≡ result.0.now ∷ tokens_behind result.1 }
 {
     match space_at(text) {
         Some(at) => (&text[..at], Some(&text[at + 1..])),
@@ -211,22 +211,22 @@ fn space_at(text: &[u8]) -> Option<usize>
     text.iter().position(|b| *b == b' ')
 }
 
-/// The number that a word is: digits, of which the first of several isn't `0`.
-fn number_of(word: &[u8]) -> Option<u64>
-    ensures { result ≡ number_of word.now }
+/// The number that a token is: digits, of which the first of several isn't `0`.
+fn number_of(token: &[u8]) -> Option<u64>
+    ensures { result ≡ number_of token.now }
 {
-    match word {
+    match token {
         [] | [b'0', _, ..] => None,
-        _ => digits(word),
+        _ => digits(token),
     }
 }
 
 /// The number that digits make, where it is below `2^64`.
-fn digits(word: &[u8]) -> Option<u64>
-    ensures { result ≡ digits_behind 0 word.now }
+fn digits(token: &[u8]) -> Option<u64>
+    ensures { result ≡ digits_behind 0 token.now }
 {
     let mut value = 0;
-    for byte in word {
+    for byte in token {
         match push_digit(value, *byte) {
             Some(next) => value = next,
             None => return None,

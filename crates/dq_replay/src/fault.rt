@@ -17,9 +17,9 @@ pub enum FaultKind {
     UnfinishedLine,
     /// The first line names no edition, or the input is empty.
     BadHeader,
-    /// The line's first word is no command.
+    /// The line's first token is no command.
     UnknownCommand,
-    /// The command has another number of words.
+    /// The command has another number of tokens.
     BadShape,
     /// A name isn't 1 to 32 bytes of `a` to `z`, `0` to `9`, `_` and `-`.
     BadName,

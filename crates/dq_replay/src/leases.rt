@@ -5,14 +5,14 @@ ghost use Rattle.dq_core.specs.Slots.{is_held};
 ghost use Rattle.dq_core.specs.Machine.{table_at};
 ghost use Rattle.dq_core.specs.Core.{machine};
 ghost use Rattle.dq_core.specs.Calls.{IsInserted};
-ghost use Rattle.dq_replay.specs.Script.{is_live, deadline_of};
+ghost use Rattle.dq_replay.specs.Script.{has_name, deadline_of};
 ghost use Rattle.dq_replay.specs.Leases.{live_of, live_entry};
 ghost use Rattle.dq_replay.specs.Order.{IsLined};
-ghost use Rattle.dq_replay.specs.Leased.{Ticks, Leased, IsLiveKey, IsSomeKey, OfLiveKey, IsNewLease, IsResetTo, IsExtendedTo, IsCancelledAt, IsRemovedAt, IsToldOf, IsChangedAt, IsSameQueue, IsRoomy, IsPolledTo, with_lease_at, ResetsLease, ExtendsLease, EndsLease, ExpiresLease};
+ghost use Rattle.dq_replay.specs.LeasesState.{Ticks, LeasesState, IsLiveKey, IsSomeKey, OfLiveKey, IsNewLease, IsResetTo, IsExtendedTo, IsCancelledLease, IsRemovedLease, IsToldOf, IsChangedAt, IsSameQueue, IsRoomy, IsPolledTo, with_lease_at, ResetsLease, ExtendsLease, EndsLease, ExpiresLease};
 
 use crate::name::Name;
 use crate::names::Names;
-use crate::session::Entry;
+use crate::session::Lease;
 use dq_core::{CoreConfig, CoreError, DelayCore, Turn, VecWords};
 use dq_ticks::{Key, LAST_STAMP, LAST_TICK};
 use std::alloc::{AllocError, Allocator};
@@ -80,7 +80,7 @@ fn extend_at<A: Allocator>(queue: &mut Queue<A>, key: &Key, when: u64) -> u64
 
 fn cancel_at<A: Allocator>(queue: &mut Queue<A>, key: &Key) -> u64
     requires { IsSomeKey queue.old key.now }
-    ensures { OfLiveKey queue.old key.now (IsCancelledAt queue.old key.now result queue.new) }
+    ensures { OfLiveKey queue.old key.now (IsCancelledLease queue.old key.now result queue.new) }
 {
     queue.law();
     match queue.cancel(key) {
@@ -91,7 +91,7 @@ fn cancel_at<A: Allocator>(queue: &mut Queue<A>, key: &Key) -> u64
 
 fn remove_at<A: Allocator>(queue: &mut Queue<A>, key: &Key) -> u64
     requires { IsSomeKey queue.old key.now }
-    ensures { OfLiveKey queue.old key.now (IsRemovedAt queue.old key.now result queue.new) }
+    ensures { OfLiveKey queue.old key.now (IsRemovedLease queue.old key.now result queue.new) }
 {
     match queue.remove(&key.entry()) {
         Ok(removed) => removed.deadline,
@@ -110,13 +110,13 @@ fn deadline_at<A: Allocator>(queue: &mut Queue<A>, key: &Key) -> u64
 }
 
 /// One poll: a name that is due at `now` leaves the queue, or none is due.
-fn expire_one<A: Allocator>(queue: &mut Queue<A>, now: u64) -> Option<Entry>
+fn expire_one<A: Allocator>(queue: &mut Queue<A>, now: u64) -> Option<Lease>
     requires tick { now ≤ LAST_TICK }
     requires later { queue.old.noted ≤ now }
     ensures { IsPolledTo queue.old now result queue.new }
 {
     match queue.poll(now) {
-        Ok(Turn::Out(expired)) => Some(Entry {
+        Ok(Turn::Out(expired)) => Some(Lease {
             name: expired.value,
             deadline: expired.deadline,
         }),
@@ -141,13 +141,13 @@ pub struct Leases<A: Allocator> {
 
 impl<A: Allocator> Model for Leases<A> {
     ghost use Rattle.dq_replay.specs.Order.{IsLined};
-    ghost use Rattle.dq_replay.specs.Leased.{Ticks, Leased, leased, IsLeased};
+    ghost use Rattle.dq_replay.specs.LeasesState.{Ticks, LeasesState, leases_state, AreLeases};
 
-    ghost Value = { Leased };
+    ghost Value = { LeasesState };
 
-    ghost view = { λ a. leased a.queue a.given };
+    ghost view = { λ a. leases_state a.queue a.given };
 
-    ghost invariant = { λ a. IsLeased a.queue a.names a.given };
+    ghost invariant = { λ a. AreLeases a.queue a.names a.given };
 }
 
 impl<A: Allocator + Copy> Leases<A> {
@@ -200,14 +200,14 @@ impl<A: Allocator + Copy> Leases<A> {
     }
 
     pub fn is_live(&self, name: &Name) -> bool
-        ensures { result ≡ is_live name.now self.now.live }
+        ensures { result ≡ has_name name.now self.now.live }
     {
         self.names.get(name).is_some()
     }
 
     /// Makes a new name live, and answers its deadline: the greater of what is asked and the tick.
     pub fn insert(&mut self, name: Name, when: u64) -> Result<u64, AllocError>
-        requires new { is_live name self.old.live ≡ false }
+        requires new { has_name name self.old.live ≡ false }
         requires room { length self.old.live < self.old.capacity }
         requires tick { when ≤ LAST_TICK }
         requires stamps { self.old.given < LAST_STAMP }
@@ -311,16 +311,16 @@ impl<A: Allocator + Copy> Leases<A> {
     }
 
     /// One name that is due at `now` expires, or none is due.
-    fn expire(&mut self, now: u64) -> Option<Entry>
+    fn expire(&mut self, now: u64) -> Option<Lease>
         requires tick { now ≤ LAST_TICK }
         requires later { self.old.noted ≤ now }
         ensures { ExpiresLease self.old now result self.new }
     {
-        let Some(entry) = expire_one(&mut self.queue, now) else {
+        let Some(lease) = expire_one(&mut self.queue, now) else {
             return None;
         };
-        self.names.remove(&entry.name);
-        Some(entry)
+        self.names.remove(&lease.name);
+        Some(lease)
     }
 
     /// The live names stand in order.
@@ -331,15 +331,15 @@ impl<A: Allocator + Copy> Leases<A> {
     }
 
     /// The names that are due at `now` expire, and come in order.
-    pub fn tick(&mut self, alloc: A, now: u64) -> Result<Vec<Entry, A>, AllocError>
+    pub fn tick(&mut self, alloc: A, now: u64) -> Result<Vec<Lease, A>, AllocError>
         requires tick { now ≤ LAST_TICK }
         requires later { self.old.noted ≤ now }
         ensures { IfOk result (λ due. Ticks self.old now due.items self.new) }
     {
         self.law();
         let mut due = Vec::new(alloc);
-        while let Some(entry) = self.expire(now) {
-            due.push(entry)?;
+        while let Some(lease) = self.expire(now) {
+            due.push(lease)?;
         }
         self.law();
         due.sort_unstable();

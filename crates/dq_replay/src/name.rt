@@ -32,14 +32,14 @@ impl Model for Name {
 }
 
 impl Name {
-    /// The name that a word is.
-    pub fn parse(word: &[u8]) -> Option<Name>
-        ensures { result ≡ name_of word.now }
+    /// The name that a token is.
+    pub fn parse(token: &[u8]) -> Option<Name>
+        ensures { result ≡ name_of token.now }
     {
-        if !is_name(word) {
+        if !is_name(token) {
             return None;
         }
-        let text = as_text(word);
+        let text = as_text(token);
         Some(Name {
             text: ArrayString::from(text).unwrap(),
         })
@@ -117,16 +117,16 @@ impl fmt::Display for Name {
     }
 }
 
-fn is_name(word: &[u8]) -> bool
-    ensures { result ≡ is_name word.now }
+fn is_name(token: &[u8]) -> bool
+    ensures { result ≡ is_name token.now }
 {
-    !word.is_empty() && word.len() <= NAME_LIMIT && are_name_bytes(word)
+    !token.is_empty() && token.len() <= NAME_LIMIT && are_name_bytes(token)
 }
 
-fn are_name_bytes(word: &[u8]) -> bool
-    ensures { result ≡ list_all is_name_byte word.now }
+fn are_name_bytes(token: &[u8]) -> bool
+    ensures { result ≡ list_all is_name_byte token.now }
 {
-    word.iter().all(|byte| is_name_byte(*byte))
+    token.iter().all(|byte| is_name_byte(*byte))
 }
 
 fn is_name_byte(byte: u8) -> bool
@@ -136,9 +136,9 @@ fn is_name_byte(byte: u8) -> bool
 }
 
 /// A name's bytes as text.
-fn as_text(word: &[u8]) -> &str
-    requires { list_all is_name_byte word.now ≡ true }
-    ensures { result.now ≡ word.now }
+fn as_text(token: &[u8]) -> &str
+    requires { list_all is_name_byte token.now ≡ true }
+    ensures { result.now ≡ token.now }
 {
-    str::from_utf8(word).unwrap()
+    str::from_utf8(token).unwrap()
 }

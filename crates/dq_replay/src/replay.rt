@@ -2,7 +2,7 @@
 ghost use Rattle.std.specs.Prelude.{◌≡◌, ℕ, ◌<◌, ◌≤◌, ◌↔◌, ◌⊎◌, List, length, IfSome, IfOk, IfErr, IsErrOf};
 ghost use Rattle.std.specs.Io.KnownBytes.{Appends, Keeps};
 ghost use Rattle.dq_replay.specs.declared.fault.ReplayFault.TheVariants.{Script, Write};
-ghost use Rattle.dq_replay.specs.Script.{start, line_does, outcome_of};
+ghost use Rattle.dq_replay.specs.Script.{first_state, line_does, outcome_of};
 ghost use Rattle.dq_replay.specs.Replay.{DoesLine, LineRan, Ran, IsOutcome};
 
 use crate::command::parse;
@@ -37,7 +37,7 @@ pub fn run<A: Allocator, R: Read, W: Write>(
         × Appends (W.contents writer.old) (W.contents writer.new) written
         × IsOutcome result written (outcome_of capacity input)) }
     // At each end: what was taken of the bytes, and what was written.
-    ensures runs { Ran (R.remaining reader.old) (R.remaining reader.new) (W.contents writer.old) (W.contents writer.new) 1 (start capacity) result }
+    ensures runs { Ran (R.remaining reader.old) (R.remaining reader.new) (W.contents writer.old) (W.contents writer.new) 1 (first_state capacity) result }
     ensures config { IsErrOf result ReplayFault.BadConfig ↔ ((capacity ≡ 0) ⊎ (CAPACITY_LIMIT < capacity)) }
     ensures untouched { IsErrOf result ReplayFault.BadConfig → (reader.new ≡ reader.old) × (writer.new ≡ writer.old) }
 {
@@ -75,7 +75,7 @@ fn replay<A: Allocator + Copy, R: Read, W: Write>(
 ) -> Result<(), ReplayFault>
     requires some { 0 < capacity }
     requires few { capacity ≤ CAPACITY_LIMIT }
-    ensures runs { Ran (R.remaining reader.old) (R.remaining reader.new) (W.contents writer.old) (W.contents writer.new) 1 (start capacity) result }
+    ensures runs { Ran (R.remaining reader.old) (R.remaining reader.new) (W.contents writer.old) (W.contents writer.new) 1 (first_state capacity) result }
     ensures config { ¬ IsErrOf result ReplayFault.BadConfig }
 {
     let mut session = Session::new(alloc, capacity)?;

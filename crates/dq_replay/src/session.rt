@@ -1,7 +1,7 @@
 //! What a script has made so far, and what each command does to it.
 ghost use Rattle.std.specs.Prelude.{◌≡◌, ℕ, ◌+◌, ◌<◌, ◌≤◌, IfOk, string_bytes, length};
-ghost use Rattle.dq_replay.specs.Script.{start, step, insert_in, reset_by, extend_by, cancel_by, remove_by, deadline_by, deadline_of, clear_in, tick_in, live_line};
-ghost use Rattle.dq_replay.specs.Sitting.{Sitting};
+ghost use Rattle.dq_replay.specs.Script.{first_state, step, insert_in, reset_by, extend_by, cancel_by, remove_by, deadline_by, deadline_of, clear_in, tick_in, live_line};
+ghost use Rattle.dq_replay.specs.SessionState.{SessionState};
 
 use crate::command::Command;
 use crate::header::FIRST_EDITION_LIMIT;
@@ -14,9 +14,9 @@ use dq_ticks::{LAST_STAMP, LAST_TICK};
 use std::alloc::{AllocError, Allocator};
 use std::marker::Model;
 
-/// A live name with its deadline in force. Entries are in the order of their deadlines, and then of their names.
+/// A live name with its deadline in force. Leases are in the order of their deadlines, and then of their names.
 #[derive(PartialEq, Eq, PartialOrd, Ord, Drop)]
-pub struct Entry {
+pub struct Lease {
     pub deadline: u64,
     pub name: Name,
 }
@@ -31,11 +31,11 @@ pub struct Session<A: Allocator> {
 impl<A: Allocator> Model for Session<A> {
     ghost use Rattle.std.specs.Prelude.{◌≤◌};
     ghost use Rattle.dq_ticks.specs.declared.TheConstants.{LAST_TICK};
-    ghost use Rattle.dq_replay.specs.Sitting.{Sitting, sitting};
+    ghost use Rattle.dq_replay.specs.SessionState.{SessionState, session_state};
 
-    ghost Value = { Sitting };
+    ghost Value = { SessionState };
 
-    ghost view = { λ s. sitting s.limit s.leases };
+    ghost view = { λ s. session_state s.limit s.leases };
 
     ghost invariant = { λ s. s.limit ≤ LAST_TICK };
 }
@@ -44,7 +44,7 @@ impl<A: Allocator + Copy> Session<A> {
     pub fn new(alloc: A, capacity: usize) -> Result<Session<A>, AllocError>
         requires some { 0 < capacity }
         requires few { capacity ≤ 65536 }
-        ensures { IfOk result (λ session. session ≡ record { state = start capacity; given = 0 }) }
+        ensures { IfOk result (λ session. session ≡ record { state = first_state capacity; given = 0 }) }
     {
         Ok(Session {
             limit: FIRST_EDITION_LIMIT,

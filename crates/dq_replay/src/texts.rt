@@ -3,7 +3,7 @@ ghost use Rattle.std.specs.Prelude.{◌≡◌, ◌++◌, IfOk, string_bytes, cod
 ghost use Rattle.dq_replay.specs.Script.{at_line, cancelled_line, removed_line, live_line, cleared_line, expired_line, tick_line, line};
 
 use crate::name::Name;
-use crate::session::Entry;
+use crate::session::Lease;
 use std::alloc::{AllocError, Allocator};
 
 pub fn at_text<A: Allocator>(alloc: A, name: &Name, deadline: u64) -> Result<String<A>, AllocError>
@@ -54,14 +54,14 @@ pub fn refusal_text<A: Allocator>(alloc: A, reason: &str) -> Result<String<A>, A
 /// The lines of the names that expire at a tick, and the line of the tick.
 pub fn tick_text<A: Allocator + Copy>(
     alloc: A,
-    due: &[Entry],
+    due: &[Lease],
     now: u64,
 ) -> Result<String<A>, AllocError>
     ensures { IfOk result (λ text. string_bytes text ≡ flat_map expired_line due.now ++ tick_line now) }
 {
     let mut text = String::new(alloc);
-    for entry in due {
-        let expired = expired_text(alloc, entry)?;
+    for lease in due {
+        let expired = expired_text(alloc, lease)?;
         text.push_str(&expired)?;
     }
     let last = last_text(alloc, now)?;
@@ -69,11 +69,11 @@ pub fn tick_text<A: Allocator + Copy>(
     Ok(text)
 }
 
-fn expired_text<A: Allocator>(alloc: A, entry: &Entry) -> Result<String<A>, AllocError>
-    ensures { IfOk result (λ text. string_bytes text ≡ expired_line entry.now) }
+fn expired_text<A: Allocator>(alloc: A, lease: &Lease) -> Result<String<A>, AllocError>
+    ensures { IfOk result (λ text. string_bytes text ≡ expired_line lease.now) }
 {
-    let name = &entry.name;
-    let deadline = entry.deadline;
+    let name = &lease.name;
+    let deadline = lease.deadline;
     format!(in alloc; "{name} expired {deadline}\n")
 }
 

@@ -1,6 +1,16 @@
-//! Tests of whole scripts, from bytes to bytes: readers and writers that fail, refused memory, every command and every fault.
+//! Tests of whole scripts, from bytes to bytes: every command and every fault, readers and writers that fail, refused memory.
 //! They stand in a crate of their own, since a crate is proved once more with its tests.
 #![tactic(auto)]
 
 #[cfg(test)]
+mod faults;
+#[cfg(test)]
+mod memory;
+#[cfg(test)]
+mod readers;
+#[cfg(test)]
 mod scripts;
+#[cfg(test)]
+mod table;
+#[cfg(test)]
+mod writers;

@@ -1,5 +1,6 @@
 -- Ticks by their base-64 digits: the level and the slot at which a tick stands, seen from another.
-use Rattle.std.specs.Prelude.{ℕ, zero, suc, ◌+◌, ◌*◌, ◌-◌, ◌/◌, ◌%◌, ◌^◌, ◌<◌, ◌==◌, nat_lt, min, if◌then◌else◌}
+use Rattle.std.specs.Prelude.{ℕ, zero, suc, ◌+◌, ◌*◌, ◌-◌, ◌/◌, ◌%◌, ◌^◌, ◌<◌, ◌==◌, nat_lt, min}
+use Rattle.std.specs.Prelude.{if◌then◌else◌}
 use Rattle.dq_ticks.specs.Units.{lap, tick_limit, top_span}
 
 -- the base-64 digit of t at that place

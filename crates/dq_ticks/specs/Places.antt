@@ -1,6 +1,7 @@
 -- What levels and starts of slots mean, and what a wheel may count on.
 use Rattle.std.specs.Prelude.{◌≡◌, ◌≢◌, ℕ, ◌+◌, ◌%◌, ◌<◌, ◌≤◌, ◌⊎◌, ◌==◌, nat_lt, if◌then◌else◌}
-use Rattle.dq_ticks.specs.Digits.{digit_of, highest_differing, level, start, start_for, turn, IsAhead}
+use Rattle.dq_ticks.specs.Digits.{digit_of, highest_differing, level, start, start_for, turn}
+use Rattle.dq_ticks.specs.Digits.{IsAhead}
 use Rattle.dq_ticks.specs.Units.{lap, tick_limit, top_span}
 
 -- ticks of the same seven digits are one

@@ -2,7 +2,8 @@
 use Rattle.std.specs.Prelude.{ℕ, ◌+◌, ◌*◌, ◌/◌, ◌%◌, ◌==◌, if◌then◌else◌}
 pub use Rattle.dq_ticks.specs.Units.{stamp_unit, mark_unit, stamp_count}
 use Rattle.dq_ticks.specs.declared.words.Mark.{Mark}
-use Rattle.dq_ticks.specs.declared.words.Mark.TheVariants.{LiveMark, CancelledMark, ExpiredMark, RemovedMark}
+use Rattle.dq_ticks.specs.declared.words.Mark.TheVariants.{LiveMark, CancelledMark, ExpiredMark}
+use Rattle.dq_ticks.specs.declared.words.Mark.TheVariants.{RemovedMark}
 use Rattle.dq_ticks.specs.declared.words.Parts.{Parts}
 
 -- the word of a stamp, the number of a mark, and a field

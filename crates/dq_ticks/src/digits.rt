@@ -117,7 +117,8 @@ mod tests {
     use super::*;
     use crate::{LAST_TICK, LEVELS, REACH, SLOTS};
 
-    // A tick, a later tick, and the level, the slot and the slot's start at which the second stands, seen from the first.
+    // A tick, a later tick, and the level, the slot and the slot's start at which the second stands, seen from the
+    // first.
     const PLACES: [(u64, u64, usize, u64, u64); 13] = [
         (0, 63, 0, 63, 63),
         (0, 64, 1, 1, 64),

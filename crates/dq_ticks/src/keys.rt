@@ -70,8 +70,8 @@ impl EntryId {
     }
 }
 
-/// Whether two entries are one: the same shard, the same index there and the same birth. The derived `==` says the same,
-/// but under no contract.
+/// Whether two entries are one: the same shard, the same index there and the same birth. The derived `==` says the
+/// same, but under no contract.
 #[inline]
 pub fn is_same_entry(one: EntryId, other: EntryId) -> bool
     ensures { IsTrue result ↔ (one ≡ other) }
@@ -89,7 +89,8 @@ impl Debug for EntryId {
     }
 }
 
-/// A key: an entry, and the stamp at which it is meant. A reset gives the entry a new stamp, and its old keys are stale.
+/// A key: an entry, and the stamp at which it is meant. A reset gives the entry a new stamp, and its old keys are
+/// stale.
 #[derive(Clone, Copy, PartialEq, Eq)]
 pub struct Key {
     // Shard and index share a number, and so do birth and stamp, so that a key fits two registers.

@@ -12,4 +12,5 @@ pub mod Lawful
 pub mod Changes
 pub mod Wakes
 pub mod Passing
+pub mod Going
 pub mod Places

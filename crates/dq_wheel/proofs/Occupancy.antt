@@ -50,14 +50,6 @@ module _ (Where : ℕ → Type 0) (maps homes : List ℕ) (ok : IsOccupiedAt Whe
             ];
       }
 
-  -- an index leaves list p, of which nothing is said from then on
-  pub left_out : (p : ℕ) → get_or homes i 0 ≡ p + 1 → ((q : ℕ) → q ≢ p → Where q) → IsOccupiedBut p maps (set homes i 0)
-  left_out p from here =
-      record {
-        filled = λ q q_in d bit. filled_after homes i 0 q (λ e. d (omega arith)) (ok.filled q q_in (here q d) bit);
-        shown = λ q q_in d full. ok.shown q q_in (here q d) (filled_before homes i 0 q (λ e. omega arith) i_in full);
-      }
-
 -- the list that was left out is empty, and its bit is cleared
 pub bit_cleared : (maps homes after : List ℕ) (p : ℕ) → IsOccupiedBut p maps homes → IsListEmpty homes p → bit_of after p ≡ 0 →
     ((q : ℕ) → q ≢ p → bit_of after q ≡ bit_of maps q) → IsOccupied after homes
@@ -72,22 +64,6 @@ bit_cleared maps homes after p ok empty none others =
           elim (same_or_not q p) [
             | inl e ↦ let stands : IsListFilled homes p = rw e at full in absurd (empty stands.0 stands.1.0 stands.1.1)
             | inr d ↦ others q d ∙ ok.shown q q_in d full
-          ];
-    }
-
--- the list that was left out is still filled
-pub bit_kept : (maps homes : List ℕ) (p : ℕ) → IsOccupiedBut p maps homes → bit_of maps p ≡ 1 → IsListFilled homes p → IsOccupied maps homes
-bit_kept maps homes p ok one full =
-    record {
-      filled = λ q q_in w bit.
-          elim (same_or_not q p) [
-            | inl e ↦ rw e full
-            | inr d ↦ ok.filled q q_in d bit
-          ];
-      shown = λ q q_in w there.
-          elim (same_or_not q p) [
-            | inl e ↦ rw e one
-            | inr d ↦ ok.shown q q_in d there
           ];
     }
 

@@ -8,7 +8,7 @@ use Rattle.std.proofs.lemmas.List.Sums.{sum_by-set, sum_by-cons}
 use Rattle.dq_wheel.specs.Lists.{StandsIn, IsListEmpty}
 use Rattle.dq_wheel.specs.Walks.{bit_of}
 use Rattle.dq_wheel.specs.Maps.{IsOccupied, IsOccupiedBut}
-use Rattle.dq_wheel.specs.Homes.{list_number, home_after, moves_after, CanGo, IsOpened}
+use Rattle.dq_wheel.specs.Homes.{list_number, home_after, moves_after, IsOpened}
 use Rattle.dq_wheel.proofs.Links.{same_or_not}
 use Rattle.dq_wheel.proofs.Occupancy.{but_one, bit_linked}
 
@@ -91,10 +91,6 @@ module _ (e p : ℕ) (filed homes moves homes2 moves2 maps : List ℕ) (made : �
 
   pub moves_were : get_or moves2 i 0 ≡ get_or moves i 0
   moves_were = elim (s.each i (rw s.size at stands.0)) [ inl w ↦ w.2 | inr w ↦ absurd (w.0 stands.1) ]
-
-  -- it doesn't come back into the list
-  pub stays_away : ((j : ℕ) → StandsIn homes p j → CanGo e p (get_or filed j 0) (get_or moves j 0)) → to ≢ p
-  stays_away can_go same = (can_go i stood).away (sym to_is ∙ same)
 
   module _ (elsewhere : to ≢ p) where
     abbrev pub homes3 : List ℕ

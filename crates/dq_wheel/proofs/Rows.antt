@@ -8,7 +8,7 @@ use Rattle.std.proofs.lemmas.List.{length-take-le, get_or-take, length-take, len
 use Rattle.dq_wheel.specs.Ring.{IsRings}
 use Rattle.dq_wheel.specs.Rows.{nexts, prevs, homes, AreAlone}
 use Rattle.dq_wheel.specs.declared.row.Row.{Row}
-use Rattle.dq_wheel.proofs.Links.{linked, unlinked, first_home, first_in, first_back, none_in, last_home, last_in, before_in, after_in}
+use Rattle.dq_wheel.proofs.Links.{linked, unlinked, first_home, first_back, none_in, last_home, last_in, before_in, after_in}
 use Rattle.dq_ticks.specs.declared.TheConstants.{CAPACITY_LIMIT}
 use Rattle.dq_wheel.specs.declared.TheConstants.{LISTS}
 
@@ -72,25 +72,11 @@ module _ (cap : ℕ) (next prev homes : List ℕ) (r : IsRings cap next prev hom
   pub first_stands : get_or homes (get_or next (cap + p) 0) 0 ≡ p + 1
   first_stands = first_home cap LISTS _ _ _ r.rank r.ring p p_in
 
-  pub first_below : get_or next (cap + p) 0 < cap + LISTS
-  first_below = first_in cap LISTS _ _ _ r.rank r.ring p p_in
-
   pub first_follows : get_or prev (get_or next (cap + p) 0) 0 ≡ cap + p
   first_follows = first_back cap LISTS _ _ _ r.rank r.ring p p_in
 
-  pub last_below : get_or prev (cap + p) 0 < cap + LISTS
-  last_below = last_in cap LISTS _ _ _ r.rank r.ring p p_in
-
   pub first_none : cap ≤ get_or next (cap + p) 0 → (x : ℕ) → x < cap → get_or homes x 0 ≡ p + 1 → ⊥
   first_none = none_in cap LISTS _ _ _ r.rank r.ring p p_in
-
--- where an entry's neighbours stand
-module _ (cap : ℕ) (next prev homes : List ℕ) (r : IsRings cap next prev homes) (i : ℕ) (i_in : i < cap) (on : 0 < get_or homes i 0) where
-  pub before_below : get_or prev i 0 < cap + LISTS
-  before_below = before_in cap LISTS _ _ _ r.rank r.ring i i_in on
-
-  pub after_below : get_or next i 0 < cap + LISTS
-  after_below = after_in cap LISTS _ _ _ r.rank r.ring i i_in on
 
 -- the entry that follows the head of list p is taken out of it
 pub rings_detach : (cap : ℕ) (next prev homes : List ℕ) (p i after : ℕ) → IsRings cap next prev homes → p < LISTS →

@@ -2,7 +2,8 @@
 -- In which list an index is at home: list 64 * level + slot is that slot. At level 0 the list of
 -- the tick's own digit is the due list, since what is filed later stands in another one.
 
-use Rattle.std.specs.Prelude.{List, length, slice_index, sum, Option, None, Some, ◌≡◌, ◌≢◌, ℕ, ◌+◌, ◌-◌, ◌*◌, ◌<◌, ◌≤◌, ◌==◌, if◌then◌else◌}
+use Rattle.std.specs.Prelude.{List, length, slice_index, sum, Option, None, Some, ◌≡◌, ◌≢◌, ℕ, ◌+◌}
+use Rattle.std.specs.Prelude.{◌-◌, ◌*◌, ◌<◌, ◌≤◌, ◌==◌, if◌then◌else◌}
 use Rattle.dq_ticks.specs.Digits.{digit_of, level}
 use Rattle.dq_ticks.specs.Units.{lap, tick_limit}
 use Rattle.dq_ticks.specs.declared.TheConstants.{CAPACITY_LIMIT}

@@ -2,7 +2,8 @@
 -- names; no other index stands in any; and each occupancy bit is 1 exactly where its list isn't
 -- empty.
 
-use Rattle.std.specs.Prelude.{◌≡◌, ◌≢◌, ℕ, ◌+◌, ◌<◌, ◌≤◌, ◌↔◌, List, [], length, slice_index, Option, Some}
+use Rattle.std.specs.Prelude.{◌≡◌, ◌≢◌, ℕ, ◌+◌, ◌<◌, ◌≤◌, ◌↔◌, List, [], length, slice_index}
+use Rattle.std.specs.Prelude.{Option, Some}
 use Rattle.dq_ticks.specs.Units.{tick_limit}
 use Rattle.dq_ticks.specs.declared.TheConstants.{CAPACITY_LIMIT}
 use Rattle.dq_wheel.specs.State.{filed_at, WheelState}
@@ -12,8 +13,8 @@ use Rattle.dq_wheel.specs.Walks.{IsWalk, occurrences, bit_of}
 use Rattle.dq_wheel.specs.declared.TheConstants.{LISTS}
 
 -- The lawful wheel, of list p. Walked along the wheel's links from its head until one is back
--- there, it has each index once whose place it is, and no other; its bit is 1 exactly where it isn't
--- empty.
+-- there, it has each index once whose place it is, and no other; its bit is 1 exactly where it
+-- isn't empty.
 pub record IsLawfulList
     (e : ℕ) (filed : List (Option ℕ)) (next maps : List ℕ) (p : ℕ) : Type 0 where
   pub list : List ℕ

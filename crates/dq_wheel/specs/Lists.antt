@@ -1,7 +1,8 @@
 -- No public clause cites this module.
 -- What the lists hold, by the home of each index: one more than the number of its list, or 0.
 
-use Rattle.std.specs.Prelude.{◌≡◌, ◌≢◌, ℕ, ◌+◌, ◌<◌, ◌≤◌, List, length, slice_index, ◌==◌, if◌then◌else◌}
+use Rattle.std.specs.Prelude.{◌≡◌, ◌≢◌, ℕ, ◌+◌, ◌<◌, ◌≤◌, List, length, slice_index, ◌==◌}
+use Rattle.std.specs.Prelude.{if◌then◌else◌}
 use Rattle.dq_wheel.specs.Walks.{IsWalk, occurrences}
 
 -- the home of each index; and what follows each index, and behind them what follows the head of

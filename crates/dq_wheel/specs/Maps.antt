@@ -1,7 +1,8 @@
 -- No public clause cites this module.
 -- Occupancy maps: six numbers of 64 bits, a bit for each list.
 
-use Rattle.std.specs.Prelude.{◌≡◌, ◌≢◌, ℕ, ◌+◌, ◌-◌, ◌/◌, ◌%◌, ◌<◌, ◌≤◌, ◌⊎◌, ◌==◌, if◌then◌else◌, List}
+use Rattle.std.specs.Prelude.{◌≡◌, ◌≢◌, ℕ, ◌+◌, ◌-◌, ◌/◌, ◌%◌, ◌<◌, ◌≤◌, ◌⊎◌, ◌==◌, if◌then◌else◌}
+use Rattle.std.specs.Prelude.{List}
 use Rattle.dq_wheel.specs.Lists.{IsListFilled}
 use Rattle.dq_wheel.specs.Walks.{bit_of}
 use Rattle.dq_wheel.specs.declared.TheConstants.{LISTS}
@@ -28,3 +29,9 @@ list_turn own p = if p / 64 == 5 then (p % 64 + 63 - own) % 64 else p % 64
 abbrev pub IsEarlier : ℕ → ℕ → ℕ → Type 0
 IsEarlier own q p =
     (q / 64 < p / 64) ⊎ ((q / 64 ≡ p / 64) × (list_turn own q ≤ list_turn own p))
+
+-- list q is filled, and no filled list is earlier
+abbrev pub IsFirstFilled : ℕ → List ℕ → ℕ → Type 0
+IsFirstFilled own homes q =
+    (q < LISTS) × IsListFilled homes q
+    × ((p : ℕ) → p < LISTS → IsListFilled homes p → IsEarlier own q p)

@@ -1,6 +1,7 @@
 -- What the wheel's way from one tick to another leaves of its filing.
 
-use Rattle.std.specs.Prelude.{◌≡◌, ℕ, ◌+◌, ◌<◌, ◌≤◌, nat_lt, min, List, [], ◌∷◌, Option, Some, None, if◌then◌else◌, ◌==◌, ◌||◌}
+use Rattle.std.specs.Prelude.{◌≡◌, ℕ, ◌+◌, ◌<◌, ◌≤◌, nat_lt, min, List, [], ◌∷◌, Option, Some, None}
+use Rattle.std.specs.Prelude.{if◌then◌else◌, ◌==◌, ◌||◌}
 use Rattle.std.specs.List.{sum_by}
 use Rattle.dq_ticks.specs.Digits.{level}
 use Rattle.dq_wheel.specs.State.{Filing, filed_at}

@@ -1,6 +1,7 @@
 -- Where an index stands.
 
-use Rattle.std.specs.Prelude.{◌≡◌, ℕ, ◌+◌, ◌/◌, ◌%◌, ◌≤◌, ◌<◌, List, length, Option, Some, None, if◌then◌else◌, ◌==◌}
+use Rattle.std.specs.Prelude.{◌≡◌, ℕ, ◌+◌, ◌/◌, ◌%◌, ◌≤◌, ◌<◌, List, length, Option, Some, None}
+use Rattle.std.specs.Prelude.{if◌then◌else◌, ◌==◌}
 use Rattle.dq_ticks.specs.Digits.{digit_of, level}
 use Rattle.dq_wheel.specs.State.{filed_at}
 use Rattle.dq_wheel.specs.declared.wheel.Place.{Place}

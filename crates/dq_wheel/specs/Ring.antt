@@ -2,7 +2,8 @@
 -- Circular lists of indexes, linked both ways. The numbers from 0 are entries, and the number
 -- cap + p is the head of list p.
 
-use Rattle.std.specs.Prelude.{◌≡◌, ℕ, ◌+◌, ◌<◌, ◌≤◌, ◌==◌, ◌&&◌, nat_lt, if◌then◌else◌, List, length, slice_index}
+use Rattle.std.specs.Prelude.{◌≡◌, ℕ, ◌+◌, ◌<◌, ◌≤◌, ◌==◌, ◌&&◌, nat_lt, if◌then◌else◌, List}
+use Rattle.std.specs.Prelude.{length, slice_index}
 use Rattle.dq_ticks.specs.declared.TheConstants.{CAPACITY_LIMIT}
 use Rattle.dq_wheel.specs.Walks.{IsWalk, occurrences}
 use Rattle.dq_wheel.specs.declared.TheConstants.{LISTS}

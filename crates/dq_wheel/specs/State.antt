@@ -1,6 +1,7 @@
 -- What a caller sees of a wheel.
 
-use Rattle.std.specs.Prelude.{◌≡◌, ◌≢◌, ◌<◌, ◌≤◌, length, ℕ, List, Option, None, Some, replicate, slice_index_or, slice_set}
+use Rattle.std.specs.Prelude.{◌≡◌, ◌≢◌, ◌<◌, ◌≤◌, length, ℕ, List, Option, None, Some, replicate}
+use Rattle.std.specs.Prelude.{slice_index_or, slice_set}
 
 -- the wheel's tick, the tick at which each index is filed, how often each index moved since it was
 -- linked, and the moves made in all

@@ -4,7 +4,7 @@ ghost use Rattle.std.specs.Prelude.{◌≡◌, ◌≢◌, ℕ, ◌+◌, ◌*◌,
 ghost use Rattle.std.specs.Int.{bit_at};
 ghost use Rattle.dq_wheel.specs.Lists.{IsLeastIn, IsListEmpty, IsListFilled, IsListOf, StandsIn};
 ghost use Rattle.dq_wheel.specs.Walks.{bit_of};
-ghost use Rattle.dq_wheel.specs.Maps.{IsEarlier, IsOccupied, IsOccupiedBut};
+ghost use Rattle.dq_wheel.specs.Maps.{IsFirstFilled, IsOccupied, IsOccupiedBut};
 ghost use Rattle.dq_wheel.specs.Homes.{CanGo, IsOpened};
 
 use crate::LISTS;
@@ -126,8 +126,7 @@ impl<A: Allocator> Lists<A> {
         requires { own < 64 }
         ensures { MatchOption result
             ((p : ℕ) → p < LISTS → IsListEmpty self.now.homes p)
-            (λ q. (q < LISTS) × IsListFilled self.now.homes q
-            × ((p : ℕ) → p < LISTS → IsListFilled self.now.homes p → IsEarlier own q p)) }
+            (λ q. IsFirstFilled own self.now.homes q) }
     {
         match first_list(&self.maps, own) {
             Some(list) => Some(list),

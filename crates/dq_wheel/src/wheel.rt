@@ -123,8 +123,8 @@ fn place_of(tick: u64, home: u16) -> Place
 }
 
 impl<A: Allocator + Clone> Wheel<A> {
-    /// A wheel at tick 0 with nothing linked, over 1 to [`CAPACITY_LIMIT`] indexes. Another capacity is `BadConfig`; where an
-    /// allocation is refused it is `NoMemory`. No other call takes memory.
+    /// A wheel at tick 0 with nothing linked, over 1 to [`CAPACITY_LIMIT`] indexes. Another capacity is `BadConfig`;
+    /// where an allocation is refused it is `NoMemory`. No other call takes memory.
     pub fn new(alloc: A, capacity: usize) -> Result<Wheel<A>, WheelError>
         ensures { MatchResult result
             (λ w. (0 < capacity) × (capacity ≤ CAPACITY_LIMIT) × (w.filing ≡ fresh_filing capacity))

@@ -10,8 +10,8 @@ use Rattle.dq_words.specs.declared.views.Write.{Write}
 use Rattle.dq_words.specs.declared.views.Write.TheVariants.{Begin, Expired, Renewed, Removed}
 use Rattle.dq_words.specs.Word.{Left}
 use Rattle.dq_words.specs.Counts.{given_in, InOrder}
-use Rattle.dq_words.specs.Files.{is_at, with_if, File, file, blank, keeper_writes, bases_at, ends_at, Has}
-use Rattle.dq_words.specs.Rule.{Unborn, Living, Cancelled, Ended, Law, Ruled}
+use Rattle.dq_words.specs.Files.{is_at, with_if, File, file, blank, keeper_writes, bases_at, ends_at, IsIn}
+use Rattle.dq_words.specs.Rule.{UnbornStamp, LivingStamp, CancelledStamp, EndedStamp, Law, Ruled}
 use Rattle.dq_words.specs.Endings.{fates_at, birth_at, over_life, EntriesEndOnce}
 use Rattle.dq_words.proofs.Gathers.{at_here, at_other_slot, at_other_stamp}
 use Rattle.dq_words.proofs.Advances.{by_index, by_order}
@@ -146,11 +146,11 @@ birth_low i s (Renewed j b d x ∷ ws) = birth_low i s ws
 birth_low i s (Removed j b d ∷ ws) = birth_low i s ws
 
 -- a Begin of the list counts
-begun_has : (i b d : ℕ) (ws : List Write) → Has ws (Begin i b d) → 0 < begun_at i b ws
+begun_has : (i b d : ℕ) (ws : List Write) → IsIn ws (Begin i b d) → 0 < begun_at i b ws
 begun_has i b d [] h = absurd h
 begun_has i b d (w ∷ ws) h = ⊎_elim
     (λ (e : Begin i b d ≡ w). let P : Write → Type 0 = λ (x : Write). 0 < begun_at i b (x ∷ ws) in subst P e (let one : one_if (is_at i b i b) ≡ 1 = ap one_if (at_here i b) in omega arith))
-    (λ (k : Has ws (Begin i b d)). let a = begun_has i b d ws k in more w a) h
+    (λ (k : IsIn ws (Begin i b d)). let a = begun_has i b d ws k in more w a) h
   where
     more : (w : Write) → 0 < begun_at i b ws → 0 < begun_at i b (w ∷ ws)
     more (Begin j t x) a = omega arith
@@ -161,10 +161,10 @@ begun_has i b d (w ∷ ws) h = ⊎_elim
 -- the stamp of the word was not renewed
 last_stays : (n s : ℕ) (f : File) → stamp_of n ≡ s → Law n s f → renewed_in f.ends ≡ 0
 last_stays n s f at law = ⊎_elim
-    (λ (u : Unborn n s f). ap (λ (g : File). renewed_in g.ends) u.none)
-    (⊎_elim (λ (l : Living n s f). ap renewed_in l.unended)
-    (⊎_elim (λ (c : Cancelled n s f). ap renewed_in c.unended)
-    (λ (e : Ended n s f). ⊎_elim
+    (λ (u : UnbornStamp n s f). ap (λ (g : File). renewed_in g.ends) u.none)
+    (⊎_elim (λ (l : LivingStamp n s f). ap renewed_in l.unended)
+    (⊎_elim (λ (c : CancelledStamp n s f). ap renewed_in c.unended)
+    (λ (e : EndedStamp n s f). ⊎_elim
     (λ (now : (n ≡ word s e.mark e.deadline) × (1 < e.mark) × (e.mark < 4)). let a = now.1 in
     let z : one_if (eqb e.mark 0) ≡ 0 = ap one_if (ne_eqb e.mark 0 (λ q. omega arith)) in
     let r : renewed_in f.ends ≡ one_if (eqb e.mark 0) + 0 = ap renewed_in e.ended in omega arith)

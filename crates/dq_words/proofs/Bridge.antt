@@ -1,17 +1,19 @@
 -- Packed words and their parts.
-use Rattle.std.proofs.Common.{◌≡◌, ◌≢◌, ℕ, zero, suc, ◌<◌, ◌≤◌, true, List, [], ◌∷◌, length, get_or, set, replicate, sym, refl, ap, ◌∙◌, subst, inl, inr, ⊎_elim, get_or-set_same, set-set, arith}
+use Rattle.std.proofs.Common.{◌≡◌, ℕ, zero, suc, ◌+◌, ◌<◌, ◌≤◌, true, List, [], ◌∷◌, length, get_or, set, replicate, sym, refl, ap, ◌∙◌, subst, inl, inr, ⊎_elim, get_or-set_same, set-set, Option, Some, None, arith}
 use Rattle.std.proofs.lemmas.List.{length-replicate}
 use Rattle.dq_ticks.specs.declared.words.Parts.{Parts}
 use Rattle.dq_ticks.specs.declared.words.Mark.{Mark}
 use Rattle.dq_ticks.specs.declared.words.Mark.TheVariants.{LiveMark, CancelledMark}
 use Rattle.dq_ticks.specs.Word.{word, stamp_of, mark_of, field_of, mark_number, mark_by, packed, parts_of}
+use Rattle.dq_core.specs.declared.words.Settled.{Settled}
 use Rattle.dq_core.specs.declared.words.Settled.TheVariants.{SettledExpired, Later, SettledCancelled}
-use Rattle.dq_core.specs.Words.{live, cancelled, expired, removed, never, word_at, AreFresh, IsOver, IsInForce, IsSettled, Learned as Learns}
+use Rattle.dq_core.specs.Words.{live, cancelled, expired, removed, never, word_at, AreFresh, IsOver, IsInForce, IsSettled, IsChanged, Learned}
 use Rattle.dq_words.specs.declared.views.View.{View}
-use Rattle.dq_words.specs.Keeping.{counts_of, IsFree, IsOpen, Shows}
+use Rattle.dq_words.specs.Keeping.{counts_of, IsFree, IsOpen}
+use Rattle.dq_words.specs.KeeperCalls.{loaded, KeeperSettles, KeeperRenews, KeeperFinishes}
 use Rattle.dq_words.specs.Rule.{zeros, first_keeper}
-use Rattle.dq_words.specs.Word.{Learned, parts_row}
-use Rattle.dq_words.proofs.Keepings.{Grown, learned_on, open_on, open_live, open_shut}
+use Rattle.dq_words.specs.Word.{LearnedWord, parts_row}
+use Rattle.dq_words.proofs.Keepings.{Grown}
 
 blanks : (n : ℕ) → parts_row (zeros n) ≡ replicate n never
 blanks zero = refl
@@ -52,7 +54,7 @@ expired_is s d n is small = parts_by s 2 d n is (omega arith) small
 pub removed_is : (s d n : ℕ) → n ≡ word s 3 d → d ≤ 4398046511103 → parts_of n ≡ removed s d
 removed_is s d n is small = parts_by s 3 d n is (omega arith) small
 
-pub learned_parts : (x n : ℕ) → Learned x n → Learns true (parts_of x) (parts_of n)
+pub learned_parts : (x n : ℕ) → LearnedWord x n → Learned true (parts_of x) (parts_of n)
 learned_parts x n h = ⊎_elim (λ e. inl (ap parts_of e))
     (λ (l : Grown x n). let a = l.2 in let b = l.4 in
     let m : mark_of x ≡ 0 = omega arith in
@@ -119,8 +121,8 @@ row_here xs ys i n p inside is e = row_at ys i ∙ ap parts_of (ap (λ (zs : Lis
 pub row_known : (xs ys : List ℕ) (i n : ℕ) → i < length (parts_row xs) → ys ≡ set xs i n → parts_row ys ≡ set (parts_row xs) i (word_at (parts_row ys) i)
 row_known xs ys i n inside is = row_set xs ys i n (word_at (parts_row ys) i) is (sym (row_here xs ys i n (parts_of n) inside is refl))
 
-pub learned_at : (xs : List ℕ) (i n : ℕ) (p : Parts) → Learned (get_or xs i 0) n → parts_of n ≡ p → Learns true (word_at (parts_row xs) i) p
-learned_at xs i n p h e = let P : Parts × Parts → Type 0 = λ x. Learns true x.0 x.1 in subst P (λ q. (sym (row_at xs i) q, e q)) (learned_parts (get_or xs i 0) n h)
+pub learned_at : (xs : List ℕ) (i n : ℕ) (p : Parts) → LearnedWord (get_or xs i 0) n → parts_of n ≡ p → Learned true (word_at (parts_row xs) i) p
+learned_at xs i n p h e = let P : Parts × Parts → Type 0 = λ x. Learned true x.0 x.1 in subst P (λ q. (sym (row_at xs i) q, e q)) (learned_parts (get_or xs i 0) n h)
 
 pub open_at : (xs : List ℕ) (i s f : ℕ) → IsInForce s f (word_at (parts_row xs) i) → IsOpen (get_or xs i 0) s × (mark_of (get_or xs i 0) ≡ 0 → f ≤ field_of (get_or xs i 0))
 open_at xs i s f h = in_force_open s f (get_or xs i 0) (let P : Parts → Type 0 = λ p. IsInForce s f p in subst P (row_at xs i) h)
@@ -131,60 +133,58 @@ free_at xs i h = over_free (get_or xs i 0) (let P : Parts → Type 0 = λ p. IsO
 pub stamp_at : (xs : List ℕ) (i : ℕ) → (word_at (parts_row xs) i).stamp ≡ stamp_of (get_or xs i 0)
 stamp_at xs i = ap (λ (p : Parts). p.stamp) (row_at xs i)
 
--- a word shown twice
-pub over_shown : (xs zs ys : List ℕ) (i old new : ℕ) → zs ≡ set xs i old → ys ≡ set zs i new → ys ≡ set xs i new
-over_shown xs zs ys i old new a b = b ∙ ap (λ (us : List ℕ). set us i new) a ∙ set-set xs i old new
+module _ (v w : View) (i s : ℕ) (inside : i < length (parts_row v.seen)) where
+  abbrev xs : List ℕ
+  xs = v.seen
 
--- what a try that changed the shown word tells
-pub changes : (xs zs ys : List ℕ) (i s old new : ℕ) (p : Parts) → i < length (parts_row xs) → Shows xs zs i old → IsOpen old s → mark_of old ≡ 0 → ys ≡ set zs i new → parts_of new ≡ p → (d : ℕ) → d ≡ field_of old → Learns true (word_at (parts_row xs) i) (live s d) × (word_at (parts_row ys) i ≡ p)
-changes xs zs ys i s old new p inside shown is_open m is e d at =
-    let l = open_live old s is_open m in
-    let small : field_of old ≤ 4398046511103 = omega arith in
-    (learned_at xs i old (live s d) shown.0 (live_is s d old (l ∙ ap (λ k. word s 0 k) (sym at)) (omega arith)), row_here xs ys i new p inside (over_shown xs zs ys i old new shown.1 is) e)
+  -- the row after a step that saw the word n, whose parts are p
+  shows : (n : ℕ) (p : Parts) → w.seen ≡ set xs i n → parts_of n ≡ p → (word_at (parts_row w.seen) i ≡ p) × (parts_row w.seen ≡ set (parts_row xs) i (word_at (parts_row w.seen) i))
+  shows n p is e = (row_here xs w.seen i n p inside is e, row_known xs w.seen i n inside is)
 
--- what a shown word that isn't live tells
-pub unchanged : (xs zs : List ℕ) (i s old : ℕ) → i < length (parts_row xs) → Shows xs zs i old → IsOpen old s → mark_of old ≢ 0 → Learns true (word_at (parts_row xs) i) (cancelled s) × (word_at (parts_row zs) i ≡ cancelled s)
-unchanged xs zs i s old inside shown is_open m =
-    let e = cancelled_is s old (open_shut old s is_open m) in
-    (learned_at xs i old (cancelled s) shown.0 e, row_here xs zs i old (cancelled s) inside shown.1 e)
+  -- what was learned of the word that is then known
+  learned_to : (n : ℕ) (p : Parts) → LearnedWord (get_or xs i 0) n → parts_of n ≡ p → word_at (parts_row w.seen) i ≡ p → Learned true (word_at (parts_row xs) i) (word_at (parts_row w.seen) i)
+  learned_to n p learned e here = let P : Parts → Type 0 = λ q. Learned true (word_at (parts_row xs) i) q in subst P (sym here) (learned_at xs i n p learned e)
 
-module _ (xs ys : List ℕ) (i s at n : ℕ) (inside : i < length (parts_row xs)) (asked : IsInForce s at (word_at (parts_row xs) i)) (small : at ≤ 4398046511103) (learned : Learned (get_or xs i 0) n) where
-  known : IsOpen (get_or xs i 0) s × (mark_of (get_or xs i 0) ≡ 0 → at ≤ field_of (get_or xs i 0))
-  known = open_at xs i s at asked
-
-  pub settles_hit : n ≡ word s 0 at → (m : ℕ) → m ≡ word s 2 at → ys ≡ set xs i m → IsSettled true s at (word_at (parts_row xs) i) SettledExpired (word_at (parts_row ys) i)
-  settles_hit hit m is shown =
+  -- a settle, in parts
+  pub settles_parts : (at : ℕ) (r : Settled) → IsInForce s at (word_at (parts_row xs) i) → at ≤ 4398046511103 → KeeperSettles v i s at r w
+      → IsSettled true s at (word_at (parts_row xs) i) r (word_at (parts_row w.seen) i) × (parts_row w.seen ≡ set (parts_row xs) i (word_at (parts_row w.seen) i))
+  settles_parts at SettledExpired asked small h =
+      let known = open_at xs i s at asked in
       let x : ℕ = get_or xs i 0 in
-      let was : x ≡ word s 0 at = ⊎_elim (λ (e : n ≡ x). sym e ∙ hit)
-      (λ (l : Grown x n). let a = l.2 in let b = l.4 in let mx : mark_of x ≡ 0 = omega arith in let f = known.1 mx in ⊎_elim
-      (λ (e : (e : ℕ) × (l.1 ≤ e) × (e ≤ 4398046511103) × (n ≡ word l.0 0 e)). let c = e.1 in let d = e.2 in let g = e.3 in omega arith)
-      (λ (e : n ≡ word l.0 1 0). absurd (omega arith)) l.5) learned in
-      (row_at xs i ∙ live_is s at x was small, row_here xs ys i m (expired s at) inside shown (expired_is s at m is small))
+      let was : x ≡ word s 0 at = ⊎_elim (λ (e : word s 0 at ≡ x). sym e)
+      (λ (l : Grown x (word s 0 at)). let a = l.2 in let b = l.4 in let mx : mark_of x ≡ 0 = omega arith in let f = known.1 mx in ⊎_elim
+      (λ (e : (e : ℕ) × (l.1 ≤ e) × (e ≤ 4398046511103) × (word s 0 at ≡ word l.0 0 e)). let c = e.1 in let d = e.2 in let k = e.3 in omega arith)
+      (λ (e : word s 0 at ≡ word l.0 1 0). absurd (omega arith)) l.5) h.0 in
+      let now = shows (word s 2 at) (expired s at) (ap (λ (u : View). u.seen) h.1) (expired_is s at (word s 2 at) refl small) in
+      ((row_at xs i ∙ live_is s at x was small, now.0), now.1)
+  settles_parts at (Later d) asked small h =
+      let e = live_is s d (word s 0 d) refl h.1 in
+      let now = shows (word s 0 d) (live s d) (ap (λ (u : View). u.seen) h.2.0) e in
+      ((h.0, now.0, learned_to (word s 0 d) (live s d) h.2.1 e now.0), now.1)
+  settles_parts at SettledCancelled asked small h =
+      let e = cancelled_is s (word s 1 0) refl in
+      let now = shows (word s 1 0) (cancelled s) (ap (λ (u : View). u.seen) h.0) e in
+      ((now.0, learned_to (word s 1 0) (cancelled s) h.1 e now.0), now.1)
 
-  pub settles_later : n ≢ word s 0 at → mark_of n ≡ 0 → ys ≡ set xs i n → (d : ℕ) → d ≡ field_of n → IsSettled true s at (word_at (parts_row xs) i) (Later d) (word_at (parts_row ys) i)
-  settles_later miss m shown d is =
-      let x : ℕ = get_or xs i 0 in
-      let now = open_live n s (open_on x n s known.0 learned) m in
-      let later : at < field_of n = ⊎_elim
-      (λ (e : n ≡ x). let P : ℕ → Type 0 = λ y. mark_of y ≡ 0 in let f = known.1 (subst P e m) in let g : field_of n ≡ field_of x = ap field_of e in
-      let ne : at ≢ field_of n = (λ (same : at ≡ field_of n). miss (now ∙ ap (λ k. word s 0 k) (sym same))) in omega arith)
-      (λ (l : Grown x n). let a = l.2 in let b = l.4 in let mx : mark_of x ≡ 0 = omega arith in let f = known.1 mx in ⊎_elim
-      (λ (e : (e : ℕ) × (l.1 ≤ e) × (e ≤ 4398046511103) × (n ≡ word l.0 0 e)). let c = e.1 in let g = e.2 in let h = e.3 in
-      let ne : at ≢ field_of n = (λ (same : at ≡ field_of n). miss (now ∙ ap (λ k. word s 0 k) (sym same))) in omega arith)
-      (λ (e : n ≡ word l.0 1 0). absurd (omega arith)) l.5) learned in
-      let shows = row_here xs ys i n (live s d) inside shown (live_is s d n (now ∙ ap (λ k. word s 0 k) (sym is)) (omega arith)) in
-      let P : Parts → Type 0 = λ p. Learns true (word_at (parts_row xs) i) p in
-      (omega arith, shows, subst P (sym (row_here xs ys i n (parts_of n) inside shown refl)) (learned_at xs i n (parts_of n) learned refl))
+  -- a word that was found cancelled
+  missed_parts : (n : ℕ) → LearnedWord (get_or xs i 0) (word s 1 0) → w ≡ loaded v i (word s 1 0) n
+      → Learned true (word_at (parts_row xs) i) (cancelled s) × (word_at (parts_row w.seen) i ≡ cancelled s) × (parts_row w.seen ≡ set (parts_row xs) i (word_at (parts_row w.seen) i))
+  missed_parts n learned is =
+      let e = cancelled_is s (word s 1 0) refl in
+      let now = shows (word s 1 0) (cancelled s) (ap (λ (u : View). u.seen) is) e in
+      (learned_at xs i (word s 1 0) (cancelled s) learned e, now.0, now.1)
 
-  pub settles_cancelled : mark_of n ≢ 0 → ys ≡ set xs i n → IsSettled true s at (word_at (parts_row xs) i) SettledCancelled (word_at (parts_row ys) i)
-  settles_cancelled m shown =
-      let now = cancelled_is s n (open_shut n s (open_on (get_or xs i 0) n s known.0 learned) m) in
-      let P : Parts → Type 0 = λ p. Learns true (word_at (parts_row xs) i) p in
-      (row_here xs ys i n (cancelled s) inside shown now, subst P (sym (row_here xs ys i n (parts_of n) inside shown refl)) (learned_at xs i n (parts_of n) learned refl))
+  -- a renew, in parts
+  pub renews_parts : (when : ℕ) (r : Option ℕ) → when ≤ 4398046511103 → KeeperRenews v i s when r w
+      → IsChanged true s (λ d. live (s + 1) when) (word_at (parts_row xs) i) r (word_at (parts_row w.seen) i) × (parts_row w.seen ≡ set (parts_row xs) i (word_at (parts_row w.seen) i))
+  renews_parts when (Some d) small h =
+      let now = shows (word (s + 1) 0 when) (live (s + 1) when) (ap (λ (u : View). u.seen) h.2.1 ∙ set-set xs i (word s 0 d) (word (s + 1) 0 when)) (live_is (s + 1) when (word (s + 1) 0 when) refl small) in
+      ((learned_at xs i (word s 0 d) (live s d) h.1 (live_is s d (word s 0 d) refl h.0), now.0), now.1)
+  renews_parts when None small h = let m = missed_parts (suc h.1.0) h.0 h.1.1 in ((m.0, m.1), m.2)
 
--- a word shown once more
-pub shown_again : (xs zs ys : List ℕ) (i old n : ℕ) → i < length (parts_row xs) → Shows xs zs i old → Learned (get_or zs i 0) n → ys ≡ set zs i n → Shows xs ys i n
-shown_again xs zs ys i old n inside shown learned is =
-    let here : get_or zs i 0 ≡ old = ap (λ (us : List ℕ). get_or us i 0) shown.1 ∙ get_or-set_same xs i old 0 (row_inside xs i inside) in
-    let P : ℕ → Type 0 = λ k. Learned k n in
-    (learned_on (get_or xs i 0) old n shown.0 (subst P here learned), over_shown xs zs ys i old n shown.1 is)
+  -- a finish, in parts
+  pub finishes_parts : (r : Option ℕ) → KeeperFinishes v i s r w → IsChanged true s (removed s) (word_at (parts_row xs) i) r (word_at (parts_row w.seen) i) × (parts_row w.seen ≡ set (parts_row xs) i (word_at (parts_row w.seen) i))
+  finishes_parts (Some d) h =
+      let now = shows (word s 3 d) (removed s d) (ap (λ (u : View). u.seen) h.2.1 ∙ set-set xs i (word s 0 d) (word s 3 d)) (removed_is s d (word s 3 d) refl h.0) in
+      ((learned_at xs i (word s 0 d) (live s d) h.1 (live_is s d (word s 0 d) refl h.0), now.0), now.1)
+  finishes_parts None h = let m = missed_parts (suc h.1.0) h.0 h.1.1 in ((m.0, m.1), m.2)

@@ -10,8 +10,8 @@ use Rattle.dq_words.specs.declared.views.Call.TheVariants.{Extend, Cancel}
 use Rattle.dq_words.specs.declared.views.StepKind.{StepKind}
 use Rattle.dq_words.specs.declared.views.StepKind.TheVariants.{CallerLoad, ExtendMax, CancelMax}
 use Rattle.dq_words.specs.Counts.{most_begins, cancels_in}
-use Rattle.dq_words.specs.Plays.{Covers, NoneBeyond, Fair, Looks, Extends, Cancels, stepping, extending, cancelling}
-use Rattle.dq_words.specs.Calls.{Reads, seen_at, IsForged, Refuses, IsRefused, IsAccepted, IsExtend, IsCancel}
+use Rattle.dq_words.specs.Plays.{Covers, NoneBeyond, Fair, CallerLoads, LiveFor, MissedStep, ExtendStep, CancelStep, stepping, extending, cancelling}
+use Rattle.dq_words.specs.CallerCalls.{Reads, seen_at, IsForged, Refuses, IsRefused, IsAccepted, CallerExtends, CallerCancels}
 
 -- the view v after a call that saw n
 abbrev seeing : View → ℕ → ℕ → List StepKind → List Call → View
@@ -53,7 +53,7 @@ missed_by n s Unknown h a b = omega arith
 missed_by n s (Stale seen) h a b = let x = h.0 in let y = h.1 in omega arith
 missed_by n s (Ended how) h a b = h.1 b
 
-module _ (v u w : View) (k : KeyName) (m n : ℕ) (inside : k.entry.index < length v.seen) (pos : 0 < k.stamp) (loaded : Looks v u k.entry.index m) where
+module _ (v u w : View) (k : KeyName) (m n : ℕ) (inside : k.entry.index < length v.seen) (pos : 0 < k.stamp) (loaded : CallerLoads v u k.entry.index m) where
   abbrev i : ℕ
   i = k.entry.index
 
@@ -77,97 +77,97 @@ module _ (v u w : View) (k : KeyName) (m n : ℕ) (inside : k.entry.index < leng
       let a = seen_between in let b = loaded.1 in
       let P : ℕ → Type 0 = λ x. Refuses x k.stamp e in
       let Q : List Call × ℕ → Type 0 = λ x. Fair x.0 i x.1 in
-      inr (
-        not_forged v k inside pos,
-        reads_by v w i n (CallerLoad ∷ CallerLoad ∷ v.steps) v.calls inside whole (omega arith) (omega arith),
-        ap (λ (x : View). x.steps) whole,
-        subst P (sym here) refuses,
-        subst Q (λ q. ((mid ∙ sym calls) q, sym here q)) fair,
-        calls,
-      )
+      inr record {
+        named = not_forged v k inside pos;
+        reads = reads_by v w i n (CallerLoad ∷ CallerLoad ∷ v.steps) v.calls inside whole (omega arith) (omega arith);
+        steps = ap (λ (x : View). x.steps) whole;
+        shows = subst P (sym here) refuses;
+        fair = subst Q (λ q. ((mid ∙ sym calls) q, sym here q)) fair;
+        calls = calls;
+      }
 
   -- no step follows a load that shows a lower stamp than the key's
   stamped : get_or u.seen i 0 ≤ n → k.stamp ≤ stamp_of m → stamp_of n < k.stamp → ⊥
   stamped low asked below = let a = seen_between in omega arith
 
-  pub refuses_extend : (when new : ℕ) (e : CallError) → when ≤ 4398046511103 → new ≡ word k.stamp 0 when → k.stamp ≤ stamp_of m → Extends u w i new n → Refuses n k.stamp e → IsExtend v k when (Err e) w
+  pub refuses_extend : (when new : ℕ) (e : CallError) → when ≤ 4398046511103 → new ≡ word k.stamp 0 when → k.stamp ≤ stamp_of m → ExtendStep u w i new n → Refuses n k.stamp e → CallerExtends v k when (Err e) w
   refuses_extend when new e small is asked steps refuses = by e (refused steps.2) refuses where
     at : stamp_of new ≡ k.stamp
     at = omega arith
 
-    refused : (((stamp_of n ≡ stamp_of new) × (mark_of n ≡ 0) × (w ≡ extending u i new (max n new))) ⊎ ((stamp_of n ≡ stamp_of new → mark_of n ≢ 0) × (w ≡ stepping u i n CallerLoad))) → IsRefused v k e (CallerLoad ∷ CallerLoad ∷ v.steps) w
+    refused : ((LiveFor new n × (w ≡ extending u i new (max n new))) ⊎ MissedStep u w i new n) → IsRefused v k e (CallerLoad ∷ CallerLoad ∷ v.steps) w
     refused way = ⊎_elim
-        (λ (hit : (stamp_of n ≡ stamp_of new) × (mark_of n ≡ 0) × (w ≡ extending u i new (max n new))). absurd (missed_by n k.stamp e refuses (hit.0 ∙ at) hit.1))
-        (λ (miss : (stamp_of n ≡ stamp_of new → mark_of n ≢ 0) × (w ≡ stepping u i n CallerLoad)). refused_after e miss.1 steps.0 steps.1 refuses) way
+        (λ (hit : LiveFor new n × (w ≡ extending u i new (max n new))). absurd (missed_by n k.stamp e refuses (hit.0.0 ∙ at) hit.0.1))
+        (λ (miss : MissedStep u w i new n). refused_after e miss.1 steps.0 steps.1 refuses) way
 
-    by : (e : CallError) → IsRefused v k e (CallerLoad ∷ CallerLoad ∷ v.steps) w → Refuses n k.stamp e → IsExtend v k when (Err e) w
+    by : (e : CallError) → IsRefused v k e (CallerLoad ∷ CallerLoad ∷ v.steps) w → Refuses n k.stamp e → CallerExtends v k when (Err e) w
     by (TooFar limit) r h = absurd h
     by Unknown r h = absurd (stamped steps.0 asked h)
     by (Stale seen) r h = (small, r)
     by (Ended how) r h = (small, r)
 
-  pub refuses_cancel : (new : ℕ) (e : CallError) → new ≡ word k.stamp 1 0 → k.stamp ≤ stamp_of m → Cancels u w i new n → Refuses n k.stamp e → IsCancel v k (Err e) w
+  pub refuses_cancel : (new : ℕ) (e : CallError) → new ≡ word k.stamp 1 0 → k.stamp ≤ stamp_of m → CancelStep u w i new n → Refuses n k.stamp e → CallerCancels v k (Err e) w
   refuses_cancel new e is asked steps refuses = by e (refused steps.2) refuses where
     at : stamp_of new ≡ k.stamp
     at = omega arith
 
-    refused : (((stamp_of n ≡ stamp_of new) × (mark_of n ≡ 0) × (w ≡ cancelling u i new (field_of n) new) × (cancels_in w.calls ≤ most_begins)) ⊎ ((stamp_of n ≡ stamp_of new → mark_of n ≢ 0) × (w ≡ stepping u i n CallerLoad))) → IsRefused v k e (CallerLoad ∷ CallerLoad ∷ v.steps) w
+    refused : ((LiveFor new n × (w ≡ cancelling u i new (field_of n) new) × (cancels_in w.calls ≤ most_begins)) ⊎ MissedStep u w i new n) → IsRefused v k e (CallerLoad ∷ CallerLoad ∷ v.steps) w
     refused way = ⊎_elim
-        (λ (hit : (stamp_of n ≡ stamp_of new) × (mark_of n ≡ 0) × (w ≡ cancelling u i new (field_of n) new) × (cancels_in w.calls ≤ most_begins)). absurd (missed_by n k.stamp e refuses (hit.0 ∙ at) hit.1))
-        (λ (miss : (stamp_of n ≡ stamp_of new → mark_of n ≢ 0) × (w ≡ stepping u i n CallerLoad)). refused_after e miss.1 steps.0 steps.1 refuses) way
+        (λ (hit : LiveFor new n × (w ≡ cancelling u i new (field_of n) new) × (cancels_in w.calls ≤ most_begins)). absurd (missed_by n k.stamp e refuses (hit.0.0 ∙ at) hit.0.1))
+        (λ (miss : MissedStep u w i new n). refused_after e miss.1 steps.0 steps.1 refuses) way
 
-    by : (e : CallError) → IsRefused v k e (CallerLoad ∷ CallerLoad ∷ v.steps) w → Refuses n k.stamp e → IsCancel v k (Err e) w
+    by : (e : CallError) → IsRefused v k e (CallerLoad ∷ CallerLoad ∷ v.steps) w → Refuses n k.stamp e → CallerCancels v k (Err e) w
     by (TooFar limit) r h = absurd h
     by Unknown r h = absurd (stamped steps.0 asked h)
     by (Stale seen) r h = r
     by (Ended how) r h = r
 
-  pub accepts_extend : (when new d : ℕ) → when ≤ 4398046511103 → new ≡ word k.stamp 0 when → Extends u w i new n → stamp_of n ≡ k.stamp → mark_of n ≡ 0 → d ≡ max (field_of n) when → IsExtend v k when (Ok d) w
+  pub accepts_extend : (when new d : ℕ) → when ≤ 4398046511103 → new ≡ word k.stamp 0 when → ExtendStep u w i new n → stamp_of n ≡ k.stamp → mark_of n ≡ 0 → d ≡ max (field_of n) when → CallerExtends v k when (Ok d) w
   accepts_extend when new d small is steps same live best =
       let at : stamp_of new ≡ k.stamp = omega arith in let asked : field_of new ≡ when = omega arith in ⊎_elim
-      (λ (hit : (stamp_of n ≡ stamp_of new) × (mark_of n ≡ 0) × (w ≡ extending u i new (max n new))).
+      (λ (hit : LiveFor new n × (w ≡ extending u i new (max n new))).
       let x : ℕ = max n new in
       let made : List StepKind = ExtendMax ∷ CallerLoad ∷ v.steps in
       let mine : List Call = Extend i k.stamp when ∷ v.calls in
-      let whole : w ≡ seeing v i x made mine = hit.2 ∙ ap (λ (y : View). extending y i new x) loaded.0
+      let whole : w ≡ seeing v i x made mine = hit.1 ∙ ap (λ (y : View). extending y i new x) loaded.0
       ∙ (λ q. seeing (seeing v i m (CallerLoad ∷ v.steps) v.calls) i x made (Extend i (at q) (asked q) ∷ v.calls))
       ∙ seen_twice v i m x made mine in
       let here = seen_now v w i x made mine inside whole in
-      let a = seen_between in let b = loaded.1 in let c = steps.0 in (
-        small,
-        pos,
-        reads_by v w i x made mine inside whole (omega arith) (omega arith),
-        ap (λ (y : View). y.steps) whole,
-        here ∙ omega arith,
-        omega arith,
-        omega arith,
-        accepted_at d steps.1 same live (omega arith),
-        ap (λ (y : View). y.calls) whole,
-      ))
-      (λ (miss : (stamp_of n ≡ stamp_of new → mark_of n ≢ 0) × (w ≡ stepping u i n CallerLoad)). absurd (miss.0 (same ∙ sym at) live)) steps.2
+      let a = seen_between in let b = loaded.1 in let c = steps.0 in record {
+        in_range = small;
+        stamped = pos;
+        reads = reads_by v w i x made mine inside whole (omega arith) (omega arith);
+        steps = ap (λ (y : View). y.steps) whole;
+        now = here ∙ omega arith;
+        asked = omega arith;
+        small = omega arith;
+        agrees = accepted_at d steps.1 same live (omega arith);
+        calls = ap (λ (y : View). y.calls) whole;
+      })
+      (λ (miss : MissedStep u w i new n). absurd (miss.0 (same ∙ sym at) live)) steps.2
 
-  pub accepts_cancel : (new d : ℕ) → new ≡ word k.stamp 1 0 → Cancels u w i new n → stamp_of n ≡ k.stamp → mark_of n ≡ 0 → d ≡ field_of n → IsCancel v k (Ok d) w
+  pub accepts_cancel : (new d : ℕ) → new ≡ word k.stamp 1 0 → CancelStep u w i new n → stamp_of n ≡ k.stamp → mark_of n ≡ 0 → d ≡ field_of n → CallerCancels v k (Ok d) w
   accepts_cancel new d is steps same live best =
       let at : stamp_of new ≡ k.stamp = omega arith in ⊎_elim
-      (λ (hit : (stamp_of n ≡ stamp_of new) × (mark_of n ≡ 0) × (w ≡ cancelling u i new (field_of n) new) × (cancels_in w.calls ≤ most_begins)).
+      (λ (hit : LiveFor new n × (w ≡ cancelling u i new (field_of n) new) × (cancels_in w.calls ≤ most_begins)).
       let made : List StepKind = CancelMax ∷ CallerLoad ∷ v.steps in
       let mine : List Call = Cancel i k.stamp d ∷ v.calls in
-      let whole : w ≡ seeing v i new made mine = hit.2 ∙ ap (λ (y : View). cancelling y i new (field_of n) new) loaded.0
+      let whole : w ≡ seeing v i new made mine = hit.1 ∙ ap (λ (y : View). cancelling y i new (field_of n) new) loaded.0
       ∙ (λ q. seeing (seeing v i m (CallerLoad ∷ v.steps) v.calls) i new made (Cancel i (at q) (sym best q) ∷ v.calls))
       ∙ seen_twice v i m new made mine in
       let here = seen_now v w i new made mine inside whole in
-      let a = seen_between in let b = loaded.1 in let c = steps.0 in (
-        pos,
-        reads_by v w i new made mine inside whole (omega arith) (omega arith),
-        ap (λ (y : View). y.steps) whole,
-        here ∙ is,
-        omega arith,
-        omega arith,
-        accepted_at d steps.1 same live (omega arith),
-        ap (λ (y : View). y.calls) whole,
-      ))
-      (λ (miss : (stamp_of n ≡ stamp_of new → mark_of n ≢ 0) × (w ≡ stepping u i n CallerLoad)). absurd (miss.0 (same ∙ sym at) live)) steps.2
+      let a = seen_between in let b = loaded.1 in let c = steps.0 in record {
+        stamped = pos;
+        reads = reads_by v w i new made mine inside whole (omega arith) (omega arith);
+        steps = ap (λ (y : View). y.steps) whole;
+        now = here ∙ is;
+        gave_up = omega arith;
+        small = omega arith;
+        agrees = accepted_at d steps.1 same live (omega arith);
+        calls = ap (λ (y : View). y.calls) whole;
+      })
+      (λ (miss : MissedStep u w i new n). absurd (miss.0 (same ∙ sym at) live)) steps.2
 
-  pub calls_cancel : (new : ℕ) (r : Result ℕ CallError) → new ≡ word k.stamp 1 0 → k.stamp ≤ stamp_of m → Cancels u w i new n → MatchResult r (λ d. (stamp_of n ≡ k.stamp) × (mark_of n ≡ 0) × (d ≡ field_of n)) (λ e. Refuses n k.stamp e) → IsCancel v k r w
+  pub calls_cancel : (new : ℕ) (r : Result ℕ CallError) → new ≡ word k.stamp 1 0 → k.stamp ≤ stamp_of m → CancelStep u w i new n → MatchResult r (λ d. (stamp_of n ≡ k.stamp) × (mark_of n ≡ 0) × (d ≡ field_of n)) (λ e. Refuses n k.stamp e) → CallerCancels v k r w
   calls_cancel new (Ok d) is asked steps h = accepts_cancel new d is steps h.0 h.1 h.2
   calls_cancel new (Err e) is asked steps h = refuses_cancel new e is asked steps h

@@ -4,7 +4,7 @@ use mathlib.Core.Option.{some, some-injective, some-ne-none}
 use lib.ListN.{get_elem?}
 use Rattle.dq_words.specs.declared.views.View.{View}
 use Rattle.dq_words.specs.declared.views.Call.{Call}
-use Rattle.dq_words.specs.Files.{is_at, with_if, bases_at, ends_at, extends_at, cancels_at, keeper_writes, gathered, file_of_lists, file, Has}
+use Rattle.dq_words.specs.Files.{is_at, with_if, bases_at, ends_at, extends_at, cancels_at, keeper_writes, gathered, file_of_lists, file, IsIn}
 
 pub at_here : (i s : ℕ) → is_at i s i s ≡ true
 at_here i s = rw (eq-eqb i i refl, eq-eqb s s refl)
@@ -24,20 +24,20 @@ if_here i s x xs = ap (λ b. with_if b x xs) (at_here i s)
 pub if_other : {A : Type 0} (b : Bool) (x : A) (xs : List A) → b ≡ false → with_if b x xs ≡ xs
 if_other b x xs h = ap (λ c. with_if c x xs) h
 
-pub has_with_if : {A : Type 0} (b : Bool) (y : A) (ys : List A) (x : A) → Has ys x → Has (with_if b y ys) x
+pub has_with_if : {A : Type 0} (b : Bool) (y : A) (ys : List A) (x : A) → IsIn ys x → IsIn (with_if b y ys) x
 has_with_if true y ys x h = inr h
 has_with_if false y ys x h = h
 
 module _ {A : Type 0} where
-  pub has_right : (xs ys : List A) (x : A) → Has ys x → Has (xs ++ ys) x
+  pub has_right : (xs ys : List A) (x : A) → IsIn ys x → IsIn (xs ++ ys) x
   has_right [] ys x h = h
   has_right (y ∷ xs) ys x h = inr (has_right xs ys x h)
 
-  pub has_left : (xs ys : List A) (x : A) → Has xs x → Has (xs ++ ys) x
+  pub has_left : (xs ys : List A) (x : A) → IsIn xs x → IsIn (xs ++ ys) x
   has_left [] ys x h = absurd h
   has_left (y ∷ xs) ys x h = ⊎_elim inl (λ k. inr (has_left xs ys x k)) h
 
-  pub has_either : (xs ys : List A) (x : A) → Has (xs ++ ys) x → Has xs x ⊎ Has ys x
+  pub has_either : (xs ys : List A) (x : A) → IsIn (xs ++ ys) x → IsIn xs x ⊎ IsIn ys x
   has_either [] ys x h = inr h
   has_either (y ∷ xs) ys x h = ⊎_elim (λ e. inl (inl e)) (λ k. ⊎_elim (λ a. inl (inr a)) inr (has_either xs ys x k)) h
 
@@ -48,22 +48,22 @@ module _ {A : Type 0} where
     gathered_same (u ∷ vs) (suc id) v w at e = ap (λ xs. f u.calls ++ xs) (gathered_same vs id v w at e)
 
     -- the members after a change of one view
-    pub gathered_back : (vs : List View) (id : ℕ) (v w : View) (x : A) → get_elem? vs id ≡ some v → Has (gathered f (set vs id w)) x → Has (f w.calls) x ⊎ Has (gathered f vs) x
+    pub gathered_back : (vs : List View) (id : ℕ) (v w : View) (x : A) → get_elem? vs id ≡ some v → IsIn (gathered f (set vs id w)) x → IsIn (f w.calls) x ⊎ IsIn (gathered f vs) x
     gathered_back [] id v w x at h = absurd h
     gathered_back (u ∷ vs) zero v w x at h = ⊎_elim inl (λ k. inr (has_right (f u.calls) (gathered f vs) x k)) (has_either (f w.calls) (gathered f vs) x h)
     gathered_back (u ∷ vs) (suc id) v w x at h =
         ⊎_elim (λ k. inr (has_left (f u.calls) (gathered f vs) x k)) (λ k. ⊎_elim inl (λ a. inr (has_right (f u.calls) (gathered f vs) x a)) (gathered_back vs id v w x at k)) (has_either (f u.calls) (gathered f (set vs id w)) x h)
 
-    pub gathered_grows : (vs : List View) (id : ℕ) (v w : View) (x : A) → get_elem? vs id ≡ some v → (Has (f v.calls) x → Has (f w.calls) x) → Has (gathered f vs) x → Has (gathered f (set vs id w)) x
+    pub gathered_grows : (vs : List View) (id : ℕ) (v w : View) (x : A) → get_elem? vs id ≡ some v → (IsIn (f v.calls) x → IsIn (f w.calls) x) → IsIn (gathered f vs) x → IsIn (gathered f (set vs id w)) x
     gathered_grows [] id v w x at g h = h
     gathered_grows (u ∷ vs) zero v w x at g h =
-        ⊎_elim (λ k. has_left (f w.calls) (gathered f vs) x (g (subst (λ (y : View). Has (f y.calls) x) (some-injective u v at) k))) (λ k. has_right (f w.calls) (gathered f vs) x k) (has_either (f u.calls) (gathered f vs) x h)
+        ⊎_elim (λ k. has_left (f w.calls) (gathered f vs) x (g (subst (λ (y : View). IsIn (f y.calls) x) (some-injective u v at) k))) (λ k. has_right (f w.calls) (gathered f vs) x k) (has_either (f u.calls) (gathered f vs) x h)
     gathered_grows (u ∷ vs) (suc id) v w x at g h =
         ⊎_elim (λ k. has_left (f u.calls) (gathered f (set vs id w)) x k) (λ k. has_right (f u.calls) (gathered f (set vs id w)) x (gathered_grows vs id v w x at g k)) (has_either (f u.calls) (gathered f vs) x h)
 
-    pub gathered_own : (vs : List View) (id : ℕ) (v : View) (x : A) → get_elem? vs id ≡ some v → Has (f v.calls) x → Has (gathered f vs) x
+    pub gathered_own : (vs : List View) (id : ℕ) (v : View) (x : A) → get_elem? vs id ≡ some v → IsIn (f v.calls) x → IsIn (gathered f vs) x
     gathered_own [] id v x at h = absurd (some-ne-none v (sym at))
-    gathered_own (u ∷ vs) zero v x at h = has_left (f u.calls) (gathered f vs) x (subst (λ (y : View). Has (f y.calls) x) (sym (some-injective u v at)) h)
+    gathered_own (u ∷ vs) zero v x at h = has_left (f u.calls) (gathered f vs) x (subst (λ (y : View). IsIn (f y.calls) x) (sym (some-injective u v at)) h)
     gathered_own (u ∷ vs) (suc id) v x at h = has_right (f u.calls) (gathered f vs) x (gathered_own vs id v x at h)
 
     -- the first of its kind
@@ -107,6 +107,12 @@ writes_own (u ∷ vs) v at = ap (λ (x : View). x.writes) (some-injective u v at
 pub writes_new : (vs : List View) (u : View) → 0 < length vs → keeper_writes (vs ++ u ∷ []) ≡ keeper_writes vs
 writes_new [] u h = absurd (omega arith)
 writes_new (v ∷ vs) u h = refl
+
+-- the view that a seat was given
+pub set_at : (vs : List View) (id : ℕ) (v w : View) → get_elem? vs id ≡ some v → get_elem? (set vs id w) id ≡ some w
+set_at [] id v w at = absurd (some-ne-none v (sym at))
+set_at (u ∷ vs) zero v w at = refl
+set_at (u ∷ vs) (suc id) v w at = set_at vs id v w at
 
 -- a file from its four lists
 pub file_of : (a a' : List ℕ) (b b' : List (ℕ × ℕ)) (c c' d d' : List ℕ) → a ≡ a' → b ≡ b' → c ≡ c' → d ≡ d' → file_of_lists a b c d ≡ file_of_lists a' b' c' d'

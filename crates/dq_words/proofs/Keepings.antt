@@ -1,31 +1,24 @@
--- What the keeper learns, and that it stays a keeper.
-use Rattle.std.proofs.Common.{◌≡◌, ◌≢◌, ◌⊎◌, ℕ, ◌+◌, ◌<◌, ◌≤◌, length, get_or, set, sym, refl, ap, ◌∙◌, subst, inl, inr, ⊎_elim, length-set, arith}
-use mathlib.Core.Logic.{dite}
-use native.Mathlib.Decide.{ℕ_discrete}
+-- What the keeper learns.
+use Rattle.std.proofs.Common.{◌≡◌, ◌≢◌, ◌⊎◌, ℕ, ◌<◌, ◌≤◌, sym, ap, subst, inl, inr, ⊎_elim, arith}
 use Rattle.dq_ticks.specs.Word.{word, stamp_of, mark_of, field_of}
-use Rattle.dq_words.specs.declared.views.View.{View}
-use Rattle.dq_words.specs.declared.views.StepKind.TheVariants.{KeeperLoad}
-use Rattle.dq_words.specs.Word.{Learned}
-use Rattle.dq_words.specs.Counts.{begins_in, below}
-use Rattle.dq_words.specs.Keeping.{IsKeeper, IsOpen}
-use Rattle.dq_words.specs.Plays.{Swaps, stepping, beginning, expiring, renewing, removing}
-use Rattle.dq_words.proofs.Tallies.{below_set}
+use Rattle.dq_words.specs.Word.{LearnedWord}
+use Rattle.dq_words.specs.Keeping.{IsOpen}
 
--- the second case of Learned: a live word was extended or cancelled
+-- the second case of LearnedWord: a live word was extended or cancelled
 abbrev pub Grown : ℕ → ℕ → Type 0
 Grown x n = (s : ℕ) × (d : ℕ) × (x ≡ word s 0 d) × (0 < s) × (d ≤ 4398046511103) × (((e : ℕ) × (d ≤ e) × (e ≤ 4398046511103) × (n ≡ word s 0 e)) ⊎ (n ≡ word s 1 0))
 
-pub learned_stamp : (x n : ℕ) → Learned x n → stamp_of n ≡ stamp_of x
+pub learned_stamp : (x n : ℕ) → LearnedWord x n → stamp_of n ≡ stamp_of x
 learned_stamp x n h = ⊎_elim (λ e. ap stamp_of e)
     (λ (l : Grown x n). let a = l.2 in let b = l.4 in ⊎_elim
     (λ (e : (e : ℕ) × (l.1 ≤ e) × (e ≤ 4398046511103) × (n ≡ word l.0 0 e)). let c = e.2 in let d = e.3 in omega arith)
     (λ (e : n ≡ word l.0 1 0). omega arith) l.5) h
 
-pub learned_on : (x n m : ℕ) → Learned x n → Learned n m → Learned x m
+pub learned_on : (x n m : ℕ) → LearnedWord x n → LearnedWord n m → LearnedWord x m
 learned_on x n m g h = ⊎_elim
-    (λ (e : n ≡ x). let P : ℕ → Type 0 = λ y. Learned y m in subst P e h)
+    (λ (e : n ≡ x). let P : ℕ → Type 0 = λ y. LearnedWord y m in subst P e h)
     (λ (l : Grown x n). ⊎_elim
-    (λ (e : m ≡ n). let P : ℕ → Type 0 = λ y. Learned x y in subst P (sym e) g)
+    (λ (e : m ≡ n). let P : ℕ → Type 0 = λ y. LearnedWord x y in subst P (sym e) g)
     (λ (k : Grown n m). let a = l.2 in let b = l.4 in let c = k.2 in let d = k.4 in inr (
       l.0,
       l.1,
@@ -39,13 +32,13 @@ learned_on x n m g h = ⊎_elim
           (λ (e : n ≡ word l.0 1 0). absurd (omega arith)) l.5,
     )) h) g
 
-pub learned_greater : (x n : ℕ) → Learned x n → n ≢ x → x < n
+pub learned_greater : (x n : ℕ) → LearnedWord x n → n ≢ x → x < n
 learned_greater x n h ne = ⊎_elim (λ (e : n ≡ x). absurd (ne e))
     (λ (l : Grown x n). let a = l.2 in let b = l.4 in ⊎_elim
     (λ (e : (e : ℕ) × (l.1 ≤ e) × (e ≤ 4398046511103) × (n ≡ word l.0 0 e)). let c = e.1 in let d = e.3 in omega arith)
     (λ (e : n ≡ word l.0 1 0). omega arith) l.5) h
 
-pub open_on : (x n s : ℕ) → IsOpen x s → Learned x n → IsOpen n s
+pub open_on : (x n s : ℕ) → IsOpen x s → LearnedWord x n → IsOpen n s
 open_on x n s o h = (
   o.0,
   ⊎_elim
@@ -61,41 +54,3 @@ open_live n s o m = ⊎_elim (λ (y : n ≡ word s 1 0). absurd (omega arith)) (
 
 pub open_shut : (n s : ℕ) → IsOpen n s → mark_of n ≢ 0 → n ≡ word s 1 0
 open_shut n s o m = ⊎_elim (λ y. y) (λ (y : n ≡ word s 0 (field_of n)). absurd (m (omega arith))) o.1
-
--- what the keeper's view keeps in a step
-abbrev pub Stays : View → View → Type 0
-Stays v w = IsKeeper w × (length w.seen ≡ length v.seen) × (w.issued ≡ v.issued)
-
-keeper_on : (v w : View) (i n : ℕ) → IsKeeper v → i < length v.seen → w.seen ≡ set v.seen i n → w.keeps ≡ v.keeps → w.gone ≡ v.gone → w.issued ≡ v.issued → begins_in w.writes + stamp_of (get_or v.seen i 0) ≤ begins_in v.writes + stamp_of n → Stays v w
-keeper_on v w i n k inside seen role gone issued more =
-    let size : length w.seen ≡ length v.seen = ap length seen ∙ length-set v.seen i n in
-    let sum = below_set stamp_of v.seen i n (length v.seen) inside inside in
-    let now : below stamp_of w.seen (length w.seen) ≡ below stamp_of (set v.seen i n) (length v.seen) = λ q. below stamp_of (seen q) (size q) in
-    let few = k.2 in let old = k.3 in
-    ((role ∙ k.0, gone ∙ k.1, omega arith, omega arith), size, issued)
-
-pub loads_keeper : (v w : View) (i n : ℕ) → IsKeeper v → i < length v.seen → Learned (get_or v.seen i 0) n → w ≡ stepping v i n KeeperLoad → Stays v w
-loads_keeper v w i n k inside learned is =
-    let same = learned_stamp (get_or v.seen i 0) n learned in
-    let P : View → Type 0 = λ u. Stays v u in
-    subst P (sym is) (keeper_on v (stepping v i n KeeperLoad) i n k inside refl refl refl refl (omega arith))
-
-pub begins_keeper : (v w : View) (i n : ℕ) → IsKeeper v → i < length v.seen → w ≡ beginning v i n → stamp_of n ≡ stamp_of (get_or v.seen i 0) + 1 → Stays v w
-begins_keeper v w i n k inside is next =
-    let P : View → Type 0 = λ u. Stays v u in
-    subst P (sym is) (keeper_on v (beginning v i n) i n k inside refl refl refl refl (omega arith))
-
-module _ (v w : View) (i old new n : ℕ) (k : IsKeeper v) (inside : i < length v.seen) where
-  swaps : (f : View → ℕ → ℕ → ℕ → View) → Swaps f v w i old new n → (n ≡ old → Stays v (f v i old new)) → Stays v w
-  swaps f s hit =
-      let P : View → Type 0 = λ u. Stays v u in
-      dite (ℕ_discrete n old) (λ e. subst P (sym (s.1.0 e)) (hit e)) (λ ne. loads_keeper v w i n k inside s.0 (s.1.1 ne))
-
-  pub expires_keeper : Swaps expiring v w i old new n → stamp_of new ≡ stamp_of old → Stays v w
-  expires_keeper s same = swaps expiring s (λ e. let a = learned_stamp (get_or v.seen i 0) n s.0 in let b : stamp_of n ≡ stamp_of old = ap stamp_of e in keeper_on v (expiring v i old new) i new k inside refl refl refl refl (omega arith))
-
-  pub removes_keeper : Swaps removing v w i old new n → stamp_of new ≡ stamp_of old → Stays v w
-  removes_keeper s same = swaps removing s (λ e. let a = learned_stamp (get_or v.seen i 0) n s.0 in let b : stamp_of n ≡ stamp_of old = ap stamp_of e in keeper_on v (removing v i old new) i new k inside refl refl refl refl (omega arith))
-
-  pub renews_keeper : Swaps renewing v w i old new n → stamp_of new ≡ stamp_of old + 1 → Stays v w
-  renews_keeper s next = swaps renewing s (λ e. let a = learned_stamp (get_or v.seen i 0) n s.0 in let b : stamp_of n ≡ stamp_of old = ap stamp_of e in keeper_on v (renewing v i old new) i new k inside refl refl refl refl (omega arith))

@@ -8,8 +8,11 @@ pub mod Ends
 pub mod Extends
 pub mod Gathers
 pub mod Keepings
+pub mod Knowing
 pub mod Returns
+pub mod Seats
 pub mod Starts
 pub mod Steps
 pub mod Tallies
+pub mod Trying
 pub mod Writes

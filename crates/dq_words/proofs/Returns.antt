@@ -1,23 +1,23 @@
 -- The steps on the return word keep the rule.
-use Rattle.std.proofs.Common.{◌≡◌, ◌≢◌, ℕ, zero, suc, ◌+◌, ◌*◌, ◌/◌, ◌%◌, ◌^◌, ◌<◌, ◌≤◌, if◌then◌else◌, Bool, true, false, List, [], ◌∷◌, length, get_or, set, sym, refl, ap, ◌∙◌, subst, inl, inr, ⊎_elim, length-set, get_or-set_same, get_or-set_other, le_refl, arith}
+use Rattle.std.proofs.Common.{◌≡◌, ◌≢◌, ℕ, zero, suc, ◌+◌, ◌*◌, ◌/◌, ◌%◌, ◌^◌, ◌<◌, ◌≤◌, if◌then◌else◌, Bool, true, false, true≢false, List, [], ◌∷◌, length, get_or, set, sym, refl, ap, ◌∙◌, subst, inl, inr, ⊎_elim, length-set, get_or-set_same, get_or-set_other, le_refl, arith}
 use mathlib.Core.Option.{some, none, some-injective, some-ne-none}
 use lib.ListN.{get_elem?}
 use Rattle.atomic_table.specs.Table.{State, step, keeps, Allows}
 use Rattle.atomic_table.proofs.Lists.{at_set}
 use Rattle.dq_words.specs.declared.views.View.{View}
 use Rattle.dq_ticks.specs.Word.{stamp_of}
-use Rattle.dq_words.specs.Word.{Learned}
+use Rattle.dq_words.specs.Word.{LearnedWord}
 use Rattle.dq_words.specs.Counts.{most_begins, begins_in, expiries_in, removals_in, cancels_in, total, goes, gone_cancels, own_cancels, lives, issued_in, returns_in, given_in, InOrder}
 use Rattle.dq_words.specs.Files.{File, file, keeper_writes}
 use Rattle.dq_words.specs.Rule.{Law, HadAt, Had, Role, Sees, Kept, Tallied, Ruled}
-use Rattle.dq_words.specs.Plays.{Sat, leaving, hearing, gave, heard}
+use Rattle.dq_words.specs.Plays.{WordMe, Knowing, giving_back, loading_return, give_back_made, return_loaded}
 use Rattle.dq_words.proofs.Gathers.{file_same, writes_same, writes_own}
-use Rattle.dq_words.proofs.Advances.{role_first, role_after, after}
+use Rattle.dq_words.proofs.Advances.{role_first, role_here, role_after, after}
+use Rattle.dq_words.proofs.Knowing.{knows}
 use Rattle.dq_words.proofs.Tallies.{total_set, total_le, below_other, below_bound, issued_same, returns_same, goes_none, gone_none}
 use Rattle.dq_words.proofs.Steps.{Outcome}
-use Rattle.dq_words.proofs.Extends.{set_at}
 
-module _ (rows : ℕ) (t : State ℕ View) (r : Kept rows t) (id : ℕ) (v w : View) (n : ℕ) (at : get_elem? t.views id ≡ some v) (s : w.seen ≡ v.seen) (k : w.keeps ≡ v.keeps) (c : w.calls ≡ v.calls) (e : w.writes ≡ v.writes) where
+module _ (rows : ℕ) (t : State ℕ View) (r : Kept rows t) (id : ℕ) (v w : View) (n : ℕ) (at : get_elem? t.views id ≡ some v) (s : w.seen ≡ v.seen) (k : w.keeps ≡ v.keeps) (g : v.keeps ≡ true → w.gone ≡ v.gone) (c : w.calls ≡ v.calls) (e : w.writes ≡ v.writes) where
   same_word : (i : ℕ) → i < rows → get_or (set t.words rows n) i 0 ≡ get_or t.words i 0
   same_word i h = get_or-set_other t.words rows i n 0 (λ z. omega arith)
 
@@ -33,7 +33,7 @@ module _ (rows : ℕ) (t : State ℕ View) (r : Kept rows t) (id : ℕ) (v w : V
     row = ap length same ∙ old.row;
     below = λ i h. let a = same_word i h in let b = old.below i h in let d : get_or u'.seen i 0 ≡ get_or u.seen i 0 = ap (λ (xs : List ℕ). get_or xs i 0) same in omega arith;
     had = λ i h. let P : List ℕ → Type 0 = λ xs. Had (get_or xs i 0) i (set t.views id w) in subst P (sym same) (had_same (get_or u.seen i 0) i (old.had i h));
-    learns = λ is i h. let P : List ℕ × ℕ → Type 0 = λ x. Learned (get_or x.0 i 0) x.1 in subst P (λ z. (sym same z, sym (same_word i h) z)) (old.learns (sym same_role ∙ is) i h);
+    learns = λ is i h. let P : List ℕ × ℕ → Type 0 = λ x. LearnedWord (get_or x.0 i 0) x.1 in subst P (λ z. (sym same z, sym (same_word i h) z)) (old.learns (sym same_role ∙ is) i h);
   }
 
   pub kept_return : (held : List (ℕ × ℕ)) → Kept rows (after t rows n id held w)
@@ -44,7 +44,7 @@ module _ (rows : ℕ) (t : State ℕ View) (r : Kept rows t) (id : ℕ) (v w : V
     unused = λ i h small. let a = same_word i h in a ∙ r.unused i h (omega arith);
     sees = λ j u there. ⊎_elim
         (λ (x : (j ≡ id) × (w ≡ u)). let P : ℕ × View → Type 0 = λ y. Sees rows (set t.words rows n) (set t.views id w) y.0 y.1 in
-        subst P (λ q. (sym x.0 q, x.1 q)) (sees_same id v w s k (role_after id v w k (λ _. c) (λ _. e)) (r.sees id v at)))
+        subst P (λ q. (sym x.0 q, x.1 q)) (sees_same id v w s k (role_after id v w k g (λ _. c) (λ _. e)) (r.sees id v at)))
         (λ (x : (j ≢ id) × (get_elem? t.views j ≡ some u)). sees_same j u u refl refl (λ y. y) (r.sees j u x.1))
         (at_set t.views id j w u there);
   }
@@ -80,7 +80,7 @@ all_gone [] h = refl
 all_gone (v ∷ vs) h = let a = goes_le v in let b = total_goes vs in let c = goes_one v (omega arith) in let d = all_gone vs (omega arith) in omega arith
 
 -- all but the keeper are gone
-others_gone : (vs : List View) (id : ℕ) (v : View) → id ≡ 0 → get_elem? vs id ≡ some v → v.gone ≡ false → v.calls ≡ [] → total goes vs + 1 ≡ length vs → total gone_cancels vs ≡ total own_cancels vs
+pub others_gone : (vs : List View) (id : ℕ) (v : View) → id ≡ 0 → get_elem? vs id ≡ some v → v.gone ≡ false → v.calls ≡ [] → total goes vs + 1 ≡ length vs → total gone_cancels vs ≡ total own_cancels vs
 others_gone [] id v first at here none_made h = absurd (some-ne-none v (sym at))
 others_gone (u ∷ vs) zero v first at here none_made h =
     let same : u ≡ v = some-injective u v at in
@@ -139,14 +139,14 @@ module _ (rows : ℕ) (t : State ℕ View) (r : Tallied rows t) (sized : length 
   abbrev c : ℕ
   c = cancels_in v.calls
 
-  gone_more : total goes (set t.views id (leaving v)) ≡ total goes t.views + 1
-  gone_more = let a = total_set goes t.views id v (leaving v) at in let b = goes_none v here in let d = goes_yes (leaving v) refl in omega arith
+  gone_more : total goes (set t.views id (giving_back v)) ≡ total goes t.views + 1
+  gone_more = let a = total_set goes t.views id v (giving_back v) at in let b = goes_none v here in let d = goes_yes (giving_back v) refl in omega arith
 
-  cancels_more : total gone_cancels (set t.views id (leaving v)) ≡ total gone_cancels t.views + c
-  cancels_more = let a = total_set gone_cancels t.views id v (leaving v) at in let b = gone_none v here in let d : gone_cancels (leaving v) ≡ c = gone_yes (leaving v) refl in omega arith
+  cancels_more : total gone_cancels (set t.views id (giving_back v)) ≡ total gone_cancels t.views + c
+  cancels_more = let a = total_set gone_cancels t.views id v (giving_back v) at in let b = gone_none v here in let d : gone_cancels (giving_back v) ≡ c = gone_yes (giving_back v) refl in omega arith
 
   pub gone_few : total goes t.views + 1 ≤ length t.views
-  gone_few = let a = gone_more in let b = total_goes (set t.views id (leaving v)) in let d = length-set t.views id (leaving v) in omega arith
+  gone_few = let a = gone_more in let b = total_goes (set t.views id (giving_back v)) in let d = length-set t.views id (giving_back v) in omega arith
 
   pub no_wrap : (get_or t.words rows 0 + (1 + 2048 * c)) % 18446744073709551616 ≡ get_or t.words rows 0 + (1 + 2048 * c)
   no_wrap =
@@ -154,9 +154,9 @@ module _ (rows : ℕ) (t : State ℕ View) (r : Tallied rows t) (sized : length 
       let f = total_gone t.views in let g = all_few rows t r in let h = total_le own_cancels t.views id v at in
       omega arith
 
-  pub gives : (held : List (ℕ × ℕ)) → Tallied rows (after t rows (get_or t.words rows 0 + (1 + 2048 * c)) id held (leaving v))
+  pub gives : (held : List (ℕ × ℕ)) → Tallied rows (after t rows (get_or t.words rows 0 + (1 + 2048 * c)) id held (giving_back v))
   gives held =
-      let w : View = leaving v in
+      let w : View = giving_back v in
       let a = r.returned in let g = gone_more in let m = cancels_more in let o = r.older in
       let ret = returns_same t.views id v w at refl in
       let ret' : returns_in (set t.views id w) % 2048 ≡ returns_in t.views % 2048 = ap (λ z. z % 2048) ret in
@@ -179,11 +179,11 @@ module _ (rows : ℕ) (t : State ℕ View) (r : Tallied rows t) (sized : length 
   high : get_or t.words rows 0 / 2048 ≡ total gone_cancels t.views
   high = let a = r.returned in let b = gone_few rows t r sized id v at here in let d = r.issued in let e = r.limit in omega arith
 
-  pub hears_few : get_or t.words rows 0 % 2048 ≤ v.issued
-  hears_few = let a = low in let b = gone_few rows t r sized id v at here in let d = r.issued in let e = own_issued in omega arith
+  pub return_few : get_or t.words rows 0 % 2048 ≤ v.issued
+  return_few = let a = low in let b = gone_few rows t r sized id v at here in let d = r.issued in let e = own_issued in omega arith
 
-  pub hears_cancels : (expiries_in v.writes + removals_in v.writes) + get_or t.words rows 0 / 2048 ≤ begins_in v.writes
-  hears_cancels =
+  pub return_cancels : (expiries_in v.writes + removals_in v.writes) + get_or t.words rows 0 / 2048 ≤ begins_in v.writes
+  return_cancels =
       let a = high in let b = total_gone t.views in let d = r.balance in
       let kb : begins_in (keeper_writes t.views) ≡ begins_in v.writes = ap begins_in own_writes in
       let ke : expiries_in (keeper_writes t.views) ≡ expiries_in v.writes = ap expiries_in own_writes in
@@ -191,7 +191,7 @@ module _ (rows : ℕ) (t : State ℕ View) (r : Tallied rows t) (sized : length 
       omega arith
 
   abbrev w : View
-  w = hearing v (get_or t.words rows 0)
+  w = loading_return v (get_or t.words rows 0)
 
   same_goes : total goes (set t.views id w) ≡ total goes t.views
   same_goes = let a = total_set goes t.views id v w at in let b = goes_none v here in let d = goes_none w here in omega arith
@@ -199,72 +199,43 @@ module _ (rows : ℕ) (t : State ℕ View) (r : Tallied rows t) (sized : length 
   same_cancels : total gone_cancels (set t.views id w) ≡ total gone_cancels t.views
   same_cancels = let a = total_set gone_cancels t.views id v w at in let b = gone_none v here in let d = gone_none w here in omega arith
 
-  pub hears_tallied : (held : List (ℕ × ℕ)) → Tallied rows (after t rows (get_or t.words rows 0) id held w)
-  hears_tallied held =
+  pub return_tallied : (held : List (ℕ × ℕ)) → Tallied rows (after t rows (get_or t.words rows 0) id held w)
+  return_tallied held =
       let a = r.returned in let g = same_goes in let m = same_cancels in
       let ret : returns_in (set t.views id w) ≡ get_or t.words rows 0 = by t.views id first at in
       let ret' : returns_in (set t.views id w) % 2048 ≡ get_or t.words rows 0 % 2048 = ap (λ z. z % 2048) ret in
       let l = low in
       numbers_on rows t r sized id v w (get_or t.words rows 0) at refl refl refl (omega arith) (omega arith) (λ h. ret) held
     where
-      by : (vs : List View) (j : ℕ) → j ≡ 0 → get_elem? vs j ≡ some v → returns_in (set vs j (hearing v (get_or t.words rows 0))) ≡ get_or t.words rows 0
+      by : (vs : List View) (j : ℕ) → j ≡ 0 → get_elem? vs j ≡ some v → returns_in (set vs j (loading_return v (get_or t.words rows 0))) ≡ get_or t.words rows 0
       by [] j z h = absurd (some-ne-none v (sym h))
       by (u ∷ vs) zero z h = refl
       by (u ∷ vs) (suc j) z h = absurd (omega arith)
 
-  pub hears_total : v.calls ≡ [] → get_or t.words rows 0 % 2048 ≡ v.issued → (total goes (set t.views id w) ≡ v.issued) × (total own_cancels (set t.views id w) ≡ get_or t.words rows 0 / 2048)
-  hears_total none_made all =
-      let g = same_goes in let m = same_cancels in let l = low in let h = high in
-      let own = total_set own_cancels t.views id v w at in
-      let own_one : own_cancels w ≡ own_cancels v = refl in
-      let d = r.issued in let e = own_issued in
-      let f = others_gone t.views id v first at here none_made (omega arith) in
-      (omega arith, omega arith)
-
-no_calls : (j : ℕ) (v : View) → Role j v → v.keeps ≡ true → v.calls ≡ []
-no_calls zero v role keeper = role.1
-no_calls (suc j) v role keeper = absurd (let z = role_first (suc j) v role keeper in omega arith)
-
-own_first : (vs : List View) (j : ℕ) (v w : View) → j ≡ 0 → get_elem? vs j ≡ some v → get_elem? (set vs j w) 0 ≡ some w
-own_first vs j v w z at = let P : ℕ → Type 0 = λ y. get_elem? (set vs j w) y ≡ some w in subst P z (set_at vs j v w at)
-
 module _ (rows : ℕ) where
-  pub gives_back : (slots id : ℕ) (me : Sat) (k : ℕ) → me.0.gone ≡ false → k ≡ 1 + 2048 * cancels_in me.0.calls → Allows (Ruled rows) slots id me rows (λ n. (n + k) % 2 ^ 64) (gave (step slots rows k 0 none) me)
-  gives_back slots id me k here counts t r sized at wide =
+  pub gives_back : (slots id : ℕ) (me : WordMe) (k : ℕ) → me.0.keeps ≡ false → me.0.gone ≡ false → k ≡ 1 + 2048 * cancels_in me.0.calls → Allows (Ruled rows) slots id me rows (λ n. (n + k) % 2 ^ 64) (Knowing give_back_made (step slots rows k 0 none) me)
+  gives_back slots id me k caller here counts = knows rows slots id me rows (λ n. (n + k) % 2 ^ 64) (give_back_made (step slots rows k 0 none) me) (λ t r sized at wide.
       let n : ℕ = get_or t.words rows 0 in
-      let w : View = leaving me.0 in
+      let w : View = giving_back me.0 in
       let m : ℕ = n + (1 + 2048 * cancels_in me.0.calls) in
       let e : m ≡ (n + k) % 18446744073709551616 = sym (no_wrap rows t r.tallied r.kept.sized id me.0 at here) ∙ ap (λ z. (n + z) % 18446744073709551616) (sym counts) in
-      let P : ℕ → Type 0 = λ z. Outcome rows t rows id me z (gave (step slots rows k 0 none) me n) in
-      subst P e (w, keeps, tt, record { kept = kept_return rows t r.kept id me.0 w m at refl refl refl refl me.1; tallied = gives rows t r.tallied r.kept.sized id me.0 at here me.1 }, refl)
+      let P : ℕ → Type 0 = λ z. Outcome rows t rows id me z (give_back_made (step slots rows k 0 none) me n) in
+      subst P e (w, keeps, tt, record { kept = kept_return rows t r.kept id me.0 w m at refl refl (λ yes. absurd (true≢false (sym yes ∙ caller))) refl refl me.1; tallied = gives rows t r.tallied r.kept.sized id me.0 at here me.1 }, refl))
 
-  pub hears : (slots id : ℕ) (me : Sat) → me.0.gone ≡ false → me.0.keeps ≡ true → Allows (Ruled rows) slots id me rows (λ n. n) (heard (step slots rows 0 0 none) me)
-  hears slots id me here keeper t r sized at wide =
+  pub return_loads : (slots id : ℕ) (me : WordMe) → me.0.keeps ≡ true → Allows (Ruled rows) slots id me rows (λ n. n) (Knowing return_loaded (step slots rows 0 0 none) me)
+  return_loads slots id me keeper = knows rows slots id me rows (λ n. n) (return_loaded (step slots rows 0 0 none) me) (λ t r sized at wide.
       let n : ℕ = get_or t.words rows 0 in
-      let w : View = hearing me.0 n in
+      let w : View = loading_return me.0 n in
       let mine = r.kept.sees id me.0 at in
       let first = role_first id me.0 mine.role keeper in
-      let after_it : State ℕ View = after t rows n id me.1 w in
-      let ruled : Ruled rows after_it = record { kept = kept_return rows t r.kept id me.0 w n at refl refl refl refl me.1; tallied = hears_tallied rows t r.tallied r.kept.sized id me.0 at here first me.1 } in
-      let P : ℕ → Type 0 = λ z. Ruled z after_it in (
+      let here = role_here id me.0 mine.role keeper in (
         w,
         keeps,
         tt,
-        ruled,
+        record { kept = kept_return rows t r.kept id me.0 w n at refl refl (λ _. refl) refl refl me.1; tallied = return_tallied rows t r.tallied r.kept.sized id me.0 at here first me.1 },
         (
           refl,
-          hears_few rows t r.tallied r.kept.sized id me.0 at here first,
-          hears_cancels rows t r.tallied r.kept.sized id me.0 at here first,
-          λ all. let totals = hears_total rows t r.tallied r.kept.sized id me.0 at here first (no_calls id me.0 mine.role keeper) all in
-              (after_it, subst P (sym mine.row) ruled, own_first t.views id me.0 w first at, totals.0, totals.1),
+          return_few rows t r.tallied r.kept.sized id me.0 at here first,
+          return_cancels rows t r.tallied r.kept.sized id me.0 at here first,
         ),
-      )
-
-  -- the same, where the word's index is named otherwise
-  pub gives_back_at : (slots id : ℕ) (me : Sat) (i k : ℕ) → i ≡ rows → me.0.gone ≡ false → k ≡ 1 + 2048 * cancels_in me.0.calls → Allows (Ruled rows) slots id me i (λ n. (n + k) % 2 ^ 64) (gave (step slots i k 0 none) me)
-  gives_back_at slots id me i k e here counts =
-      let P : ℕ → Type 0 = λ j. Allows (Ruled rows) slots id me j (λ n. (n + k) % 2 ^ 64) (gave (step slots j k 0 none) me) in subst P (sym e) (gives_back slots id me k here counts)
-
-  pub hears_at : (slots id : ℕ) (me : Sat) (i : ℕ) → i ≡ rows → me.0.gone ≡ false → me.0.keeps ≡ true → Allows (Ruled rows) slots id me i (λ n. n) (heard (step slots i 0 0 none) me)
-  hears_at slots id me i e here keeper =
-      let P : ℕ → Type 0 = λ j. Allows (Ruled rows) slots id me j (λ n. n) (heard (step slots j 0 0 none) me) in subst P (sym e) (hears slots id me here keeper)
+      ))

@@ -7,7 +7,7 @@ use Rattle.atomic_table.specs.Table.{State, opening, Splits}
 use Rattle.atomic_table.proofs.Lists.{at_set, at_snoc}
 use Rattle.dq_words.specs.declared.views.View.{View}
 use Rattle.dq_ticks.specs.Word.{stamp_of}
-use Rattle.dq_words.specs.Word.{Learned}
+use Rattle.dq_words.specs.Word.{LearnedWord}
 use Rattle.dq_words.specs.Counts.{begins_in, expiries_in, removals_in, total, goes, gone_cancels, own_cancels, lives, below, issued_in, returns_in, given_in, InOrder}
 use Rattle.dq_words.specs.Files.{File, file, keeper_writes, bases_at, ends_at, extends_at, cancels_at}
 use Rattle.dq_words.specs.Rule.{Law, HadAt, Had, Role, Sees, Kept, Tallied, Ruled, zeros, first_keeper}
@@ -37,7 +37,7 @@ starts_kept rows words is =
 
     mine : Sees rows words (first_keeper rows ∷ []) 0 (first_keeper rows)
     mine = record {
-      role = (refl, refl);
+      role = (refl, refl, refl);
       row = length-replicate rows 0;
       below = λ i h. let a = zero_at rows i in omega arith;
       had = λ i h. inl (zero_at rows i);
@@ -75,7 +75,7 @@ module _ (rows : ℕ) (t : State ℕ View) (r : Kept rows t) (id : ℕ) (v : Vie
     row = ap length same ∙ old.row;
     below = λ i h. let b = old.below i h in let d : get_or u'.seen i 0 ≡ get_or u.seen i 0 = ap (λ (xs : List ℕ). get_or xs i 0) same in omega arith;
     had = λ i h. let P : List ℕ → Type 0 = λ xs. Had (get_or xs i 0) i (now ++ newcomer v ∷ []) in subst P (sym same) (had_same (get_or u.seen i 0) i (old.had i h));
-    learns = λ is i h. let P : List ℕ → Type 0 = λ xs. Learned (get_or xs i 0) (get_or t.words i 0) in subst P (sym same) (old.learns (sym same_role ∙ is) i h);
+    learns = λ is i h. let P : List ℕ → Type 0 = λ xs. LearnedWord (get_or xs i 0) (get_or t.words i 0) in subst P (sym same) (old.learns (sym same_role ∙ is) i h);
   }
 
   role_issuing : (j : ℕ) → Role j v → Role j (issuing v)

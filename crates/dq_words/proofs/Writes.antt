@@ -10,24 +10,24 @@ use Rattle.dq_words.specs.declared.views.Write.{Write}
 use Rattle.dq_words.specs.declared.views.Write.TheVariants.{Begin, Expired, Renewed, Removed}
 use Rattle.dq_words.specs.declared.views.StepKind.TheVariants.{KeeperLoad}
 use Rattle.dq_ticks.specs.Word.{stamp_unit, word, stamp_of, mark_of, field_of}
-use Rattle.dq_words.specs.Word.{Left, Learned}
+use Rattle.dq_words.specs.Word.{Left, LearnedWord}
 use Rattle.dq_words.specs.Counts.{lives}
-use Rattle.dq_words.specs.Files.{is_at, with_if, File, file_of_lists, blank, file, Has, Among, IsDeadline, bases_at, ends_at, extends_at, cancels_at, gathered, keeper_writes}
-use Rattle.dq_words.specs.Rule.{Unborn, Living, Cancelled, Ended, Law, Kept, Ruled}
-use Rattle.dq_words.specs.Plays.{Sat, beginning, expiring, renewing, removing, began, swapped}
-use Rattle.dq_words.proofs.Gathers.{at_other_slot, at_other_stamp, if_here, if_other, has_with_if, gathered_same, writes_own, file_of}
-use Rattle.dq_words.proofs.Advances.{by_index, Grows, Moves, still, role_first, after}
+use Rattle.dq_words.specs.Files.{is_at, with_if, File, file_of_lists, blank, file, IsIn, Among, IsDeadline, bases_at, ends_at, extends_at, cancels_at, gathered, keeper_writes}
+use Rattle.dq_words.specs.Rule.{UnbornStamp, LivingStamp, CancelledStamp, EndedStamp, Law, Kept, Ruled}
+use Rattle.dq_words.specs.Plays.{WordMe, Knowing, beginning, settling, renewing, finishing, begin_made, exchange_made}
+use Rattle.dq_words.proofs.Gathers.{at_other_slot, at_other_stamp, if_here, if_other, has_with_if, gathered_same, writes_own, file_of, set_at}
+use Rattle.dq_words.proofs.Advances.{by_index, Grows, Moves, still, role_first, role_here, after}
+use Rattle.dq_words.proofs.Knowing.{knows}
 use Rattle.dq_words.proofs.Tallies.{lives_yes, lives_no, lives_none, counts_writes, one_here, none_other, ruled_after}
 use Rattle.dq_words.proofs.Steps.{law_live, law_beyond, missed, Outcome}
-use Rattle.dq_words.proofs.Extends.{set_at}
 
-bases_grow : (x : Write) (ws : List Write) (j z y : ℕ) → Has (bases_at j z ws) y → Has (bases_at j z (x ∷ ws)) y
+bases_grow : (x : Write) (ws : List Write) (j z y : ℕ) → IsIn (bases_at j z ws) y → IsIn (bases_at j z (x ∷ ws)) y
 bases_grow (Begin i s b) ws j z y h = has_with_if (is_at j z i s) b (bases_at j z ws) y h
 bases_grow (Expired i s d) ws j z y h = h
 bases_grow (Renewed i s d b) ws j z y h = has_with_if (is_at j z i (s + 1)) b (bases_at j z ws) y h
 bases_grow (Removed i s d) ws j z y h = h
 
-ends_grow : (x : Write) (ws : List Write) (j z : ℕ) (y : ℕ × ℕ) → Has (ends_at j z ws) y → Has (ends_at j z (x ∷ ws)) y
+ends_grow : (x : Write) (ws : List Write) (j z : ℕ) (y : ℕ × ℕ) → IsIn (ends_at j z ws) y → IsIn (ends_at j z (x ∷ ws)) y
 ends_grow (Begin i s b) ws j z y h = h
 ends_grow (Expired i s d) ws j z y h = has_with_if (is_at j z i s) (2, d) (ends_at j z ws) y h
 ends_grow (Renewed i s d b) ws j z y h = has_with_if (is_at j z i s) (0, d) (ends_at j z ws) y h
@@ -39,26 +39,26 @@ off j z i s pos far = ⊎_elim (λ ne. at_other_slot j z i s ne) (λ zeroth. at_
 -- a stamp that the word has left
 leave_law : (n n' s : ℕ) (f : File) → stamp_of n ≡ s → mark_of n ≢ 0 → Left n' s → Law n s f → Law n' s f
 leave_law n n' s f at m left law = ⊎_elim
-    (λ (u : Unborn n s f). absurd (let b = u.below in omega arith))
-    (⊎_elim (λ (l : Living n s f). absurd (let a = l.now in let b = l.small in m (omega arith)))
-    (⊎_elim (λ (c : Cancelled n s f). inr (inr (inl record { base = c.base; deadline = c.deadline; given = c.given; unended = c.unended; cancelled = c.cancelled; in_force = c.in_force; small = c.small; now = inr left })))
-    (λ (e : Ended n s f). inr (inr (inr record { base = e.base; deadline = e.deadline; mark = e.mark; given = e.given; ended = e.ended; uncancelled = e.uncancelled; in_force = e.in_force; small = e.small; now = inr left })))))
+    (λ (u : UnbornStamp n s f). absurd (let b = u.below in omega arith))
+    (⊎_elim (λ (l : LivingStamp n s f). absurd (let a = l.now in let b = l.small in m (omega arith)))
+    (⊎_elim (λ (c : CancelledStamp n s f). inr (inr (inl record { base = c.base; deadline = c.deadline; given = c.given; unended = c.unended; cancelled = c.cancelled; in_force = c.in_force; small = c.small; now = inr left })))
+    (λ (e : EndedStamp n s f). inr (inr (inr record { base = e.base; deadline = e.deadline; mark = e.mark; given = e.given; ended = e.ended; uncancelled = e.uncancelled; in_force = e.in_force; small = e.small; now = inr left })))))
     law
 
 -- a stamp that is given
-begin_law : (s base : ℕ) (bs : List ℕ) (es : List (ℕ × ℕ)) (xs cs : List ℕ) → file_of_lists bs es xs cs ≡ blank → base ≤ 4398046511103 → Living (word s 0 base) s (file_of_lists (base ∷ bs) es xs cs)
+begin_law : (s base : ℕ) (bs : List ℕ) (es : List (ℕ × ℕ)) (xs cs : List ℕ) → file_of_lists bs es xs cs ≡ blank → base ≤ 4398046511103 → LivingStamp (word s 0 base) s (file_of_lists (base ∷ bs) es xs cs)
 begin_law s base bs es xs cs none_yet small =
     let b0 : bs ≡ [] = ap (λ (f : File). f.bases) none_yet in
     let x0 : xs ≡ [] = ap (λ (f : File). f.extends) none_yet in
-    let P : List ℕ → ℕ → Type 0 = λ ys y. Has ys y in
+    let P : List ℕ → ℕ → Type 0 = λ ys y. IsIn ys y in
     let bound : (x : ℕ) → Among (file_of_lists (base ∷ bs) es xs cs) x → x ≤ base = λ x a. ⊎_elim
     (λ h. ⊎_elim (λ (e : x ≡ base). omega arith) (λ old. absurd (subst (λ (ys : List ℕ). P ys x) b0 old)) h)
     (λ h. absurd (subst (λ (ys : List ℕ). P ys x) x0 h)) a in
     record { base = base; deadline = base; given = ap (λ ys. base ∷ ys) b0; unended = ap (λ (f : File). f.ends) none_yet; uncancelled = ap (λ (f : File). f.cancels) none_yet; in_force = (inl (inl refl), bound); small = small; now = refl }
 
 -- a live stamp that is ended
-end_law : (n n' s m : ℕ) (bs : List ℕ) (es : List (ℕ × ℕ)) (xs cs : List ℕ) (d : ℕ) → Living n s (file_of_lists bs es xs cs) → n ≡ word s 0 d → d ≤ 4398046511103
-    → ((n' ≡ word s m d) × (1 < m) × (m < 4)) ⊎ Left n' s → Ended n' s (file_of_lists bs ((m, d) ∷ es) xs cs)
+end_law : (n n' s m : ℕ) (bs : List ℕ) (es : List (ℕ × ℕ)) (xs cs : List ℕ) (d : ℕ) → LivingStamp n s (file_of_lists bs es xs cs) → n ≡ word s 0 d → d ≤ 4398046511103
+    → ((n' ≡ word s m d) × (1 < m) × (m < 4)) ⊎ Left n' s → EndedStamp n' s (file_of_lists bs ((m, d) ∷ es) xs cs)
 end_law n n' s m bs es xs cs d l was small now =
     let a = l.now in let b = l.small in
     let same : l.deadline ≡ d = omega arith in
@@ -95,7 +95,7 @@ module _ (vs : List View) (id : ℕ) (v w : View) (at : get_elem? vs id ≡ some
   }
 
 -- the word that the keeper saw is the present one, where it isn't live
-learned_ended : (x n : ℕ) → (mark_of x ≢ 0) ⊎ (x ≡ 0) → Learned x n → n ≡ x
+learned_ended : (x n : ℕ) → (mark_of x ≢ 0) ⊎ (x ≡ 0) → LearnedWord x n → n ≡ x
 learned_ended x n shut h = ⊎_elim (λ (e : n ≡ x). e)
     (λ (l : (s : ℕ) × (d : ℕ) × (x ≡ word s 0 d) × (0 < s) × (d ≤ 4398046511103) × (((e : ℕ) × (d ≤ e) × (e ≤ 4398046511103) × (n ≡ word s 0 e)) ⊎ (n ≡ word s 1 0))).
     let a = l.2 in let b = l.3 in let c = l.4 in absurd (⊎_elim (λ ended. ended (omega arith)) (λ (never : x ≡ 0). omega arith) shut)) h
@@ -105,9 +105,9 @@ module _ (rows : ℕ) (t : State ℕ View) (r : Kept rows t) (i id : ℕ) (v : V
   my_id = role_first id v (r.sees id v at).role keeper
 
   -- what is left of a keeper's step once its write is known
-  moved : (w : View) (x : Write) (n n' : ℕ) → get_or t.words i 0 ≡ n → n ≤ n' → (n' < stamp_unit → n' ≡ 0) → w.seen ≡ set v.seen i n' → w.keeps ≡ v.keeps → w.calls ≡ v.calls → w.writes ≡ x ∷ v.writes
+  moved : (w : View) (x : Write) (n n' : ℕ) → get_or t.words i 0 ≡ n → n ≤ n' → (n' < stamp_unit → n' ≡ 0) → w.seen ≡ set v.seen i n' → w.keeps ≡ v.keeps → w.gone ≡ v.gone → w.calls ≡ v.calls → w.writes ≡ x ∷ v.writes
       → ((j z : ℕ) → (j ≢ i) ⊎ (z ≡ 0) → file j z (set t.views id w) ≡ file j z t.views) → ((z : ℕ) → 0 < z → Law n' z (file i z (set t.views id w))) → Moves rows t i id v w n n'
-  moved w x n n' found greater unused saw kept calls writes elsewhere cells = record {
+  moved w x n n' found greater unused saw kept stayed calls writes elsewhere cells = record {
     inside = inside;
     seat = at;
     found = found;
@@ -115,6 +115,7 @@ module _ (rows : ℕ) (t : State ℕ View) (r : Kept rows t) (i id : ℕ) (v : V
     unused = unused;
     saw = saw;
     keeps = kept;
+    stays = λ _. stayed;
     no_calls = λ _. calls;
     no_writes = λ h. absurd (true≢false (sym keeper ∙ h));
     grows = written_grows t.views id v w at my_id x calls writes;
@@ -131,7 +132,7 @@ module _ (rows : ℕ) (t : State ℕ View) (r : Kept rows t) (i id : ℕ) (v : V
       let w : View = beginning v i k in let s : ℕ = stamp_of k in let b : ℕ = field_of k in let x : Write = Begin i s b in
       let ks : k ≡ word s 0 b = omega arith in
       let same = λ (j z : ℕ) (o : is_at j z i s ≡ false). written_same t.views id v w at my_id x refl refl j z (if_other (is_at j z i s) b (bases_at j z (keeper_writes t.views)) o) refl in
-      moved w x n k found (omega arith) (λ h. absurd (omega arith)) refl refl refl refl
+      moved w x n k found (omega arith) (λ h. absurd (omega arith)) refl refl refl refl refl
       (λ j z far. same j z (off j z i s (omega arith) far))
       (λ z p. by_index s z (Law k z (file i z (set t.views id w)))
       (λ e. let P : ℕ → Type 0 = λ y. Law k y (file i y (set t.views id w)) in
@@ -146,13 +147,13 @@ module _ (rows : ℕ) (t : State ℕ View) (r : Kept rows t) (i id : ℕ) (v : V
       (λ no. still n k z (file i z t.views) (λ h. omega arith) (λ h. (omega arith, omega arith)) (law_at n z found p)))))
 
   -- an end that leaves the stamp in the word
-  closes_at : (w : View) (x : Write) (m n k : ℕ) → get_or t.words i 0 ≡ n → 0 < stamp_of n → mark_of n ≡ 0 → stamp_of k ≡ stamp_of n → mark_of k ≡ m → 1 < m → field_of k ≡ field_of n → w.seen ≡ set v.seen i k → w.keeps ≡ v.keeps → w.calls ≡ v.calls → w.writes ≡ x ∷ v.writes
+  closes_at : (w : View) (x : Write) (m n k : ℕ) → get_or t.words i 0 ≡ n → 0 < stamp_of n → mark_of n ≡ 0 → stamp_of k ≡ stamp_of n → mark_of k ≡ m → 1 < m → field_of k ≡ field_of n → w.seen ≡ set v.seen i k → w.keeps ≡ v.keeps → w.gone ≡ v.gone → w.calls ≡ v.calls → w.writes ≡ x ∷ v.writes
       → ((j z : ℕ) (ws : List Write) → bases_at j z (x ∷ ws) ≡ bases_at j z ws)
       → ((j z : ℕ) (ws : List Write) → ends_at j z (x ∷ ws) ≡ with_if (is_at j z i (stamp_of n)) (m, field_of n) (ends_at j z ws)) → Moves rows t i id v w n k
-  closes_at w x m n k found pos nm same_stamp km ended same_field saw kept calls writes bs es =
+  closes_at w x m n k found pos nm same_stamp km ended same_field saw kept stayed calls writes bs es =
       let s : ℕ = stamp_of n in let d : ℕ = field_of n in
       let same = λ (j z : ℕ) (o : is_at j z i s ≡ false). written_same t.views id v w at my_id x calls writes j z (bs j z (keeper_writes t.views)) (es j z (keeper_writes t.views) ∙ if_other (is_at j z i s) (m, d) (ends_at j z (keeper_writes t.views)) o) in
-      moved w x n k found (omega arith) (λ h. absurd (omega arith)) saw kept calls writes
+      moved w x n k found (omega arith) (λ h. absurd (omega arith)) saw kept stayed calls writes
       (λ j z far. same j z (off j z i s pos far))
       (λ z p. by_index s z (Law k z (file i z (set t.views id w)))
       (λ e. let P : ℕ → Type 0 = λ y. Law k y (file i y (set t.views id w)) in
@@ -163,15 +164,15 @@ module _ (rows : ℕ) (t : State ℕ View) (r : Kept rows t) (i id : ℕ) (v : V
       (λ ne. let P : File → Type 0 = λ f. Law k z f in subst P (sym (same i z (at_other_stamp i z i s ne)))
       (still n k z (file i z t.views) (λ h. omega arith) (λ h. (omega arith, omega arith)) (law_at n z found p))))
 
-  expires_at : (n k : ℕ) → get_or t.words i 0 ≡ n → 0 < stamp_of n → mark_of n ≡ 0 → stamp_of k ≡ stamp_of n → mark_of k ≡ 2 → field_of k ≡ field_of n → Moves rows t i id v (expiring v i n k) n k
-  expires_at n k found pos nm same_stamp km same_field =
+  settles_at : (n k : ℕ) → get_or t.words i 0 ≡ n → 0 < stamp_of n → mark_of n ≡ 0 → stamp_of k ≡ stamp_of n → mark_of k ≡ 2 → field_of k ≡ field_of n → Moves rows t i id v (settling v i n k) n k
+  settles_at n k found pos nm same_stamp km same_field =
       let two : 1 < 2 = omega arith in
-      closes_at (expiring v i n k) (Expired i (stamp_of n) (field_of n)) 2 n k found pos nm same_stamp km two same_field refl refl refl refl (λ j z ws. refl) (λ j z ws. refl)
+      closes_at (settling v i n k) (Expired i (stamp_of n) (field_of n)) 2 n k found pos nm same_stamp km two same_field refl refl refl refl refl (λ j z ws. refl) (λ j z ws. refl)
 
-  removes_at : (n k : ℕ) → get_or t.words i 0 ≡ n → 0 < stamp_of n → mark_of n ≡ 0 → stamp_of k ≡ stamp_of n → mark_of k ≡ 3 → field_of k ≡ field_of n → Moves rows t i id v (removing v i n k) n k
-  removes_at n k found pos nm same_stamp km same_field =
+  finishes_at : (n k : ℕ) → get_or t.words i 0 ≡ n → 0 < stamp_of n → mark_of n ≡ 0 → stamp_of k ≡ stamp_of n → mark_of k ≡ 3 → field_of k ≡ field_of n → Moves rows t i id v (finishing v i n k) n k
+  finishes_at n k found pos nm same_stamp km same_field =
       let three : 1 < 3 = omega arith in
-      closes_at (removing v i n k) (Removed i (stamp_of n) (field_of n)) 3 n k found pos nm same_stamp km three same_field refl refl refl refl (λ j z ws. refl) (λ j z ws. refl)
+      closes_at (finishing v i n k) (Removed i (stamp_of n) (field_of n)) 3 n k found pos nm same_stamp km three same_field refl refl refl refl refl (λ j z ws. refl) (λ j z ws. refl)
 
   renews_at : (n k : ℕ) → get_or t.words i 0 ≡ n → 0 < stamp_of n → mark_of n ≡ 0 → stamp_of k ≡ stamp_of n + 1 → mark_of k ≡ 0 → Moves rows t i id v (renewing v i n k) n k
   renews_at n k found pos nm next km =
@@ -179,7 +180,7 @@ module _ (rows : ℕ) (t : State ℕ View) (r : Kept rows t) (i id : ℕ) (v : V
       let ks : k ≡ word (s + 1) 0 b = omega arith in
       let same = λ (j z : ℕ) (o : is_at j z i s ≡ false) (o' : is_at j z i (s + 1) ≡ false). written_same t.views id v w at my_id x refl refl j z
       (if_other (is_at j z i (s + 1)) b (bases_at j z (keeper_writes t.views)) o') (if_other (is_at j z i s) (0, d) (ends_at j z (keeper_writes t.views)) o) in
-      moved w x n k found (omega arith) (λ h. absurd (omega arith)) refl refl refl refl
+      moved w x n k found (omega arith) (λ h. absurd (omega arith)) refl refl refl refl refl
       (λ j z far. same j z (off j z i s pos far) (off j z i (s + 1) (omega arith) far))
       (λ z p. by_index s z (Law k z (file i z (set t.views id w)))
       (λ e. let P : ℕ → Type 0 = λ y. Law k y (file i y (set t.views id w)) in
@@ -198,9 +199,10 @@ module _ (rows : ℕ) (t : State ℕ View) (r : Kept rows t) (i id : ℕ) (v : V
       (still n k z (file i z t.views) (λ h. omega arith) (λ h. (omega arith, omega arith)) (law_at n z found p)))))
 
 module _ (rows : ℕ) where
-  pub begins : (slots id : ℕ) (me : Sat) (i k : ℕ) → i < rows → me.0.gone ≡ false → me.0.keeps ≡ true → (mark_of (get_or me.0.seen i 0) ≢ 0) ⊎ (get_or me.0.seen i 0 ≡ 0) → stamp_of k ≡ stamp_of (get_or me.0.seen i 0) + 1 → mark_of k ≡ 0 → k < 18446744073709551616
-      → Allows (Ruled rows) slots id me i (λ _. k) (λ _. began (step slots i k 0 none) me k)
-  begins slots id me i k inside here keeper shut next km small t r sized at wide =
+  pub begins : (slots id : ℕ) (me : WordMe) (i k : ℕ) → i < rows → me.0.keeps ≡ true → (mark_of (get_or me.0.seen i 0) ≢ 0) ⊎ (get_or me.0.seen i 0 ≡ 0) → stamp_of k ≡ stamp_of (get_or me.0.seen i 0) + 1 → mark_of k ≡ 0 → k < 18446744073709551616
+      → Allows (Ruled rows) slots id me i (λ _. k) (λ _. Knowing begin_made (step slots i k 0 none) me k)
+  begins slots id me i k inside keeper shut next km small = knows rows slots id me i (λ _. k) (λ _. begin_made (step slots i k 0 none) me k) (λ t r sized at wide.
+      let here = role_here id me.0 (r.kept.sees id me.0 at).role keeper in
       let n : ℕ = get_or t.words i 0 in
       let x : ℕ = get_or me.0.seen i 0 in
       let same : n ≡ x = learned_ended x n shut ((r.kept.sees id me.0 at).learns keeper i inside) in
@@ -220,41 +222,42 @@ module _ (rows : ℕ) where
             (counts_writes rows t i id me.0 w y n k inside at refl small here refl refl refl (now_written t.views id me.0 w at first y refl refl) refl
             (λ ws. omega arith) (λ ws. omega arith) (λ ws g o. (omega arith, o)) (λ ws g. omega arith) (λ ws j ne. let z = none_other j i ne in omega arith)) me.1,
         refl,
-      )
+      ))
 
   -- a compare-exchange of the keeper
-  swap : (f : View → ℕ → ℕ → ℕ → View) (slots id : ℕ) (me : Sat) (i old new : ℕ) → i < rows → me.0.gone ≡ false → me.0.keeps ≡ true
-      → ((t : State ℕ View) (r : Ruled rows t) → (at : get_elem? t.views id ≡ some me.0) → get_or t.words i 0 ≡ old → Ruled rows (after t i new id me.1 (f me.0 i old new)))
-      → Allows (Ruled rows) slots id me i (λ n. either (eqb n old) new n) (swapped f (step slots i old new none) me)
-  swap f slots id me i old new inside here keeper hits t r sized at wide =
+  swap : (f : View → ℕ → ℕ → ℕ → View) (slots id : ℕ) (me : WordMe) (i old new : ℕ) → i < rows → me.0.keeps ≡ true
+      → ((t : State ℕ View) (r : Ruled rows t) → (at : get_elem? t.views id ≡ some me.0) → me.0.gone ≡ false → get_or t.words i 0 ≡ old → Ruled rows (after t i new id me.1 (f me.0 i old new)))
+      → Allows (Ruled rows) slots id me i (λ n. either (eqb n old) new n) (Knowing (exchange_made f) (step slots i old new none) me)
+  swap f slots id me i old new inside keeper hits = knows rows slots id me i (λ n. either (eqb n old) new n) (exchange_made f (step slots i old new none) me) (λ t r sized at wide.
+      let here = role_here id me.0 (r.kept.sees id me.0 at).role keeper in
       let n : ℕ = get_or t.words i 0 in
       let seen = (r.kept.sees id me.0 at).learns keeper i inside in
-      exchanged n old new (λ m. Outcome rows t i id me m (swapped f (step slots i old new none) me n))
-      (λ e. (f me.0 i old new, keeps, tt, hits t r at e, (seen, ((λ _. refl), λ ne. absurd (ne e)))))
-      (λ ne. missed rows t r i id me KeeperLoad n (swapped f (step slots i old new none) me n) inside at here refl (seen, ((λ e. absurd (ne e)), λ _. refl)))
+      exchanged n old new (λ m. Outcome rows t i id me m (exchange_made f (step slots i old new none) me n))
+      (λ e. (f me.0 i old new, keeps, tt, hits t r at here e, (seen, ((λ _. refl), λ ne. absurd (ne e)))))
+      (λ ne. missed rows t r i id me KeeperLoad n (exchange_made f (step slots i old new none) me n) inside at here refl (seen, ((λ e. absurd (ne e)), λ _. refl))))
 
-  pub expires : (slots id : ℕ) (me : Sat) (i old new : ℕ) → i < rows → me.0.gone ≡ false → me.0.keeps ≡ true → 0 < stamp_of old → mark_of old ≡ 0 → stamp_of new ≡ stamp_of old → mark_of new ≡ 2 → field_of new ≡ field_of old → new < 18446744073709551616
-      → Allows (Ruled rows) slots id me i (λ n. either (eqb n old) new n) (swapped expiring (step slots i old new none) me)
-  expires slots id me i old new inside here keeper pos om ns nm nf small = swap expiring slots id me i old new inside here keeper
-      (λ t r at e. let w : View = expiring me.0 i old new in let y : Write = Expired i (stamp_of old) (field_of old) in
+  pub settles : (slots id : ℕ) (me : WordMe) (i old new : ℕ) → i < rows → me.0.keeps ≡ true → 0 < stamp_of old → mark_of old ≡ 0 → stamp_of new ≡ stamp_of old → mark_of new ≡ 2 → field_of new ≡ field_of old → new < 18446744073709551616
+      → Allows (Ruled rows) slots id me i (λ n. either (eqb n old) new n) (Knowing (exchange_made settling) (step slots i old new none) me)
+  settles slots id me i old new inside keeper pos om ns nm nf small = swap settling slots id me i old new inside keeper
+      (λ t r at here e. let w : View = settling me.0 i old new in let y : Write = Expired i (stamp_of old) (field_of old) in
       let live : lives old ≡ 1 = lives_yes old om pos in let dead : lives new ≡ 0 = lives_no new (λ z. omega arith) in
-      ruled_after rows t r i id me.0 w old new (expires_at rows t r.kept i id me.0 inside at keeper old new e pos om ns nm nf)
+      ruled_after rows t r i id me.0 w old new (settles_at rows t r.kept i id me.0 inside at keeper old new e pos om ns nm nf)
       (counts_writes rows t i id me.0 w y old new inside at e small here refl refl refl (now_written t.views id me.0 w at (my_id rows t r.kept i id me.0 inside at keeper) y refl refl) refl
       (λ ws. omega arith) (λ ws. omega arith) (λ ws g o. (sym g, o)) (λ ws g. g ∙ sym ns) (λ ws j ne. refl)) me.1)
 
-  pub removes : (slots id : ℕ) (me : Sat) (i old new : ℕ) → i < rows → me.0.gone ≡ false → me.0.keeps ≡ true → 0 < stamp_of old → mark_of old ≡ 0 → stamp_of new ≡ stamp_of old → mark_of new ≡ 3 → field_of new ≡ field_of old → new < 18446744073709551616
-      → Allows (Ruled rows) slots id me i (λ n. either (eqb n old) new n) (swapped removing (step slots i old new none) me)
-  removes slots id me i old new inside here keeper pos om ns nm nf small = swap removing slots id me i old new inside here keeper
-      (λ t r at e. let w : View = removing me.0 i old new in let y : Write = Removed i (stamp_of old) (field_of old) in
+  pub finishes : (slots id : ℕ) (me : WordMe) (i old new : ℕ) → i < rows → me.0.keeps ≡ true → 0 < stamp_of old → mark_of old ≡ 0 → stamp_of new ≡ stamp_of old → mark_of new ≡ 3 → field_of new ≡ field_of old → new < 18446744073709551616
+      → Allows (Ruled rows) slots id me i (λ n. either (eqb n old) new n) (Knowing (exchange_made finishing) (step slots i old new none) me)
+  finishes slots id me i old new inside keeper pos om ns nm nf small = swap finishing slots id me i old new inside keeper
+      (λ t r at here e. let w : View = finishing me.0 i old new in let y : Write = Removed i (stamp_of old) (field_of old) in
       let live : lives old ≡ 1 = lives_yes old om pos in let dead : lives new ≡ 0 = lives_no new (λ z. omega arith) in
-      ruled_after rows t r i id me.0 w old new (removes_at rows t r.kept i id me.0 inside at keeper old new e pos om ns nm nf)
+      ruled_after rows t r i id me.0 w old new (finishes_at rows t r.kept i id me.0 inside at keeper old new e pos om ns nm nf)
       (counts_writes rows t i id me.0 w y old new inside at e small here refl refl refl (now_written t.views id me.0 w at (my_id rows t r.kept i id me.0 inside at keeper) y refl refl) refl
       (λ ws. omega arith) (λ ws. omega arith) (λ ws g o. (sym g, o)) (λ ws g. g ∙ sym ns) (λ ws j ne. refl)) me.1)
 
-  pub renews : (slots id : ℕ) (me : Sat) (i old new : ℕ) → i < rows → me.0.gone ≡ false → me.0.keeps ≡ true → 0 < stamp_of old → mark_of old ≡ 0 → stamp_of new ≡ stamp_of old + 1 → mark_of new ≡ 0 → new < 18446744073709551616
-      → Allows (Ruled rows) slots id me i (λ n. either (eqb n old) new n) (swapped renewing (step slots i old new none) me)
-  renews slots id me i old new inside here keeper pos om next nm small = swap renewing slots id me i old new inside here keeper
-      (λ t r at e. let w : View = renewing me.0 i old new in let y : Write = Renewed i (stamp_of old) (field_of old) (field_of new) in
+  pub renews : (slots id : ℕ) (me : WordMe) (i old new : ℕ) → i < rows → me.0.keeps ≡ true → 0 < stamp_of old → mark_of old ≡ 0 → stamp_of new ≡ stamp_of old + 1 → mark_of new ≡ 0 → new < 18446744073709551616
+      → Allows (Ruled rows) slots id me i (λ n. either (eqb n old) new n) (Knowing (exchange_made renewing) (step slots i old new none) me)
+  renews slots id me i old new inside keeper pos om next nm small = swap renewing slots id me i old new inside keeper
+      (λ t r at here e. let w : View = renewing me.0 i old new in let y : Write = Renewed i (stamp_of old) (field_of old) (field_of new) in
       let live : lives old ≡ 1 = lives_yes old om pos in let still_live : lives new ≡ 1 = lives_yes new nm (omega arith) in let one = one_here i in
       ruled_after rows t r i id me.0 w old new (renews_at rows t r.kept i id me.0 inside at keeper old new e pos om next nm)
       (counts_writes rows t i id me.0 w y old new inside at e small here refl refl refl (now_written t.views id me.0 w at (my_id rows t r.kept i id me.0 inside at keeper) y refl refl) refl

@@ -1,5 +1,6 @@
 -- Numbers of writes and calls.
-use Rattle.std.specs.Prelude.{ℕ, zero, suc, ◌≡◌, ◌+◌, ◌==◌, ◌&&◌, not, if◌then◌else◌, List, [], ◌∷◌, slice_index}
+use Rattle.std.specs.Prelude.{ℕ, zero, suc, ◌≡◌, ◌+◌, ◌==◌, ◌&&◌, not, if◌then◌else◌, List, [], ◌∷◌}
+use Rattle.std.specs.Prelude.{slice_index}
 use Rattle.dq_words.specs.declared.views.View.{View}
 use Rattle.dq_ticks.specs.Word.{stamp_of, mark_of}
 use Rattle.dq_words.specs.declared.views.Call.{Call}

@@ -1,5 +1,7 @@
+-- No public clause cites this module.
 -- What the lists of all views say of one slot at one stamp.
-use Rattle.std.specs.Prelude.{◌≡◌, ◌⊎◌, ℕ, ◌+◌, ◌≤◌, ◌==◌, ◌&&◌, List, [], ◌∷◌, ◌++◌, Bool, if◌then◌else◌}
+use Rattle.std.specs.Prelude.{◌≡◌, ◌⊎◌, ℕ, ◌+◌, ◌≤◌, ◌==◌, ◌&&◌, List, [], ◌∷◌, ◌++◌, Bool}
+use Rattle.std.specs.Prelude.{if◌then◌else◌}
 use Rattle.dq_words.specs.declared.views.Call.{Call}
 use Rattle.dq_words.specs.declared.views.Call.TheVariants.{Extend, Cancel}
 use Rattle.dq_words.specs.declared.views.Write.{Write}
@@ -22,7 +24,8 @@ bases_at i s (Expired j t d ∷ ws) = bases_at i s ws
 bases_at i s (Renewed j t d b ∷ ws) = with_if (is_at i s j (t + 1)) b (bases_at i s ws)
 bases_at i s (Removed j t d ∷ ws) = bases_at i s ws
 
--- how the keeper ended a stamp: the mark that the word then had (0 for the next stamp), and the deadline
+-- how the keeper ended a stamp: the mark that the word then had (0 for the next stamp), and the
+-- deadline
 abbrev pub ends_at : ℕ → ℕ → List Write → List (ℕ × ℕ)
 ends_at i s [] = []
 ends_at i s (Begin j t b ∷ ws) = ends_at i s ws
@@ -69,16 +72,18 @@ file_of_lists a b c d = record { bases = a; ends = b; extends = c; cancels = d }
 
 -- what the views say of the slot i at the stamp s
 abbrev pub file : ℕ → ℕ → List View → File
-file i s views = file_of_lists (bases_at i s (keeper_writes views)) (ends_at i s (keeper_writes views)) (gathered (extends_at i s) views) (gathered (cancels_at i s) views)
+file i s views = file_of_lists
+    (bases_at i s (keeper_writes views)) (ends_at i s (keeper_writes views))
+    (gathered (extends_at i s) views) (gathered (cancels_at i s) views)
 
 -- x is in the list
-abbrev pub Has : {A : Type 0} → List A → A → Type 0
-Has [] x = ⊥
-Has (y ∷ ys) x = (x ≡ y) ⊎ Has ys x
+abbrev pub IsIn : {A : Type 0} → List A → A → Type 0
+IsIn [] x = ⊥
+IsIn (y ∷ ys) x = (x ≡ y) ⊎ IsIn ys x
 
 -- d is the base or an accepted extend
 abbrev pub Among : File → ℕ → Type 0
-Among f d = Has f.bases d ⊎ Has f.extends d
+Among f d = IsIn f.bases d ⊎ IsIn f.extends d
 
 -- the deadline in force: the greatest of the base and the accepted extends
 abbrev pub IsDeadline : File → ℕ → Type 0

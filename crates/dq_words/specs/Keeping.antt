@@ -1,19 +1,35 @@
 -- What the keeper's writes count, and what it may ask of a packed word.
-use Rattle.std.specs.Prelude.{◌≡◌, ◌≢◌, ◌⊎◌, ℕ, ◌<◌, ◌≤◌, true, false, List, length, slice_index, slice_set}
+use Rattle.std.specs.Prelude.{◌≡◌, ◌≢◌, ◌⊎◌, ℕ, ◌<◌, ◌≤◌, true, false, List, length}
+use mathlib.Core.Option.{some}
+use lib.ListN.{get_elem?}
+use Rattle.atomic_table.specs.Table.{State}
 use Rattle.dq_core.specs.Words.{Counts}
 use Rattle.dq_ticks.specs.Word.{word, stamp_of, mark_of, field_of}
 use Rattle.dq_words.specs.Counts.{begins_in, expiries_in, removals_in, below}
-use Rattle.dq_words.specs.Word.{Learned}
+use Rattle.dq_words.specs.Rule.{Ruled}
 use Rattle.dq_words.specs.declared.views.View.{View}
 use Rattle.dq_words.specs.declared.views.Write.{Write}
 
--- the view of a keeper: it begins no more than the stamps that it saw, and issues no more than 1024 callers
+-- the view of a keeper: it begins no more than the stamps that it saw, and issues no more than 1024
+-- callers
 abbrev pub IsKeeper : View → Type 0
-IsKeeper v = (v.keeps ≡ true) × (v.gone ≡ false) × (v.issued ≤ 1024) × (begins_in v.writes ≤ below stamp_of v.seen (length v.seen))
+IsKeeper v =
+    (v.keeps ≡ true) × (v.gone ≡ false) × (v.issued ≤ 1024)
+    × (begins_in v.writes ≤ below stamp_of v.seen (length v.seen))
+
+-- There was a moment, between two steps of the keeper and its callers, at which the rule of the
+-- words held and the keeper knew exactly this.
+abbrev pub Stood : View → Type 0
+Stood v = (t : State ℕ View) × Ruled (length v.seen) t × (get_elem? t.views 0 ≡ some v)
+
+-- The same of any seat.
+abbrev pub Knew : View → Type 0
+Knew v = (t : State ℕ View) × (j : ℕ) × Ruled (length v.seen) t × (get_elem? t.views j ≡ some v)
 
 -- how often the writes begin a word, and end one as expired or removed
 abbrev pub counts_of : List Write → Counts
-counts_of ws = record { begins = begins_in ws; expiries = expiries_in ws; removals = removals_in ws }
+counts_of ws =
+    record { begins = begins_in ws; expiries = expiries_in ws; removals = removals_in ws }
 
 -- a slot that was never used, or a word that ended
 abbrev pub IsFree : ℕ → Type 0
@@ -23,6 +39,6 @@ IsFree n = (n ≡ 0) ⊎ (mark_of n ≢ 0)
 abbrev pub IsOpen : ℕ → ℕ → Type 0
 IsOpen n s = (0 < s) × ((n ≡ word s 1 0) ⊎ (n ≡ word s 0 (field_of n)))
 
--- the word at one place of the row was learned to be n
-abbrev pub Shows : List ℕ → List ℕ → ℕ → ℕ → Type 0
-Shows old new i n = Learned (slice_index old i) n × (new ≡ slice_set old i n)
+-- the same, where a live one's deadline is not before f
+abbrev pub IsOpenFrom : ℕ → ℕ → ℕ → Type 0
+IsOpenFrom n s f = IsOpen n s × (mark_of n ≡ 0 → f ≤ field_of n)

@@ -1,9 +1,11 @@
-pub mod Calls
+pub mod AtTheCall
+pub mod CallerCalls
 pub mod Counts
-pub mod Desks
+pub mod KeeperCalls
 pub mod Endings
 pub mod Files
 pub mod Keeping
 pub mod Plays
 pub mod Rule
+pub mod Seats
 pub mod Word

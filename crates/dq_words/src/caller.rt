@@ -1,45 +1,45 @@
 //! A seat that extends and cancels, from any thread.
-ghost use Rattle.std.specs.Prelude.{◌≡◌, ◌≢◌, ◌+◌, ◌<◌, ◌≤◌, [], length, false, slice_index, MatchOption, MatchResult};
-ghost use Rattle.std.specs.Arc.{arc_value};
-ghost use Rattle.dq_ticks.specs.Word.{word, stamp_of, mark_of, field_of};
-ghost use Rattle.dq_words.specs.Calls.{IsCaller, IsForged, Refuses, IsExtend, IsCancel, IsLook};
-ghost use Rattle.dq_words.specs.Counts.{cancels_in};
-ghost use Rattle.dq_words.specs.Plays.{Looks, Extends, Cancels};
+ghost use Rattle.std.specs.Prelude.{◌≡◌, ◌+◌, ◌<◌, ◌≤◌, [], length, false, IfErr, IfOk};
+ghost use Rattle.std.specs.Prelude.{MatchOption, MatchResult};
+ghost use Rattle.dq_ticks.specs.Word.{stamp_of, mark_of, field_of};
+ghost use Rattle.dq_words.specs.AtTheCall.{cancels_of, AgreesWithCalls, ExtendRefusedByWord};
+ghost use Rattle.dq_words.specs.AtTheCall.{KeepsPromises, LookRefusedByWord, RefusedByWord};
+ghost use Rattle.dq_words.specs.AtTheCall.{SeesCancelled, SeesEntry, SeesLive, StepsAtMost};
+ghost use Rattle.dq_words.specs.CallerCalls.{IsCaller, IsForged, Refuses, CallerExtends};
+ghost use Rattle.dq_words.specs.CallerCalls.{CallerCancels, CallerLooks};
+ghost use Rattle.dq_words.specs.Counts.{most_begins};
+ghost use Rattle.dq_words.specs.Keeping.{Knew};
 
-use crate::parts::{ONE_CANCEL, cancelled, is_live, live, stamp};
-use crate::plays::{GiveUp, Leave, Look as Glance, Prolong};
-use crate::rule::{Board, Place};
+use crate::parts::{cancelled_word, live_word, stamp};
+use crate::seated::Seated;
 use dq_core::vec_words::shown;
 use dq_core::{CallError, Look};
 use dq_ticks::{Key, LAST_TICK, Mark, unpack};
 use std::alloc::{Allocator, Global};
 use std::marker::Model;
-use std::sync::Arc;
 
-/// Extends and cancels entries, and looks at them, without a lock. To a contract it is what it knows: the words that it
-/// saw and its accepted calls.
+/// Extends and cancels entries, and looks at them, without a lock. To a contract it is the table that it sits at and what it
+/// knows: the words that it saw and its accepted calls.
 ///
 /// Each call takes one load and at most one atomic step, waits for nobody and takes no memory. A caller that is dropped
 /// counts as out for good.
 #[derive(Drop)]
 pub struct Caller<A: Allocator = Global> {
-    board: Arc<Board<A>, A>,
-    place: Place,
-    rows: usize,
+    seat: Seated<A>,
     cancels: u64,
 }
 
 impl<A: Allocator> Model for Caller<A> {
-    ghost use Rattle.std.specs.Prelude.{◌≡◌, ◌+◌, ◌≤◌, length, false};
-    ghost use Rattle.std.specs.Arc.{arc_value};
-    ghost use Rattle.dq_words.specs.declared.views.View.{View};
+    ghost use Rattle.std.specs.Prelude.{◌≡◌, ◌≤◌, false};
     ghost use Rattle.dq_words.specs.Counts.{most_begins, cancels_in};
+    ghost use Rattle.dq_words.specs.Seats.{Sat};
 
-    ghost Value = { View };
+    ghost Value = { Sat };
 
-    ghost view = { λ k. k.place.me.0 };
+    ghost view = { λ k. k.seat };
 
-    ghost invariant = { λ k. (k.place.table_id ≡ (arc_value k.board).shared.table_id) × ((arc_value k.board).shared.key ≡ k.rows) × ((arc_value k.board).shared.table_id.words ≡ k.rows + 1) × (k.place.me.0.keeps ≡ false) × (k.place.me.0.gone ≡ false) × (length k.place.me.0.seen ≡ k.rows) × (k.cancels ≡ cancels_in k.place.me.0.calls) × (k.cancels ≤ most_begins) };
+    ghost invariant = { λ k. (k.seat.view.keeps ≡ false) × (k.seat.view.gone ≡ false)
+        × (k.cancels ≡ cancels_in k.seat.view.calls) × (k.cancels ≤ most_begins) };
 }
 
 // The deadline of the word that a step of a stamp found live at that stamp, or why the word refuses the stamp.
@@ -62,84 +62,53 @@ fn deadline_at(found: u64, asked: u32) -> Result<u64, CallError>
 }
 
 impl<A: Allocator> Caller<A> {
-    pub(crate) fn over(board: Arc<Board<A>, A>, place: Place, rows: usize) -> Caller<A>
-        requires board { (place.table_id ≡ (arc_value board).shared.table_id) × ((arc_value board).shared.key ≡ rows) × ((arc_value board).shared.table_id.words ≡ rows + 1) }
-        requires view { (place.me.0.keeps ≡ false) × (place.me.0.gone ≡ false) × (length place.me.0.seen ≡ rows) × (place.me.0.calls ≡ []) }
-        ensures { result ≡ place.me.0 }
+    pub(crate) fn of(seat: Seated<A>) -> Caller<A>
+        requires { (seat.view.keeps ≡ false) × (seat.view.gone ≡ false) × (seat.view.calls ≡ []) }
+        ensures { result ≡ seat }
     {
-        Caller {
-            board,
-            place,
-            rows,
-            cancels: 0,
-        }
+        Caller { seat, cancels: 0 }
     }
 
-    /// What is known of every caller: it is out, and its accepted cancels are few.
+    /// What is known of every caller: it is out, and its accepted cancels are few; and between some two steps the rule of the
+    /// words held with what it knows.
     pub fn law(&self)
-        ensures { IsCaller self.now }
+        ensures caller { IsCaller self.now.view }
+        ensures knew { Knew self.now.view }
     {
+        self.seat.law();
         let _ = &self.cancels;
     }
 
     // The slot of a key, where one may have it.
     fn slot(&self, key: &Key) -> Option<usize>
         ensures { MatchOption result
-            (IsForged self.now key.now)
-            (λ i. (i ≡ key.now.entry.index) × (i < length self.now.seen) × (0 < key.now.stamp)) }
+            (IsForged self.now.view key.now)
+            (λ i. (i ≡ key.now.entry.index) × (i < length self.now.view.seen)
+            × (0 < key.now.stamp)) }
     {
         let index = key.entry().index() as usize;
-        if index < self.rows && key.stamp() > 0 {
+        if index < self.seat.rows() && key.stamp() > 0 {
             Some(index)
         } else {
             None
         }
     }
 
-    fn load(&mut self, index: usize) -> u64
-        requires { index < length self.old.seen }
-        ensures { Looks self.old self.new index result }
-    {
-        let found = self.board.shared.load::<Glance>(&mut self.place, index);
-        found
-    }
-
-    // The fetch_max of a live word, which raises a live deadline of its stamp.
-    fn raise(&mut self, index: usize, new: u64) -> u64
-        requires inside { index < length self.old.seen }
-        requires new { (0 < stamp_of new) × (mark_of new ≡ 0) }
-        requires given { stamp_of new ≤ stamp_of (slice_index self.old.seen index) }
-        ensures { Extends self.old self.new index new result }
-    {
-        let found = self
-            .board
-            .shared
-            .fetch_max::<Prolong>(&mut self.place, index, new);
-        found
-    }
-
-    // The fetch_max of a cancelled word, which ends a live word of its stamp.
-    fn give_up(&mut self, index: usize, new: u64) -> u64
-        requires inside { index < length self.old.seen }
-        requires new { (0 < stamp_of new) × (new ≡ word (stamp_of new) 1 0) }
-        requires given { stamp_of new ≤ stamp_of (slice_index self.old.seen index) }
-        ensures { Cancels self.old self.new index new result }
-    {
-        let found = self
-            .board
-            .shared
-            .fetch_max::<GiveUp>(&mut self.place, index, new);
-        if is_live(found) && stamp(found) == stamp(new) {
-            self.cancels += 1;
-        }
-        found
-    }
-
     /// Raises the deadline of a live entry to `when`, a tick of one millisecond, and answers the deadline that is then in
     /// force: `when`, or a later one that it had. Refused as TooFar beyond the last tick, as Unknown where no slot has
     /// the key, as Stale where the slot has a later stamp, and as Ended where the entry isn't live.
     pub fn extend(&mut self, key: &Key, when: u64) -> Result<u64, CallError>
-        ensures { IsExtend self.old key.now when result self.new }
+        // Accepted: the word that it left is live at the answer, which keeps what was promised before.
+        ensures accepted { IfOk result (λ d. (when ≤ d) × SeesLive self.new key.now d) }
+        ensures promised { IfOk result (λ d. KeepsPromises self.old key.now d) }
+
+        // Refused: exactly by the deadline or by the word.
+        ensures refused { IfErr result (λ e. ExtendRefusedByWord self.new key.now when e) }
+        ensures two_steps { StepsAtMost 2 self.old self.new }
+
+        // All that it does.
+        ensures extends { CallerExtends self.old.view key.now when result self.new.view }
+        ensures table { self.new.table ≡ self.old.table }
     {
         if when > LAST_TICK {
             return Err(CallError::TooFar { limit: LAST_TICK });
@@ -148,41 +117,64 @@ impl<A: Allocator> Caller<A> {
             return Err(CallError::Unknown);
         };
         let asked = key.stamp();
-        let seen = self.load(index);
+        let seen = self.seat.caller_load(index);
         if stamp(seen) < asked {
             return Err(CallError::Unknown);
         }
-        let found = self.raise(index, live(asked, when));
+        let found = self.seat.extend(index, live_word(asked, when));
         let before = deadline_at(found, asked)?;
         Ok(before.max(when))
     }
 
     /// Cancels a live entry, and answers the deadline that it gave up. Refused as `extend` is, but never as TooFar.
     pub fn cancel(&mut self, key: &Key) -> Result<u64, CallError>
-        ensures { IsCancel self.old key.now result self.new }
+        // Accepted: the word that it left is cancelled, by this call, and the answer keeps what was promised before.
+        ensures accepted { IfOk result (λ _. SeesCancelled self.new key.now) }
+        ensures promised { IfOk result (λ d. KeepsPromises self.old key.now d) }
+        ensures counted { IfOk result (λ _. cancels_of self.new ≡ cancels_of self.old + 1) }
+
+        // Refused: exactly by the word.
+        ensures refused { IfErr result (λ e. RefusedByWord self.new key.now e) }
+        ensures two_steps { StepsAtMost 2 self.old self.new }
+
+        // All that it does.
+        ensures cancels { CallerCancels self.old.view key.now result self.new.view }
+        ensures table { self.new.table ≡ self.old.table }
     {
         let Some(index) = self.slot(key) else {
             return Err(CallError::Unknown);
         };
         let asked = key.stamp();
-        let seen = self.load(index);
+        let seen = self.seat.caller_load(index);
         if stamp(seen) < asked {
             return Err(CallError::Unknown);
         }
-        let found = self.give_up(index, cancelled(asked));
-        deadline_at(found, asked)
+        let found = self.seat.cancel(index, cancelled_word(asked));
+        let given_up = deadline_at(found, asked)?;
+        self.cancels += 1;
+        Ok(given_up)
     }
 
     /// What the entry of a key is. Refused as Unknown where no slot has the key, and as Stale where the slot has a later
     /// stamp.
     pub fn look(&mut self, key: &Key) -> Result<Look, CallError>
-        ensures { IsLook self.old key.now result self.new }
+        // Shown: what the loaded word shows, which agrees with the caller's own accepted calls.
+        ensures shown { IfOk result (λ how. SeesEntry self.new key.now how) }
+        ensures own_calls { IfOk result (λ _. AgreesWithCalls self.new key.now) }
+
+        // Refused: exactly by the word, and not where it has ended.
+        ensures refused { IfErr result (λ e. LookRefusedByWord self.new key.now e) }
+        ensures one_step { StepsAtMost 1 self.old self.new }
+
+        // All that it does.
+        ensures looks { CallerLooks self.old.view key.now result self.new.view }
+        ensures table { self.new.table ≡ self.old.table }
     {
         let Some(index) = self.slot(key) else {
             return Err(CallError::Unknown);
         };
         let asked = key.stamp();
-        let seen = unpack(self.load(index));
+        let seen = unpack(self.seat.caller_load(index));
         if seen.stamp < asked {
             return Err(CallError::Unknown);
         }
@@ -194,19 +186,18 @@ impl<A: Allocator> Caller<A> {
 
     /// The number of its accepted cancels.
     pub fn cancels(&self) -> u64
-        ensures { result ≡ cancels_in self.now.calls }
+        ensures { result ≡ cancels_of self.now }
     {
         self.cancels
     }
 
     /// Counts the caller as gone and its cancels with it, by one step on the return word, and answers its cancels.
     pub fn give_back(mut self) -> u64
-        ensures { result ≡ cancels_in self.calls }
+        ensures cancels { result ≡ cancels_of self }
+        ensures few { result ≤ most_begins }
     {
         let cancels = self.cancels;
-        self.board
-            .shared
-            .fetch_add::<Leave>(&mut self.place, self.rows, 1 + ONE_CANCEL * cancels);
+        self.seat.give_back(cancels);
         cancels
     }
 }

@@ -1,24 +1,24 @@
 //! The one seat that begins and ends entries.
-ghost use Rattle.std.specs.Prelude.{◌≡◌, ◌≢◌, ◌⊎◌, ◌+◌, ◌<◌, ◌≤◌, length, true, false, slice_index, slice_set, IfOk, IfErr};
-ghost use Rattle.std.specs.Arc.{arc_value};
-ghost use Rattle.dq_ticks.specs.Word.{stamp_of, mark_of, field_of, packed};
-ghost use Rattle.dq_words.specs.Desks.{IsMade, Issues, Tells, Returns, Accounts};
-ghost use Rattle.dq_words.specs.Keeping.{IsFree, IsKeeper, counts_of};
-ghost use Rattle.dq_words.specs.Plays.{stepping, beginning, expiring, renewing, removing, Hears, Swaps};
-ghost use Rattle.dq_words.specs.Word.{Learned, parts_row};
-ghost use Rattle.dq_core.specs.Words.{word_at, Learned as Learns};
-ghost use Rattle.dq_words.specs.declared.views.StepKind.TheVariants.{KeeperLoad};
+ghost use Rattle.std.specs.Prelude.{◌≡◌, ◌+◌, ◌<◌, ◌≤◌, length, true, slice_set, IfErr, IfOk};
+ghost use Rattle.atomic_table.specs.Seated.{TableId};
+ghost use Rattle.dq_core.specs.Words.{AreFresh, live, removed, begun_counts, settled_counts};
+ghost use Rattle.dq_core.specs.Words.{finished_counts, IsChanged, IsInForce, IsOver, IsSettled};
+ghost use Rattle.dq_core.specs.Words.{Learned};
+ghost use Rattle.dq_words.specs.AtTheCall.{KnowsNothing, NoCallerAfter, NoKeeperFor, StepsAtMost};
+ghost use Rattle.dq_words.specs.KeeperCalls.{known_of, known_word, counts_by, EndsFit};
+ghost use Rattle.dq_words.specs.KeeperCalls.{KeeperIsMade, KeeperBegins, KeeperLooks};
+ghost use Rattle.dq_words.specs.KeeperCalls.{KeeperSettles, KeeperRenews, KeeperFinishes, Issues};
+ghost use Rattle.dq_words.specs.KeeperCalls.{Tells, Returns, Accounts};
+ghost use Rattle.dq_words.specs.Keeping.{IsKeeper, Stood};
 
 use crate::caller::Caller;
-use crate::parts::{ONE_CANCEL, expired, field, is_live, live, removed};
-use crate::plays::{Expire, Hear, Issue, Learn, Remove, Renew, Start};
-use crate::rule::{Board, Place, WordsRule};
-use atomic_table::Table;
+use crate::parts::{ONE_CANCEL, live_word};
+use crate::seated::Seated;
+use crate::tries;
 use dq_core::{Settled, SharedWords, Words};
-use dq_ticks::{Parts, unpack};
+use dq_ticks::{LAST_STAMP, LAST_TICK, Parts, unpack};
 use std::alloc::{AllocError, Allocator, Global};
 use std::marker::Model;
-use std::sync::Arc;
 use thiserror::Error;
 
 /// The most callers that a keeper issues, given back or not.
@@ -45,26 +45,23 @@ pub enum WordsError {
 }
 
 /// Begins and ends the entries of a row of words, and issues the callers that extend and cancel them. To a contract it is
-/// what it knows: the words that it saw, its own writes, and how many callers it issued.
+/// the table that it sits at and what it knows: the words that it saw, its own writes, and how many callers it issued.
 #[derive(Drop)]
 pub struct Keeper<A: Allocator = Global> {
-    board: Arc<Board<A>, A>,
-    place: Place,
-    rows: usize,
+    seat: Seated<A>,
     issued: u64,
 }
 
 impl<A: Allocator> Model for Keeper<A> {
-    ghost use Rattle.std.specs.Prelude.{◌≡◌, ◌+◌, length};
-    ghost use Rattle.std.specs.Arc.{arc_value};
-    ghost use Rattle.dq_words.specs.declared.views.View.{View};
-    ghost use Rattle.dq_words.specs.Keeping.{IsKeeper};
+    ghost use Rattle.std.specs.Prelude.{◌≡◌, ◌≤◌, true};
+    ghost use Rattle.dq_words.specs.Seats.{Sat};
 
-    ghost Value = { View };
+    ghost Value = { Sat };
 
-    ghost view = { λ k. k.place.me.0 };
+    ghost view = { λ k. k.seat };
 
-    ghost invariant = { λ k. (k.place.table_id ≡ (arc_value k.board).shared.table_id) × ((arc_value k.board).shared.key ≡ k.rows) × ((arc_value k.board).shared.table_id.words ≡ k.rows + 1) × (length k.place.me.0.seen ≡ k.rows) × (k.issued ≡ k.place.me.0.issued) × IsKeeper k.place.me.0 };
+    ghost invariant = { λ k. (k.seat.view.keeps ≡ true)
+        × (k.issued ≡ k.seat.view.issued) × (k.issued ≤ 1024) };
 }
 
 impl From<AllocError> for WordsError {
@@ -82,205 +79,190 @@ impl<A: Allocator + Clone> Keeper<A> {
     /// A keeper of that many slots which were never used. Refused as BadConfig for a capacity of 0 or beyond 65536, and as
     /// NoMemory.
     pub fn new(alloc: A, capacity: usize) -> Result<Keeper<A>, WordsError>
-        ensures { IsMade capacity result }
+        // Made: each word was never used, and nothing is known, written or issued yet.
+        ensures rows { IfOk result (λ k. length (known_of k) ≡ capacity) }
+        ensures fresh { IfOk result (λ k. AreFresh (known_of k) (counts_by k)) }
+        ensures nothing { IfOk result (λ k. KnowsNothing k) }
+
+        // Refused: exactly by the capacity, but where memory is refused.
+        ensures refused { IfErr result (λ e. NoKeeperFor capacity e) }
+
+        // All that it is.
+        ensures made { KeeperIsMade capacity result }
     {
         if capacity == 0 || capacity > CAPACITY_LIMIT {
             return Err(WordsError::BadConfig);
         }
-        let heap = alloc.clone()?;
-        let words = vec![in &heap; 0u64; capacity + 1]?;
-        let (table, place) = Table::of_words(alloc, words.as_slice(), &capacity)?;
-        drop(words);
-        match Arc::new(heap, table) {
-            Ok(board) => Ok(Keeper {
-                board,
-                place,
-                rows: capacity,
-                issued: 0,
-            }),
-            Err(_) => Err(WordsError::NoMemory),
-        }
+        let seat = Seated::at_new_table(alloc, capacity)?;
+        Ok(Keeper { seat, issued: 0 })
     }
 }
 
 impl<A: Allocator> Keeper<A> {
     /// What is known of every keeper: it issued no more than [`HANDLE_LIMIT`] callers, and began no more entries than the
-    /// stamps that it saw.
+    /// stamps that it saw; and between some two steps the rule of the words held with what it knows.
     pub fn law(&self)
-        ensures { IsKeeper self.now }
+        ensures keeper { IsKeeper self.now.view }
+        ensures stood { Stood self.now.view }
     {
-        let _ = &self.issued;
-    }
-
-    pub(crate) fn load(&mut self, index: usize) -> u64
-        requires { index < length self.old.seen }
-        ensures { Learned (slice_index self.old.seen index) result × (self.new ≡ stepping self.old index result KeeperLoad) }
-    {
-        let found = self.board.shared.load::<Learn>(&mut self.place, index);
-        found
-    }
-
-    pub(crate) fn store(&mut self, index: usize, new: u64)
-        requires inside { index < length self.old.seen }
-        requires free { IsFree (slice_index self.old.seen index) }
-        requires next { (stamp_of new ≡ stamp_of (slice_index self.old.seen index) + 1) × (mark_of new ≡ 0) }
-        ensures { self.new ≡ beginning self.old index new }
-    {
-        self.board
-            .shared
-            .store::<Start>(&mut self.place, index, new);
-    }
-
-    pub(crate) fn try_expire(&mut self, index: usize, old: u64, new: u64) -> u64
-        requires inside { index < length self.old.seen }
-        requires old { (0 < stamp_of old) × (mark_of old ≡ 0) }
-        requires new { (stamp_of new ≡ stamp_of old) × (mark_of new ≡ 2) × (field_of new ≡ field_of old) }
-        ensures { Swaps expiring self.old self.new index old new result }
-    {
-        let found = self
-            .board
-            .shared
-            .compare_exchange::<Expire>(&mut self.place, index, old, new);
-        found
-    }
-
-    pub(crate) fn try_renew(&mut self, index: usize, old: u64, new: u64) -> u64
-        requires inside { index < length self.old.seen }
-        requires old { (0 < stamp_of old) × (mark_of old ≡ 0) }
-        requires new { (stamp_of new ≡ stamp_of old + 1) × (mark_of new ≡ 0) }
-        ensures { Swaps renewing self.old self.new index old new result }
-    {
-        let found = self
-            .board
-            .shared
-            .compare_exchange::<Renew>(&mut self.place, index, old, new);
-        found
-    }
-
-    pub(crate) fn try_remove(&mut self, index: usize, old: u64, new: u64) -> u64
-        requires inside { index < length self.old.seen }
-        requires old { (0 < stamp_of old) × (mark_of old ≡ 0) }
-        requires new { (stamp_of new ≡ stamp_of old) × (mark_of new ≡ 3) × (field_of new ≡ field_of old) }
-        ensures { Swaps removing self.old self.new index old new result }
-    {
-        let found = self
-            .board
-            .shared
-            .compare_exchange::<Remove>(&mut self.place, index, old, new);
-        found
+        self.seat.law();
     }
 
     /// One caller more, which may go to any thread. Refused as TooManyHandles where [`HANDLE_LIMIT`] callers were issued,
     /// given back or not, and as NoMemory where the table can't be shared once more.
     pub fn issue(&mut self) -> Result<Caller<A>, WordsError>
-        ensures { Issues self.old result self.new }
+        // Issued: one more, which sits at this keeper's table and knows nothing yet.
+        ensures counted { IfOk result (λ _. self.new.view.issued ≡ self.old.view.issued + 1) }
+        ensures same_table { IfOk result (λ c. c.table ≡ self.old.table) }
+        ensures newcomer { IfOk result (λ c. KnowsNothing c) }
+
+        // Refused: exactly past the limit, but where memory is refused; then nothing changes.
+        ensures refused { IfErr result (λ e. NoCallerAfter self.old.view.issued e) }
+        ensures unchanged { IfErr result (λ _. self.new ≡ self.old) }
+
+        // All that it does.
+        ensures issues { Issues self.old result self.new }
+        ensures table { self.new.table ≡ self.old.table }
     {
         if self.issued >= HANDLE_LIMIT {
             return Err(WordsError::TooManyHandles {
                 limit: HANDLE_LIMIT,
             });
         }
-        let board = Arc::try_clone(&self.board)?;
-        let place = self.board.shared.split_seat::<Issue>(&mut self.place);
+        let seat = self.seat.issue()?;
         self.issued += 1;
-        Ok(Caller::over(board, place, self.rows))
-    }
-
-    // The load of the return word.
-    fn hear(&mut self) -> u64
-        ensures { Hears self.old self.new result }
-    {
-        let found = self.board.shared.load::<Hear>(&mut self.place, self.rows);
-        found
+        Ok(Caller::of(seat))
     }
 
     /// The callers that were issued and are not given back, by one load. A caller that was dropped is out for good.
     pub fn out(&mut self) -> u64
-        ensures { Tells self.old result self.new }
+        ensures at_most { result ≤ self.new.view.issued }
+        ensures one_step { StepsAtMost 1 self.old self.new }
+        ensures words { known_of self.new ≡ known_of self.old }
+        ensures counts { counts_by self.new ≡ counts_by self.old }
+
+        // All that it does.
+        ensures tells { Tells self.old result self.new }
+        ensures table { self.new.table ≡ self.old.table }
     {
-        let gone = self.hear() % ONE_CANCEL;
+        let gone = self.seat.return_load() % ONE_CANCEL;
         self.issued - gone
     }
 
     /// The accepted cancels of all callers, where none is out, and else the number that is out, by one load.
     pub fn returned(&mut self) -> Result<u64, u64>
-        ensures told { Returns self.old result self.new }
+        // Nobody is out: the cancels account for all that was begun.
         ensures accounts { IfOk result (λ c. Accounts self.new c) }
+        ensures ends { IfOk result (λ c. EndsFit (counts_by self.new) c) }
+
+        // Somebody is out: so many.
+        ensures out { IfErr result (λ n. (0 < n) × (n ≤ self.new.view.issued)) }
+        ensures one_step { StepsAtMost 1 self.old self.new }
+
+        // All that it does.
+        ensures returns { Returns self.old result self.new }
+        ensures table { self.new.table ≡ self.old.table }
     {
-        let word = self.hear();
+        let word = self.seat.return_load();
         let out = self.issued - word % ONE_CANCEL;
-        if out == 0 {
-            Ok(word / ONE_CANCEL)
-        } else {
-            Err(out)
+        if out > 0 {
+            return Err(out);
         }
+        Ok(word / ONE_CANCEL)
     }
 }
 
 impl<A: Allocator> Words for Keeper<A> {
-    ghost known = { λ k. parts_row k.seen };
+    ghost known = { known_of };
 
-    ghost counts = { λ k. counts_of k.writes };
+    ghost counts = { counts_by };
 
     ghost shared = { true };
 
-    fn rows(&self) -> usize {
-        self.rows
+    ghost keeps = { λ k. IsKeeper k.view × Stood k.view };
+
+    ghost Home = { TableId };
+
+    ghost home = { λ k. k.table };
+
+    fn law(&self) {
+        Keeper::law(self);
     }
 
-    fn begin(&mut self, index: usize, stamp: u32, when: u64) {
-        self.store(index, live(stamp, when));
+    fn rows(&self) -> usize {
+        self.seat.rows()
+    }
+
+    fn begin(&mut self, index: usize, stamp: u32, when: u64)
+        requires in_range { index < length (known_of self.old) }
+        requires over { IsOver (known_word self.old index) }
+        requires next { stamp ≡ (known_word self.old index).stamp + 1 }
+        requires last { stamp ≤ LAST_STAMP }
+        requires tick { when ≤ LAST_TICK }
+        ensures known { known_of self.new ≡ slice_set (known_of self.old) index (live stamp when) }
+        ensures counts { counts_by self.new ≡ begun_counts (counts_by self.old) }
+        ensures home { self.new.table ≡ self.old.table }
+        ensures step { KeeperBegins self.old.view index stamp when self.new.view }
+    {
+        self.seat.begin(index, live_word(stamp, when));
     }
 
     fn look(&mut self, index: usize) -> Parts
-        requires { index < length (parts_row self.old.seen) }
-        ensures learned { Learns true (word_at (parts_row self.old.seen) index) result }
-        ensures known { parts_row self.new.seen ≡ slice_set (parts_row self.old.seen) index result }
-        ensures counts { counts_of self.new.writes ≡ counts_of self.old.writes }
-        ensures step { self.new ≡ stepping self.old index (packed result) KeeperLoad }
+        requires { index < length (known_of self.old) }
+        ensures learned { Learned true (known_word self.old index) result }
+        ensures known { known_of self.new ≡ slice_set (known_of self.old) index result }
+        ensures counts { counts_by self.new ≡ counts_by self.old }
+        ensures home { self.new.table ≡ self.old.table }
+        ensures step { KeeperLooks self.old.view index result self.new.view }
     {
-        let found = self.load(index);
-        unpack(found)
+        unpack(self.seat.keeper_load(index))
     }
 
-    // The expiry is decided by one try: a word that isn't live at exactly `at` is live at a later deadline or cancelled.
-    fn settle(&mut self, index: usize, stamp: u32, at: u64) -> Settled {
-        let old = live(stamp, at);
-        let found = self.try_expire(index, old, expired(stamp, at));
-        if found == old {
-            Settled::SettledExpired
-        } else if is_live(found) {
-            Settled::Later(field(found))
-        } else {
-            Settled::SettledCancelled
-        }
+    fn settle(&mut self, index: usize, stamp: u32, at: u64) -> Settled
+        requires in_range { index < length (known_of self.old) }
+        requires in_force { IsInForce stamp at (known_word self.old index) }
+        requires last { stamp ≤ LAST_STAMP }
+        requires tick { at ≤ LAST_TICK }
+        ensures settled { IsSettled true stamp at
+            (known_word self.old index) result (known_word self.new index) }
+        ensures known { known_of self.new
+            ≡ slice_set (known_of self.old) index (known_word self.new index) }
+        ensures counts { counts_by self.new ≡ settled_counts (counts_by self.old) result }
+        ensures home { self.new.table ≡ self.old.table }
+        ensures step { KeeperSettles self.old.view index stamp at result self.new.view }
+    {
+        tries::settle(&mut self.seat, index, stamp, at)
     }
 
-    // Each try that fails shows a greater word.
-    fn renew(&mut self, index: usize, stamp: u32, when: u64) -> Option<u64> {
-        let new = live(stamp + 1, when);
-        let mut seen = self.load(index);
-        while is_live(seen) {
-            let found = self.try_renew(index, seen, new);
-            if found == seen {
-                return Some(field(seen));
-            }
-            seen = found;
-        }
-        None
+    fn renew(&mut self, index: usize, stamp: u32, when: u64) -> Option<u64>
+        requires in_range { index < length (known_of self.old) }
+        requires in_force { IsInForce stamp 0 (known_word self.old index) }
+        requires last { stamp < LAST_STAMP }
+        requires tick { when ≤ LAST_TICK }
+        ensures changed { IsChanged true stamp (λ d. live (stamp + 1) when)
+            (known_word self.old index) result (known_word self.new index) }
+        ensures known { known_of self.new
+            ≡ slice_set (known_of self.old) index (known_word self.new index) }
+        ensures counts { counts_by self.new ≡ counts_by self.old }
+        ensures home { self.new.table ≡ self.old.table }
+        ensures step { KeeperRenews self.old.view index stamp when result self.new.view }
+    {
+        tries::renew(&mut self.seat, index, stamp, when)
     }
 
-    fn finish(&mut self, index: usize, stamp: u32) -> Option<u64> {
-        let mut old = self.load(index);
-        while is_live(old) {
-            let deadline = field(old);
-            let found = self.try_remove(index, old, removed(stamp, deadline));
-            if found == old {
-                return Some(deadline);
-            }
-            old = found;
-        }
-        None
+    fn finish(&mut self, index: usize, stamp: u32) -> Option<u64>
+        requires in_range { index < length (known_of self.old) }
+        requires in_force { IsInForce stamp 0 (known_word self.old index) }
+        requires last { stamp ≤ LAST_STAMP }
+        ensures changed { IsChanged true stamp (removed stamp)
+            (known_word self.old index) result (known_word self.new index) }
+        ensures known { known_of self.new
+            ≡ slice_set (known_of self.old) index (known_word self.new index) }
+        ensures counts { counts_by self.new ≡ finished_counts (counts_by self.old) result }
+        ensures home { self.new.table ≡ self.old.table }
+        ensures step { KeeperFinishes self.old.view index stamp result self.new.view }
+    {
+        tries::finish(&mut self.seat, index, stamp)
     }
 }
 

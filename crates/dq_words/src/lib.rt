@@ -10,7 +10,9 @@ pub mod endings;
 pub mod keeper;
 mod parts;
 mod plays;
-pub mod rule;
+mod rule;
+mod seated;
+mod tries;
 pub mod views;
 
 pub use caller::Caller;

@@ -1,57 +1,57 @@
 //! What each step on the table tells the seat that makes it.
-ghost use Rattle.dq_words.specs.Plays.{looked, learned, extended, cancelled, began, swapped, expiring, renewing, removing, issuing, newcomer, gave, heard};
+ghost use Rattle.dq_words.specs.Plays.{Knowing, caller_loaded, keeper_loaded, extend_made};
+ghost use Rattle.dq_words.specs.Plays.{cancel_made, begin_made, exchange_made, settling, renewing};
+ghost use Rattle.dq_words.specs.Plays.{finishing, issuing, newcomer, give_back_made, return_loaded};
 
 use crate::views::View;
 use atomic_table::{Play, Split};
 
-// A caller's load.
-pub(crate) struct Look;
+pub(crate) struct CallerLoad;
 
-impl Play<u64, View> for Look {
-    ghost then = { looked };
+impl Play<u64, View> for CallerLoad {
+    ghost then = { Knowing caller_loaded };
 }
 
-// The keeper's load.
-pub(crate) struct Learn;
+pub(crate) struct KeeperLoad;
 
-impl Play<u64, View> for Learn {
-    ghost then = { learned };
+impl Play<u64, View> for KeeperLoad {
+    ghost then = { Knowing keeper_loaded };
 }
 
-pub(crate) struct Prolong;
+pub(crate) struct Extend;
 
-impl Play<u64, View> for Prolong {
-    ghost then = { extended };
+impl Play<u64, View> for Extend {
+    ghost then = { Knowing extend_made };
 }
 
-pub(crate) struct GiveUp;
+pub(crate) struct Cancel;
 
-impl Play<u64, View> for GiveUp {
-    ghost then = { cancelled };
+impl Play<u64, View> for Cancel {
+    ghost then = { Knowing cancel_made };
 }
 
-pub(crate) struct Start;
+pub(crate) struct Begin;
 
-impl Play<u64, View> for Start {
-    ghost then = { began };
+impl Play<u64, View> for Begin {
+    ghost then = { Knowing begin_made };
 }
 
-pub(crate) struct Expire;
+pub(crate) struct Settle;
 
-impl Play<u64, View> for Expire {
-    ghost then = { swapped expiring };
+impl Play<u64, View> for Settle {
+    ghost then = { Knowing (exchange_made settling) };
 }
 
 pub(crate) struct Renew;
 
 impl Play<u64, View> for Renew {
-    ghost then = { swapped renewing };
+    ghost then = { Knowing (exchange_made renewing) };
 }
 
-pub(crate) struct Remove;
+pub(crate) struct Finish;
 
-impl Play<u64, View> for Remove {
-    ghost then = { swapped removing };
+impl Play<u64, View> for Finish {
+    ghost then = { Knowing (exchange_made finishing) };
 }
 
 pub(crate) struct Issue;
@@ -63,15 +63,15 @@ impl Split<View> for Issue {
 }
 
 // A caller that is given back.
-pub(crate) struct Leave;
+pub(crate) struct GiveBack;
 
-impl Play<u64, View> for Leave {
-    ghost then = { gave };
+impl Play<u64, View> for GiveBack {
+    ghost then = { Knowing give_back_made };
 }
 
 // The keeper's load of the return word.
-pub(crate) struct Hear;
+pub(crate) struct ReturnLoad;
 
-impl Play<u64, View> for Hear {
-    ghost then = { heard };
+impl Play<u64, View> for ReturnLoad {
+    ghost then = { Knowing return_loaded };
 }

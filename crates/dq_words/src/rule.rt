@@ -14,7 +14,7 @@ impl TableRule<u64, View, usize> for WordsRule {
 }
 
 /// A seat of a table of words.
-pub type Place = Seat<u64, View>;
+pub type WordSeat = Seat<u64, View>;
 
 /// A table of words: one for each slot, and the return word behind them.
-pub type Board<A> = Table<u64, View, usize, WordsRule, A>;
+pub type WordTable<A> = Table<u64, View, usize, WordsRule, A>;

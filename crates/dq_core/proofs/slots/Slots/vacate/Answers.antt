@@ -1,13 +1,8 @@
 use Rattle.std.proofs.Common.{◌≡◌, true, arith, ap}
 use Rattle.dq_core.specs.Slots.{is_held, row_at}
-use Rattle.dq_core.proofs.SlotRows.{has_room, freed_is, worn_is, held_inside, read_is}
+use Rattle.dq_core.proofs.SlotRows.{freed_is, worn_is, held_inside, read_is}
 use Rattle.dq_core.proofs.slots.Slots.vacate.Goals as goal
 use Rattle.dq_core.proofs.slots.Slots.vacate.Goals.{then-stamp-self, else-stamp-self}
-
-pub push_reserved-requires : goal.push_reserved-requires
-push_reserved-requires g c =
-    let h : is_held (row_at c.self.inside.cells.items c.args.index) ≡ true = rw (ap (λ s. s.rows) c.self.view_is) c.requires in
-    let room = has_room c.self.invariant c.args.index h in omega arith
 
 pub invariant_of-self : goal.invariant_of-self
 invariant_of-self g c =
@@ -17,6 +12,6 @@ invariant_of-self g c =
     let same = ap (λ r. r.stamp) r in
     let kept = ap (λ r. r.stamp) c.vacate-held.ensures.vacated in
     elim c.if-stamp-self.branch [
-      | then-stamp-self w ↦ rw (w.self-inside-is, c.vacate-held.ensures.vacated, w.push_reserved.ensures.items, w.push_reserved.ensures.capacity, ← r) (freed_is c.self.invariant c.args.index h (omega arith))
+      | then-stamp-self w ↦ rw (w.self-inside-is, c.vacate-held.ensures.vacated, ← r) (freed_is c.self.invariant w.give.new.self c.args.index h (omega arith) w.give.ensures)
       | else-stamp-self w ↦ rw (w.self-inside-is, c.vacate-held.ensures.vacated, ← r) (worn_is c.self.invariant c.args.index h (omega arith))
     ]

@@ -1,6 +1,6 @@
 use Rattle.std.proofs.Common.{◌≡◌, ◌<◌, ◌∙◌, ap, sym, subst, max, rules, false}
 use Rattle.dq_ticks.specs.declared.TheConstants.{LAST_STAMP}
-use Rattle.dq_replay.specs.Script.{is_live}
+use Rattle.dq_replay.specs.Script.{has_name}
 use Rattle.dq_replay.proofs.Moves.{ready, new_leased, new_shown, stamps_below}
 use Rattle.dq_replay.proofs.Tied.{same_names}
 use Rattle.dq_replay.proofs.leases.Leases.insert.Goals as goal
@@ -20,9 +20,9 @@ link-key-requires g c = record {
 pub invariant_of-self-2 : goal.invariant_of-self-2
 invariant_of-self-2 g c =
     let l = ready c.self.inside.queue c.make_room-2.new.queue c.self.inside.names c.make_room.new.self c.self.inside.given c.self.invariant c.make_room-2.ensures c.in_ok-make_room.ensures.same c.in_ok-make_room.ensures.len in
-    let fresh = subst (λ x. is_live c.args.name x.live ≡ false) (sym c.self.view_is) c.requires.new in
+    let fresh = subst (λ x. has_name c.args.name x.live ≡ false) (sym c.self.view_is) c.requires.new in
     new_leased c.make_room-2.new.queue c.link-key.new.queue c.make_room.new.self c.put.new.self c.self.inside.given c.args.name c.args.when c.link-key.result l
-    (subst (λ xs. is_live c.args.name xs ≡ false) (sym c.make_room-2.ensures.kept.live) fresh) c.link-key.ensures (rw c.twin-twin.ensures at c.put.ensures.put) (rw c.twin-twin.ensures at c.put.ensures.len)
+    (subst (λ xs. has_name c.args.name xs ≡ false) (sym c.make_room-2.ensures.kept.live) fresh) c.link-key.ensures (rw c.twin-twin.ensures at c.put.ensures.put) (rw c.twin-twin.ensures at c.put.ensures.len)
 
 pub returns-clause-ok : goal.returns-clause-ok
 returns-clause-ok g c =

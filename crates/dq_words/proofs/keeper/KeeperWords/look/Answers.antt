@@ -1,7 +1,10 @@
 use Rattle.std.proofs.Common.{sym, ap}
+use Rattle.dq_words.specs.Seats.{Sat}
 use Rattle.dq_words.specs.declared.views.View.{View}
 use Rattle.dq_words.proofs.Bridge.{row_set}
 use Rattle.dq_words.proofs.keeper.KeeperWords.look.Goals as goal
 
 pub returns-clause-known : goal.returns-clause-known
-returns-clause-known g c = row_set _ _ _ _ _ (ap (λ (v : View). v.seen) c.load-found.ensures.1) (sym c.unpack.ensures)
+returns-clause-known g c =
+    let own = ap (λ (s : Sat). s.view) (sym c.self.view_is) in
+    row_set _ _ _ _ _ (rw own (ap (λ (v : View). v.seen) c.keeper_load.ensures.step.0)) (sym c.unpack.ensures)

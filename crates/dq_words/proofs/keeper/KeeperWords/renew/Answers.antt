@@ -1,28 +1,17 @@
-use Rattle.std.proofs.Common.{true≢false, sym, ap, ◌∙◌, rules}
-use Rattle.dq_words.specs.declared.views.View.{View}
-use Rattle.dq_words.proofs.Keepings.{open_on}
-use Rattle.dq_words.proofs.Bridge.{row_known, over_shown, open_at, live_is, changes, unchanged, shown_again}
+use Rattle.std.proofs.Common.{sym, ap}
+use Rattle.dq_words.specs.KeeperCalls.{KeeperRenews}
+use Rattle.dq_words.specs.Seats.{Sat}
+use Rattle.dq_words.proofs.Bridge.{renews_parts}
 use Rattle.dq_words.proofs.keeper.KeeperWords.renew.Goals as goal
-
-pub returns-then-found-seen-clause-changed : goal.returns-then-found-seen-clause-changed
-returns-then-found-seen-clause-changed g c =
-    let shown = c.loop-self.invariant.0 in
-    changes _ _ _ _ _ _ _ _ c.requires.in_range shown (open_on _ _ _ (open_at c.args.self.now.seen c.args.index _ _ c.requires.in_force).0 shown.0) (c.is_live.ensures.0 c.loop-self-test.true)
-    (ap (λ (v : View). v.seen) (c.try_renew-found.ensures.1.0 c.if-found-seen.true)) (live_is _ _ _ c.live-new.ensures c.requires.tick) _ c.field.ensures.0
-
-pub returns-then-found-seen-clause-known : goal.returns-then-found-seen-clause-known
-returns-then-found-seen-clause-known g c =
-    row_known c.args.self.now.seen _ _ _ c.requires.in_range (over_shown _ _ _ _ _ _ c.loop-self.invariant.0.1 (ap (λ (v : View). v.seen) (c.try_renew-found.ensures.1.0 c.if-found-seen.true)))
-
-pub loop-self-preserved : goal.loop-self-preserved
-loop-self-preserved g c =
-    let is = c.try_renew-found.ensures.1.1 c.if-found-seen.false in
-    (shown_again _ _ _ _ _ _ c.requires.in_range c.loop-self.invariant.0 c.try_renew-found.ensures.0 (ap (λ (v : View). v.seen) is), search rules)
 
 pub returns-clause-changed : goal.returns-clause-changed
 returns-clause-changed g c =
-    let shown = c.loop-self.invariant.0 in
-    unchanged _ _ _ _ _ c.requires.in_range shown (open_on _ _ _ (open_at c.args.self.now.seen c.args.index _ _ c.requires.in_force).0 shown.0) (λ m. true≢false (sym (c.is_live.ensures.1 m) ∙ c.loop-self-test.false))
+    let own = ap (λ (s : Sat). s.view) (sym c.self.view_is) in
+    let h : KeeperRenews c.args.self.now.view c.args.index c.args.stamp c.args.when c.renew.result c.renew.new.seat.view = rw own c.renew.ensures.renews in
+    (renews_parts _ _ _ _ c.requires.in_range _ _ c.requires.tick h).0
 
 pub returns-clause-known : goal.returns-clause-known
-returns-clause-known g c = row_known c.args.self.now.seen _ _ _ c.requires.in_range c.loop-self.invariant.0.1
+returns-clause-known g c =
+    let own = ap (λ (s : Sat). s.view) (sym c.self.view_is) in
+    let h : KeeperRenews c.args.self.now.view c.args.index c.args.stamp c.args.when c.renew.result c.renew.new.seat.view = rw own c.renew.ensures.renews in
+    (renews_parts _ _ _ _ c.requires.in_range _ _ c.requires.tick h).1

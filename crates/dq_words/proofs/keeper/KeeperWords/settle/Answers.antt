@@ -1,25 +1,17 @@
-use Rattle.std.proofs.Common.{true≢false, sym, ap, ◌∙◌}
-use Rattle.dq_words.specs.declared.views.View.{View}
-use Rattle.dq_words.proofs.Bridge.{row_known, settles_hit, settles_later, settles_cancelled}
+use Rattle.std.proofs.Common.{sym, ap}
+use Rattle.dq_words.specs.KeeperCalls.{KeeperSettles}
+use Rattle.dq_words.specs.Seats.{Sat}
+use Rattle.dq_words.proofs.Bridge.{settles_parts}
 use Rattle.dq_words.proofs.keeper.KeeperWords.settle.Goals as goal
 
-pub returns-then-found-old-clause-settled : goal.returns-then-found-old-clause-settled
-returns-then-found-old-clause-settled g c = settles_hit _ _ _ _ _ _ c.requires.in_range c.requires.in_force c.requires.tick c.try_expire-found.ensures.0
-    (c.if-found-old.true ∙ c.live-old.ensures) _ c.expired.ensures (ap (λ (v : View). v.seen) (c.try_expire-found.ensures.1.0 c.if-found-old.true))
+pub returns-clause-settled : goal.returns-clause-settled
+returns-clause-settled g c =
+    let own = ap (λ (s : Sat). s.view) (sym c.self.view_is) in
+    let h : KeeperSettles c.args.self.now.view c.args.index c.args.stamp c.args.at c.settle.result c.settle.new.seat.view = rw own c.settle.ensures.settles in
+    (settles_parts _ _ _ _ c.requires.in_range _ _ c.requires.in_force c.requires.tick h).0
 
-pub returns-then-found-old-clause-known : goal.returns-then-found-old-clause-known
-returns-then-found-old-clause-known g c = row_known c.args.self.now.seen _ _ _ c.requires.in_range (ap (λ (v : View). v.seen) (c.try_expire-found.ensures.1.0 c.if-found-old.true))
-
-pub returns-then-is_live-clause-settled : goal.returns-then-is_live-clause-settled
-returns-then-is_live-clause-settled g c = settles_later _ _ _ _ _ _ c.requires.in_range c.requires.in_force c.requires.tick c.try_expire-found.ensures.0
-    (λ e. c.if-found-old.false (e ∙ sym c.live-old.ensures)) (c.is_live.ensures.0 c.if-is_live.true) (ap (λ (v : View). v.seen) (c.try_expire-found.ensures.1.1 c.if-found-old.false)) _ c.field.ensures.0
-
-pub returns-then-is_live-clause-known : goal.returns-then-is_live-clause-known
-returns-then-is_live-clause-known g c = row_known c.args.self.now.seen _ _ _ c.requires.in_range (ap (λ (v : View). v.seen) (c.try_expire-found.ensures.1.1 c.if-found-old.false))
-
-pub returns-else-is_live-clause-settled : goal.returns-else-is_live-clause-settled
-returns-else-is_live-clause-settled g c = settles_cancelled _ _ _ _ _ _ c.requires.in_range c.requires.in_force c.requires.tick c.try_expire-found.ensures.0
-    (λ e. true≢false (sym (c.is_live.ensures.1 e) ∙ c.if-is_live.false)) (ap (λ (v : View). v.seen) (c.try_expire-found.ensures.1.1 c.if-found-old.false))
-
-pub returns-else-is_live-clause-known : goal.returns-else-is_live-clause-known
-returns-else-is_live-clause-known g c = row_known c.args.self.now.seen _ _ _ c.requires.in_range (ap (λ (v : View). v.seen) (c.try_expire-found.ensures.1.1 c.if-found-old.false))
+pub returns-clause-known : goal.returns-clause-known
+returns-clause-known g c =
+    let own = ap (λ (s : Sat). s.view) (sym c.self.view_is) in
+    let h : KeeperSettles c.args.self.now.view c.args.index c.args.stamp c.args.at c.settle.result c.settle.new.seat.view = rw own c.settle.ensures.settles in
+    (settles_parts _ _ _ _ c.requires.in_range _ _ c.requires.in_force c.requires.tick h).1

@@ -1,0 +1,15 @@
+pub mod CacheReads
+pub mod CacheSteps
+pub mod Firsts
+pub mod Leasts
+pub mod PutSteps
+pub mod SeenPairs
+pub mod SeenSlots
+pub mod Shows
+pub mod ShowsPuts
+pub mod Sweeps
+pub mod TiedChanges
+pub mod Ties
+pub mod Timed
+pub mod TimerRows
+pub mod TimerRuns

@@ -1,0 +1,133 @@
+//! An expiring cache of one owner: values that are seen until their deadline.
+ghost use Rattle.std.specs.Prelude.{◌≡◌, ℕ, ◌↔◌, IsTrue, IfOk, length, is_some};
+ghost use Rattle.std.specs.Option.{option_copied};
+ghost use Rattle.std.specs.List.{count_by};
+ghost use Rattle.dq_apps.specs.Cache.{is_kept, value_seen, IsCache};
+ghost use Rattle.dq_apps.specs.Calls.{MakesCache, IsAllSeen, TellsNextDeadline};
+ghost use Rattle.dq_apps.specs.AtTheCall.{ShowsNothing, kept_count};
+
+use crate::kept::Kept;
+use crate::seen::Seen;
+use crate::stock::{Stock, least_deadline};
+use crate::timers::{Timers, is_setting};
+use dq_core::CoreError;
+use std::alloc::{Allocator, Global};
+use std::collections::HashMap;
+use std::hash::Hash;
+use std::marker::Model;
+
+/// Values by keys, each seen until its deadline. Ticks are of one millisecond and are handed in: no clock is read.
+///
+/// The cache keeps a moment, at first 0; a call at `now` is made at the greater of `now` and the moment. What is due stays
+/// until a put or a purge drops it, but isn't seen. Only `new` and `put` take memory.
+#[derive(Drop)]
+pub struct TtlCache<K: Eq + Hash, V, A: Allocator = Global> {
+    pub(crate) stock: Stock<K, V, A>,
+    pub(crate) timers: Timers<K, A>,
+    pub(crate) moment: u64,
+}
+
+impl<K: Eq + Hash, V, A: Allocator> Model for TtlCache<K, V, A> {
+    ghost use Rattle.dq_apps.specs.Cache.{Cache};
+    ghost use Rattle.dq_apps.specs.Tied.{cache_of, IsStock};
+
+    ghost Value = { Cache K V };
+
+    ghost view = { λ c. cache_of K.eq c.stock.entries c.timers c.moment };
+
+    ghost invariant = { λ c. IsStock K.eq c.stock.entries c.timers c.moment };
+}
+
+impl<K: Eq + Hash + Drop, V: Drop, A: Allocator + Clone> TtlCache<K, V, A> {
+    /// A cache for so many keys where nothing is kept, at moment 0. Refused as BadConfig where the capacity isn't 1 to 65536
+    /// or the last stamp isn't 1 to 1048575, and else as NoMemory.
+    pub fn new(alloc: A, capacity: usize, last_stamp: u32) -> Result<TtlCache<K, V, A>, CoreError>
+        ensures makes { MakesCache capacity last_stamp result }
+        ensures empty { IfOk result (ShowsNothing K.eq) }
+    {
+        if !is_setting(capacity, last_stamp) {
+            return Err(CoreError::BadConfig);
+        }
+        let timers = Timers::new(alloc.clone()?, capacity, last_stamp)?;
+        Ok(TtlCache {
+            stock: HashMap::new(alloc),
+            timers,
+            moment: 0,
+        })
+    }
+}
+
+impl<K: Eq + Hash + Drop, V: Drop, A: Allocator> TtlCache<K, V, A> {
+    /// What every cache keeps.
+    pub fn law(&self)
+        ensures { IsCache K.eq self.now }
+    {
+        let _ = &self.moment;
+        self.timers.law();
+    }
+
+    /// How many keys are kept, seen or due.
+    pub fn len(&self) -> usize
+        ensures { result ≡ kept_count self.now }
+    {
+        let _ = &self.moment;
+        self.timers.len()
+    }
+
+    /// Whether no key is kept.
+    pub fn is_empty(&self) -> bool
+        ensures { IsTrue result ↔ (kept_count self.now ≡ 0) }
+    {
+        self.len() == 0
+    }
+
+    /// How many keys may be kept at once, while no slot is worn.
+    pub fn capacity(&self) -> usize
+        ensures { result ≡ length self.now.slots }
+    {
+        let _ = &self.moment;
+        self.timers.capacity()
+    }
+
+    /// The value at a key, where its deadline is later than `now` and than the moment.
+    pub fn get(&self, key: &K, now: u64) -> Option<&V>
+        ensures { option_copied result ≡ value_seen K.eq self.now key.now now }
+    {
+        let Some(kept) = self.stock.get(key) else {
+            return None;
+        };
+        if now.max(self.moment) < kept.deadline {
+            Some(&kept.value)
+        } else {
+            None
+        }
+    }
+
+    /// Whether a value is seen at a key.
+    pub fn contains(&self, key: &K, now: u64) -> bool
+        ensures { result ≡ is_some (value_seen K.eq self.now key.now now) }
+    {
+        self.get(key, now).is_some()
+    }
+
+    /// What is seen at `now`: each key with its value, once, in no order that is promised. It goes over all that is kept.
+    pub fn seen(&self, now: u64) -> Seen<'_, K, V>
+        ensures { IsAllSeen K.eq self.now now result }
+    {
+        Seen {
+            entries: self.stock.iter(),
+            moment: now.max(self.moment),
+        }
+    }
+
+    /// The least deadline of what is kept, seen or due: before it a purge has nothing to drop. None where nothing is kept.
+    pub fn next_deadline(&self) -> Option<u64>
+        ensures { TellsNextDeadline self.now result }
+    {
+        let _ = &self.moment;
+        match self.timers.first_deadline() {
+            Some(deadline) => Some(deadline),
+            None => least_deadline(&self.stock),
+        }
+    }
+}

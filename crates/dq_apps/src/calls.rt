@@ -1,0 +1,98 @@
+//! The calls that change a cache. The first clause of each is exact; those behind it say what is seen then.
+ghost use Rattle.std.specs.Prelude.{◌≡◌, ℕ, ◌+◌, true, None, IfOk, IfErr, OnOk, OnErr, IsSomeAnd};
+ghost use Rattle.dq_apps.specs.Cache.{moment_at, value_seen};
+ghost use Rattle.dq_apps.specs.Calls.{Takes, Renews, Puts, Purges};
+ghost use Rattle.dq_apps.specs.AtTheCall.{IsSeenUntil, IsGone, KeepsSeen, KeepsOthers};
+ghost use Rattle.dq_apps.specs.AtTheCall.{NoneDueNow, kept_count};
+
+use crate::cache::TtlCache;
+use dq_core::CoreError;
+use std::alloc::Allocator;
+use std::hash::Hash;
+
+impl<K: Eq + Hash + Drop, V: Drop, A: Allocator> TtlCache<K, V, A> {
+    /// Puts a value at a key until `now + ttl`, or the moment's where that is later: the moment is set, and what is due then
+    /// is dropped. A key that is kept keeps its slot, and its old value is handed back. Constant time, but for what is
+    /// dropped and for a growth of the map.
+    ///
+    /// Refused as TickTooLarge for a `now` beyond the last tick and as TooFar for a deadline beyond it, and then nothing
+    /// changes; and, when the moment is set and what is due is dropped, as Worn for a key that is kept and whose slot has
+    /// no stamp left, as Full for one that isn't and for which no slot is free, and as NoMemory. Key and value come back.
+    pub fn put(
+        &mut self,
+        key: K,
+        value: V,
+        ttl: u64,
+        now: u64,
+    ) -> Result<Option<V>, (CoreError, K, V)>
+    where
+        K: Clone,
+        A: Clone,
+        requires clones { (k : K) → K.is_clone key k → K.eq key k ≡ true }
+        ensures puts { Puts K.eq self.old key value ttl now result self.new }
+
+        // The value is seen until its deadline, and the one that was seen before comes back.
+        ensures seen { OnOk result
+            (IsSeenUntil K.eq self.new key value (moment_at self.old now + ttl)) }
+        ensures old { IfOk result (λ old. old ≡ value_seen K.eq self.old key now) }
+
+        // At other keys the same is seen; and at all keys, where the put is refused.
+        ensures others { KeepsOthers K.eq self.old self.new key now }
+        ensures refused { IfErr result
+            (λ e. (e.1 ≡ key) × (e.2 ≡ value) × KeepsSeen K.eq self.old self.new now) }
+    {
+        self.law();
+        self.put_at(key, value, ttl, now)
+    }
+
+    /// Takes out the value at a key that is seen at `now`. The moment stays. Constant time.
+    pub fn take(&mut self, key: &K, now: u64) -> Option<V>
+        ensures takes { Takes K.eq self.old key.now (moment_at self.old now) result self.new }
+
+        // What was seen comes out, and is gone.
+        ensures taken { result ≡ value_seen K.eq self.old key.now now }
+        ensures gone { IsGone K.eq self.new key.now now }
+
+        // At other keys the same is seen, at every tick.
+        ensures others { KeepsOthers K.eq self.old self.new key.now 0 }
+        ensures moment { self.new.moment ≡ self.old.moment }
+    {
+        self.law();
+        self.take_seen(key, now)
+    }
+
+    /// Gives a key that is seen at `now` the deadline `now + ttl`, or the moment's where that is later, and answers it; the
+    /// moment is set. Constant time.
+    ///
+    /// Refused, and then nothing changes, as TickTooLarge for a `now` beyond the last tick, as TooFar for a deadline beyond
+    /// it, as Missing where the key isn't seen, and as Worn where its slot has no stamp left.
+    pub fn renew(&mut self, key: &K, ttl: u64, now: u64) -> Result<u64, CoreError>
+        ensures renews { Renews K.eq self.old key.now ttl now result self.new }
+
+        // What was seen is seen until its new deadline.
+        ensures deadline { IfOk result (λ d. d ≡ moment_at self.old now + ttl) }
+        ensures seen { IfOk result (λ d. IsSomeAnd (value_seen K.eq self.old key.now now)
+            (λ v. IsSeenUntil K.eq self.new key.now v d)) }
+
+        // At other keys the same is seen. A refusal changes nothing.
+        ensures others { KeepsOthers K.eq self.old self.new key.now now }
+        ensures refused { OnErr result (self.new ≡ self.old) }
+    {
+        self.law();
+        self.renew_seen(key, ttl, now)
+    }
+
+    /// Sets the moment, drops all that is due then, and answers how much. Time as what is dropped. Refused as TickTooLarge
+    /// beyond the last tick, and then nothing changes.
+    pub fn purge(&mut self, now: u64) -> Result<usize, CoreError>
+        ensures purges { Purges self.old now result self.new }
+
+        // What is dropped is counted, and was due.
+        ensures dropped { IfOk result (λ n. kept_count self.new + n ≡ kept_count self.old) }
+        ensures rest { OnOk result (NoneDueNow self.new) }
+        ensures seen { KeepsSeen K.eq self.old self.new now }
+        ensures refused { OnErr result (self.new ≡ self.old) }
+    {
+        self.purge_at(now)
+    }
+}

@@ -1,0 +1,10 @@
+//! The worked cases of the queue over plain words and over shared ones, of shared words alone, threads and refused memory.
+
+mod cases;
+mod makings;
+mod queues;
+mod race;
+mod sent;
+mod step;
+mod words;
+mod worked;

@@ -1,0 +1,142 @@
+// A caller that extends, a caller that cancels and the keeper's own queue, each in a thread of its own.
+use super::queues::over_shared;
+use dq_core::{CoreError, DelayCore, Turn};
+use dq_ticks::{Key, LAST_STAMP};
+use dq_words::{Caller, Keeper};
+use std::process::Abort;
+use std::test::Fail;
+use std::thread::{Threads, join};
+
+const ENTRIES: usize = 200;
+
+// By the deadline that an entry was inserted with: the deadline of an answer, 0 where there is none.
+type Answers = [u64; ENTRIES + 1];
+
+type Core = DelayCore<usize, Keeper>;
+
+// Extends each entry of an even deadline by 1000.
+fn extend_even(caller: &mut Caller, keys: &[Key]) -> Answers {
+    let mut answers = [0; ENTRIES + 1];
+    for (i, key) in keys.iter().enumerate() {
+        if i < ENTRIES && i % 2 == 1 {
+            answers[i + 1] = caller.extend(key, i as u64 + 1001).unwrap_or(0);
+        }
+    }
+    answers
+}
+
+// Cancels each entry whose deadline is a multiple of 5.
+fn cancel_fifths(caller: &mut Caller, keys: &[Key]) -> Answers {
+    let mut answers = [0; ENTRIES + 1];
+    for (i, key) in keys.iter().enumerate() {
+        if i < ENTRIES && i % 5 == 4 {
+            answers[i + 1] = caller.cancel(key).unwrap_or(0);
+        }
+    }
+    answers
+}
+
+// Polls at 2000 until nothing is linked. An entry's value is the deadline that it was inserted with.
+fn poll_all(core: &mut Core) -> Option<Answers> {
+    let mut answers = [0; ENTRIES + 1];
+    for _ in 0..100_000_000u64 {
+        match core.poll(2000).ok()? {
+            Turn::Out(entry) if entry.value <= ENTRIES && entry.deadline <= entry.noted => {
+                answers[entry.value] = entry.deadline;
+            }
+            Turn::Idle => return Some(answers),
+            Turn::Out(_) | Turn::Waiting { .. } => return None,
+        }
+    }
+    None
+}
+
+// The key of a new entry of a deadline, which is its value too.
+fn insert_at(core: &mut Core, deadline: usize) -> Result<Key, CoreError> {
+    core.insert(deadline, deadline as u64)
+        .map_err(|refused| refused.0)
+}
+
+// An entry at each deadline from 1 to 200, and their keys in that order.
+fn fill(core: &mut Core, keys: &mut Vec<Key>) -> Result<(), Fail> {
+    for deadline in 1..=ENTRIES {
+        let key = insert_at(core, deadline)?;
+        keys.push(key)?;
+    }
+    Ok(())
+}
+
+// An entry whose extend was answered came out at the deadline that it was extended to, one whose cancel was answered gave up
+// that deadline and didn't come out.
+fn agree(rt: &impl Abort, extended: &Answers, cancelled: &Answers, expired: &Answers) {
+    for deadline in 1..=ENTRIES {
+        let own = deadline as u64;
+        let due = if extended[deadline] > 0 {
+            own + 1000
+        } else {
+            own
+        };
+        let answers = if cancelled[deadline] > 0 {
+            (0, due)
+        } else {
+            (due, 0)
+        };
+        assert_eq!(rt; (expired[deadline], cancelled[deadline]), answers);
+    }
+}
+
+// Nothing is live, and what was inserted expired or was cancelled.
+fn adds_up(rt: &impl Abort, core: &mut Core, cancels: u64) {
+    assert_eq!(rt; core.returned(), Ok(cancels));
+    let tally = core.tally();
+    assert_eq!(rt;
+        (tally.inserted, tally.removed, tally.cancelled, tally.linked),
+        (200, 0, cancels, 0)
+    );
+    assert_eq!(rt; tally.expired.checked_add(cancels), Some(200));
+}
+
+// What the three threads answer: the extends and the cancels, and the polls.
+fn race<R: Threads + Sync>(
+    rt: &R,
+    core: &mut Core,
+    extender: &mut Caller,
+    canceller: &mut Caller,
+    keys: &[Key],
+) -> ((Answers, Answers), Option<Answers>) {
+    join(
+        rt,
+        || {
+            join(
+                rt,
+                || extend_even(extender, keys),
+                || cancel_fifths(canceller, keys),
+            )
+        },
+        || poll_all(core),
+    )
+}
+
+#[test]
+fn extends_and_cancels_race_with_polls(rt: HostRuntime) -> Result<(), Fail> {
+    let mut core: Core = over_shared(rt.alloc(), 256, LAST_STAMP)?;
+    let mut extender = core.issue()?;
+    let mut canceller = core.issue()?;
+    let mut keys = Vec::with_capacity(rt.alloc(), ENTRIES)?;
+    fill(&mut core, &mut keys)?;
+    let ((extended, cancelled), expired) = race(
+        &rt,
+        &mut core,
+        &mut extender,
+        &mut canceller,
+        &keys,
+    );
+    let Some(expired) = expired else {
+        panic!(rt; "the polls came to no end, or an entry came out before its deadline")
+    };
+    agree(&rt, &extended, &cancelled, &expired);
+    let cancels = cancelled.iter().filter(|answer| **answer > 0).count() as u64;
+    assert_eq!(rt; (canceller.give_back(), extender.give_back()), (cancels, 0));
+    adds_up(&rt, &mut core, cancels);
+    Ok(())
+}

@@ -1,0 +1,188 @@
+//! The free indexes of a row of slots.
+//!
+//! The indexes that were freed last stand on a small stack and are given first: their rows are still near. All others are
+//! bits of words, with a bit of a summary for each word that isn't 0, and are given in rising order from where the last
+//! was given, so that a fill walks through the memory in its order. The stack also serves a queue that is nearly full,
+//! where the few free bits would lie far apart. Each call takes constant time.
+ghost use Rattle.std.specs.Prelude.{◌≡◌, ◌≢◌, ℕ, ◌+◌, ◌*◌, ◌/◌, ◌%◌, ◌<◌, ◌≤◌, ◌↔◌, length, slice_index, IfOk, MatchOption};
+ghost use Rattle.std.specs.Int.{bit_at};
+ghost use Rattle.dq_core.specs.FreeSlots.{FreeIndexes, free_times, room_of, bit_of, GivesBack, Takes, IsSummed};
+
+use std::alloc::{AllocError, Allocator, Global};
+use std::marker::Model;
+
+/// How many of the indexes that were freed last stand on the stack.
+const RECENT: usize = 64;
+
+/// The bits of a word.
+const BITS: usize = 64;
+
+/// A bit for each of 1,024 words.
+type Summary = [u64; 16];
+
+/// Which indexes are free.
+#[derive(Drop)]
+pub struct FreeSlots<A: Allocator = Global> {
+    recent: Vec<u16, A>,
+    bits: Vec<u64, A>,
+    summary: Summary,
+    /// The word that gave the last index.
+    last: usize,
+}
+
+impl<A: Allocator> Model for FreeSlots<A> {
+    ghost use Rattle.std.specs.Prelude.{vec_capacity};
+    ghost use Rattle.dq_core.specs.FreeSlots.{FreeIndexes, IsFreeKept};
+
+    ghost Value = { FreeIndexes };
+
+    ghost view = { λ a. record { recent = a.recent.items; bits = a.bits.items } };
+
+    ghost invariant = { λ a. IsFreeKept a.bits.items a.summary a.last (vec_capacity a.recent) };
+}
+
+/// The place of the lowest bit of a word that is 1.
+fn lowest_bit(word: u64) -> Option<usize>
+    ensures { MatchOption result (word ≡ 0) (λ k. (k < 64) × (bit_at word k ≡ 1)) }
+{
+    if word == 0 {
+        None
+    } else {
+        Some(word.trailing_zeros() as usize)
+    }
+}
+
+/// A word that the summary has a bit for: in rising order from `from`, and then again from the first.
+fn next_word(summary: &Summary, from: usize) -> Option<usize>
+    requires { from < 1024 }
+    ensures { MatchOption result
+        ((w : ℕ) → w < 1024 → bit_of summary.now w ≢ 1)
+        (λ w. (w < 1024) × (bit_of summary.now w ≡ 1)) }
+{
+    let group = from / BITS;
+    if let Some(ahead) = lowest_bit(summary[group] >> (from % BITS)) {
+        return Some(from + ahead);
+    }
+    for turn in 0..16 {
+        let next = (group + 1 + turn) % 16;
+        if let Some(bit) = lowest_bit(summary[next]) {
+            return Some(BITS * next + bit);
+        }
+    }
+    None
+}
+
+/// A word of bits that isn't 0: the one that gave the last index, or the next that the summary knows.
+#[inline]
+fn filled_word(bits: &[u64], summary: &Summary, last: usize) -> Option<usize>
+    requires last { last < length bits.now }
+    requires size { length bits.now ≤ 1024 }
+    requires summed { IsSummed bits.now summary.now }
+    ensures { MatchOption result
+        ((w : ℕ) → slice_index bits.now w ≡ 0)
+        (λ w. (w < length bits.now) × (0 < slice_index bits.now w)) }
+{
+    if bits[last] != 0 {
+        Some(last)
+    } else {
+        next_word(summary, last)
+    }
+}
+
+/// Sets the bit of an index, and that of its word in the summary.
+#[inline]
+fn set_bit(bits: &mut [u64], summary: &mut Summary, index: usize)
+    requires room { index < 64 * length bits.old }
+    requires size { length bits.old ≤ 1024 }
+    requires summed { IsSummed bits.old summary.old }
+    ensures set { bit_of bits.new index ≡ 1 }
+    ensures others { (i : ℕ) → i ≢ index → bit_of bits.new i ≡ bit_of bits.old i }
+    ensures summed { IsSummed bits.new summary.new }
+{
+    let word = index / BITS;
+    bits[word] |= 1 << (index % BITS);
+    summary[word / BITS] |= 1 << (word % BITS);
+}
+
+/// Clears the lowest bit of a word that isn't 0, and the word's bit in the summary where it was its only one.
+#[inline]
+fn take_bit(bits: &mut [u64], summary: &mut Summary, word: usize) -> usize
+    requires word_in { word < length bits.old }
+    requires size { length bits.old ≤ 1024 }
+    requires filled { 0 < slice_index bits.old word }
+    requires summed { IsSummed bits.old summary.old }
+    ensures room { result < 64 * length bits.old }
+    ensures was_set { bit_of bits.old result ≡ 1 }
+    ensures cleared { bit_of bits.new result ≡ 0 }
+    ensures others { (i : ℕ) → i ≢ result → bit_of bits.new i ≡ bit_of bits.old i }
+    ensures summed { IsSummed bits.new summary.new }
+{
+    let held = bits[word];
+    let bit = held.trailing_zeros() as usize;
+    let left = held & !(1 << bit);
+    bits[word] = left;
+    if left == 0 {
+        summary[word / BITS] &= !(1 << (word % BITS));
+    }
+    BITS * word + bit
+}
+
+impl<A: Allocator + Clone> FreeSlots<A> {
+    ghost use Rattle.dq_ticks.specs.declared.TheConstants.{CAPACITY_LIMIT};
+
+    /// Room for the indexes below `capacity`, of which none is free.
+    pub fn new(alloc: A, capacity: usize) -> Result<FreeSlots<A>, AllocError>
+        requires { capacity ≤ CAPACITY_LIMIT }
+        ensures { IfOk result (λ f. (capacity ≤ room_of f) × ((i : ℕ) → free_times f i ≡ 0)) }
+    {
+        let recent = Vec::with_capacity(alloc.clone()?, RECENT)?;
+        let words = capacity.saturating_sub(1) / BITS + 1;
+        let bits = vec![in alloc; 0; words]?;
+        Ok(FreeSlots {
+            recent,
+            bits,
+            summary: [0; 16],
+            last: 0,
+        })
+    }
+}
+
+impl<A: Allocator> FreeSlots<A> {
+    /// Frees an index, to be given in its order.
+    pub fn set(&mut self, index: usize)
+        requires room { index < room_of self.old }
+        requires held { free_times self.old index ≡ 0 }
+        ensures { GivesBack self.old index self.new }
+    {
+        set_bit(self.bits.as_mut_slice(), &mut self.summary, index);
+    }
+
+    /// Frees an index, to be given soon.
+    #[inline]
+    pub fn give(&mut self, index: usize)
+        requires room { index < room_of self.old }
+        requires held { free_times self.old index ≡ 0 }
+        ensures { GivesBack self.old index self.new }
+    {
+        if self.recent.len() < RECENT {
+            self.recent.push_reserved(index as u16);
+        } else {
+            self.set(index);
+        }
+    }
+
+    /// Takes a free index, if there is one.
+    #[inline]
+    pub fn take(&mut self) -> Option<usize>
+        ensures { Takes self.old result self.new }
+    {
+        if let Some(top) = self.recent.pop() {
+            return Some(top as usize);
+        }
+        let Some(word) = filled_word(&self.bits, &self.summary, self.last) else {
+            return None;
+        };
+        self.last = word;
+        Some(take_bit(self.bits.as_mut_slice(), &mut self.summary, word))
+    }
+}

@@ -1,0 +1,5 @@
+pub mod Auditing
+pub mod Headline
+pub mod Parking
+pub mod Refusing
+pub mod Summing

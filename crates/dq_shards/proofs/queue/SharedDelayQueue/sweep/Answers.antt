@@ -1,0 +1,6 @@
+use Rattle.dq_shards.proofs.queue.SharedDelayQueue.sweep.Goals as goal
+
+pub returns : goal.returns
+returns g c =
+    let entered = c.in_ok-shard.ensures.entered in
+    (entered.0, (_, _, entered.1, c.law.ensures, c.sweep-reaped.ensures))

@@ -1,0 +1,82 @@
+-- What the calls of a shard's state do, as relations between its states.
+use Rattle.std.specs.Prelude.{◌≡◌, ℕ, Bool, true, is_some, None, Result}
+use Rattle.dq_ticks.specs.declared.keys.Key.{Key}
+use Rattle.dq_ticks.specs.declared.keys.EntryId.{EntryId}
+use Rattle.dq_core.specs.declared.errors.CoreError.{CoreError}
+use Rattle.dq_core.specs.declared.outcomes.Removed.{Removed}
+use Rattle.dq_core.specs.declared.outcomes.Turn.{Turn}
+use Rattle.dq_core.specs.Calls.{SameCore, Inserts, Resets, Removes, Polls, TellsDeadline}
+use Rattle.dq_core.specs.Sweeps.{Sweeps, Clears}
+use Rattle.dq_core.specs.Readers.{with_words}
+use Rattle.dq_words.specs.Seats.{Sat}
+use Rattle.dq_words.specs.declared.keeper.WordsError.{WordsError}
+use Rattle.dq_words.specs.KeeperCalls.{Issues, Tells}
+use Rattle.dq_shards.specs.Parking.{is_due, after_ring}
+use Rattle.dq_shards.specs.Shard.{ShardView, IsShard, Settles}
+
+module _ {T : Type 0} where
+  -- the keeper sits at the same table
+  abbrev pub SameTable : ShardView T → ShardView T → Type 0
+  SameTable old new = new.core.words.table ≡ old.core.words.table
+
+  -- a call of the queue, after which the poller is settled
+  abbrev pub Changes : ShardView T → ShardView T → Type 0
+  Changes old new =
+      SameCore old.core new.core × SameTable old new × Settles new.core old.parked new.parked
+
+  abbrev pub ShardInserts : ShardView T → T → ℕ → Result Key (CoreError × T) → ShardView T → Type 0
+  ShardInserts old value when result new =
+      Inserts old.core value when result new.core × Changes old new
+
+  abbrev pub ShardResets : ShardView T → EntryId → ℕ → Result Key CoreError → ShardView T → Type 0
+  ShardResets old id when result new =
+      Resets true old.core id when result new.core × Changes old new
+
+  abbrev pub ShardRemoves : ShardView T → EntryId → Result (Removed T) CoreError → ShardView T → Type 0
+  ShardRemoves old id result new = Removes true old.core id result new.core × Changes old new
+
+  abbrev pub ShardPolls : ShardView T → ℕ → Result (Turn T) CoreError → ShardView T → Type 0
+  ShardPolls old tick result new = Polls true old.core tick result new.core × Changes old new
+
+  abbrev pub ShardSweeps : ShardView T → ℕ → ShardView T → Type 0
+  ShardSweeps old n new = Sweeps true old.core n new.core × Changes old new
+
+  abbrev pub ShardClears : ShardView T → ℕ → ShardView T → Type 0
+  ShardClears old n new = Clears true old.core n new.core × Changes old new
+
+  -- a look at an entry leaves the poller
+  abbrev pub ShardDeadline : ShardView T → EntryId → Result ℕ CoreError → ShardView T → Type 0
+  ShardDeadline old id result new =
+      TellsDeadline true old.core id result new.core
+      × SameCore old.core new.core × SameTable old new
+      × (new.parked ≡ old.parked)
+
+  -- unpark answers whether a poller was parked, and leaves none
+  abbrev pub Unparks : ShardView T → Bool → ShardView T → Type 0
+  Unparks old result new =
+      (result ≡ is_some old.parked) × (new ≡ record old { parked = None })
+
+  -- a ring at a tick takes out a poller that is parked at or before it
+  abbrev pub Rings : ShardView T → ℕ → Bool → ShardView T → Type 0
+  Rings old tick result new =
+      (result ≡ is_due old.parked tick)
+      × (new ≡ record old { parked = after_ring old.parked tick })
+
+  -- the shard with other words that are known alike
+  abbrev pub with_keeper : ShardView T → Sat → ShardView T
+  with_keeper s w = record { core = with_words s.core w; parked = s.parked }
+
+  -- one caller more, or its refusal
+  abbrev pub ShardIssues : ShardView T → Result Sat WordsError → ShardView T → Type 0
+  ShardIssues old result new =
+      Issues old.core.words result new.core.words × (new ≡ with_keeper old new.core.words)
+
+  -- how many callers are out
+  abbrev pub ShardTells : ShardView T → ℕ → ShardView T → Type 0
+  ShardTells old out new =
+      Tells old.core.words out new.core.words × (new ≡ with_keeper old new.core.words)
+
+  -- a call gives an answer on some state that every shard may have
+  abbrev pub OnSome : {R : Type 0} → (ShardView T → R → ShardView T → Type 0) → R → Type 0
+  OnSome {R} gives result =
+      (old : ShardView T) × (new : ShardView T) × IsShard old × IsShard new × gives old result new

@@ -1,0 +1,10 @@
+pub mod Answers
+pub mod Audits
+pub mod Changes
+pub mod Endings
+pub mod Handles
+pub mod Issuing
+pub mod Parking
+pub mod Refusals
+pub mod Shard
+pub mod Sums

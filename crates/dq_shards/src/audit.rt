@@ -1,0 +1,89 @@
+//! The totals of all shards.
+ghost use Rattle.std.specs.Prelude.{◌<◌, ◌≤◌, ◌*◌};
+ghost use Rattle.dq_words.specs.Counts.{most_begins};
+ghost use Rattle.dq_shards.specs.Changes.{OnSome};
+ghost use Rattle.dq_shards.specs.Audits.{AddUp, FewInserted, IsSum, EndsAreBegun, AreTotalsOf, ShardAudits, QueueAudits};
+
+use crate::queue::SharedDelayQueue;
+use crate::state::ShardState;
+use crate::totals::{HandlesOut, Totals};
+use dq_core::Tally;
+use std::alloc::Allocator;
+use std::sync::Wait;
+
+const NOTHING: Totals = Totals {
+    inserted: 0,
+    expired: 0,
+    removed: 0,
+    cancelled: 0,
+    live: 0,
+};
+
+fn sum(one: &Totals, other: &Totals) -> Totals
+    requires sums { AddUp one.now × AddUp other.now }
+    requires few { (one.now.inserted ≤ 64 * most_begins) × FewInserted other.now }
+    ensures { IsSum one.now other.now result }
+{
+    Totals {
+        inserted: one.inserted + other.inserted,
+        expired: one.expired + other.expired,
+        removed: one.removed + other.removed,
+        cancelled: one.cancelled + other.cancelled,
+        live: one.live + other.live,
+    }
+}
+
+// The totals of a shard's tally, where callers accepted so many cancels.
+fn totals_of(tally: &Tally, cancelled: u64) -> Totals
+    requires { EndsAreBegun tally.now cancelled }
+    ensures { AreTotalsOf tally.now cancelled result }
+{
+    Totals {
+        inserted: tally.inserted,
+        expired: tally.expired,
+        removed: tally.removed,
+        cancelled,
+        live: tally.inserted - tally.expired - tally.removed - cancelled,
+    }
+}
+
+impl<T: Drop, A: Allocator> ShardState<T, A> {
+    /// The totals, where every caller is given back: what was inserted is what expired, was removed, was cancelled (reaped
+    /// or not) and is live. Refused with the number of callers that are out.
+    pub fn audit(&mut self) -> Result<Totals, HandlesOut>
+        ensures { ShardAudits self.old result self.new }
+    {
+        let tally = self.core.tally();
+        match self.core.returned() {
+            Ok(cancelled) => Ok(totals_of(&tally, cancelled)),
+            Err(out) => Err(HandlesOut { out }),
+        }
+    }
+}
+
+impl<T: Drop, A: Allocator> SharedDelayQueue<T, A> {
+    // The totals of one shard.
+    fn audit_of<R: Wait>(&self, rt: &R, shard: usize) -> Result<Totals, HandlesOut>
+        requires { shard < self.now }
+        ensures { OnSome {T = T} ShardAudits result }
+    {
+        let mut shard = self.lock(rt, shard);
+        let audited = shard.audit();
+        shard.law();
+        audited
+    }
+
+    /// The totals of all shards, each taken under its own lock, where every caller of every handle is given back. Refused
+    /// with the number that is out by the first shard that has one.
+    ///
+    /// A handle that was dropped and not given back is out for good: then no audit tells totals any more.
+    pub fn audit<R: Wait>(&self, rt: &R) -> Result<Totals, HandlesOut>
+        ensures { QueueAudits T self.now result }
+    {
+        let mut sums = NOTHING;
+        for shard in 0..self.shards() {
+            sums = sum(&sums, &self.audit_of(rt, shard)?);
+        }
+        Ok(sums)
+    }
+}

@@ -1,0 +1,181 @@
+//! The calls of a queue of shards by name: each takes one shard's lock and makes the state's call.
+ghost use Rattle.std.specs.Prelude.{◌≡◌, option_map};
+ghost use Rattle.dq_core.specs.Calls.{TellsWake};
+ghost use Rattle.dq_core.specs.Readers.{IsTally};
+ghost use Rattle.dq_shards.specs.Answers.{in_shard, OnShard, OnShardOr, QueueInserts};
+ghost use Rattle.dq_shards.specs.Changes.{ShardResets, ShardRemoves, ShardDeadline, ShardPolls, ShardSweeps, ShardClears, Rings};
+
+use crate::errors::QueueError;
+use crate::queue::SharedDelayQueue;
+use dq_core::{Removed, Tally, Turn};
+use dq_ticks::{EntryId, Key};
+use std::alloc::Allocator;
+use std::sync::Wait;
+
+// The same key in another shard.
+fn to_shard(key: Key, shard: u32) -> Key
+    ensures { result ≡ in_shard key shard }
+{
+    let entry = key.entry();
+    Key::new(
+        EntryId::new(shard, entry.index(), entry.born()),
+        key.stamp(),
+    )
+}
+
+impl<T: Drop, A: Allocator> SharedDelayQueue<T, A> {
+    /// Puts an entry into the shard `route` modulo the number of shards, as [`ShardState::insert`] does, and answers its key
+    /// there. Refused as TooFar and as Full; the value comes back then.
+    pub fn insert<R: Wait>(
+        &self,
+        rt: &R,
+        route: u64,
+        value: T,
+        when: u64,
+    ) -> Result<Key, (QueueError, T)>
+        ensures { QueueInserts self.now route value when result }
+    {
+        let shard = route % self.shards() as u64;
+        let mut state = self.lock(rt, shard as usize);
+        let answer = state.insert(value, when);
+        state.law();
+        match answer {
+            Ok(key) => Ok(to_shard(key, shard as u32)),
+            Err((e, value)) => Err((QueueError::Core(e), value)),
+        }
+    }
+
+    /// As [`ShardState::reset`], and refused as Unknown for a shard out of range, before all else.
+    pub fn reset<R: Wait>(&self, rt: &R, entry: &EntryId, when: u64) -> Result<Key, QueueError>
+        ensures { OnShardOr {T = T} self.now entry.now.shard
+            (λ old r new. ShardResets old entry.now when r new) result }
+    {
+        let mut shard = self.enter(rt, entry.shard() as usize)?;
+        let answer = shard.reset(entry, when);
+        shard.law();
+        match answer {
+            Ok(key) => Ok(key),
+            Err(e) => Err(QueueError::Core(e)),
+        }
+    }
+
+    /// As [`ShardState::remove`], and refused as Unknown for a shard out of range, before all else.
+    pub fn remove<R: Wait>(&self, rt: &R, entry: &EntryId) -> Result<Removed<T>, QueueError>
+        ensures { OnShardOr {T = T} self.now entry.now.shard
+            (λ old r new. ShardRemoves old entry.now r new) result }
+    {
+        let mut shard = self.enter(rt, entry.shard() as usize)?;
+        let answer = shard.remove(entry);
+        shard.law();
+        match answer {
+            Ok(removed) => Ok(removed),
+            Err(e) => Err(QueueError::Core(e)),
+        }
+    }
+
+    /// As [`ShardState::deadline`], and refused as Unknown for a shard out of range, before all else.
+    pub fn deadline<R: Wait>(&self, rt: &R, entry: &EntryId) -> Result<u64, QueueError>
+        ensures { OnShardOr {T = T} self.now entry.now.shard
+            (λ old r new. ShardDeadline old entry.now r new) result }
+    {
+        let mut shard = self.enter(rt, entry.shard() as usize)?;
+        let answer = shard.deadline(entry);
+        shard.law();
+        match answer {
+            Ok(deadline) => Ok(deadline),
+            Err(e) => Err(QueueError::Core(e)),
+        }
+    }
+
+    /// As [`ShardState::poll`], and refused as Unknown for a shard out of range, before all else.
+    ///
+    /// Each call takes the shard's lock. Whoever wants many entries out polls in a loop under one lock, by
+    /// [`SharedDelayQueue::lend`]:
+    ///
+    /// ```ignore
+    /// let out = queue.lend(&rt, shard, |state| {
+    ///     let mut out = 0;
+    ///     for _ in 0..state.len() {
+    ///         let Ok(Turn::Out(expired)) = state.poll(tick) else {
+    ///             break;
+    ///         };
+    ///         deliver(expired.value);
+    ///         out += 1;
+    ///     }
+    ///     out
+    /// })?;
+    /// ```
+    pub fn poll<R: Wait>(&self, rt: &R, shard: usize, tick: u64) -> Result<Turn<T>, QueueError>
+        ensures { OnShardOr {T = T} self.now shard
+            (λ old r new. ShardPolls old tick r new) result }
+    {
+        let mut shard = self.enter(rt, shard)?;
+        let answer = shard.poll(tick);
+        shard.law();
+        match answer {
+            Ok(turn) => Ok(turn),
+            Err(e) => Err(QueueError::Core(e)),
+        }
+    }
+
+    /// As [`ShardState::next_wake`]. Refused as Unknown for a shard out of range.
+    pub fn next_wake<R: Wait>(&self, rt: &R, shard: usize) -> Result<Option<u64>, QueueError>
+        ensures { OnShard {T = T} self.now shard
+            (λ old r new. TellsWake new.core r × (new ≡ old)) result }
+    {
+        let shard = self.enter(rt, shard)?;
+        Ok(shard.next_wake())
+    }
+
+    /// As [`ShardState::sweep`]. Refused as Unknown for a shard out of range.
+    pub fn sweep<R: Wait>(&self, rt: &R, shard: usize) -> Result<usize, QueueError>
+        ensures { OnShard {T = T} self.now shard
+            (λ old r new. ShardSweeps old r new) result }
+    {
+        let mut shard = self.enter(rt, shard)?;
+        let reaped = shard.sweep();
+        shard.law();
+        Ok(reaped)
+    }
+
+    /// As [`ShardState::clear`]. Refused as Unknown for a shard out of range.
+    pub fn clear<R: Wait>(&self, rt: &R, shard: usize) -> Result<usize, QueueError>
+        ensures { OnShard {T = T} self.now shard
+            (λ old r new. ShardClears old r new) result }
+    {
+        let mut shard = self.enter(rt, shard)?;
+        let removed = shard.clear();
+        shard.law();
+        Ok(removed)
+    }
+
+    /// As [`ShardState::tally`]. Refused as Unknown for a shard out of range.
+    pub fn tally<R: Wait>(&self, rt: &R, shard: usize) -> Result<Tally, QueueError>
+        ensures { OnShard {T = T} self.now shard
+            (λ old r new. IsTally new.core r × (new ≡ old)) result }
+    {
+        let shard = self.enter(rt, shard)?;
+        Ok(shard.tally())
+    }
+
+    /// Takes out and wakes a poller that is parked at or before `tick`. True where there was one. Refused as Unknown for a
+    /// shard out of range.
+    pub fn ring<R: Wait>(&self, rt: &R, shard: usize, tick: u64) -> Result<bool, QueueError>
+        ensures { OnShard {T = T} self.now shard
+            (λ old r new. Rings old tick r new) result }
+    {
+        let mut shard = self.enter(rt, shard)?;
+        let rung = shard.ring(tick);
+        shard.law();
+        Ok(rung)
+    }
+
+    /// The tick until which a poller is parked. Refused as Unknown for a shard out of range.
+    pub fn parked<R: Wait>(&self, rt: &R, shard: usize) -> Result<Option<u64>, QueueError>
+        ensures { OnShard {T = T} self.now shard
+            (λ old r new. (r ≡ option_map (λ p. p.next) old.parked) × (new ≡ old)) result }
+    {
+        let shard = self.enter(rt, shard)?;
+        Ok(shard.parked())
+    }
+}

@@ -1,0 +1,28 @@
+//! The headline of the shards: each inserted entry ends exactly once or is still queued, and expires only at its deadline
+//! in force, at a tick already noted.
+ghost use Rattle.dq_words.specs.declared.views.View.{View};
+ghost use Rattle.dq_shards.specs.Endings.{OutsAreInForce, EveryEntryEndsOnce, InsertsAreGiven};
+
+use dq_words::endings;
+
+/// Whatever a poll of a shard's state gives out ended as expired at its deadline in force, at a tick already noted.
+pub fn outs_are_in_force<T>()
+    ensures { OutsAreInForce T }
+{
+    endings::ends_are_in_force();
+}
+
+/// Each entry that a shard's keeper ever began ended exactly once, or is live.
+pub fn entries_end_once()
+    ensures { (w : View) → EveryEntryEndsOnce w }
+{
+    endings::entries_end_once();
+}
+
+/// The stamp of each key that an insert answers was given once, and ended once, or was cancelled once, or its word is
+/// live.
+pub fn inserts_are_given<T>()
+    ensures { InsertsAreGiven T }
+{
+    endings::stamps_end_once();
+}

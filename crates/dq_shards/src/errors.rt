@@ -1,0 +1,48 @@
+//! Why a call of a queue of shards is refused, and what a queue is made by.
+ghost use Rattle.std.specs.Prelude.{◌≡◌};
+ghost use Rattle.dq_ticks.specs.declared.TheConstants.{LAST_STAMP};
+
+use dq_core::CoreError;
+use dq_ticks::LAST_STAMP;
+use thiserror::Error;
+
+/// What a queue of shards is made by.
+#[derive(Clone, Copy, Debug, PartialEq, Eq)]
+pub struct QueueConfig {
+    /// The number of shards, from 1 to 64.
+    pub shards: usize,
+    /// The number of slots of each shard, from 1 to 65536.
+    pub capacity: usize,
+    /// The stamp after which a slot is worn, from 1 to the last stamp of a word.
+    pub last_stamp: u32,
+}
+
+impl QueueConfig {
+    /// So many shards of that capacity, whose slots are worn as late as may be.
+    pub const fn of(shards: usize, capacity: usize) -> QueueConfig
+        ensures { result ≡ record { shards = shards; capacity = capacity; last_stamp = LAST_STAMP } }
+    {
+        QueueConfig {
+            shards,
+            capacity,
+            last_stamp: LAST_STAMP,
+        }
+    }
+}
+
+/// Why a call of a queue of shards is refused.
+#[derive(Clone, Copy, Debug, PartialEq, Eq, Error)]
+pub enum QueueError {
+    /// The shard's queue refused it.
+    #[error("{0}")]
+    Core(CoreError),
+    /// There is no such shard.
+    #[error("there is no such shard")]
+    Unknown,
+    /// A shard has issued as many callers as it may.
+    #[error("no more than {limit} handles are issued")]
+    TooManyHandles {
+        /// How many it may issue.
+        limit: u64,
+    },
+}

@@ -1,0 +1,162 @@
+//! A handle extends and cancels entries of every shard, and looks at them, without a lock.
+ghost use Rattle.std.specs.Prelude.{◌≡◌, ◌≢◌, ◌≤◌, ◌<◌, vec_len};
+ghost use Rattle.dq_words.specs.Counts.{cancels_in, most_begins};
+ghost use Rattle.dq_words.specs.declared.keeper.WordsError.TheVariants.{BadConfig};
+ghost use Rattle.dq_shards.specs.Changes.{OnSome, ShardIssues};
+ghost use Rattle.dq_shards.specs.Handles.{HandleExtends, HandleCancels, HandleLooks, all_cancels};
+ghost use Rattle.dq_shards.specs.Issuing.{QueueHandles, IsHandleRefused};
+
+use crate::errors::QueueError;
+use crate::queue::SharedDelayQueue;
+use dq_core::{CallError, CoreError, Look};
+use dq_ticks::{Key, LAST_TICK};
+use dq_words::{Caller, WordsError};
+use std::alloc::{AllocError, Allocator, Global};
+use std::marker::Model;
+use std::sync::Wait;
+
+/// Extends and cancels entries of a queue of shards, and looks at them, from any thread. It has one caller for each shard.
+/// Its calls take no lock and no memory, and wait for nobody.
+///
+/// A handle that is dropped counts as out for good.
+#[derive(Drop)]
+pub struct Handle<A: Allocator = Global> {
+    callers: Vec<Caller<A>, A>,
+}
+
+impl<A: Allocator> Model for Handle<A> {
+    ghost use Rattle.std.specs.Prelude.{◌≤◌, length};
+    ghost use Rattle.dq_shards.specs.Handles.{Callers};
+
+    ghost Value = { Callers };
+
+    ghost view = { λ h. h.callers.items };
+
+    ghost invariant = { λ h. length h.callers.items ≤ 64 };
+}
+
+impl<A: Allocator> Handle<A> {
+    /// As [`Caller::extend`], and refused as Unknown for a shard out of range too.
+    pub fn extend(&mut self, key: &Key, when: u64) -> Result<u64, CallError>
+        ensures { HandleExtends self.old key.now when result self.new }
+    {
+        let shard = key.entry().shard() as usize;
+        if shard < self.callers.len() {
+            return self.callers[shard].extend(key, when);
+        }
+        if when > LAST_TICK {
+            return Err(CallError::TooFar { limit: LAST_TICK });
+        }
+        Err(CallError::Unknown)
+    }
+
+    /// As [`Caller::cancel`], and refused as Unknown for a shard out of range too.
+    pub fn cancel(&mut self, key: &Key) -> Result<u64, CallError>
+        ensures { HandleCancels self.old key.now result self.new }
+    {
+        let shard = key.entry().shard() as usize;
+        if shard < self.callers.len() {
+            return self.callers[shard].cancel(key);
+        }
+        Err(CallError::Unknown)
+    }
+
+    /// As [`Caller::look`], and refused as Unknown for a shard out of range too.
+    pub fn look(&mut self, key: &Key) -> Result<Look, CallError>
+        ensures { HandleLooks self.old key.now result self.new }
+    {
+        let shard = key.entry().shard() as usize;
+        if shard < self.callers.len() {
+            return self.callers[shard].look(key);
+        }
+        Err(CallError::Unknown)
+    }
+
+    /// The number of accepted cancels of its callers.
+    pub fn cancels(&self) -> u64
+        ensures { result ≡ all_cancels self.now }
+    {
+        let mut cancels = 0;
+        for shard in 0..self.callers.len() {
+            cancels += cancels_of(&self.callers[shard]);
+        }
+        cancels
+    }
+
+    /// Gives back each of its callers, and answers the number of their accepted cancels.
+    pub fn give_back(self) -> u64
+        ensures { result ≡ all_cancels self }
+    {
+        give_back_all(self.callers)
+    }
+}
+
+// The accepted cancels of a caller, which are few.
+fn cancels_of<A: Allocator>(caller: &Caller<A>) -> u64
+    ensures value { result ≡ cancels_in caller.now.view.calls }
+    ensures few { result ≤ most_begins }
+{
+    caller.law();
+    caller.cancels()
+}
+
+// Gives back callers, and answers the number of their accepted cancels.
+fn give_back_all<A: Allocator>(mut callers: Vec<Caller<A>, A>) -> u64
+    requires { vec_len callers ≤ 64 }
+    ensures { result ≡ all_cancels callers.items }
+{
+    let mut cancels = 0;
+    while let Some(caller) = callers.pop() {
+        caller.law();
+        cancels += caller.give_back();
+    }
+    cancels
+}
+
+// Why no handle is made.
+fn refused(refusal: WordsError) -> QueueError
+    requires { refusal ≢ BadConfig }
+    ensures { IsHandleRefused refusal result }
+{
+    match refusal {
+        WordsError::TooManyHandles { limit } => QueueError::TooManyHandles { limit },
+        WordsError::NoMemory => QueueError::Core(CoreError::NoMemory),
+        WordsError::BadConfig => unreachable!(),
+    }
+}
+
+impl<T: Drop, A: Allocator> SharedDelayQueue<T, A> {
+    // One caller more of a shard.
+    fn issue_of<R: Wait>(&self, rt: &R, shard: usize) -> Result<Caller<A>, WordsError>
+        requires { shard < self.now }
+        ensures { OnSome {T = T} ShardIssues result }
+    {
+        let mut shard = self.lock(rt, shard);
+        let issued = shard.issue();
+        shard.law();
+        issued
+    }
+}
+
+impl<T: Drop, A: Allocator + Clone + Drop> SharedDelayQueue<T, A> {
+    /// A handle, with a caller of each shard, each issued under that shard's lock. Refused as TooManyHandles where a shard
+    /// has issued as many as it may, and as NoMemory; the callers that were issued before are given back then, but stay
+    /// counted.
+    pub fn handle<R: Wait>(&self, rt: &R) -> Result<Handle<A>, QueueError>
+        ensures { QueueHandles T self.now result }
+    {
+        let Ok(mut callers) = self.room_for_callers() else {
+            return Err(QueueError::Core(CoreError::NoMemory));
+        };
+        for shard in 0..self.shards() {
+            match self.issue_of(rt, shard) {
+                Ok(caller) => callers.push_reserved(caller),
+                Err(refusal) => {
+                    give_back_all(callers);
+                    return Err(refused(refusal));
+                }
+            }
+        }
+        Ok(Handle { callers })
+    }
+}

@@ -1,0 +1,54 @@
+//! The poller that waits for a shard: one at a time.
+ghost use Rattle.std.specs.Prelude.{◌≡◌, Some, option_map};
+ghost use Rattle.dq_shards.specs.Parking.{poller};
+ghost use Rattle.dq_shards.specs.Shard.{IsParked};
+ghost use Rattle.dq_shards.specs.Changes.{Unparks, Rings};
+
+use crate::parked::{Parked, ring};
+use crate::state::ShardState;
+use futures::task::Waker;
+use std::alloc::Allocator;
+use std::mem;
+
+impl<T: Drop, A: Allocator> ShardState<T, A> {
+    /// The tick until which a poller is parked; none where none is.
+    pub fn parked(&self) -> Option<u64>
+        ensures { result ≡ option_map (λ p. p.next) self.now.parked }
+    {
+        match &self.parked {
+            Some(poller) => Some(poller.next),
+            None => None,
+        }
+    }
+
+    /// Parks a poller until the tick `next`, which is not after the next wake. It takes the place of one that was parked
+    /// before, which is not woken.
+    pub fn park(&mut self, next: u64, waker: Waker)
+        requires { IsParked self.old.core (Some (poller next waker)) }
+        ensures { self.new ≡ record self.old { parked = Some (poller next waker) } }
+    {
+        self.unpark();
+        self.parked = Some(Parked { next, waker });
+    }
+
+    /// Takes the parked poller out and does not wake it. True where there was one.
+    pub fn unpark(&mut self) -> bool
+        ensures { Unparks self.old result self.new }
+    {
+        match self.parked.take() {
+            Some(poller) => {
+                // A waker that is dropped wakes.
+                mem::forget(poller.waker);
+                true
+            }
+            None => false,
+        }
+    }
+
+    /// Takes out and wakes a poller that is parked at or before `tick`. True where there was one.
+    pub fn ring(&mut self, tick: u64) -> bool
+        ensures { Rings self.old tick result self.new }
+    {
+        ring(&mut self.parked, tick)
+    }
+}

@@ -1,0 +1,172 @@
+//! Shards behind locks.
+ghost use Rattle.std.specs.Prelude.{◌≡◌, ◌↔◌, ◌<◌, ◌≤◌, IsTrue, IfOk, IfErr, OnOk, vec_len, vec_capacity};
+ghost use Rattle.std.specs.Fn.{FnOnceReturnsAtMut};
+ghost use Rattle.dq_shards.specs.declared.errors.QueueError.TheVariants.{Unknown};
+ghost use Rattle.dq_shards.specs.Shard.{IsShard};
+ghost use Rattle.dq_shards.specs.Changes.{OnSome};
+ghost use Rattle.dq_shards.specs.Answers.{IsQueueConfig, QueueIsMade, IsNewShard};
+
+use crate::errors::{QueueConfig, QueueError};
+use crate::locked::LockedShard;
+use crate::state::ShardState;
+use dq_core::{CoreConfig, CoreError, DelayCore};
+use dq_ticks::LAST_STAMP;
+use dq_words::{CAPACITY_LIMIT, Caller, Keeper};
+use std::alloc::{AllocError, Allocator, Global};
+use std::marker::Model;
+use std::sync::{Mutex, Wait};
+
+/// The most shards of a queue.
+pub const SHARD_LIMIT: usize = 64;
+
+/// A delay queue in shards, each behind a lock of its own, so that many threads may fill and poll it. To a contract it
+/// is the number of its shards.
+///
+/// A call takes the lock of one shard, and says what it did as a relation between two states of that shard. Which state
+/// stands behind which lock no contract can say.
+#[derive(Drop)]
+pub struct SharedDelayQueue<T, A: Allocator = Global> {
+    shards: Vec<Mutex<ShardState<T, A>>, A>,
+}
+
+impl<T, A: Allocator> Model for SharedDelayQueue<T, A> {
+    ghost use Rattle.std.specs.Prelude.{ℕ, ◌<◌, ◌≤◌, vec_len};
+
+    ghost Value = { ℕ };
+
+    ghost view = { λ q. vec_len q.shards };
+
+    ghost invariant = { λ q. (0 < vec_len q.shards) × (vec_len q.shards ≤ 64) };
+}
+
+fn is_config(config: &QueueConfig) -> bool
+    ensures { IsTrue result ↔ IsQueueConfig config.now }
+{
+    0 < config.shards
+        && config.shards <= SHARD_LIMIT
+        && 0 < config.capacity
+        && config.capacity <= CAPACITY_LIMIT
+        && 0 < config.last_stamp
+        && config.last_stamp <= LAST_STAMP
+}
+
+// One shard, with nothing in it.
+fn shard_of<T: Drop, A: Allocator + Clone + Drop>(
+    alloc: A,
+    number: usize,
+    config: &QueueConfig,
+) -> Result<ShardState<T, A>, AllocError>
+    requires number { number < 64 }
+    requires config { IsQueueConfig config.now }
+    ensures { IfOk result (λ s. IsNewShard config.now number s) }
+{
+    let Ok(keeper) = Keeper::new(alloc.clone()?, config.capacity) else {
+        return Err(AllocError);
+    };
+    let core = CoreConfig {
+        shard: number as u32,
+        capacity: config.capacity,
+        last_stamp: config.last_stamp,
+    };
+    match DelayCore::new(alloc, core, keeper) {
+        Ok(core) => Ok(ShardState::new(core)),
+        Err(_) => Err(AllocError),
+    }
+}
+
+// The shards of a queue, each behind its lock.
+fn row_of<T: Drop, A: Allocator + Clone + Drop>(
+    alloc: A,
+    config: &QueueConfig,
+) -> Result<Vec<Mutex<ShardState<T, A>>, A>, AllocError>
+    requires { IsQueueConfig config.now }
+    ensures { IfOk result (λ row. vec_len row ≡ config.now.shards) }
+{
+    let mut row = Vec::with_capacity(alloc.clone()?, config.shards)?;
+    for number in 0..config.shards {
+        let shard = shard_of(alloc.clone()?, number, config)?;
+        row.push_reserved(Mutex::new(shard));
+    }
+    Ok(row)
+}
+
+impl<T: Drop, A: Allocator + Clone + Drop> SharedDelayQueue<T, A> {
+    /// A queue of empty shards at tick 0. Refused as BadConfig where a number of the configuration is out of its range,
+    /// and else as NoMemory. All memory of the queue is taken here.
+    pub fn new(alloc: A, config: QueueConfig) -> Result<SharedDelayQueue<T, A>, QueueError>
+        ensures { QueueIsMade config result }
+    {
+        if !is_config(&config) {
+            return Err(QueueError::Core(CoreError::BadConfig));
+        }
+        match row_of(alloc, &config) {
+            Ok(shards) => Ok(SharedDelayQueue { shards }),
+            Err(AllocError) => Err(QueueError::Core(CoreError::NoMemory)),
+        }
+    }
+}
+
+impl<T, A: Allocator> SharedDelayQueue<T, A> {
+    /// The number of shards, from 1 to 64.
+    pub fn shards(&self) -> usize
+        ensures value { result ≡ self.now }
+        ensures range { (0 < result) × (result ≤ 64) }
+    {
+        self.shards.len()
+    }
+}
+
+impl<T: Drop, A: Allocator> SharedDelayQueue<T, A> {
+    /// The shard, with its lock held until the answer is dropped. Refused as Unknown exactly out of range.
+    pub fn enter<R: Wait>(&self, rt: &R, shard: usize) -> Result<LockedShard<'_, T, A>, QueueError>
+        ensures entered { IfOk result (λ state. (shard < self.now) × IsShard state) }
+        ensures refused { IfErr result (λ e. (self.now ≤ shard) × (e ≡ Unknown)) }
+    {
+        if shard >= self.shards.len() {
+            return Err(QueueError::Unknown);
+        }
+        Ok(self.lock(rt, shard))
+    }
+
+    pub(crate) fn lock<R: Wait>(&self, rt: &R, shard: usize) -> LockedShard<'_, T, A>
+        requires { shard < self.now }
+        ensures { IsShard result }
+    {
+        let locked = LockedShard {
+            state: self.shards[shard].lock(rt),
+        };
+        locked.law();
+        locked
+    }
+}
+
+impl<T, A: Allocator + Clone> SharedDelayQueue<T, A> {
+    // Room for a caller of each shard.
+    pub(crate) fn room_for_callers(&self) -> Result<Vec<Caller<A>, A>, AllocError>
+        ensures { IfOk result (λ room. (vec_len room ≡ 0) × (self.now ≤ vec_capacity room)) }
+    {
+        Vec::with_capacity(self.shards.allocator().clone()?, self.shards.len())
+    }
+}
+
+impl<T: Drop> SharedDelayQueue<T> {
+    /// Calls `f` once with the shard's state while its lock is held, and gives back its answer. Refused as Unknown exactly
+    /// out of range; `f` isn't called then.
+    pub fn lend<R: Wait, O, F: FnOnce(&mut ShardState<T>) -> O + Drop>(
+        &self,
+        rt: &R,
+        shard: usize,
+        f: F,
+    ) -> Result<O, QueueError>
+        requires { F.IsAlwaysCallable f }
+        ensures lent { OnOk result (shard < self.now) }
+        ensures answer { IfOk result
+            (λ answer. OnSome (λ old r new. FnOnceReturnsAtMut F.FnOnce f old r new) answer) }
+        ensures refused { IfErr result (λ e. (self.now ≤ shard) × (e ≡ Unknown)) }
+    {
+        let mut locked = self.enter(rt, shard)?;
+        let answer = f(&mut locked.state);
+        locked.law();
+        Ok(answer)
+    }
+}

@@ -1,0 +1,84 @@
+//! What a shard's state tells of its queue.
+ghost use Rattle.std.specs.Prelude.{◌≡◌, ◌↔◌, IsTrue, length};
+ghost use Rattle.std.specs.List.{count_by};
+ghost use Rattle.dq_core.specs.Slots.{is_held};
+ghost use Rattle.dq_core.specs.Calls.{TellsWake};
+ghost use Rattle.dq_core.specs.Readers.{IsTally, TellsLeast, TellsPlace, TellsFiled};
+
+use crate::state::ShardState;
+use dq_core::Tally;
+use dq_ticks::{EntryId, Key};
+use dq_wheel::Place;
+use std::alloc::Allocator;
+
+impl<T: Drop, A: Allocator> ShardState<T, A> {
+    /// The next wake: the tick at which the queue has something to do, none where nothing is linked.
+    pub fn next_wake(&self) -> Option<u64>
+        ensures { TellsWake self.now.core result }
+    {
+        self.core.next_wake()
+    }
+
+    /// The number of linked entries, live or cancelled and not yet reaped.
+    pub fn len(&self) -> usize
+        ensures { result ≡ count_by is_held self.now.core.slots.rows }
+    {
+        self.core.len()
+    }
+
+    /// Whether nothing is linked.
+    pub fn is_empty(&self) -> bool
+        ensures { IsTrue result ↔ (count_by is_held self.now.core.slots.rows ≡ 0) }
+    {
+        self.core.is_empty()
+    }
+
+    /// The number of slots.
+    pub fn capacity(&self) -> usize
+        ensures { result ≡ length self.now.core.slots.rows }
+    {
+        self.core.capacity()
+    }
+
+    /// The wheel's tick, which is not after the noted one.
+    pub fn tick(&self) -> u64
+        ensures { result ≡ self.now.core.wheel.filing.tick }
+    {
+        self.core.tick()
+    }
+
+    /// The greatest accepted tick.
+    pub fn noted(&self) -> u64
+        ensures { result ≡ self.now.core.noted }
+    {
+        self.core.noted()
+    }
+
+    /// How many entries came and went. Its `cancelled` counts those that were reaped.
+    pub fn tally(&self) -> Tally
+        ensures { IsTally self.now.core result }
+    {
+        self.core.tally()
+    }
+
+    /// A linked entry that is filed least, possibly a cancelled one; none where nothing is linked.
+    pub fn peek(&self) -> Option<Key>
+        ensures { TellsLeast self.now.core result }
+    {
+        self.core.peek()
+    }
+
+    /// Where an entry's index stands in the wheel; none where the entry is missing.
+    pub fn place(&self, entry: &EntryId) -> Option<Place>
+        ensures { TellsPlace self.now.core entry.now result }
+    {
+        self.core.place(entry)
+    }
+
+    /// The tick by which an entry is filed; none where the entry is missing.
+    pub fn filed(&self, entry: &EntryId) -> Option<u64>
+        ensures { TellsFiled self.now.core entry.now result }
+    {
+        self.core.filed(entry)
+    }
+}

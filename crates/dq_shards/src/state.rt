@@ -1,0 +1,224 @@
+//! The value behind a shard's lock: a queue over shared words, and the poller that waits for it.
+ghost use Rattle.std.specs.Prelude.{◌≡◌, ◌+◌, ◌<◌, ◌≤◌, ◌↔◌, max, None, IfOk, IfErr, IfSome, OnOk, OnErr};
+ghost use Rattle.std.specs.Prelude.{IsErr, IsErrOf, IsErrAnd};
+ghost use Rattle.dq_ticks.specs.declared.TheConstants.{LAST_TICK};
+ghost use Rattle.dq_core.specs.declared.errors.CoreError.TheVariants.{TooFar, Missing, WasCancelled};
+ghost use Rattle.dq_core.specs.Core.{machine};
+ghost use Rattle.dq_core.specs.Machine.{NoneLiveBefore, NoneLinked, table_at};
+ghost use Rattle.dq_core.specs.Calls.{base_for, IsMissing, IsLiveEntry, IsCancelledEntry};
+ghost use Rattle.dq_core.specs.Sweeps.{NoneCancelled};
+ghost use Rattle.dq_core.specs.AtTheCall.{IfOut, IfRests, linked_in, IsLinkedAs, HoldsValue, OthersStay, KeepsSlots};
+ghost use Rattle.dq_shards.specs.Shard.{IsShard, IsParked, Settles};
+ghost use Rattle.dq_shards.specs.Changes.{ShardInserts, ShardResets, ShardRemoves, ShardDeadline};
+ghost use Rattle.dq_shards.specs.Changes.{ShardPolls, ShardSweeps, ShardClears};
+
+use crate::parked::{Parked, keep_until};
+use dq_core::{CoreError, DelayCore, Removed, Turn};
+use dq_ticks::{EntryId, Key};
+use dq_words::Keeper;
+use std::alloc::{Allocator, Global};
+use std::marker::Model;
+
+// Wakes the poller where it stands parked against the parked law with the queue as it is now.
+fn settle<T: Drop, A: Allocator>(core: &DelayCore<T, Keeper<A>, A>, parked: &mut Option<Parked>)
+    ensures settles { Settles core.now parked.old parked.new }
+    ensures law { IsParked core.now parked.new }
+    ensures empty { NoneLinked (machine core.now) → parked.new ≡ None }
+{
+    keep_until(parked, core.next_wake());
+}
+
+/// The value behind a shard's lock: a queue over words that callers share, and the poller that is parked there.
+///
+/// It always keeps the shard law of its queue, whatever the callers do meanwhile, and the parked law: where a poller is
+/// parked there is a next wake, and the parked tick is not after it. A call that would break the parked law takes the
+/// poller out and wakes it.
+#[derive(Drop)]
+pub struct ShardState<T, A: Allocator = Global> {
+    pub(crate) core: DelayCore<T, Keeper<A>, A>,
+    pub(crate) parked: Option<Parked>,
+}
+
+impl<T, A: Allocator> Model for ShardState<T, A> {
+    ghost use Rattle.dq_shards.specs.Shard.{ShardView, IsParked};
+
+    ghost Value = { ShardView T };
+
+    ghost view = { λ s. record { core = s.core; parked = s.parked } };
+
+    ghost invariant = { λ s. IsParked s.core s.parked };
+}
+
+impl<T: Drop, A: Allocator> ShardState<T, A> {
+    pub(crate) fn new(core: DelayCore<T, Keeper<A>, A>) -> ShardState<T, A>
+        ensures { result ≡ record { core = core; parked = None } }
+    {
+        ShardState { core, parked: None }
+    }
+
+    /// What every shard keeps.
+    pub fn law(&self)
+        ensures { IsShard self.now }
+    {
+        self.core.law();
+    }
+
+    /// Puts an entry in that is live until `when`, a tick of one millisecond, or until the wheel's tick where `when` lies
+    /// before it, and answers its key. Constant time. Refused as TooFar beyond the last tick, and else as Full where no slot
+    /// is free; the value comes back then.
+    pub fn insert(&mut self, value: T, when: u64) -> Result<Key, (CoreError, T)>
+        // The entry is live from now on, and no other entry changes.
+        ensures live { IfOk result
+            (λ k. IsLinkedAs self.new.core k value (base_for self.old.core when)) }
+        ensures others { IfOk result (λ k. OthersStay self.old.core self.new.core k.entry.index) }
+
+        // Refused, the value comes back and the queue stays; first, and exactly, beyond the last tick.
+        ensures refused { IfErr result (λ e. (e.1 ≡ value) × (self.new.core ≡ self.old.core)) }
+        ensures too_far { IsErrAnd result (λ e. e.0 ≡ TooFar LAST_TICK) ↔ (LAST_TICK < when) }
+
+        // The poller is woken where it waits for a tick after the next wake.
+        ensures poller { Settles self.new.core self.old.parked self.new.parked }
+
+        // All that it does.
+        ensures inserts { ShardInserts self.old value when result self.new }
+    {
+        let answer = self.core.insert(value, when);
+        settle(&self.core, &mut self.parked);
+        answer
+    }
+
+    /// Gives a live entry another deadline, earlier or later, but not before the wheel's tick, and its slot's next stamp:
+    /// the keys from before are stale for callers. Answers the new key. Constant time. Refused as TooFar beyond the last
+    /// tick, then as Missing, as WasCancelled, and as Worn where the slot has no stamp left.
+    pub fn reset(&mut self, entry: &EntryId, when: u64) -> Result<Key, CoreError>
+        // The same entry is live at its new base, and no other changes.
+        ensures live { OnOk result
+            (IsLiveEntry (machine self.new.core) entry.now (base_for self.old.core when)) }
+        ensures key { IfOk result (λ k. k.entry ≡ entry.now) }
+        ensures others { OthersStay self.old.core self.new.core entry.now.index }
+
+        // Refused, no entry leaves or moves; first, and exactly, beyond the last tick.
+        ensures refused { OnErr result (KeepsSlots self.old.core self.new.core) }
+        ensures too_far { IsErrOf result (TooFar LAST_TICK) ↔ (LAST_TICK < when) }
+
+        // The poller is woken where it waits for a tick after the next wake.
+        ensures poller { Settles self.new.core self.old.parked self.new.parked }
+
+        // All that it does.
+        ensures resets { ShardResets self.old entry.now when result self.new }
+    {
+        let answer = self.core.reset(entry, when);
+        settle(&self.core, &mut self.parked);
+        answer
+    }
+
+    /// Takes a live entry out, with its key, its deadline in force and its value. Constant time. Refused as Missing where no
+    /// entry is linked with that shard, index and birth stamp, and as WasCancelled where a caller cancelled it.
+    pub fn remove(&mut self, entry: &EntryId) -> Result<Removed<T>, CoreError>
+        // What was held under that shard, index and birth stamp comes out, and nothing else.
+        ensures out { IfOk result
+            (λ x. (x.key.entry ≡ entry.now) × HoldsValue self.old.core entry.now x.value) }
+        ensures gone { OnOk result
+            ((table_at (machine self.new.core) entry.now.index).entry ≡ None) }
+        ensures others { OthersStay self.old.core self.new.core entry.now.index }
+
+        // Refused, no entry leaves or moves; a missing entry is told exactly.
+        ensures refused { OnErr result (KeepsSlots self.old.core self.new.core) }
+        ensures missing { IsErrOf result Missing ↔ IsMissing self.old.core entry.now }
+
+        // The poller is woken where it waits for a tick after the next wake.
+        ensures poller { Settles self.new.core self.old.parked self.new.parked }
+
+        // All that it does.
+        ensures removes { ShardRemoves self.old entry.now result self.new }
+    {
+        let answer = self.core.remove(entry);
+        settle(&self.core, &mut self.parked);
+        answer
+    }
+
+    /// The deadline in force of a live entry, a tick of one millisecond, by one look at its word. Refused as `remove` is. The
+    /// poller stays.
+    pub fn deadline(&mut self, entry: &EntryId) -> Result<u64, CoreError>
+        // The entry is live until the deadline that is told, or known as cancelled, or missing.
+        ensures live { IfOk result (λ d. IsLiveEntry (machine self.new.core) entry.now d) }
+        ensures cancelled { IsErrOf result WasCancelled
+            → IsCancelledEntry (machine self.new.core) entry.now }
+        ensures missing { IsErrOf result Missing ↔ IsMissing self.old.core entry.now }
+
+        // No entry leaves or moves, and the poller stays.
+        ensures kept { KeepsSlots self.old.core self.new.core }
+        ensures poller { self.new.parked ≡ self.old.parked }
+
+        // All that it does.
+        ensures tells { ShardDeadline self.old entry.now result self.new }
+    {
+        self.core.deadline(entry)
+    }
+
+    /// Notes a tick of one millisecond, and takes out one entry whose deadline in force is reached by the greatest tick
+    /// noted: call again until the answer is Waiting (nothing is due; `next` is the next tick at which there is something to
+    /// do) or Idle (nothing is linked). Refused as TickTooLarge beyond the last tick, which is not noted then.
+    pub fn poll(&mut self, tick: u64) -> Result<Turn<T>, CoreError>
+        // The greater of the two ticks is noted. A tick is refused exactly beyond the last one.
+        ensures noted { OnOk result (self.new.core.noted ≡ max self.old.core.noted tick) }
+        ensures refused { IsErr result ↔ (LAST_TICK < tick) }
+
+        // What comes out is due, and no live entry has an earlier deadline.
+        ensures out { IfOut result (λ x. (x.deadline ≤ self.new.core.noted)
+            × NoneLiveBefore (machine self.new.core) x.deadline) }
+
+        // Else no live entry is due, and the tick to wait for is after the noted one. There is none
+        // exactly where nothing is linked.
+        ensures none_due { IfRests result
+            (λ next. NoneLiveBefore (machine self.new.core) (self.new.core.noted + 1)) }
+        ensures waiting { IfRests result
+            (λ next. IfSome next (λ tick. self.new.core.noted < tick)) }
+        ensures idle { IfRests result
+            (λ next. (next ≡ None) ↔ NoneLinked (machine self.new.core)) }
+
+        // The poller is woken where it waits for a tick after the next wake.
+        ensures poller { Settles self.new.core self.old.parked self.new.parked }
+
+        // All that it does.
+        ensures polls { ShardPolls self.old tick result self.new }
+    {
+        let answer = self.core.poll(tick);
+        settle(&self.core, &mut self.parked);
+        answer
+    }
+
+    /// Reaps each linked entry that is found cancelled, and answers how many. It looks at every slot.
+    pub fn sweep(&mut self) -> usize
+        // No entry is left that is known as cancelled, and so many are fewer. Nothing is ended by it.
+        ensures reaped { NoneCancelled (machine self.new.core) }
+        ensures fewer { linked_in self.new.core + result ≡ linked_in self.old.core }
+        ensures counts { self.new.core.counts ≡ self.old.core.counts }
+
+        // The poller is woken where it waits for a tick after the next wake.
+        ensures poller { Settles self.new.core self.old.parked self.new.parked }
+
+        // All that it does.
+        ensures sweeps { ShardSweeps self.old result self.new }
+    {
+        let reaped = self.core.sweep();
+        settle(&self.core, &mut self.parked);
+        reaped
+    }
+
+    /// Ends every linked entry, and drops its value: each live one as removed, and those that were cancelled are reaped. It
+    /// answers how many it ended as removed, and goes over every slot. No poller is left parked.
+    pub fn clear(&mut self) -> usize
+        // Nothing is linked any more, and so no poller is parked.
+        ensures empty { NoneLinked (machine self.new.core) }
+        ensures at_most { result ≤ linked_in self.old.core }
+        ensures poller { self.new.parked ≡ None }
+
+        // All that it does.
+        ensures clears { ShardClears self.old result self.new }
+    {
+        let removed = self.core.clear();
+        settle(&self.core, &mut self.parked);
+        removed
+    }
+}

@@ -1,0 +1,145 @@
+"""The marks of a page, its links, and the numbers that no mark explains.
+
+A mark is a comment that a reader of the page does not see:
+
+    24<!--=ns insert ours 10000-->      the number before it is that figure, told to as many places as it has
+    <!-- table NAME --> .. <!-- end --> all between is made by the script
+    <!-- from FILE: NAME -->            the fenced block below is that definition (`NAME CLAUSE`: one clause of it;
+                                        `fn NAME`: a function); with `FILE` alone it stands in the file as it is
+    <!-- carried by FILE: FUNCTION -->  the contract of that function cites the statement above, or leads to it
+    <!-- as in PATH: 14 15 -->          these numbers of the page are constants that stand in files at that path
+    <!-- no figures: 1987 0.7.3 -->     these are years, versions and the like
+    <!-- names of others: Stream -->    these names in code font are no names of this repository
+"""
+
+import functools
+import re
+
+import tree
+from tree import TOP, text_of
+
+FIGURE = re.compile(r"(\d[\d,]*(?:\.\d+)?)(x?)<!--=([^>]*)-->")
+TABLE = re.compile(r"(<!-- table ([^>]*?) -->\n).*?(<!-- end -->)", re.S)
+QUOTE = re.compile(r"(<!-- from ([^>]*?) -->\n+```[a-z]*\n)((?:(?!```).*\n)*)(```)")
+CARRIER = re.compile(r"<!-- carried by (\S+): (\w+) -->")
+AS_IN = re.compile(r"<!-- as in (\S+): ([^>]*?) -->")
+NO_FIGURES = re.compile(r"<!-- no figures: ([^>]*?) -->")
+OTHERS = re.compile(r"<!-- names of others: ([^>]*?) -->")
+LINK = re.compile(r"\[[^\]]*\]\(([^)\s]+)\)")
+NUMBER = re.compile(r"(?<![\w.])\d[\d,]*(?:\.\d+)*")
+# What needs no source: a count of a few things, told in a sentence.
+FEW = 12
+# A constant of this size is no other number by chance.
+LARGE = 1000
+
+
+def shown(value, like):
+    """A number written as the one that stands there: with as many places, and with commas where it is long or that has them."""
+    places = len(like.partition(".")[2])
+    text = f"{value:,.{places}f}"
+    return text if "," in like or value >= 10000 else text.replace(",", "")
+
+
+def slug(heading):
+    kept = re.sub(r"[^\w\- ]", "", heading.strip().lower().replace("`", ""))
+    return kept.replace(" ", "-")
+
+
+def headings(text):
+    return {slug(it) for it in re.findall(r"(?m)^#+ (.*)$", text)}
+
+
+def bad_links(page):
+    """The links of a page that lead nowhere."""
+    for link in LINK.findall(text_of(page)):
+        path, _, anchor = link.partition("#")
+        if re.match(r"[a-z]+:", link):
+            continue
+        target = (page.parent / path).resolve() if path else page
+        if not target.exists():
+            yield link
+        elif anchor and target.suffix == ".md" and anchor not in headings(text_of(target)):
+            yield link
+
+
+PATH = re.compile(r"`([\w./-]+/[\w.-]+\.(?:rt|antt|md|rs|tsv|py|txt))`")
+
+
+def bad_paths(page):
+    """The files that a page names and that stand nowhere: below the top, docs/, bench/, crates/ or a crate."""
+    roots = [TOP, TOP / "docs", TOP / "bench", tree.CRATES, *(it for it in tree.CRATES.iterdir() if it.is_dir())]
+    return [it for it in PATH.findall(text_of(page)) if not any((root / it).exists() for root in roots)]
+
+
+IDENTIFIER = re.compile(r"`([A-Za-z_]\w*(?:(?:::|\.)[A-Za-z_]\w*)*)`")
+
+
+@functools.lru_cache(maxsize=None)
+def words_of_the_code():
+    """Every word of the sources, their edits and the scripts."""
+    endings = (".rt", ".antt", ".edit", ".rs", ".toml", ".lock", ".py", "")
+    paths = [*tree.files(tree.CRATES, *endings), *tree.files(TOP / "bench", *endings), TOP / "crates.txt"]
+    own = {word for it in paths for word in re.findall(r"\w+", text_of(it))}
+    return own | {it.stem for it in paths} | {it.suffix[1:] for it in paths} | set(tree.names())
+
+
+def unknown_names(text):
+    """The names of the code that a page speaks of, and that no source has; nor does the page say that they are others'."""
+    others = {it for listed in OTHERS.findall(text) for it in listed.split()}
+    text = re.sub(r"(?ms)^```.*?^```", "", text)
+    parts = {it: re.split(r"::|\.", it) for it in IDENTIFIER.findall(text)}
+    return sorted(name for name, its in parts.items() if name not in others and not set(its) <= words_of_the_code())
+
+
+def values(text):
+    """The values of numbers as a text writes them: 65,536 and 65_536 are 65536."""
+    return {it.replace(",", "").replace("_", "").rstrip(".") for it in re.findall(r"(?<![\w.])\d[\d,_]*(?:\.\d+)*", text)}
+
+
+def plain(text):
+    """A page without what is code, made, marked or hidden."""
+    text = TABLE.sub("", QUOTE.sub("", text))
+    text = FIGURE.sub("", text)
+    text = re.sub(r"(?ms)^```.*?^```", "", text)
+    text = re.sub(r"(?m)^    .*$", "", text)
+    text = re.sub(r"<!--.*?-->", "", text, flags=re.S)
+    text = re.sub(r"`[^`\n]*`", "", text)
+    return LINK.sub(lambda it: it[0].split("](")[0], text)
+
+
+def power(base, to, less):
+    return str(int(base) ** int(to) - bool(less))
+
+
+def excused(text):
+    """The numbers that a page says are no figures, and those constants that don't stand where it says."""
+    numbers, missing = set(), []
+    for listed in NO_FIGURES.findall(text):
+        numbers |= {it.replace(",", "") for it in listed.split()}
+    for path, listed in AS_IN.findall(text):
+        at = TOP / path
+        if not at.exists():
+            missing.append(f"{path}, which isn't there")
+            continue
+        sources = [at] if at.is_file() else tree.files(at, ".rt", ".antt", ".rs", ".tsv", ".md", "")
+        stand = set().union(*(values(text_of(it)) for it in sources)) if sources else set()
+        for number in listed.split():
+            if number.replace(",", "") not in stand:
+                missing.append(f"{number}, which no file at {path} has")
+        numbers |= {it.replace(",", "") for it in listed.split()}
+    return numbers, missing
+
+
+def unexplained(text):
+    """The numbers of a page that have no source: no mark, no constant of the code, no word that they are none."""
+    known = {str(it) for each in tree.constants().values() for it in each if it >= LARGE}
+    numbers, missing = excused(text)
+    text = plain(text)
+    left = re.sub(r"\b2\^(\d+)( - 1)?", lambda it: "" if power(2, it[1], it[2]) in known or power(2, it[1], "-") in known else it[0], text)
+    found = []
+    for token in NUMBER.findall(left):
+        number = token.replace(",", "").rstrip(".")
+        is_few = "." not in number and int(number) <= FEW
+        if not is_few and number not in known and number not in numbers:
+            found.append(token)
+    return found, missing

@@ -1,0 +1,106 @@
+"""Statements and code that pages quote: each is taken from the file that it names."""
+
+import functools
+import re
+import textwrap
+
+from tree import CRATES, TOP, files, text_of
+
+HEAD = r"(?:pub (?:record|data) |(?:abbrev|unfoldable) pub ){}(?=[ :]|$)"
+NAME = re.compile(r"[A-Za-z_][A-Za-z0-9_]*")
+
+
+def definition(path, name, clause=None):
+    """A definition of specs/ with the comment above it; of its clauses, where one is asked for, that one alone."""
+    lines = text_of(TOP / path).splitlines()
+    at = next((n for n, line in enumerate(lines) if re.match(r"\s*" + HEAD.format(re.escape(name)), line)), None)
+    if at is None:
+        raise LookupError(f"{path} defines no {name}")
+    first = at
+    while first and lines[first - 1].lstrip().startswith("--"):
+        first -= 1
+    last = at + 1
+    while last < len(lines) and lines[last].strip():
+        last += 1
+    lines = textwrap.dedent("\n".join(lines[first:last])).splitlines()
+    if clause is None:
+        return "\n".join(lines)
+    head, body = lines[: at + 1 - first], lines[at + 1 - first :]
+    heads = [n for n, line in enumerate(body) if line and not line[0].isspace()]
+    for n, end in zip(heads, [*heads[1:], len(body)]):
+        if re.search(rf"\({re.escape(clause)}\b", body[n].partition(" =")[0]):
+            return "\n".join([*head, *body[n:end]])
+    raise LookupError(f"{path}: {name} has no clause of {clause}")
+
+
+def end_of_function(lines, at, indent):
+    """The last line of a function: that of its body, or in a trait that of its last clause."""
+    has_body = False
+    for n in range(at, len(lines)):
+        line = lines[n]
+        has_body = has_body or line.endswith("{") and not line[len(indent)].isspace()
+        if line in (indent + "}", indent + "{}") or not has_body and line.endswith((";", "{}")):
+            return n
+    return len(lines) - 1
+
+
+def function(path, name):
+    """A function with its comment, its attributes, its contract and its body."""
+    lines = text_of(TOP / path).splitlines()
+    at = next((n for n, line in enumerate(lines) if re.search(rf"\bfn {re.escape(name)}\b", line)), None)
+    if at is None:
+        raise LookupError(f"{path} has no function {name}")
+    indent = len(lines[at]) - len(lines[at].lstrip())
+    first = at
+    while first and re.match(r"\s*(///|#\[)", lines[first - 1]):
+        first -= 1
+    last = end_of_function(lines, at, " " * indent)
+    return textwrap.dedent("\n".join(lines[first : last + 1]))
+
+
+def contract(path, name):
+    """The head and the clauses of a function, without its body."""
+    text = re.sub(r"(?m)^\s*///.*\n", "", function(path, name))
+    return re.split(r"(?m)^\{", text, maxsplit=1)[0]
+
+
+def quoted(words):
+    """The text that a quote's words name: FILE: NAME [CLAUSE], or FILE: fn NAME."""
+    path, _, what = words.partition(": ")
+    parts = what.split()
+    return function(path, parts[1]) if parts[0] == "fn" else definition(path, *parts)
+
+
+def stands_in(path, quote):
+    """Whether the lines of a quote stand in a file, one after the other, at any depth."""
+    lines = [it.strip() for it in text_of(TOP / path).splitlines()]
+    wanted = [it.strip() for it in quote.strip("\n").splitlines()]
+    return any(lines[at : at + len(wanted)] == wanted for at in range(len(lines)))
+
+
+@functools.lru_cache(maxsize=None)
+def all_definitions():
+    """The words that each name of specs/ is defined by, over all crates."""
+    found = {}
+    for path in files(CRATES, ".antt"):
+        if "specs" not in path.parts:
+            continue
+        for part in re.split(r"\n\s*\n", text_of(path)):
+            head = re.search(rf"(?m)^\s*{HEAD.format('([A-Za-z_][A-Za-z0-9_]*)')}", part)
+            if head:
+                body = re.sub(r"(?m)^\s*--.*$", "", part[head.start() :])
+                found.setdefault(head[1], set()).update(NAME.findall(body))
+    return found
+
+
+def carries(path, function_name, statement):
+    """Whether a function's contract cites a statement, itself or by the definitions that it cites."""
+    known = all_definitions()
+    todo, seen = NAME.findall(contract(path, function_name)), set()
+    while todo:
+        name = todo.pop()
+        if name in seen:
+            continue
+        seen.add(name)
+        todo += known.get(name, ())
+    return statement in seen

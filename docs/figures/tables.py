@@ -1,0 +1,263 @@
+"""The figures that a mark can name, and the tables that the pages have made for them."""
+
+import re
+import textwrap
+
+import runs
+import tree
+
+SIZES = ("1000", "10000", "65536")
+
+
+def sum_found(path, pattern):
+    return sum(tree.found(path, pattern))
+
+
+def text_bytes(path, name):
+    """The length of a byte string that a test names."""
+    text = re.search(rf'const {name}: &\[u8\] =\s*b"((?:[^"\\]|\\.)*)"', tree.text_of(tree.TOP / path))
+    if not text:
+        raise LookupError(f"{path} has no bytes named {name}")
+    return len(re.sub(r"\\.", ".", text[1]))
+
+
+SCRIPTS = "crates/dq_scripts/src/scripts.rt"
+SAME_CALLS = "crates/dq_model/src/same_calls.rt"
+
+
+def model_queues():
+    """The pairs of capacity and last stamp at which a queue goes beside the slow model."""
+    pairs = re.search(r"for \(capacity, last_stamp\) in \[(.*?)\] \{", tree.text_of(tree.TOP / SAME_CALLS), re.S)
+    if not pairs:
+        raise LookupError(f"{SAME_CALLS} has no pairs of capacity and last stamp")
+    return len(re.findall(r"\(\d+, \d+\)", pairs[1]))
+
+
+def model_calls():
+    """Calls that are made beside the slow model: so many to each queue."""
+    return model_queues() * tree.found(SAME_CALLS, r"fn agree_at.*?for turn in 0\.\.(\d+)u64")[0]
+
+
+def more(row, one, other, entries):
+    """How many nanoseconds an operation one peer takes more than another."""
+    return runs.ns(row, one, entries) - runs.ns(row, other, entries)
+
+
+def behind(*which):
+    """How many times as long as a peer ours takes, at the most."""
+    return 1 / runs.least(*which)
+
+
+def with_later(what, name):
+    """What an operation costs the heap, with what it pays at a later poll."""
+    return sum(runs.stored("instructions", name, f"{what} {it}") for it in ("heap-note", "heap-note later"))
+
+
+def lost(row, peer, ours, entries, threads=1):
+    """A ratio below 1, of a cell in which a peer is told to be the faster one."""
+    ratio = runs.times(row, peer, ours, entries, threads)
+    if ratio >= 1:
+        raise LookupError(f"{row} at {entries} is not lost to {peer} any more: {ratio:.2f}x")
+    return ratio
+
+
+ONE_OWNER = ("insert", "extend", "reset", "remove", "cancel", "poll", "mixed")
+
+
+def lost_cells(peer, ours):
+    """In how many cells of one thread a peer is the faster one."""
+    return sum(runs.times(row, peer, ours, size) < 1 for row in ONE_OWNER for size in SIZES)
+
+
+# Figures of the tests, by the place in their code that has them.
+FROM_TESTS = {
+    "model-calls": model_calls,
+    "model-queues": model_queues,
+    "plain-twin-calls": lambda: tree.found(SAME_CALLS, r"agrees_with_its_plain_twin.*?for turn in 0\.\.(\d+)u64")[0],
+    "read-faults": lambda: text_bytes(SCRIPTS, "CAPACITY_THREE") + 1,
+    "write-faults": lambda: text_bytes(SCRIPTS, "CAPACITY_THREE_ANSWERS"),
+    "refused-ends": lambda: sum_found(SCRIPTS, r"fn refused_memory\b.*?\?,\s*(\d+)\s*\)")
+    + 2 * sum_found(SCRIPTS, r"fn refused_memory_at_every_command.*?\?,\s*(\d+)\s*\)"),
+    "racing-entries": lambda: tree.found("crates/dq_checks/src/race.rt", r"const ENTRIES: usize = (\d+)")[0],
+}
+
+FIGURES = {
+    "ns": runs.ns,
+    "times": runs.times,
+    "least": runs.least,
+    "most": runs.most,
+    "lost": lost,
+    "lost-cells": lost_cells,
+    "cells": lambda: len(ONE_OWNER) * len(SIZES),
+    "more": more,
+    "behind": behind,
+    "over": lambda row, peer, other, floor, size: runs.ns(row, peer, size) / runs.ns(other, floor, size),
+    "with-later": with_later,
+    "instructions-ratio": lambda row, peer, ours: runs.stored("instructions", row, f"instructions {peer}")
+    / runs.stored("instructions", row, f"instructions {ours}"),
+    "bytes": runs.entry_bytes,
+    "script": runs.script,
+    "script-tick": runs.script_tick,
+    "stored": runs.stored,
+    "edits": tree.edits,
+    "lines": tree.lines,
+    "lines-over-code": lambda kinds, which="queue": tree.lines(kinds, which) / tree.lines("code", "queue"),
+    "functions": tree.functions,
+    "public-functions": tree.public_functions,
+    "definitions": tree.definitions,
+    "tests": tree.tests,
+    "crates": tree.crate_count,
+    "constant": tree.constant,
+    "in-source": lambda path, name: tree.found(path, rf"const {name}: \w+ = ([0-9_]+);")[0],
+    **FROM_TESTS,
+}
+
+
+def figure(expression):
+    """The value of a figure by the words of its mark."""
+    name, *arguments = expression.split()
+    return FIGURES[name](*arguments)
+
+
+def row(*cells):
+    return "| " + " | ".join(cells) + " |"
+
+
+def ns_text(value):
+    return f"{value:,.0f}" if value >= 10 else f"{value:.1f}"
+
+
+def speed():
+    """The README's table: medians at 10,000 entries."""
+    peers = ("ours-owned", "ours", "heap-note", "delay-queue", "delay-queue-locked")
+    lines = [
+        row("", "ours, one owner", "ours, shared words", "`BinaryHeap` that notes extends", "`DelayQueue`", "`Mutex<DelayQueue>`"),
+        "|---|--:|--:|--:|--:|--:|",
+    ]
+    names = {"remove": "remove (the heap marks alone)", "mixed": "idle timeouts (100 extends a session)"}
+    for name in ONE_OWNER:
+        lines.append(row(names.get(name, name), *(ns_text(runs.ns(name, it, 10000)) for it in peers)))
+    shared = [runs.ns("callers", it, 10000, 4) for it in ("ours", "heap-note-locked", "delay-queue-locked")]
+    told = [ns_text(it) for it in shared]
+    lines.append(row("extend from 4 threads beside the owner's polls", "", told[0], f"{told[1]} (in a `Mutex`)", "", told[2]))
+    return "\n".join(lines)
+
+
+def lost_to_the_heap():
+    """Each row in which the heap that notes extends is the faster one, with our speed beside its."""
+    lines = [row("Row", "Entries", "Ours, one owner", "Ours, shared words"), "|---|--:|--:|--:|"]
+    for name in ONE_OWNER:
+        for size in SIZES:
+            both = [runs.times(name, "heap-note", it, size) for it in ("ours-owned", "ours")]
+            if min(both) < 1:
+                lines.append(row(name, f"{int(size):,}", *(f"{it:.2f}x" if it < 1 else "" for it in both)))
+    return "\n".join(lines)
+
+
+def gate():
+    """What each crate takes in the gate."""
+    noted = runs.noted("gate")
+    lines = [row("Crate", "Proof and tests", "Measured as", "Must-fail edits"), "|---|--:|---|--:|"]
+    for crate in tree.names():
+        minutes, edits = noted.get((crate, "proof"), "not yet"), tree.edits(crate)
+        told = f"{edits}, {noted.get((crate, 'edits'), 'not yet')}" if edits else "none"
+        lines.append(row(f"`{crate}`", minutes, noted.get((crate, "as"), ""), told))
+    return "\n".join(lines)
+
+
+def sizes():
+    """Lines of each crate by kind, functions, tests and edits."""
+    heads = ("Crate", "Code", "Contracts", "Definitions", "Proofs", "Tests", "Functions", "Test functions", "Edits")
+    lines = [row(*heads), "|---" + "|--:" * (len(heads) - 1) + "|"]
+    total = [0] * (len(heads) - 1)
+    for crate in tree.crates():
+        count = crate.lines()
+        numbers = [count[it] for it in ("code", "contract", "specs", "proofs", "test")]
+        numbers += [crate.functions(), crate.test_count(), len(crate.edits())]
+        total = [a + b for a, b in zip(total, numbers)]
+        lines.append(row(f"`{crate.name}`", *(f"{it:,}" if it else "" for it in numbers)))
+    lines.append(row("all", *(f"{it:,}" for it in total)))
+    return "\n".join(lines)
+
+
+def plant():
+    """What planting printed in each crate."""
+    noted = runs.noted("plant")
+    columns = ("refused", "not judged", "as right", "let through")
+    lines = [row("Crate", "Refused", "Not judged", "Answer the same", "Wrong and let through"), "|---|--:|--:|--:|--:|"]
+    for crate in tree.names():
+        if (crate, "refused") in noted:
+            lines.append(row(f"`{crate}`", *(noted.get((crate, it), "not counted") for it in columns)))
+    return "\n".join(lines)
+
+
+def instructions():
+    """Instructions and cache misses an operation, of ours and of the heap."""
+    noted = runs.noted("instructions")
+    peers = ("ours-owned", "ours", "heap-note")
+    lines = [
+        row("Row", "Instructions: ours, one owner / shared / heap, noting", "Misses: ours, one owner / shared / heap, noting"),
+        "|---|---|---|",
+    ]
+    for name in ("insert", "extend", "reset", "remove", "poll", "mixed"):
+        cells = []
+        for what in ("instructions", "misses"):
+            told = " / ".join(noted.get((name, f"{what} {it}"), "") for it in peers)
+            later = noted.get((name, f"{what} heap-note later"))
+            locked = noted.get((name, f"{what} delay-queue-locked"))
+            told += f", and {later} more at a later poll" if later else ""
+            told += f", and {locked} in `Mutex<DelayQueue>`" if locked else ""
+            cells.append(told if told.strip(" /") else "not counted")
+        lines.append(row(name, *cells))
+    return "\n".join(lines)
+
+
+def headline():
+    """One row of numbers: an extend beside its floor and beside a locked queue."""
+    peers = ("ours", "fetch-max", "heap-note-locked", "delay-queue-locked")
+    return "\n".join(
+        [
+            row("An extend, in ns", "Hontkhale", "a bare `fetch_max`", "a heap in a `Mutex`", "`Mutex<DelayQueue>` of tokio_util"),
+            "|---|--:|--:|--:|--:|",
+            row("one thread beside the owner's polls", *(ns_text(runs.ns("callers", it, 10000, 1)) for it in peers)),
+            row("four threads beside the owner's polls", *(ns_text(runs.ns("callers", it, 10000, 4)) for it in peers)),
+        ]
+    )
+
+
+def edit(name):
+    """A must-fail edit as a diff, and what `rt must-fail` printed of it."""
+    crate, _, stem = name.partition("/")
+    text = tree.text_of(tree.CRATES / crate / "must-fail" / f"{stem}.edit")
+    lines, before = ["```diff"], ""
+    for word, text in re.findall(r"(?m)^(file|old|new): (.*)$", text):
+        if word == "file":
+            lines.append(f"--- crates/{crate}/{text}")
+        elif word == "old":
+            before = text
+        else:
+            stays = text.startswith(before)
+            lines.append((" " if stays else "-") + "   " + before)
+            added = text[len(before) :].strip() if stays else text
+            lines.append("+   " + added)
+    first, colon, rest = runs.told("refused", name, "printed").partition("as it must be: ")
+    told = [first + colon.strip(), *textwrap.wrap(rest, 110, break_on_hyphens=False)]
+    return "\n".join([*lines, "```", "", "```text", f"$ rt must-fail {crate}", *told, "```"])
+
+
+TABLES = {
+    "headline": headline,
+    "speed": speed,
+    "lost-to-the-heap": lost_to_the_heap,
+    "gate": gate,
+    "sizes": sizes,
+    "plant": plant,
+    "instructions": instructions,
+    "edit": edit,
+}
+
+
+def made(name):
+    """A table by the words of its mark."""
+    name, *arguments = name.split()
+    return TABLES[name](*arguments)
