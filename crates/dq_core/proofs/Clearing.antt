@@ -13,7 +13,7 @@ use Rattle.dq_core.specs.Core.{Core, machine, entry_of, table_of, IsLawfulCore}
 use Rattle.dq_core.specs.Calls.{SameCore}
 use Rattle.dq_core.specs.Sweeps.{removed_counts, RunOfClear, IsCleared, AreEnded, IsEmptied, Clears}
 use Rattle.dq_core.proofs.Law.{Filed}
-use Rattle.dq_core.proofs.Ways.{run_more, all_more, all_into, callers_clearing}
+use Rattle.dq_core.proofs.Ways.{run_more, all_more, all_into, of_callers, callers_clearing}
 use Rattle.dq_core.proofs.Leaving.{IsGone, gone, out_more, out_none, out_one, vacated_here, row_other, word_other, past_table, same_more}
 
 -- how many of two lists of events are removals
@@ -32,15 +32,8 @@ removes_more ((Expire i b a) ∷ es) fs = removes_more es fs
 -- callers remove nothing
 removes_none : {T : Type 0} (shared : Bool) (es : List (Event T)) → AllByRecursion (IsCallers shared) es → removes es ≡ 0
 removes_none shared [] a = refl
-removes_none shared ((Note t) ∷ es) a = removes_none shared es a.1
-removes_none shared ((Pass t) ∷ es) a = removes_none shared es a.1
-removes_none shared ((Insert i v w) ∷ es) a = removes_none shared es a.1
-removes_none shared ((Reset i b w) ∷ es) a = removes_none shared es a.1
-removes_none shared ((Extend i s w) ∷ es) a = removes_none shared es a.1
-removes_none shared ((Cancel i s) ∷ es) a = removes_none shared es a.1
-removes_none shared ((Remove i b) ∷ es) a = absurd a.0
-removes_none shared ((Reap i b) ∷ es) a = removes_none shared es a.1
-removes_none shared ((Expire i b t) ∷ es) a = removes_none shared es a.1
+removes_none shared (e ∷ es) a =
+    of_callers shared (λ x. removes (x ∷ es) ≡ removes es) (λ open_ i s w. refl) (λ open_ i s. refl) e a.0 ∙ removes_none shared es a.1
 
 clear_more : {T : Type 0} (shared : Bool) (last : ℕ) (m k n : Machine T) (x y z : ℕ) → RunOfClear shared last m x k → RunOfClear shared last k y n → z ≡ x + y → RunOfClear shared last m z n
 clear_more shared last m k n x y z a b e =

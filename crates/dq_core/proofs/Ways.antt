@@ -1,8 +1,8 @@
 -- The machine that a queue is, and runs of it.
-use Rattle.std.proofs.Common.{◌≡◌, ℕ, ◌+◌, ◌<◌, ◌≤◌, max, zero, suc, Bool, false, List, [], ◌∷◌, ◌++◌, length, get_or, set, Option, Some, None, refl, sym, ap, ◌∙◌, subst, inl, inr, ◌⊎◌, arith, filter}
+use Rattle.std.proofs.Common.{◌≡◌, ℕ, ◌+◌, ◌<◌, ◌≤◌, max, zero, suc, Bool, true, false, List, [], ◌∷◌, ◌++◌, length, get_or, set, Option, Some, None, refl, sym, ap, ◌∙◌, subst, inl, inr, ◌⊎◌, arith, filter}
 use Rattle.std.specs.List.{AllByRecursion}
 use Rattle.std.proofs.lemmas.List.{length-set, get_or-set_same, get_or_past, set-get_or}
-use Rattle.std.proofs.lemmas.Bool.{cases_lt, lt-leb}
+use Rattle.std.proofs.lemmas.Bool.{cases_lt, lt-leb, false≢true}
 use Rattle.dq_ticks.specs.declared.words.Parts.{Parts}
 use Rattle.dq_ticks.specs.declared.words.Mark.TheVariants.{LiveMark}
 use Rattle.dq_wheel.specs.State.{WheelState, filed_at}
@@ -67,49 +67,30 @@ run_of_none P last m n e = ([], tt, e)
 pub run_of_one : {T : Type 0} (P : Event T → Type 0) (last : ℕ) (m n : Machine T) (e : Event T) → P e → Step last m e n → RunOf P last m n
 run_of_one P last m n e p s = (e ∷ [], (p, tt), (n, s, refl))
 
+-- A step of a caller is an extend or a cancel: what holds of both holds of it. The events are gone
+-- through here alone.
+pub of_callers : {T : Type 0} (shared : Bool) (P : Event T → Type 0) → (shared ≡ true → (i s when : ℕ) → P (Extend i s when)) → (shared ≡ true → (i s : ℕ) → P (Cancel i s)) → (e : Event T) → IsCallers shared e → P e
+of_callers shared P extends cancels (Note t) h = absurd h
+of_callers shared P extends cancels (Pass t) h = absurd h
+of_callers shared P extends cancels (Insert i v w) h = absurd h
+of_callers shared P extends cancels (Reset i b w) h = absurd h
+of_callers shared P extends cancels (Extend i s w) h = extends h i s w
+of_callers shared P extends cancels (Cancel i s) h = cancels h i s
+of_callers shared P extends cancels (Remove i b) h = absurd h
+of_callers shared P extends cancels (Reap i b) h = absurd h
+of_callers shared P extends cancels (Expire i b a) h = absurd h
+
 pub callers_on_the_way : {T : Type 0} (shared : Bool) (e : Event T) → IsCallers shared e → IsOnTheWay shared e
-callers_on_the_way shared (Note t) h = absurd h
-callers_on_the_way shared (Pass t) h = absurd h
-callers_on_the_way shared (Insert i v w) h = absurd h
-callers_on_the_way shared (Reset i b w) h = absurd h
-callers_on_the_way shared (Extend i s w) h = h
-callers_on_the_way shared (Cancel i s) h = h
-callers_on_the_way shared (Remove i b) h = absurd h
-callers_on_the_way shared (Reap i b) h = absurd h
-callers_on_the_way shared (Expire i b a) h = absurd h
+callers_on_the_way shared e h = of_callers shared (IsOnTheWay shared) (λ open_ i s w. open_) (λ open_ i s. open_) e h
 
 pub callers_reaping : {T : Type 0} (shared : Bool) (e : Event T) → IsCallers shared e → IsReaping shared e
-callers_reaping shared (Note t) h = absurd h
-callers_reaping shared (Pass t) h = absurd h
-callers_reaping shared (Insert i v w) h = absurd h
-callers_reaping shared (Reset i b w) h = absurd h
-callers_reaping shared (Extend i s w) h = h
-callers_reaping shared (Cancel i s) h = h
-callers_reaping shared (Remove i b) h = absurd h
-callers_reaping shared (Reap i b) h = absurd h
-callers_reaping shared (Expire i b a) h = absurd h
+callers_reaping shared e h = of_callers shared (IsReaping shared) (λ open_ i s w. open_) (λ open_ i s. open_) e h
 
 pub callers_clearing : {T : Type 0} (shared : Bool) (e : Event T) → IsCallers shared e → IsClearing shared e
-callers_clearing shared (Note t) h = absurd h
-callers_clearing shared (Pass t) h = absurd h
-callers_clearing shared (Insert i v w) h = absurd h
-callers_clearing shared (Reset i b w) h = absurd h
-callers_clearing shared (Extend i s w) h = h
-callers_clearing shared (Cancel i s) h = h
-callers_clearing shared (Remove i b) h = absurd h
-callers_clearing shared (Reap i b) h = absurd h
-callers_clearing shared (Expire i b a) h = absurd h
+callers_clearing shared e h = of_callers shared (IsClearing shared) (λ open_ i s w. open_) (λ open_ i s. open_) e h
 
 no_caller : {T : Type 0} (e : Event T) → IsCallers false e → ⊥
-no_caller (Note t) h = h
-no_caller (Pass t) h = h
-no_caller (Insert i v w) h = h
-no_caller (Reset i b w) h = h
-no_caller (Extend i s w) h = cc
-no_caller (Cancel i s) h = cc
-no_caller (Remove i b) h = h
-no_caller (Reap i b) h = h
-no_caller (Expire i b a) h = h
+no_caller e h = of_callers false (λ _. ⊥) (λ open_ i s w. false≢true open_) (λ open_ i s. false≢true open_) e h
 
 -- where nobody shares the words, no step of a caller comes between
 no_callers : {T : Type 0} (last : ℕ) (m n : Machine T) (es : List (Event T)) → AllByRecursion (IsCallers false) es → Run last m es n → n ≡ m

@@ -1,5 +1,7 @@
+-- No public clause cites this module.
 -- The free indexes of a row: those freed last on a stack, and a bit for each of the others.
-use Rattle.std.specs.Prelude.{◌≡◌, ◌≢◌, ℕ, ◌+◌, ◌*◌, ◌/◌, ◌%◌, ◌<◌, ◌≤◌, ◌↔◌, ◌==◌, List, Option, Some, None, length, slice_index}
+use Rattle.std.specs.Prelude.{◌≡◌, ◌≢◌, ℕ, ◌+◌, ◌*◌, ◌/◌, ◌%◌, ◌<◌, ◌≤◌, ◌↔◌, ◌==◌, List, Option}
+use Rattle.std.specs.Prelude.{Some, None, length, slice_index}
 use Rattle.std.specs.List.{count_by}
 use Rattle.std.specs.Int.{bit_at}
 

@@ -71,7 +71,8 @@ impl<A: Allocator> PackedRow<A> {
         requires { index < length self.now }
         ensures { MatchOption result
             ((d : ℕ) → word_at self.now index ≢ live stamp d)
-            (λ d. (word_at self.now index ≡ live stamp d) × (stamp ≤ LAST_STAMP) × (d ≤ LAST_TICK)) }
+            (λ d. (word_at self.now index ≡ live stamp d) × (stamp ≤ LAST_STAMP)
+            × (d ≤ LAST_TICK)) }
     {
         let word = self.words[index];
         if word / MARK_UNIT == u64::from(stamp) * 4 {
