@@ -53,6 +53,8 @@ fn lowest_bit(word: u64) -> Option<usize>
 }
 
 /// A word that the summary has a bit for: in rising order from `from`, and then again from the first.
+// Called once a word, so it stays out of its callers' loops.
+#[inline(never)]
 fn next_word(summary: &Summary, from: usize) -> Option<usize>
     requires { from < 1024 }
     ensures { MatchOption result

@@ -156,7 +156,7 @@ impl<Q: Queue> Load<Q> {
     }
 
     /// Resets the entry of a key, and keeps the new key. An error of its own keeps the timed loops short.
-    #[inline]
+    #[inline(always)]
     fn reset_at(&mut self, keys: &mut [Key], index: usize, deadline: u64) -> Result<(), Refusal> {
         let key = keys.get_mut(index).ok_or(Refusal::NoEntry)?;
         *key = self.queue.reset(key, deadline)?;
@@ -164,7 +164,7 @@ impl<Q: Queue> Load<Q> {
     }
 
     /// Removes the entry of a key, inserts another in its place, and gives the value that was removed.
-    #[inline]
+    #[inline(always)]
     fn replace_at(
         &mut self,
         keys: &mut [Key],

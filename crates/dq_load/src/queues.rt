@@ -47,11 +47,13 @@ pub fn config(capacity: usize) -> CoreConfig {
     }
 }
 
+#[inline(always)]
 fn inserted<W: Words>(core: &mut DelayCore<u64, W>, value: u64, when: u64) -> Result<Key, Refusal> {
     core.insert(value, when)
         .map_err(|refused| Refusal::Core(refused.0))
 }
 
+#[inline(always)]
 fn removed<W: Words>(core: &mut DelayCore<u64, W>, key: &Key) -> Result<u64, Refusal> {
     match core.remove(&key.entry()) {
         Ok(removed) => Ok(removed.value),
@@ -85,22 +87,27 @@ impl Owned {
 }
 
 impl Queue for Owned {
+    #[inline(always)]
     fn insert(&mut self, value: u64, when: u64) -> Result<Key, Refusal> {
         inserted(&mut self.core, value, when)
     }
 
+    #[inline(always)]
     fn extend(&mut self, key: &Key, when: u64) -> Result<u64, Refusal> {
         self.core.extend(key, when).map_err(Refusal::Call)
     }
 
+    #[inline(always)]
     fn reset(&mut self, key: &Key, when: u64) -> Result<Key, Refusal> {
         self.core.reset(&key.entry(), when).map_err(Refusal::Core)
     }
 
+    #[inline(always)]
     fn remove(&mut self, key: &Key) -> Result<u64, Refusal> {
         removed(&mut self.core, key)
     }
 
+    #[inline(always)]
     fn cancel(&mut self, key: &Key) -> Result<u64, Refusal> {
         self.core.cancel(key).map_err(Refusal::Call)
     }
@@ -135,22 +142,27 @@ impl Issues for Shared {
 }
 
 impl Queue for Shared {
+    #[inline(always)]
     fn insert(&mut self, value: u64, when: u64) -> Result<Key, Refusal> {
         inserted(&mut self.core, value, when)
     }
 
+    #[inline(always)]
     fn extend(&mut self, key: &Key, when: u64) -> Result<u64, Refusal> {
         self.caller.extend(key, when).map_err(Refusal::Call)
     }
 
+    #[inline(always)]
     fn reset(&mut self, key: &Key, when: u64) -> Result<Key, Refusal> {
         self.core.reset(&key.entry(), when).map_err(Refusal::Core)
     }
 
+    #[inline(always)]
     fn remove(&mut self, key: &Key) -> Result<u64, Refusal> {
         removed(&mut self.core, key)
     }
 
+    #[inline(always)]
     fn cancel(&mut self, key: &Key) -> Result<u64, Refusal> {
         self.caller.cancel(key).map_err(Refusal::Call)
     }
