@@ -16,7 +16,7 @@ use crate::parts::{ONE_CANCEL, live_word};
 use crate::seated::Seated;
 use crate::tries;
 use dq_core::{Settled, SharedWords, Words};
-use dq_ticks::{LAST_STAMP, LAST_TICK, Parts, unpack};
+use dq_ticks::{CAPACITY_LIMIT, LAST_STAMP, LAST_TICK, Parts, unpack};
 use std::alloc::{AllocError, Allocator, Global};
 use std::marker::Model;
 use thiserror::Error;
@@ -24,13 +24,10 @@ use thiserror::Error;
 /// The most callers that a keeper issues, given back or not.
 pub const HANDLE_LIMIT: u64 = 1024;
 
-/// The most slots of a keeper.
-pub const CAPACITY_LIMIT: usize = 65536;
-
 /// Why a keeper or a caller is not made.
 #[derive(Clone, Copy, Debug, PartialEq, Eq, Error)]
 pub enum WordsError {
-    /// The capacity is 0 or beyond 65536.
+    /// The capacity is 0 or beyond [`CAPACITY_LIMIT`].
     #[error("the capacity is out of its range")]
     BadConfig,
     /// Memory was refused.
@@ -55,13 +52,14 @@ pub struct Keeper<A: Allocator = Global> {
 impl<A: Allocator> Model for Keeper<A> {
     ghost use Rattle.std.specs.Prelude.{◌≡◌, ◌≤◌, true};
     ghost use Rattle.dq_words.specs.Seats.{Sat};
+    ghost use Rattle.dq_words.specs.declared.keeper.TheConstants.{HANDLE_LIMIT};
 
     ghost Value = { Sat };
 
     ghost view = { λ k. k.seat };
 
     ghost invariant = { λ k. (k.seat.view.keeps ≡ true)
-        × (k.issued ≡ k.seat.view.issued) × (k.issued ≤ 1024) };
+        × (k.issued ≡ k.seat.view.issued) × (k.issued ≤ HANDLE_LIMIT) };
 }
 
 impl From<AllocError> for WordsError {
@@ -76,8 +74,8 @@ impl From<AllocError> for WordsError {
 }
 
 impl<A: Allocator + Clone> Keeper<A> {
-    /// A keeper of that many slots which were never used. Refused as BadConfig for a capacity of 0 or beyond 65536, and as
-    /// NoMemory.
+    /// A keeper of that many slots which were never used. Refused as BadConfig for a capacity of 0 or beyond
+    /// [`CAPACITY_LIMIT`], and as NoMemory.
     pub fn new(alloc: A, capacity: usize) -> Result<Keeper<A>, WordsError>
         // Made: each word was never used, and nothing is known, written or issued yet.
         ensures rows { IfOk result (λ k. length (known_of k) ≡ capacity) }

@@ -16,4 +16,4 @@ mod tries;
 pub mod views;
 
 pub use caller::Caller;
-pub use keeper::{CAPACITY_LIMIT, HANDLE_LIMIT, Keeper, WordsError};
+pub use keeper::{HANDLE_LIMIT, Keeper, WordsError};

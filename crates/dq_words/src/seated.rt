@@ -2,7 +2,9 @@
 //! most, of the kind that the seat records: so the keeper and its callers reach the words by these steps and by nothing else.
 ghost use Rattle.std.specs.Prelude.{◌≡◌, ◌+◌, ◌*◌, ◌<◌, ◌≤◌, length, true, false, slice_index};
 ghost use Rattle.std.specs.Prelude.{IfOk, IfErr};
+ghost use Rattle.dq_ticks.specs.declared.TheConstants.{CAPACITY_LIMIT};
 ghost use Rattle.dq_ticks.specs.Word.{word, stamp_of, mark_of, field_of};
+ghost use Rattle.dq_words.specs.declared.keeper.TheConstants.{HANDLE_LIMIT};
 ghost use Rattle.dq_words.specs.Counts.{most_begins, cancels_in};
 ghost use Rattle.dq_words.specs.Keeping.{IsFree, Knew};
 ghost use Rattle.dq_words.specs.Plays.{settling, renewing, finishing, issuing, newcomer};
@@ -46,7 +48,7 @@ impl<A: Allocator> Model for Seated<A> {
 impl<A: Allocator + Clone> Seated<A> {
     // The keeper's seat at a new table.
     pub(crate) fn at_new_table(alloc: A, rows: usize) -> Result<Seated<A>, AllocError>
-        requires { rows ≤ 65536 }
+        requires { rows ≤ CAPACITY_LIMIT }
         ensures { IfOk result (λ s. s.view ≡ first_keeper rows) }
     {
         let heap = alloc.clone()?;
@@ -150,7 +152,7 @@ impl<A: Allocator> Seated<A> {
     // One seat more at the same table, for a caller.
     pub(crate) fn issue(&mut self) -> Result<Seated<A>, AllocError>
         requires keeper { self.old.view.keeps ≡ true }
-        requires few { self.old.view.issued < 1024 }
+        requires few { self.old.view.issued < HANDLE_LIMIT }
         ensures newcomer { IfOk result (λ c. c.view ≡ newcomer self.old.view) }
         ensures same_table { IfOk result (λ c. c.table ≡ self.old.table) }
         ensures issued { IfOk result (λ _. self.new.view ≡ issuing self.old.view) }
