@@ -41,8 +41,9 @@ pub enum WordsError {
     },
 }
 
-/// Begins and ends the entries of a row of words, and issues the callers that extend and cancel them. To a contract it is
-/// the table that it sits at and what it knows: the words that it saw, its own writes, and how many callers it issued.
+/// Begins and ends the entries of a row of words, and issues the callers that extend and cancel them. To a contract it
+/// is the table that it sits at and what it knows: the words that it saw, its own writes, and how many callers it
+/// issued.
 #[derive(Drop)]
 pub struct Keeper<A: Allocator = Global> {
     seat: Seated<A>,
@@ -97,8 +98,8 @@ impl<A: Allocator + Clone> Keeper<A> {
 }
 
 impl<A: Allocator> Keeper<A> {
-    /// What is known of every keeper: it issued no more than [`HANDLE_LIMIT`] callers, and began no more entries than the
-    /// stamps that it saw; and between some two steps the rule of the words held with what it knows.
+    /// What is known of every keeper: it issued no more than [`HANDLE_LIMIT`] callers, and began no more entries than
+    /// the stamps that it saw; and between some two steps the rule of the words held with what it knows.
     pub fn law(&self)
         ensures keeper { IsKeeper self.now.view }
         ensures stood { Stood self.now.view }
@@ -106,8 +107,8 @@ impl<A: Allocator> Keeper<A> {
         self.seat.law();
     }
 
-    /// One caller more, which may go to any thread. Refused as TooManyHandles where [`HANDLE_LIMIT`] callers were issued,
-    /// given back or not, and as NoMemory where the table can't be shared once more.
+    /// One caller more, which may go to any thread. Refused as TooManyHandles where [`HANDLE_LIMIT`] callers were
+    /// issued, given back or not, and as NoMemory where the table can't be shared once more.
     pub fn issue(&mut self) -> Result<Caller<A>, WordsError>
         // Issued: one more, which sits at this keeper's table and knows nothing yet.
         ensures counted { IfOk result (λ _. self.new.view.issued ≡ self.old.view.issued + 1) }

@@ -1,5 +1,9 @@
-//! A seat at a table of words. This module alone names a table, and each of its functions but the readers makes one step at
-//! most, of the kind that the seat records: so the keeper and its callers reach the words by these steps and by nothing else.
+//! A seat at a table of words.
+//!
+//! This module alone can name the table, and it has one function for each kind of step, which makes that step's atomic
+//! operation once. So the keeper and its callers reach the words by these steps and by nothing else, and the steps that
+//! a seat records are all that were made through it. No function here calls the table's `peek`, a load that no seat
+//! records.
 ghost use Rattle.std.specs.Prelude.{◌≡◌, ◌+◌, ◌*◌, ◌<◌, ◌≤◌, length, true, false, slice_index};
 ghost use Rattle.std.specs.Prelude.{IfOk, IfErr};
 ghost use Rattle.dq_ticks.specs.declared.TheConstants.{CAPACITY_LIMIT};
@@ -12,12 +16,15 @@ ghost use Rattle.dq_words.specs.Plays.{giving_back, CallerLoads, KeeperLoads, Re
 ghost use Rattle.dq_words.specs.Plays.{BeginStep, ExchangeStep, ExtendStep, CancelStep, SeatGoesOn};
 ghost use Rattle.dq_words.specs.Rule.{first_keeper};
 
+mod plays;
+mod rule;
+
 use crate::parts::ONE_CANCEL;
-use crate::plays::{
+use crate::seated::plays::{
     Begin, CallerLoad, Cancel, Extend, Finish, GiveBack, Issue, KeeperLoad, Renew, ReturnLoad,
     Settle,
 };
-use crate::rule::{WordSeat, WordTable};
+use crate::seated::rule::{WordSeat, WordTable};
 use atomic_table::Table;
 use std::alloc::{AllocError, Allocator};
 use std::marker::Model;
