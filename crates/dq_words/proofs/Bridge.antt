@@ -4,12 +4,12 @@ use Rattle.std.proofs.lemmas.List.{length-replicate}
 use Rattle.dq_ticks.specs.declared.words.Parts.{Parts}
 use Rattle.dq_ticks.specs.declared.words.Mark.{Mark}
 use Rattle.dq_ticks.specs.declared.words.Mark.TheVariants.{LiveMark, CancelledMark}
-use Rattle.dq_ticks.specs.Word.{word, stamp_of, mark_of, field_of, mark_number, mark_by, packed, parts_of}
+use Rattle.dq_ticks.specs.Word.{word, stamp_of, mark_of, field_of, mark_number, mark_by, parts_of}
 use Rattle.dq_core.specs.declared.words.Settled.{Settled}
 use Rattle.dq_core.specs.declared.words.Settled.TheVariants.{SettledExpired, Later, SettledCancelled}
-use Rattle.dq_core.specs.Words.{live, cancelled, expired, removed, never, word_at, AreFresh, IsOver, IsInForce, IsSettled, IsChanged, Learned}
+use Rattle.dq_core.specs.Words.{live, cancelled, expired, removed, never, word_at, AreFresh, IsInForce, IsSettled, IsChanged, Learned}
 use Rattle.dq_words.specs.declared.views.View.{View}
-use Rattle.dq_words.specs.Keeping.{counts_of, IsFree, IsOpen}
+use Rattle.dq_words.specs.Keeping.{counts_of, IsOpen}
 use Rattle.dq_words.specs.KeeperCalls.{loaded, KeeperSettles, KeeperRenews, KeeperFinishes}
 use Rattle.dq_words.specs.Rule.{zeros, first_keeper}
 use Rattle.dq_words.specs.Word.{LearnedWord, parts_row}
@@ -38,9 +38,6 @@ parts_by s m d n is hm hd =
     let b : mark_of n ≡ m = omega arith in
     let c : field_of n ≡ d = omega arith in
     λ q. record { stamp = a q; mark = mark_by (b q); field = c q }
-
-pub packed_parts : (n : ℕ) → packed (parts_of n) ≡ n
-packed_parts n = let m = mark_number_by (mark_of n) (omega arith) in let a : packed (parts_of n) ≡ word (stamp_of n) (mark_of n) (field_of n) = ap (λ k. word (stamp_of n) k (field_of n)) m in omega arith
 
 pub live_is : (s d n : ℕ) → n ≡ word s 0 d → d ≤ 4398046511103 → parts_of n ≡ live s d
 live_is s d n is small = parts_by s 0 d n is (omega arith) small
@@ -85,16 +82,6 @@ in_force_open s f n h = ⊎_elim
     ((h.0, inl (omega arith)), λ m. absurd (omega arith)))
     h.1
 
--- what a word with nothing linked is, packed
-pub over_free : (n : ℕ) → IsOver (parts_of n) → IsFree n
-over_free n h = ⊎_elim
-    (λ (e : parts_of n ≡ never).
-    let a : stamp_of n ≡ 0 = ap (λ (p : Parts). p.stamp) e in
-    let b : mark_of n ≡ 0 = mark_is n LiveMark (ap (λ (p : Parts). p.mark) e) in
-    let c : field_of n ≡ 0 = ap (λ (p : Parts). p.field) e in
-    inl (omega arith))
-    (λ ne. inr (λ m. ne (ap mark_by m))) h
-
 pub row_at : (xs : List ℕ) (i : ℕ) → word_at (parts_row xs) i ≡ parts_of (get_or xs i 0)
 row_at [] i = refl
 row_at (x ∷ xs) zero = refl
@@ -126,12 +113,6 @@ learned_at xs i n p h e = let P : Parts × Parts → Type 0 = λ x. Learned true
 
 pub open_at : (xs : List ℕ) (i s f : ℕ) → IsInForce s f (word_at (parts_row xs) i) → IsOpen (get_or xs i 0) s × (mark_of (get_or xs i 0) ≡ 0 → f ≤ field_of (get_or xs i 0))
 open_at xs i s f h = in_force_open s f (get_or xs i 0) (let P : Parts → Type 0 = λ p. IsInForce s f p in subst P (row_at xs i) h)
-
-pub free_at : (xs : List ℕ) (i : ℕ) → IsOver (word_at (parts_row xs) i) → IsFree (get_or xs i 0)
-free_at xs i h = over_free (get_or xs i 0) (let P : Parts → Type 0 = λ p. IsOver p in subst P (row_at xs i) h)
-
-pub stamp_at : (xs : List ℕ) (i : ℕ) → (word_at (parts_row xs) i).stamp ≡ stamp_of (get_or xs i 0)
-stamp_at xs i = ap (λ (p : Parts). p.stamp) (row_at xs i)
 
 module _ (v w : View) (i s : ℕ) (inside : i < length (parts_row v.seen)) where
   abbrev xs : List ℕ

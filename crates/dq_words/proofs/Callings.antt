@@ -1,5 +1,5 @@
 -- What a caller's load and step together tell.
-use Rattle.std.proofs.Common.{Result, MatchResult, ◌≡◌, ◌≢◌, ◌⊎◌, ℕ, ◌<◌, ◌≤◌, max, List, ◌∷◌, length, get_or, set, sym, ap, ◌∙◌, subst, inr, ⊎_elim, Ok, Err, get_or-set_same, set-set, arith}
+use Rattle.std.proofs.Common.{◌≡◌, ◌⊎◌, ℕ, ◌<◌, ◌≤◌, max, List, ◌∷◌, length, get_or, set, sym, ap, ◌∙◌, subst, inr, ⊎_elim, Ok, Err, get_or-set_same, set-set, arith}
 use Rattle.dq_ticks.specs.Keys.{KeyName}
 use Rattle.dq_ticks.specs.Word.{word, stamp_of, mark_of, field_of}
 use Rattle.dq_core.specs.declared.words.CallError.{CallError}
@@ -168,6 +168,34 @@ module _ (v u w : View) (k : KeyName) (m n : ℕ) (inside : k.entry.index < leng
       })
       (λ (miss : MissedStep u w i new n). absurd (miss.0 (same ∙ sym at) live)) steps.2
 
-  pub calls_cancel : (new : ℕ) (r : Result ℕ CallError) → new ≡ word k.stamp 1 0 → k.stamp ≤ stamp_of m → CancelStep u w i new n → MatchResult r (λ d. (stamp_of n ≡ k.stamp) × (mark_of n ≡ 0) × (d ≡ field_of n)) (λ e. Refuses n k.stamp e) → CallerCancels v k r w
-  calls_cancel new (Ok d) is asked steps h = accepts_cancel new d is steps h.0 h.1 h.2
-  calls_cancel new (Err e) is asked steps h = refuses_cancel new e is asked steps h
+-- The same from what a call's own steps say: its seat's view, its slot and its stamp have other names there.
+module _ (v v' u w : View) (k : KeyName) (i asked m n shown : ℕ) (own : v ≡ v') (slot : (i ≡ k.entry.index) × (i < length v.seen) × (0 < k.stamp)) (stamped : asked ≡ k.stamp)
+    (loads : CallerLoads v' u i m) (is_shown : shown ≡ stamp_of m) (given : asked ≤ shown) where
+  inside : k.entry.index < length v.seen
+  inside = let at = slot.0 in let h = slot.1 in omega arith
+
+  loaded : CallerLoads v u k.entry.index m
+  loaded = let P : View × ℕ → Type 0 = λ x. CallerLoads x.0 u x.1 m in subst P (λ q. (sym own q, slot.0 q)) loads
+
+  given_stamp : k.stamp ≤ stamp_of m
+  given_stamp = omega arith
+
+  pub extend_refused : (when new : ℕ) (e : CallError) → when ≤ 4398046511103 → new ≡ word asked 0 when → ExtendStep u w i new n → Refuses n asked e → CallerExtends v k when (Err e) w
+  extend_refused when new e small is step refuses =
+      let P : ℕ → Type 0 = λ j. ExtendStep u w j new n in let Q : ℕ → Type 0 = λ s. Refuses n s e in
+      refuses_extend v u w k m n inside slot.2 loaded when new e small (is ∙ ap (λ s. word s 0 when) stamped) given_stamp (subst P slot.0 step) (subst Q stamped refuses)
+
+  pub extend_accepted : (when new before d : ℕ) → when ≤ 4398046511103 → new ≡ word asked 0 when → ExtendStep u w i new n → (stamp_of n ≡ asked) × (mark_of n ≡ 0) × (before ≡ field_of n) → d ≡ max before when → CallerExtends v k when (Ok d) w
+  extend_accepted when new before d small is step live best =
+      let P : ℕ → Type 0 = λ j. ExtendStep u w j new n in
+      accepts_extend v u w k m n inside slot.2 loaded when new d small (is ∙ ap (λ s. word s 0 when) stamped) (subst P slot.0 step) (live.0 ∙ stamped) live.1 (best ∙ ap (λ b. max b when) live.2)
+
+  pub cancel_refused : (new : ℕ) (e : CallError) → new ≡ word asked 1 0 → CancelStep u w i new n → Refuses n asked e → CallerCancels v k (Err e) w
+  cancel_refused new e is step refuses =
+      let P : ℕ → Type 0 = λ j. CancelStep u w j new n in let Q : ℕ → Type 0 = λ s. Refuses n s e in
+      refuses_cancel v u w k m n inside slot.2 loaded new e (is ∙ ap (λ s. word s 1 0) stamped) given_stamp (subst P slot.0 step) (subst Q stamped refuses)
+
+  pub cancel_accepted : (new d : ℕ) → new ≡ word asked 1 0 → CancelStep u w i new n → (stamp_of n ≡ asked) × (mark_of n ≡ 0) × (d ≡ field_of n) → CallerCancels v k (Ok d) w
+  cancel_accepted new d is step live =
+      let P : ℕ → Type 0 = λ j. CancelStep u w j new n in
+      accepts_cancel v u w k m n inside slot.2 loaded new d (is ∙ ap (λ s. word s 1 0) stamped) (subst P slot.0 step) (live.0 ∙ stamped) live.1 live.2

@@ -1,6 +1,6 @@
 -- What the keeper learns.
-use Rattle.std.proofs.Common.{◌≡◌, ◌≢◌, ◌⊎◌, ℕ, ◌<◌, ◌≤◌, sym, ap, subst, inl, inr, ⊎_elim, arith}
-use Rattle.dq_ticks.specs.Word.{word, stamp_of, mark_of, field_of}
+use Rattle.std.proofs.Common.{◌≡◌, ◌⊎◌, ℕ, ◌<◌, ◌≤◌, sym, ap, subst, inl, inr, ⊎_elim, arith}
+use Rattle.dq_ticks.specs.Word.{word, stamp_of, field_of}
 use Rattle.dq_words.specs.Word.{LearnedWord}
 use Rattle.dq_words.specs.Keeping.{IsOpen}
 
@@ -32,12 +32,6 @@ learned_on x n m g h = ⊎_elim
           (λ (e : n ≡ word l.0 1 0). absurd (omega arith)) l.5,
     )) h) g
 
-pub learned_greater : (x n : ℕ) → LearnedWord x n → n ≢ x → x < n
-learned_greater x n h ne = ⊎_elim (λ (e : n ≡ x). absurd (ne e))
-    (λ (l : Grown x n). let a = l.2 in let b = l.4 in ⊎_elim
-    (λ (e : (e : ℕ) × (l.1 ≤ e) × (e ≤ 4398046511103) × (n ≡ word l.0 0 e)). let c = e.1 in let d = e.3 in omega arith)
-    (λ (e : n ≡ word l.0 1 0). omega arith) l.5) h
-
 pub open_on : (x n s : ℕ) → IsOpen x s → LearnedWord x n → IsOpen n s
 open_on x n s o h = (
   o.0,
@@ -48,9 +42,3 @@ open_on x n s o h = (
       (λ (e : (e : ℕ) × (l.1 ≤ e) × (e ≤ 4398046511103) × (n ≡ word l.0 0 e)). let c = e.2 in let d = e.3 in inr (omega arith))
       (λ (e : n ≡ word l.0 1 0). inl (omega arith)) l.5) h,
 )
-
-pub open_live : (n s : ℕ) → IsOpen n s → mark_of n ≡ 0 → n ≡ word s 0 (field_of n)
-open_live n s o m = ⊎_elim (λ (y : n ≡ word s 1 0). absurd (omega arith)) (λ y. y) o.1
-
-pub open_shut : (n s : ℕ) → IsOpen n s → mark_of n ≢ 0 → n ≡ word s 1 0
-open_shut n s o m = ⊎_elim (λ y. y) (λ (y : n ≡ word s 0 (field_of n)). absurd (m (omega arith))) o.1

@@ -1,6 +1,6 @@
 -- The keeper's writes keep the rule.
 use Rattle.std.proofs.Common.{◌≡◌, ◌≢◌, ℕ, ◌+◌, ◌<◌, ◌≤◌, ◌⊎◌, eqb, true, false, true≢false, List, [], ◌∷◌, get_or, set, sym, refl, ap, ◌∙◌, subst, inl, inr, ⊎_elim, arith}
-use mathlib.Core.Option.{some, none, some-ne-none}
+use mathlib.Core.Option.{some, none}
 use prog.Atomic.{either}
 use lib.ListN.{get_elem?}
 use Rattle.atomic_table.specs.Table.{State, step, keeps, Allows}
@@ -65,10 +65,6 @@ end_law n n' s m bs es xs cs d l was small now =
     let P : ℕ → Type 0 = λ x. IsDeadline (file_of_lists bs es xs cs) x in
     let force : IsDeadline (file_of_lists bs es xs cs) d = subst P same l.in_force in
     record { base = l.base; deadline = d; mark = m; given = l.given; ended = ap (λ ys. (m, d) ∷ ys) l.unended; uncancelled = l.uncancelled; in_force = force; small = small; now = now }
-
-long : (l : List View) (u : View) → get_elem? l 0 ≡ some u → (v : View) × (vs : List View) × (l ≡ v ∷ vs)
-long [] u at = absurd (some-ne-none u (sym at))
-long (v ∷ vs) u at = (v, vs, refl)
 
 module _ (vs : List View) (id : ℕ) (v w : View) (at : get_elem? vs id ≡ some v) (first : id ≡ 0) (x : Write) (c : w.calls ≡ v.calls) (e : w.writes ≡ x ∷ v.writes) where
   pub now_written : keeper_writes (set vs id w) ≡ x ∷ keeper_writes vs

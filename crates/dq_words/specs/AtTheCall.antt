@@ -3,7 +3,7 @@ use Rattle.std.specs.Prelude.{◌≡◌, ◌≢◌, ◌⊎◌, ℕ, ◌+◌, ◌
 use Rattle.dq_core.specs.declared.words.Look.{Look}
 use Rattle.dq_core.specs.declared.words.CallError.{CallError}
 use Rattle.dq_core.specs.declared.words.CallError.TheVariants.{TooFar, Unknown, Stale, Ended}
-use Rattle.dq_ticks.specs.declared.TheConstants.{LAST_TICK}
+use Rattle.dq_ticks.specs.declared.TheConstants.{CAPACITY_LIMIT, LAST_TICK}
 use Rattle.dq_ticks.specs.Keys.{KeyName}
 use Rattle.dq_ticks.specs.Word.{word, stamp_of, mark_of}
 use Rattle.dq_words.specs.declared.keeper.WordsError.{WordsError}
@@ -82,8 +82,8 @@ KnowsNothing c =
 
 -- why no keeper is made: the capacity is out of its range, or else memory was refused
 abbrev pub NoKeeperFor : ℕ → WordsError → Type 0
-NoKeeperFor capacity BadConfig = (capacity ≡ 0) ⊎ (65536 < capacity)
-NoKeeperFor capacity NoMemory = (0 < capacity) × (capacity ≤ 65536)
+NoKeeperFor capacity BadConfig = (capacity ≡ 0) ⊎ (CAPACITY_LIMIT < capacity)
+NoKeeperFor capacity NoMemory = (0 < capacity) × (capacity ≤ CAPACITY_LIMIT)
 NoKeeperFor capacity (TooManyHandles limit) = ⊥
 
 -- why no caller is issued: as many were as may be, or else memory was refused

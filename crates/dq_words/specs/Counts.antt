@@ -1,16 +1,26 @@
 -- Numbers of writes and calls.
-use Rattle.std.specs.Prelude.{ℕ, zero, suc, ◌≡◌, ◌+◌, ◌==◌, ◌&&◌, not, if◌then◌else◌, List, [], ◌∷◌}
+use Rattle.std.specs.Prelude.{ℕ, zero, suc, ◌≡◌, ◌+◌, ◌*◌, ◌/◌, ◌%◌, ◌==◌, ◌&&◌, not, if◌then◌else◌}
+use Rattle.std.specs.Prelude.{List, [], ◌∷◌}
 use Rattle.std.specs.Prelude.{slice_index}
 use Rattle.dq_words.specs.declared.views.View.{View}
 use Rattle.dq_ticks.specs.Word.{stamp_of, mark_of}
+use Rattle.dq_ticks.specs.declared.TheConstants.{CAPACITY_LIMIT, LAST_STAMP}
+use Rattle.dq_words.specs.declared.parts.TheConstants.{ONE_CANCEL}
 use Rattle.dq_words.specs.declared.views.Call.{Call}
 use Rattle.dq_words.specs.declared.views.Call.TheVariants.{Extend, Cancel}
 use Rattle.dq_words.specs.declared.views.Write.{Write}
 use Rattle.dq_words.specs.declared.views.Write.TheVariants.{Begin, Expired, Renewed, Removed}
 
--- the most entries that a table begins: 65536 slots of 1048575 stamps each
+-- the most entries that a table begins: as many slots as may be, of all stamps each
 abbrev pub most_begins : ℕ
-most_begins = 68719411200
+most_begins = CAPACITY_LIMIT * LAST_STAMP
+
+-- the callers that a return word shows as gone, and their cancels
+abbrev pub gone_by : ℕ → ℕ
+gone_by word = word % ONE_CANCEL
+
+abbrev pub cancels_by : ℕ → ℕ
+cancels_by word = word / ONE_CANCEL
 
 -- how often the writes begin an entry
 abbrev pub begins_in : List Write → ℕ

@@ -1,5 +1,5 @@
 -- What the keeper's calls do, and what they tell of its callers.
-use Rattle.std.specs.Prelude.{◌≡◌, ◌⊎◌, ℕ, zero, suc, ◌+◌, ◌-◌, ◌/◌, ◌%◌, ◌<◌, ◌≤◌, List, ◌∷◌}
+use Rattle.std.specs.Prelude.{◌≡◌, ◌⊎◌, ℕ, zero, suc, ◌+◌, ◌-◌, ◌<◌, ◌≤◌, List, ◌∷◌}
 use Rattle.std.specs.Prelude.{length, slice_index, slice_set, Option, Some, None, Result, Ok, Err}
 use Rattle.atomic_table.specs.Table.{State}
 use mathlib.Core.Option.{some}
@@ -9,7 +9,7 @@ use Rattle.dq_core.specs.declared.words.Settled.{Settled}
 use Rattle.dq_core.specs.declared.words.Settled.TheVariants.{SettledExpired, Later}
 use Rattle.dq_core.specs.declared.words.Settled.TheVariants.{SettledCancelled}
 use Rattle.dq_ticks.specs.Word.{word, packed}
-use Rattle.dq_ticks.specs.declared.TheConstants.{LAST_TICK}
+use Rattle.dq_ticks.specs.declared.TheConstants.{CAPACITY_LIMIT, LAST_TICK}
 use Rattle.dq_ticks.specs.declared.words.Parts.{Parts}
 use Rattle.dq_words.specs.declared.views.View.{View}
 use Rattle.dq_words.specs.declared.views.StepKind.{StepKind}
@@ -18,7 +18,8 @@ use Rattle.dq_words.specs.declared.keeper.WordsError.{WordsError}
 use Rattle.dq_words.specs.declared.keeper.WordsError.TheVariants.{BadConfig, NoMemory}
 use Rattle.dq_words.specs.declared.keeper.WordsError.TheVariants.{TooManyHandles}
 use Rattle.dq_words.specs.declared.keeper.TheConstants.{HANDLE_LIMIT}
-use Rattle.dq_words.specs.Counts.{begins_in, expiries_in, removals_in, total, goes, own_cancels}
+use Rattle.dq_words.specs.Counts.{gone_by, cancels_by, begins_in, expiries_in, removals_in, total}
+use Rattle.dq_words.specs.Counts.{goes, own_cancels}
 use Rattle.dq_words.specs.Counts.{lives, below}
 use Rattle.dq_words.specs.Keeping.{Stood, counts_of}
 use Rattle.dq_words.specs.Plays.{beginning, settling, renewing, finishing, issuing, newcomer}
@@ -90,11 +91,11 @@ KeeperFinishes v i s None w = FindsCancelled v i s w
 -- a keeper is made exactly within the limits, but where memory is refused
 abbrev pub KeeperIsMade : ℕ → Result Sat WordsError → Type 0
 KeeperIsMade capacity (Ok k) =
-    (0 < capacity) × (capacity ≤ 65536) × (k.view ≡ first_keeper capacity)
+    (0 < capacity) × (capacity ≤ CAPACITY_LIMIT) × (k.view ≡ first_keeper capacity)
     × AreFresh (parts_row k.view.seen) (counts_of k.view.writes)
 KeeperIsMade capacity (Err e) =
-    ((e ≡ BadConfig) × ¬ ((0 < capacity) × (capacity ≤ 65536)))
-    ⊎ ((e ≡ NoMemory) × (0 < capacity) × (capacity ≤ 65536))
+    ((e ≡ BadConfig) × ¬ ((0 < capacity) × (capacity ≤ CAPACITY_LIMIT)))
+    ⊎ ((e ≡ NoMemory) × (0 < capacity) × (capacity ≤ CAPACITY_LIMIT))
 
 -- An issue gives a newcomer at the keeper's own table. It is refused exactly past the limit, but
 -- where memory is refused.
@@ -105,13 +106,6 @@ Issues v (Ok c) w =
 Issues v (Err e) w =
     (w ≡ v) × (((e ≡ TooManyHandles HANDLE_LIMIT) × (v.view.issued ≡ HANDLE_LIMIT))
     ⊎ ((e ≡ NoMemory) × (v.view.issued < HANDLE_LIMIT)))
-
--- the callers that a return word shows as gone, and their cancels
-abbrev pub gone_by : ℕ → ℕ
-gone_by word = word % 2048
-
-abbrev pub cancels_by : ℕ → ℕ
-cancels_by word = word / 2048
 
 -- one load of the return word, which is then seen
 abbrev pub ReturnIsLoaded : Sat → Sat → Type 0

@@ -7,14 +7,15 @@ use Rattle.dq_core.specs.Words.{Counts}
 use Rattle.dq_ticks.specs.Word.{word, stamp_of, mark_of, field_of}
 use Rattle.dq_words.specs.Counts.{begins_in, expiries_in, removals_in, below}
 use Rattle.dq_words.specs.Rule.{Ruled}
+use Rattle.dq_words.specs.declared.keeper.TheConstants.{HANDLE_LIMIT}
 use Rattle.dq_words.specs.declared.views.View.{View}
 use Rattle.dq_words.specs.declared.views.Write.{Write}
 
--- the view of a keeper: it begins no more than the stamps that it saw, and issues no more than 1024
--- callers
+-- the view of a keeper: it begins no more than the stamps that it saw, and issues no more than
+-- the callers that it may
 abbrev pub IsKeeper : View → Type 0
 IsKeeper v =
-    (v.keeps ≡ true) × (v.gone ≡ false) × (v.issued ≤ 1024)
+    (v.keeps ≡ true) × (v.gone ≡ false) × (v.issued ≤ HANDLE_LIMIT)
     × (begins_in v.writes ≤ below stamp_of v.seen (length v.seen))
 
 -- There was a moment, between two steps of the keeper and its callers, at which the rule of the

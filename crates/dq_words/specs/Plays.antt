@@ -1,6 +1,6 @@
 -- No public clause cites this module.
 -- What each step tells.
-use Rattle.std.specs.Prelude.{◌≡◌, ◌≢◌, ◌⊎◌, ℕ, ◌+◌, ◌/◌, ◌%◌, ◌<◌, ◌≤◌, max, List, [], ◌∷◌, length}
+use Rattle.std.specs.Prelude.{◌≡◌, ◌≢◌, ◌⊎◌, ℕ, ◌+◌, ◌<◌, ◌≤◌, max, List, [], ◌∷◌, length}
 use Rattle.std.specs.Prelude.{slice_index, slice_set, true, false}
 use Rattle.atomic_table.specs.Seated.{TableId}
 use Rattle.atomic_table.specs.Table.{Me, Step}
@@ -20,7 +20,8 @@ use Rattle.dq_words.specs.Word.{LearnedWord}
 use Rattle.dq_words.specs.Files.{IsIn, extends_at, cancels_at}
 use Rattle.dq_words.specs.Rule.{new_view}
 use Rattle.dq_words.specs.Keeping.{Knew}
-use Rattle.dq_words.specs.Counts.{most_begins, cancels_in, begins_in, expiries_in, removals_in}
+use Rattle.dq_words.specs.Counts.{most_begins, gone_by, cancels_by, cancels_in, begins_in}
+use Rattle.dq_words.specs.Counts.{expiries_in, removals_in}
 
 -- The deadline d of the slot i at the stamp s covers a caller's own accepted calls: no extend of it
 -- there is later, and it cancelled nothing there.
@@ -192,8 +193,8 @@ give_back_made st m n m' = m'.0 ≡ giving_back m.0
 -- their cancels and its own ends are no more than its begins.
 abbrev pub ReturnLoads : View → View → ℕ → Type 0
 ReturnLoads v w n =
-    (w ≡ loading_return v n) × (n % 2048 ≤ v.issued)
-    × ((expiries_in v.writes + removals_in v.writes) + n / 2048 ≤ begins_in v.writes)
+    (w ≡ loading_return v n) × (gone_by n ≤ v.issued)
+    × ((expiries_in v.writes + removals_in v.writes) + cancels_by n ≤ begins_in v.writes)
 
 abbrev pub return_loaded : Told
 return_loaded st m n m' = ReturnLoads m.0 m'.0 n

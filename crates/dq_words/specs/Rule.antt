@@ -1,8 +1,10 @@
 -- No public clause cites this module.
 -- The rule over the words of one table and the views of all seats.
-use Rattle.dq_ticks.specs.declared.TheConstants.{LAST_TICK}
+use Rattle.dq_ticks.specs.declared.TheConstants.{CAPACITY_LIMIT, LAST_TICK}
+use Rattle.dq_words.specs.declared.keeper.TheConstants.{HANDLE_LIMIT}
+use Rattle.dq_words.specs.declared.parts.TheConstants.{ONE_CANCEL}
 use Rattle.dq_ticks.specs.Word.{stamp_unit, word, stamp_of}
-use Rattle.std.specs.Prelude.{◌≡◌, ◌⊎◌, ℕ, zero, suc, ◌+◌, ◌*◌, ◌%◌, ◌<◌, ◌≤◌, Bool, List, [], ◌∷◌}
+use Rattle.std.specs.Prelude.{◌≡◌, ◌⊎◌, ℕ, zero, suc, ◌+◌, ◌*◌, ◌<◌, ◌≤◌, Bool, List, [], ◌∷◌}
 use Rattle.std.specs.Prelude.{length, slice_index, replicate, true, false}
 use mathlib.Core.Option.{some}
 use lib.ListN.{get_elem?}
@@ -10,7 +12,8 @@ use Rattle.atomic_table.specs.Table.{State}
 use Rattle.dq_words.specs.declared.views.View.{View}
 use Rattle.dq_words.specs.declared.views.Write.{Write}
 use Rattle.dq_words.specs.Word.{Left, LearnedWord}
-use Rattle.dq_words.specs.Counts.{begins_in, expiries_in, removals_in, total, goes, gone_cancels}
+use Rattle.dq_words.specs.Counts.{gone_by, begins_in, expiries_in, removals_in, total, goes}
+use Rattle.dq_words.specs.Counts.{gone_cancels}
 use Rattle.dq_words.specs.Counts.{own_cancels, lives, below, issued_in, returns_in, given_in}
 use Rattle.dq_words.specs.Counts.{InOrder}
 use Rattle.dq_words.specs.Files.{File, blank, file, keeper_writes, IsIn, Among, IsDeadline}
@@ -111,15 +114,15 @@ AreGiven rows words ws = (i : ℕ) → i < rows → given_in i ws ≡ stamp_of (
 -- The numbers. The return word is G + 2048 C, where G callers are gone and their lists have C
 -- cancels; what was begun has ended or is live.
 pub record Tallied (rows : ℕ) (t : State ℕ View) : Type 0 where
-  pub few : rows ≤ 65536
+  pub few : rows ≤ CAPACITY_LIMIT
   pub wide : (i : ℕ) → i < rows → slice_index t.words i < 18446744073709551616
   pub issued : length t.views ≡ issued_in t.views + 1
-  pub limit : issued_in t.views ≤ 1024
+  pub limit : issued_in t.views ≤ HANDLE_LIMIT
   pub returned :
-      slice_index t.words rows ≡ total goes t.views + 2048 * total gone_cancels t.views
-  pub older : returns_in t.views % 2048 ≤ total goes t.views
+      slice_index t.words rows ≡ total goes t.views + ONE_CANCEL * total gone_cancels t.views
+  pub older : gone_by (returns_in t.views) ≤ total goes t.views
   pub same :
-      returns_in t.views % 2048 ≡ total goes t.views → returns_in t.views ≡ slice_index t.words rows
+      gone_by (returns_in t.views) ≡ total goes t.views → returns_in t.views ≡ slice_index t.words rows
   pub balance :
       IsBalanced (keeper_writes t.views) (total own_cancels t.views) (below lives t.words rows)
   pub ordered : InOrder (keeper_writes t.views)

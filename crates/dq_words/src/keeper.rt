@@ -16,7 +16,7 @@ use crate::parts::{ONE_CANCEL, live_word};
 use crate::seated::Seated;
 use crate::tries;
 use dq_core::{Settled, SharedWords, Words};
-use dq_ticks::{LAST_STAMP, LAST_TICK, Parts, unpack};
+use dq_ticks::{CAPACITY_LIMIT, LAST_STAMP, LAST_TICK, Parts, unpack};
 use std::alloc::{AllocError, Allocator, Global};
 use std::marker::Model;
 use thiserror::Error;
@@ -24,13 +24,10 @@ use thiserror::Error;
 /// The most callers that a keeper issues, given back or not.
 pub const HANDLE_LIMIT: u64 = 1024;
 
-/// The most slots of a keeper.
-pub const CAPACITY_LIMIT: usize = 65536;
-
 /// Why a keeper or a caller is not made.
 #[derive(Clone, Copy, Debug, PartialEq, Eq, Error)]
 pub enum WordsError {
-    /// The capacity is 0 or beyond 65536.
+    /// The capacity is 0 or beyond [`CAPACITY_LIMIT`].
     #[error("the capacity is out of its range")]
     BadConfig,
     /// Memory was refused.
@@ -44,8 +41,9 @@ pub enum WordsError {
     },
 }
 
-/// Begins and ends the entries of a row of words, and issues the callers that extend and cancel them. To a contract it is
-/// the table that it sits at and what it knows: the words that it saw, its own writes, and how many callers it issued.
+/// Begins and ends the entries of a row of words, and issues the callers that extend and cancel them. To a contract it
+/// is the table that it sits at and what it knows: the words that it saw, its own writes, and how many callers it
+/// issued.
 #[derive(Drop)]
 pub struct Keeper<A: Allocator = Global> {
     seat: Seated<A>,
@@ -55,13 +53,14 @@ pub struct Keeper<A: Allocator = Global> {
 impl<A: Allocator> Model for Keeper<A> {
     ghost use Rattle.std.specs.Prelude.{◌≡◌, ◌≤◌, true};
     ghost use Rattle.dq_words.specs.Seats.{Sat};
+    ghost use Rattle.dq_words.specs.declared.keeper.TheConstants.{HANDLE_LIMIT};
 
     ghost Value = { Sat };
 
     ghost view = { λ k. k.seat };
 
     ghost invariant = { λ k. (k.seat.view.keeps ≡ true)
-        × (k.issued ≡ k.seat.view.issued) × (k.issued ≤ 1024) };
+        × (k.issued ≡ k.seat.view.issued) × (k.issued ≤ HANDLE_LIMIT) };
 }
 
 impl From<AllocError> for WordsError {
@@ -76,8 +75,8 @@ impl From<AllocError> for WordsError {
 }
 
 impl<A: Allocator + Clone> Keeper<A> {
-    /// A keeper of that many slots which were never used. Refused as BadConfig for a capacity of 0 or beyond 65536, and as
-    /// NoMemory.
+    /// A keeper of that many slots which were never used. Refused as BadConfig for a capacity of 0 or beyond
+    /// [`CAPACITY_LIMIT`], and as NoMemory.
     pub fn new(alloc: A, capacity: usize) -> Result<Keeper<A>, WordsError>
         // Made: each word was never used, and nothing is known, written or issued yet.
         ensures rows { IfOk result (λ k. length (known_of k) ≡ capacity) }
@@ -99,8 +98,8 @@ impl<A: Allocator + Clone> Keeper<A> {
 }
 
 impl<A: Allocator> Keeper<A> {
-    /// What is known of every keeper: it issued no more than [`HANDLE_LIMIT`] callers, and began no more entries than the
-    /// stamps that it saw; and between some two steps the rule of the words held with what it knows.
+    /// What is known of every keeper: it issued no more than [`HANDLE_LIMIT`] callers, and began no more entries than
+    /// the stamps that it saw; and between some two steps the rule of the words held with what it knows.
     pub fn law(&self)
         ensures keeper { IsKeeper self.now.view }
         ensures stood { Stood self.now.view }
@@ -108,8 +107,8 @@ impl<A: Allocator> Keeper<A> {
         self.seat.law();
     }
 
-    /// One caller more, which may go to any thread. Refused as TooManyHandles where [`HANDLE_LIMIT`] callers were issued,
-    /// given back or not, and as NoMemory where the table can't be shared once more.
+    /// One caller more, which may go to any thread. Refused as TooManyHandles where [`HANDLE_LIMIT`] callers were
+    /// issued, given back or not, and as NoMemory where the table can't be shared once more.
     pub fn issue(&mut self) -> Result<Caller<A>, WordsError>
         // Issued: one more, which sits at this keeper's table and knows nothing yet.
         ensures counted { IfOk result (λ _. self.new.view.issued ≡ self.old.view.issued + 1) }

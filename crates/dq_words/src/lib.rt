@@ -1,19 +1,17 @@
 //! Words shared without a lock: the keeper and its callers.
 //!
-//! Each slot of a queue has one word of 64 bits, which says how its entry stands: its stamp, its mark and a deadline. The
-//! [`Keeper`] belongs to the queue's owner and begins and ends entries. Up to 1,024 [`Caller`]s, each in a thread of its own,
-//! extend and cancel entries by one atomic step on that word, whatever the owner does meanwhile.
+//! Each slot of a queue has one word of 64 bits, which says how its entry stands: its stamp, its mark and a deadline.
+//! The [`Keeper`] belongs to the queue's owner and begins and ends entries. Up to 1,024 [`Caller`]s, each in a thread
+//! of its own, extend and cancel entries by one atomic step on that word, whatever the owner does meanwhile.
 #![tactic(auto)]
 
 pub mod caller;
 pub mod endings;
 pub mod keeper;
 mod parts;
-mod plays;
-mod rule;
 mod seated;
 mod tries;
 pub mod views;
 
 pub use caller::Caller;
-pub use keeper::{CAPACITY_LIMIT, HANDLE_LIMIT, Keeper, WordsError};
+pub use keeper::{HANDLE_LIMIT, Keeper, WordsError};

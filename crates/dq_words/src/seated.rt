@@ -1,8 +1,14 @@
-//! A seat at a table of words. This module alone names a table, and each of its functions but the readers makes one step at
-//! most, of the kind that the seat records: so the keeper and its callers reach the words by these steps and by nothing else.
+//! A seat at a table of words.
+//!
+//! This module alone can name the table, and it has one function for each kind of step, which makes that step's atomic
+//! operation once. So the keeper and its callers reach the words by these steps and by nothing else, and the steps that
+//! a seat records are all that were made through it. No function here calls the table's `peek`, a load that no seat
+//! records.
 ghost use Rattle.std.specs.Prelude.{◌≡◌, ◌+◌, ◌*◌, ◌<◌, ◌≤◌, length, true, false, slice_index};
 ghost use Rattle.std.specs.Prelude.{IfOk, IfErr};
+ghost use Rattle.dq_ticks.specs.declared.TheConstants.{CAPACITY_LIMIT};
 ghost use Rattle.dq_ticks.specs.Word.{word, stamp_of, mark_of, field_of};
+ghost use Rattle.dq_words.specs.declared.keeper.TheConstants.{HANDLE_LIMIT};
 ghost use Rattle.dq_words.specs.Counts.{most_begins, cancels_in};
 ghost use Rattle.dq_words.specs.Keeping.{IsFree, Knew};
 ghost use Rattle.dq_words.specs.Plays.{settling, renewing, finishing, issuing, newcomer};
@@ -10,12 +16,15 @@ ghost use Rattle.dq_words.specs.Plays.{giving_back, CallerLoads, KeeperLoads, Re
 ghost use Rattle.dq_words.specs.Plays.{BeginStep, ExchangeStep, ExtendStep, CancelStep, SeatGoesOn};
 ghost use Rattle.dq_words.specs.Rule.{first_keeper};
 
+mod plays;
+mod rule;
+
 use crate::parts::ONE_CANCEL;
-use crate::plays::{
+use crate::seated::plays::{
     Begin, CallerLoad, Cancel, Extend, Finish, GiveBack, Issue, KeeperLoad, Renew, ReturnLoad,
     Settle,
 };
-use crate::rule::{WordSeat, WordTable};
+use crate::seated::rule::{WordSeat, WordTable};
 use atomic_table::Table;
 use std::alloc::{AllocError, Allocator};
 use std::marker::Model;
@@ -46,7 +55,7 @@ impl<A: Allocator> Model for Seated<A> {
 impl<A: Allocator + Clone> Seated<A> {
     // The keeper's seat at a new table.
     pub(crate) fn at_new_table(alloc: A, rows: usize) -> Result<Seated<A>, AllocError>
-        requires { rows ≤ 65536 }
+        requires { rows ≤ CAPACITY_LIMIT }
         ensures { IfOk result (λ s. s.view ≡ first_keeper rows) }
     {
         let heap = alloc.clone()?;
@@ -150,7 +159,7 @@ impl<A: Allocator> Seated<A> {
     // One seat more at the same table, for a caller.
     pub(crate) fn issue(&mut self) -> Result<Seated<A>, AllocError>
         requires keeper { self.old.view.keeps ≡ true }
-        requires few { self.old.view.issued < 1024 }
+        requires few { self.old.view.issued < HANDLE_LIMIT }
         ensures newcomer { IfOk result (λ c. c.view ≡ newcomer self.old.view) }
         ensures same_table { IfOk result (λ c. c.table ≡ self.old.table) }
         ensures issued { IfOk result (λ _. self.new.view ≡ issuing self.old.view) }

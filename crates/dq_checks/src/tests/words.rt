@@ -1,6 +1,6 @@
 use dq_core::{CallError, Look, Settled, Words};
-use dq_ticks::{EntryId, Key};
-use dq_words::{CAPACITY_LIMIT, Caller, HANDLE_LIMIT, Keeper, WordsError};
+use dq_ticks::{CAPACITY_LIMIT, EntryId, Key};
+use dq_words::{Caller, HANDLE_LIMIT, Keeper, WordsError};
 use std::process::Abort;
 use std::test::Fail;
 
