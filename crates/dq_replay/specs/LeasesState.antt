@@ -11,7 +11,7 @@ use Rattle.dq_replay.specs.declared.session.Lease.{Lease}
 use Rattle.dq_replay.specs.declared.leases.Refusal.{Refusal}
 use Rattle.dq_replay.specs.declared.leases.Refusal.TheVariants.{Missing, TooFar}
 use Rattle.dq_replay.specs.Script.{with_lease, deadline_of, without, moved}
-use Rattle.dq_replay.specs.Leases.{live_of, live_entry, key_at, AreKeyed, NameTable, found_in}
+use Rattle.dq_replay.specs.Leases.{lease_of, live_of, live_entry, key_at, AreKeyed, NameTable, found_in}
 
 -- the number of slots, the wheel's tick and the noted one, a bound on the stamps that were given, and the live names in order
 pub record LeasesState : Type 0 where
@@ -73,14 +73,13 @@ abbrev pub IsExtendedTo : {W : Type 0} → Core (List ℕ) W → KeyName → ℕ
 IsExtendedTo b k when result c name d =
     (result ≡ max when d) × IsChangedAt b k.entry.index (table_at (machine b) k.entry.index).stamp (Some (live_entry k.entry.born name result)) c
 
--- a live name's entry is cancelled, and its deadline is told
-abbrev pub IsCancelledLease : {W : Type 0} → Core (List ℕ) W → KeyName → ℕ → Core (List ℕ) W → List ℕ → ℕ → Type 0
-IsCancelledLease b k result c name d =
-    (result ≡ d) × IsChangedAt b k.entry.index (table_at (machine b) k.entry.index).stamp (Some (record { born = k.entry.born; value = name; due = None })) c
-
--- a live name's entry leaves the queue, and its deadline is told
-abbrev pub IsRemovedLease : {W : Type 0} → Core (List ℕ) W → KeyName → ℕ → Core (List ℕ) W → List ℕ → ℕ → Type 0
-IsRemovedLease b k result c name d = (result ≡ d) × IsChangedAt b k.entry.index (table_at (machine b) k.entry.index).stamp None c
+-- a live name's entry is cancelled or leaves the queue, and its deadline is told
+pub record IsEndedLease {W : Type 0} (b : Core (List ℕ) W) (k : KeyName) (result : ℕ) (c : Core (List ℕ) W)
+    (name : List ℕ) (d : ℕ) : Type 0 where
+  pub told : result ≡ d
+  pub left : Option (Entry (List ℕ))
+  pub none_live : lease_of left ≡ None
+  pub changed : IsChangedAt b k.entry.index (table_at (machine b) k.entry.index).stamp left c
 
 -- the deadline of a live name is told, and nothing changes
 abbrev pub IsToldOf : {W : Type 0} → Core (List ℕ) W → KeyName → ℕ → Core (List ℕ) W → List ℕ → ℕ → Type 0
@@ -138,17 +137,25 @@ moved_lease b name deadline given = record { capacity = b.capacity; tick = b.tic
 abbrev pub without_lease : LeasesState → List ℕ → LeasesState
 without_lease b name = record { capacity = b.capacity; tick = b.tick; noted = b.noted; given = b.given; live = without name b.live }
 
+-- why a name's deadline stays: the name isn't live, or what was asked is beyond the limit
+abbrev pub RefusesLease : LeasesState → List ℕ → ℕ → ℕ → Refusal → Type 0
+RefusesLease b name when limit Missing = deadline_of name b.live ≡ None
+RefusesLease b name when limit TooFar =
+    (old : ℕ) × (deadline_of name b.live ≡ Some old) × (limit < when)
+
 -- a live name gets the greater of what was asked, at most the limit, and what was noted as its deadline
 abbrev pub ResetsLease : LeasesState → List ℕ → ℕ → ℕ → Result ℕ Refusal → LeasesState → Type 0
-ResetsLease b name when limit (Err Missing) c = (deadline_of name b.live ≡ None) × (c ≡ b)
-ResetsLease b name when limit (Err TooFar) c = (old : ℕ) × (deadline_of name b.live ≡ Some old) × (limit < when) × (c ≡ b)
-ResetsLease b name when limit (Ok d) c = (old : ℕ) × (deadline_of name b.live ≡ Some old) × (when ≤ limit) × (d ≡ max when b.noted) × (c ≡ moved_lease b name d (b.given + 1))
+ResetsLease b name when limit (Err refusal) c = RefusesLease b name when limit refusal × (c ≡ b)
+ResetsLease b name when limit (Ok d) c =
+    (old : ℕ) × (deadline_of name b.live ≡ Some old) × (when ≤ limit) × (d ≡ max when b.noted)
+    × (c ≡ moved_lease b name d (b.given + 1))
 
 -- a live name's deadline is raised to what was asked, at most the limit
 abbrev pub ExtendsLease : LeasesState → List ℕ → ℕ → ℕ → Result ℕ Refusal → LeasesState → Type 0
-ExtendsLease b name when limit (Err Missing) c = (deadline_of name b.live ≡ None) × (c ≡ b)
-ExtendsLease b name when limit (Err TooFar) c = (old : ℕ) × (deadline_of name b.live ≡ Some old) × (limit < when) × (c ≡ b)
-ExtendsLease b name when limit (Ok d) c = (old : ℕ) × (deadline_of name b.live ≡ Some old) × (when ≤ limit) × (d ≡ max when old) × (c ≡ moved_lease b name d b.given)
+ExtendsLease b name when limit (Err refusal) c = RefusesLease b name when limit refusal × (c ≡ b)
+ExtendsLease b name when limit (Ok d) c =
+    (old : ℕ) × (deadline_of name b.live ≡ Some old) × (when ≤ limit) × (d ≡ max when old)
+    × (c ≡ moved_lease b name d b.given)
 
 -- a live name ends, and its deadline in force is told
 abbrev pub EndsLease : LeasesState → List ℕ → Option ℕ → LeasesState → Type 0
@@ -165,3 +172,10 @@ abbrev pub Ticks : LeasesState → ℕ → List Lease → LeasesState → Type 0
 Ticks b now due c =
     (due ≡ filter (λ e. nat_le e.deadline now) b.live)
     × (c ≡ record { capacity = b.capacity; tick = now; noted = now; given = b.given; live = filter (λ e. nat_lt now e.deadline) b.live })
+
+-- the key of a live name that may get such a deadline, or why it may not
+abbrev pub FindsWithin : NameTable → List ℕ → ℕ → ℕ → Result KeyName Refusal → Type 0
+FindsWithin t name when limit (Ok key) = (found_in t name ≡ Some key) × (when ≤ limit)
+FindsWithin t name when limit (Err Missing) = found_in t name ≡ None
+FindsWithin t name when limit (Err TooFar) =
+    (key : KeyName) × (found_in t name ≡ Some key) × (limit < when)

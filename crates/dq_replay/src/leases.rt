@@ -8,7 +8,7 @@ ghost use Rattle.dq_core.specs.Calls.{IsInserted};
 ghost use Rattle.dq_replay.specs.Script.{has_name, deadline_of};
 ghost use Rattle.dq_replay.specs.Leases.{live_of, live_entry};
 ghost use Rattle.dq_replay.specs.Order.{IsLined};
-ghost use Rattle.dq_replay.specs.LeasesState.{Ticks, LeasesState, IsLiveKey, IsSomeKey, OfLiveKey, IsNewLease, IsResetTo, IsExtendedTo, IsCancelledLease, IsRemovedLease, IsToldOf, IsChangedAt, IsSameQueue, IsRoomy, IsPolledTo, with_lease_at, ResetsLease, ExtendsLease, EndsLease, ExpiresLease};
+ghost use Rattle.dq_replay.specs.LeasesState.{Ticks, LeasesState, IsLiveKey, IsSomeKey, OfLiveKey, IsNewLease, IsResetTo, IsExtendedTo, IsEndedLease, FindsWithin, IsToldOf, IsChangedAt, IsSameQueue, IsRoomy, IsPolledTo, with_lease_at, ResetsLease, ExtendsLease, EndsLease, ExpiresLease};
 
 use crate::name::Name;
 use crate::names::Names;
@@ -80,7 +80,7 @@ fn extend_at<A: Allocator>(queue: &mut Queue<A>, key: &Key, when: u64) -> u64
 
 fn cancel_at<A: Allocator>(queue: &mut Queue<A>, key: &Key) -> u64
     requires { IsSomeKey queue.old key.now }
-    ensures { OfLiveKey queue.old key.now (IsCancelledLease queue.old key.now result queue.new) }
+    ensures { OfLiveKey queue.old key.now (IsEndedLease queue.old key.now result queue.new) }
 {
     queue.law();
     match queue.cancel(key) {
@@ -91,11 +91,28 @@ fn cancel_at<A: Allocator>(queue: &mut Queue<A>, key: &Key) -> u64
 
 fn remove_at<A: Allocator>(queue: &mut Queue<A>, key: &Key) -> u64
     requires { IsSomeKey queue.old key.now }
-    ensures { OfLiveKey queue.old key.now (IsRemovedLease queue.old key.now result queue.new) }
+    ensures { OfLiveKey queue.old key.now (IsEndedLease queue.old key.now result queue.new) }
 {
     match queue.remove(&key.entry()) {
         Ok(removed) => removed.deadline,
         Err(_) => unreachable!(),
+    }
+}
+
+/// How a live name ends: by whoever holds it, or by the queue's owner.
+#[derive(Clone, Copy)]
+pub enum Ending {
+    Cancelled,
+    Removed,
+}
+
+fn end_at<A: Allocator>(queue: &mut Queue<A>, key: &Key, ending: Ending) -> u64
+    requires { IsSomeKey queue.old key.now }
+    ensures { OfLiveKey queue.old key.now (IsEndedLease queue.old key.now result queue.new) }
+{
+    match ending {
+        Ending::Cancelled => cancel_at(queue, key),
+        Ending::Removed => remove_at(queue, key),
     }
 }
 
@@ -124,6 +141,24 @@ fn expire_one<A: Allocator>(queue: &mut Queue<A>, now: u64) -> Option<Lease>
         Ok(Turn::Idle) => None,
         Err(_) => unreachable!(),
     }
+}
+
+/// The key of a live name that may get such a deadline, or why it may not.
+fn key_within<A: Allocator + Clone>(
+    names: &Names<A>,
+    name: &Name,
+    when: u64,
+    limit: u64,
+) -> Result<Key, Refusal>
+    ensures { FindsWithin names.now name.now when limit result }
+{
+    let Some(key) = names.get(name) else {
+        return Err(Refusal::Missing);
+    };
+    if when > limit {
+        return Err(Refusal::TooFar);
+    }
+    Ok(key)
 }
 
 /// The live names of a script: a queue of them, and a key for each.
@@ -230,12 +265,7 @@ impl<A: Allocator + Copy> Leases<A> {
         requires stamps { self.old.given < LAST_STAMP }
         ensures { ResetsLease self.old name.now when limit result self.new }
     {
-        let Some(key) = self.names.get(name) else {
-            return Err(Refusal::Missing);
-        };
-        if when > limit {
-            return Err(Refusal::TooFar);
-        }
+        let key = key_within(&self.names, name, when, limit)?;
         self.queue.law();
         let deadline = when.max(self.queue.noted());
         let next = reset_at(&mut self.queue, &key, deadline);
@@ -249,12 +279,7 @@ impl<A: Allocator + Copy> Leases<A> {
         requires { limit ≤ LAST_TICK }
         ensures { ExtendsLease self.old name.now when limit result self.new }
     {
-        let Some(key) = self.names.get(name) else {
-            return Err(Refusal::Missing);
-        };
-        if when > limit {
-            return Err(Refusal::TooFar);
-        }
+        let key = key_within(&self.names, name, when, limit)?;
         Ok(extend_at(&mut self.queue, &key, when))
     }
 
@@ -265,25 +290,31 @@ impl<A: Allocator + Copy> Leases<A> {
     pub fn cancel(&mut self, name: &Name) -> Option<u64>
         ensures { EndsLease self.old name.now result self.new }
     {
-        if self.names.len() > self.queue.capacity() / 2 {
-            return self.remove(name);
-        }
-        let Some(key) = self.names.get(name) else {
-            return None;
-        };
-        let deadline = cancel_at(&mut self.queue, &key);
-        self.names.remove(name);
-        Some(deadline)
+        let is_crowded = self.names.len() > self.queue.capacity() / 2;
+        self.end(
+            name,
+            if is_crowded {
+                Ending::Removed
+            } else {
+                Ending::Cancelled
+            },
+        )
     }
 
     /// Ends a live name as its owner does, and answers its deadline.
     pub fn remove(&mut self, name: &Name) -> Option<u64>
         ensures { EndsLease self.old name.now result self.new }
     {
+        self.end(name, Ending::Removed)
+    }
+
+    fn end(&mut self, name: &Name, ending: Ending) -> Option<u64>
+        ensures { EndsLease self.old name.now result self.new }
+    {
         let Some(key) = self.names.get(name) else {
             return None;
         };
-        let deadline = remove_at(&mut self.queue, &key);
+        let deadline = end_at(&mut self.queue, &key, ending);
         self.names.remove(name);
         Some(deadline)
     }
