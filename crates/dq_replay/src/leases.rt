@@ -8,13 +8,13 @@ ghost use Rattle.dq_core.specs.Calls.{IsInserted};
 ghost use Rattle.dq_replay.specs.Script.{has_name, deadline_of};
 ghost use Rattle.dq_replay.specs.Leases.{live_of, live_entry};
 ghost use Rattle.dq_replay.specs.Order.{IsLined};
-ghost use Rattle.dq_replay.specs.LeasesState.{Ticks, LeasesState, IsLiveKey, IsSomeKey, OfLiveKey, IsNewLease, IsResetTo, IsExtendedTo, IsEndedLease, FindsWithin, IsToldOf, IsChangedAt, IsSameQueue, IsRoomy, IsPolledTo, with_lease_at, ResetsLease, ExtendsLease, EndsLease, ExpiresLease};
+ghost use Rattle.dq_replay.specs.LeasesState.{Ticks, LeasesState, IsLiveKey, IsSomeKey, OfLiveKey, IsNewLease, IsResetTo, IsExtendedTo, IsEndedLease, FindsWithin, IsToldOf, IsChangedAt, IsSameQueue, IsRoomy, IsPolledTo, no_leases, with_lease_at, ResetsLease, ExtendsLease, EndsLease, ExpiresLease};
 
 use crate::name::Name;
 use crate::names::Names;
 use crate::session::Lease;
 use dq_core::{CoreConfig, CoreError, DelayCore, Turn, VecWords};
-use dq_ticks::{Key, LAST_STAMP, LAST_TICK};
+use dq_ticks::{CAPACITY_LIMIT, Key, LAST_STAMP, LAST_TICK};
 use std::alloc::{AllocError, Allocator};
 use std::marker::Model;
 
@@ -42,7 +42,8 @@ fn make_room<A: Allocator>(queue: &mut Queue<A>)
 /// Links a new name where there is room.
 fn link<A: Allocator>(queue: &mut Queue<A>, name: Name, when: u64) -> Key
     requires room { count_by is_held queue.old.slots.rows < length queue.old.slots.rows }
-    requires stamps { (i : ℕ) → (table_at (machine queue.old) i).stamp < queue.old.slots.last_stamp }
+    requires stamps { (i : ℕ)
+        → (table_at (machine queue.old) i).stamp < queue.old.slots.last_stamp }
     requires tick { when ≤ LAST_TICK }
     ensures { IsNewLease queue.old name when result queue.new }
 {
@@ -55,9 +56,11 @@ fn link<A: Allocator>(queue: &mut Queue<A>, name: Name, when: u64) -> Key
 
 fn reset_at<A: Allocator>(queue: &mut Queue<A>, key: &Key, when: u64) -> Key
     requires live { IsSomeKey queue.old key.now }
-    requires stamps { (i : ℕ) → (table_at (machine queue.old) i).stamp < queue.old.slots.last_stamp }
+    requires stamps { (i : ℕ)
+        → (table_at (machine queue.old) i).stamp < queue.old.slots.last_stamp }
     requires tick { when ≤ LAST_TICK }
-    ensures { OfLiveKey queue.old key.now (λ name d. IsResetTo queue.old key.now when result queue.new name) }
+    ensures { OfLiveKey queue.old key.now
+        (λ name d. IsResetTo queue.old key.now when result queue.new name) }
 {
     queue.law();
     match queue.reset(&key.entry(), when) {
@@ -189,8 +192,8 @@ impl<A: Allocator + Copy> Leases<A> {
     /// No live names, and room for so many.
     pub fn new(alloc: A, capacity: usize) -> Result<Leases<A>, AllocError>
         requires some { 0 < capacity }
-        requires few { capacity ≤ 65536 }
-        ensures { IfOk result (λ leases. leases ≡ record { capacity = capacity; tick = 0; noted = 0; given = 0; live = [] }) }
+        requires few { capacity ≤ CAPACITY_LIMIT }
+        ensures { IfOk result (λ leases. leases ≡ no_leases capacity) }
     {
         let Ok(words) = VecWords::new(alloc, capacity) else {
             return Err(AllocError);
@@ -246,7 +249,8 @@ impl<A: Allocator + Copy> Leases<A> {
         requires room { length self.old.live < self.old.capacity }
         requires tick { when ≤ LAST_TICK }
         requires stamps { self.old.given < LAST_STAMP }
-        ensures ok { IfOk result (λ d. (d ≡ max when self.old.tick) × (self.new ≡ with_lease_at self.old name d)) }
+        ensures ok { IfOk result
+            (λ d. (d ≡ max when self.old.tick) × (self.new ≡ with_lease_at self.old name d)) }
         ensures err { OnErr result (self.new ≡ self.old) }
     {
         self.names.make_room()?;
