@@ -9,20 +9,23 @@ import tree
 SIZES = ("1000", "10000", "65536")
 
 
-def sum_found(path, pattern):
-    return sum(tree.found(path, pattern))
+def table(path, begins):
+    """The lines and the answers of a table of a script, which stands behind a pattern."""
+    rows = re.search(begins + r".*?= &?\[(.*?)\n *\];", tree.text_of(tree.TOP / path), re.S)
+    if not rows:
+        raise LookupError(f"{path} has no table behind {begins}")
+    texts = re.findall(r'"((?:[^"\\]|\\.)*)"', rows[1])
+    return texts[::2], texts[1::2]
 
 
-def text_bytes(path, name):
-    """The length of a byte string that a test names."""
-    text = re.search(rf'const {name}: &\[u8\] =\s*b"((?:[^"\\]|\\.)*)"', tree.text_of(tree.TOP / path))
-    if not text:
-        raise LookupError(f"{path} has no bytes named {name}")
-    return len(re.sub(r"\\.", ".", text[1]))
+def text_bytes(lines):
+    """The bytes of lines with their ends."""
+    return sum(len(re.sub(r"\\.", ".", line)) + 1 for line in lines)
 
 
 SCRIPTS = "crates/dq_scripts/src/scripts.rt"
-SAME_CALLS = "crates/dq_model/src/same_calls.rt"
+REFUSED = "crates/dq_scripts/src/memory.rt"
+SAME_CALLS = "crates/dq_model/src/tests/same_calls.rt"
 
 
 def model_queues():
@@ -74,11 +77,10 @@ FROM_TESTS = {
     "model-calls": model_calls,
     "model-queues": model_queues,
     "plain-twin-calls": lambda: tree.found(SAME_CALLS, r"agrees_with_its_plain_twin.*?for turn in 0\.\.(\d+)u64")[0],
-    "read-faults": lambda: text_bytes(SCRIPTS, "CAPACITY_THREE") + 1,
-    "write-faults": lambda: text_bytes(SCRIPTS, "CAPACITY_THREE_ANSWERS"),
-    "refused-ends": lambda: sum_found(SCRIPTS, r"fn refused_memory\b.*?\?,\s*(\d+)\s*\)")
-    + 2 * sum_found(SCRIPTS, r"fn refused_memory_at_every_command.*?\?,\s*(\d+)\s*\)"),
-    "racing-entries": lambda: tree.found("crates/dq_checks/src/race.rt", r"const ENTRIES: usize = (\d+)")[0],
+    "read-faults": lambda: text_bytes(["delay 1", *table(SCRIPTS, "const THREE_NAMES")[0]]) + 1,
+    "write-faults": lambda: text_bytes(table(SCRIPTS, "const THREE_NAMES")[1]),
+    "refused-ends": lambda: len(table(REFUSED, r"fn refused_memory\b")[0]) + 2 * len(table(SCRIPTS, "const EVERY_COMMAND")[0]),
+    "racing-entries": lambda: tree.found("crates/dq_checks/src/tests/race.rt", r"const ENTRIES: usize = (\d+)")[0],
 }
 
 FIGURES = {

@@ -2,7 +2,7 @@
 
 use clap::error::ErrorKind;
 use clap::{Arg, Command, Error, value_parser};
-use dq_replay::CAPACITY_LIMIT;
+use dq_ticks::CAPACITY_LIMIT;
 use std::alloc::Global;
 use std::convert::AsStr;
 use std::rt::Env;

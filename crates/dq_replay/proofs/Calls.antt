@@ -13,14 +13,14 @@ use Rattle.dq_core.specs.Core.{Core, machine, table_of}
 use Rattle.dq_core.specs.Calls.{SameCore}
 use Rattle.dq_core.specs.Sweeps.{Clears}
 use Rattle.dq_replay.specs.declared.session.Lease.{Lease}
-use Rattle.dq_replay.specs.Script.{with_lease}
+use Rattle.dq_replay.specs.Script.{with_lease, deadline_of}
 use Rattle.dq_replay.specs.Leases.{lease_of, with_lease_if, live_of, vacant, live_entry, key_at, AreKeyed, NameTable, found_in, IsPutIn, one_if}
-use Rattle.dq_replay.specs.LeasesState.{leases_state, AreLeases, IsLiveKey, IsSameQueue, IsChangedAt, IsResetTo, IsExtendedTo, NoneDue, IsGone, IsResting, moved_lease, without_lease, ResetsLease, ExtendsLease, EndsLease, ExpiresLease}
+use Rattle.dq_replay.specs.LeasesState.{leases_state, AreLeases, IsLiveKey, OfLiveKey, IsSameQueue, IsResetTo, IsExtendedTo, IsEndedLease, IsToldOf, NoneDue, IsGone, IsResting, moved_lease, without_lease, ResetsLease, ExtendsLease, EndsLease, ExpiresLease}
 use Rattle.dq_replay.proofs.Ordered.{length-with_lease}
 use Rattle.dq_replay.proofs.LiveSlots.{put_here, put_there, inside_slots, live_set, live_here}
 use Rattle.dq_replay.proofs.Keyed.{keyed_put}
 use Rattle.dq_replay.proofs.Tied.{leases_path, put_in_other, put_in_same}
-use Rattle.dq_replay.proofs.Moves.{changed_tick, changed_noted, key_put, key_moved, key_moved_size, key_ended, key_ended_size, key_deadline}
+use Rattle.dq_replay.proofs.Moves.{changed_tick, changed_noted, key_put, key_moved, key_moved_size, key_ended, key_ended_size, key_deadline, live_key}
 
 none_some : {T : Type 0} (x : T) → ◌≡◌ {A = Option T} None (Some x) → ⊥
 none_some x e = cc
@@ -29,83 +29,108 @@ one_key : (t : NameTable) (name : List ℕ) (k : KeyName) → found_in t name �
 one_key t name k at = ap one_if at
 
 -- reset
-module _ {W : Type 0} (b c : Core (List ℕ) W) (t u : NameTable) (given : ℕ) (name : List ℕ) (d when : ℕ) (k new : KeyName) (l : AreLeases b t given) (at : found_in t name ≡ Some k) (live : IsLiveKey b k name d)
-    (reset : IsResetTo b k when new c name) where
+module _ {W : Type 0} (b c : Core (List ℕ) W) (t u : NameTable) (given : ℕ) (name : List ℕ) (when : ℕ) (k new : KeyName)
+    (l : AreLeases b t given) (at : found_in t name ≡ Some k) (of : OfLiveKey b k (λ n d. IsResetTo b k when new c n)) where
+  abbrev reset_stamp : ℕ
+  reset_stamp = (table_at (machine b) k.entry.index).stamp + 1
+
+  abbrev reset_entry : Option (Entry (List ℕ))
+  reset_entry = Some (live_entry k.entry.born name (max when (machine b).tick))
+
   pub reset_tied : IsPutIn t name (Some new) u → length u.entries + one_if (found_in t name) ≡ length t.entries + 1 → AreLeases c u (given + 1)
   reset_tied put_in size =
+      let alive = live_key b t given name k l at in
+      let reset = of name alive.0 alive.1 in
       let below = l.stamps k.entry.index in
       let one = one_key t name k at in
       let count = l.count in
-      let sizes = key_moved_size b c t u given (given + 1) ((table_at (machine b) k.entry.index).stamp + 1) (Some (live_entry k.entry.born name (max when (machine b).tick))) name d k l at live reset.0 (max when (machine b).tick) refl in
-      key_put b c t u given (given + 1) ((table_at (machine b) k.entry.index).stamp + 1) (Some (live_entry k.entry.born name (max when (machine b).tick))) name d k l at live reset.0 (omega arith) (omega (arith, below))
+      let sizes = key_moved_size b c t u given (given + 1) reset_stamp reset_entry name alive.0 k l at alive.1 reset.0 (max when (machine b).tick) refl in
+      key_put b c t u given (given + 1) reset_stamp reset_entry name alive.0 k l at alive.1 reset.0 (omega arith) (omega (arith, below))
       (inr (k.entry.born, max when (machine b).tick, refl, put_in_same t u name (Some new) put_in ∙ ap Some (reset.1 ∙ ap (λ m. key_at b.shard m k.entry.index k.entry.born) reset.0.machine_is)))
       (put_in_other t u name (Some new) put_in)
       (omega (arith, size, one, count, sizes))
 
   pub reset_shown : (asked limit : ℕ) → asked ≤ limit → when ≡ max asked b.noted → b.wheel.filing.tick ≤ b.noted → ResetsLease (leases_state b given) name asked limit (Ok when) (leases_state c (given + 1))
   reset_shown asked limit within is reached =
+      let alive = live_key b t given name k l at in
+      let reset = of name alive.0 alive.1 in
       let here : max when (machine b).tick ≡ when = omega (arith, is, reached) in (
-        d,
-        key_deadline b t given name d k l live,
+        alive.0,
+        key_deadline b t given name alive.0 k l alive.1,
         within,
         is,
         leases_path c (given + 1) (moved_lease (leases_state b given) name when (given + 1)) reset.0.same.rows
-            (changed_tick b c k.entry.index ((table_at (machine b) k.entry.index).stamp + 1) (Some (live_entry k.entry.born name (max when (machine b).tick))) reset.0)
-            (changed_noted b c k.entry.index ((table_at (machine b) k.entry.index).stamp + 1) (Some (live_entry k.entry.born name (max when (machine b).tick))) reset.0) refl
-            (key_moved b c t u given (given + 1) ((table_at (machine b) k.entry.index).stamp + 1) (Some (live_entry k.entry.born name (max when (machine b).tick))) name d k l at live reset.0 when
+            (changed_tick b c k.entry.index reset_stamp reset_entry reset.0)
+            (changed_noted b c k.entry.index reset_stamp reset_entry reset.0) refl
+            (key_moved b c t u given (given + 1) reset_stamp reset_entry name alive.0 k l at alive.1 reset.0 when
             (ap (λ z. Some (live_entry k.entry.born name z)) here)),
       )
 
 -- extend
-module _ {W : Type 0} (b c : Core (List ℕ) W) (t : NameTable) (given : ℕ) (name : List ℕ) (d when x : ℕ) (k : KeyName) (l : AreLeases b t given) (at : found_in t name ≡ Some k) (live : IsLiveKey b k name d)
-    (extended : IsExtendedTo b k when x c name d) where
+module _ {W : Type 0} (b c : Core (List ℕ) W) (t : NameTable) (given : ℕ) (name : List ℕ) (when x : ℕ) (k : KeyName)
+    (l : AreLeases b t given) (at : found_in t name ≡ Some k) (of : OfLiveKey b k (IsExtendedTo b k when x c)) where
+  abbrev extend_stamp : ℕ
+  extend_stamp = (table_at (machine b) k.entry.index).stamp
+
+  abbrev extend_entry : Option (Entry (List ℕ))
+  extend_entry = Some (live_entry k.entry.born name x)
+
   pub extend_tied : AreLeases c t given
   extend_tied =
+      let alive = live_key b t given name k l at in
+      let extended = of name alive.0 alive.1 in
       let below = l.stamps k.entry.index in
-      let s : ℕ = (table_at (machine b) k.entry.index).stamp in
-      let e : Option (Entry (List ℕ)) = Some (live_entry k.entry.born name x) in
-      let stamp : (table_at (machine b) k.entry.index).stamp ≡ (table_at (put (machine b) k.entry.index s e) k.entry.index).stamp = ap (λ z. z.stamp) (sym (put_here (machine b) k.entry.index s e extended.1.inside)) in
+      let stamp : extend_stamp ≡ (table_at (put (machine b) k.entry.index extend_stamp extend_entry) k.entry.index).stamp = ap (λ z. z.stamp) (sym (put_here (machine b) k.entry.index extend_stamp extend_entry extended.1.inside)) in
       let count = l.count in
-      let sizes = key_moved_size b c t t given given s e name d k l at live extended.1 x refl in
-      key_put b c t t given given s e name d k l at live extended.1 (omega arith) below
-      (inr (k.entry.born, x, refl, at ∙ ap Some (live.1 ∙ ap (λ z. record { entry = record { shard = b.shard; index = k.entry.index; born = k.entry.born }; stamp = z }) stamp)))
+      let sizes = key_moved_size b c t t given given extend_stamp extend_entry name alive.0 k l at alive.1 extended.1 x refl in
+      key_put b c t t given given extend_stamp extend_entry name alive.0 k l at alive.1 extended.1 (omega arith) below
+      (inr (k.entry.born, x, refl, at ∙ ap Some (alive.1.1 ∙ ap (λ z. record { entry = record { shard = b.shard; index = k.entry.index; born = k.entry.born }; stamp = z }) stamp)))
       (λ q other. refl)
       (omega (arith, count, sizes))
 
   pub extend_shown : (limit : ℕ) → when ≤ limit → ExtendsLease (leases_state b given) name when limit (Ok x) (leases_state c given)
-  extend_shown limit within = (
-    d,
-    key_deadline b t given name d k l live,
-    within,
-    extended.0,
-    leases_path c given (moved_lease (leases_state b given) name x given) extended.1.same.rows
-        (changed_tick b c k.entry.index (table_at (machine b) k.entry.index).stamp (Some (live_entry k.entry.born name x)) extended.1)
-        (changed_noted b c k.entry.index (table_at (machine b) k.entry.index).stamp (Some (live_entry k.entry.born name x)) extended.1) refl
-        (key_moved b c t t given given (table_at (machine b) k.entry.index).stamp (Some (live_entry k.entry.born name x)) name d k l at live extended.1 x refl),
-  )
+  extend_shown limit within =
+      let alive = live_key b t given name k l at in
+      let extended = of name alive.0 alive.1 in (
+        alive.0,
+        key_deadline b t given name alive.0 k l alive.1,
+        within,
+        extended.0,
+        leases_path c given (moved_lease (leases_state b given) name x given) extended.1.same.rows
+            (changed_tick b c k.entry.index extend_stamp extend_entry extended.1)
+            (changed_noted b c k.entry.index extend_stamp extend_entry extended.1) refl
+            (key_moved b c t t given given extend_stamp extend_entry name alive.0 k l at alive.1 extended.1 x refl),
+      )
 
--- the end of a live name: as cancelled, or as removed
-module _ {W : Type 0} (b c : Core (List ℕ) W) (t u : NameTable) (given : ℕ) (e : Option (Entry (List ℕ))) (name : List ℕ) (d x : ℕ) (k : KeyName) (l : AreLeases b t given) (at : found_in t name ≡ Some k) (live : IsLiveKey b k name d)
-    (told : x ≡ d) (changed : IsChangedAt b k.entry.index (table_at (machine b) k.entry.index).stamp e c) (none : lease_of e ≡ None) where
+-- the end of a live name
+module _ {W : Type 0} (b c : Core (List ℕ) W) (t u : NameTable) (given : ℕ) (name : List ℕ) (x : ℕ) (k : KeyName)
+    (l : AreLeases b t given) (at : found_in t name ≡ Some k) (of : OfLiveKey b k (IsEndedLease b k x c)) where
+  abbrev end_stamp : ℕ
+  end_stamp = (table_at (machine b) k.entry.index).stamp
+
   pub end_tied : IsPutIn t name None u → length u.entries + one_if (found_in t name) ≡ length t.entries → AreLeases c u given
   end_tied put_in size =
+      let alive = live_key b t given name k l at in
+      let ended = of name alive.0 alive.1 in
       let below = l.stamps k.entry.index in
       let one = one_key t name k at in
       let count = l.count in
-      let sizes = key_ended_size b c t u given given (table_at (machine b) k.entry.index).stamp e name d k l at live changed none in
-      key_put b c t u given given (table_at (machine b) k.entry.index).stamp e name d k l at live changed (omega arith) below
-      (inl (none, put_in_same t u name None put_in))
+      let sizes = key_ended_size b c t u given given end_stamp ended.left name alive.0 k l at alive.1 ended.changed ended.none_live in
+      key_put b c t u given given end_stamp ended.left name alive.0 k l at alive.1 ended.changed (omega arith) below
+      (inl (ended.none_live, put_in_same t u name None put_in))
       (put_in_other t u name None put_in)
       (omega (arith, size, one, count, sizes))
 
   pub end_shown : EndsLease (leases_state b given) name (Some x) (leases_state c given)
-  end_shown = (
-    key_deadline b t given name d k l live ∙ ap Some (sym told),
-    leases_path c given (without_lease (leases_state b given) name) changed.same.rows
-        (changed_tick b c k.entry.index (table_at (machine b) k.entry.index).stamp e changed)
-        (changed_noted b c k.entry.index (table_at (machine b) k.entry.index).stamp e changed) refl
-        (key_ended b c t u given given (table_at (machine b) k.entry.index).stamp e name d k l at live changed none),
-  )
+  end_shown =
+      let alive = live_key b t given name k l at in
+      let ended = of name alive.0 alive.1 in (
+        key_deadline b t given name alive.0 k l alive.1 ∙ ap Some (sym ended.told),
+        leases_path c given (without_lease (leases_state b given) name) ended.changed.same.rows
+            (changed_tick b c k.entry.index end_stamp ended.left ended.changed)
+            (changed_noted b c k.entry.index end_stamp ended.left ended.changed) refl
+            (key_ended b c t u given given end_stamp ended.left name alive.0 k l at alive.1 ended.changed ended.none_live),
+      )
 
 -- the machine as it was
 pub same_tied : {W : Type 0} (b c : Core (List ℕ) W) (t : NameTable) (given : ℕ) → AreLeases b t given → machine c ≡ machine b → IsSameQueue b c → AreLeases c t given
@@ -118,6 +143,21 @@ same_tied b c t given l is same = record {
 
 pub same_shown : {W : Type 0} (b c : Core (List ℕ) W) (given : ℕ) → machine c ≡ machine b → IsSameQueue b c → leases_state c given ≡ leases_state b given
 same_shown b c given is same = leases_path c given (leases_state b given) same.rows (ap (λ m. m.tick) is) (ap (λ m. m.noted) is) refl (ap (λ m. live_of m.table) is)
+
+-- a look at the deadline of a live name
+module _ {W : Type 0} (b c : Core (List ℕ) W) (t : NameTable) (given : ℕ) (name : List ℕ) (x : ℕ) (k : KeyName)
+    (l : AreLeases b t given) (at : found_in t name ≡ Some k) (of : OfLiveKey b k (IsToldOf b k x c)) where
+  pub told_tied : AreLeases c t given
+  told_tied = let alive = live_key b t given name k l at in let told = of name alive.0 alive.1 in same_tied b c t given l told.1 told.2
+
+  pub told_shown : leases_state c given ≡ leases_state b given
+  told_shown = let alive = live_key b t given name k l at in let told = of name alive.0 alive.1 in same_shown b c given told.1 told.2
+
+  pub told_deadline : Some x ≡ deadline_of name (live_of (machine b).table)
+  told_deadline =
+      let alive = live_key b t given name k l at in
+      let told = of name alive.0 alive.1 in
+      ap Some told.0 ∙ sym (key_deadline b t given name alive.0 k l alive.1)
 
 -- clear
 

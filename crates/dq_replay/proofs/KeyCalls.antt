@@ -9,7 +9,7 @@ use Rattle.dq_core.specs.Machine.{Entry}
 use Rattle.dq_core.specs.Core.{Core, machine, IsLawfulCore}
 use Rattle.dq_core.specs.Calls.{SameCore, IsInserted, IsReset, IsRemoved, IsFoundLive}
 use Rattle.dq_replay.specs.Leases.{live_entry, key_at}
-use Rattle.dq_replay.specs.LeasesState.{IsLiveKey, IsSameQueue, IsNewLease, IsResetTo, IsExtendedTo, IsCancelledLease, IsRemovedLease, IsToldOf}
+use Rattle.dq_replay.specs.LeasesState.{IsLiveKey, IsSameQueue, IsNewLease, IsResetTo, IsExtendedTo, IsEndedLease, IsToldOf}
 use Rattle.dq_replay.proofs.LiveSlots.{put_here}
 use Rattle.dq_replay.proofs.Runs.{alone}
 use Rattle.dq_replay.proofs.Refused.{word_live}
@@ -71,27 +71,33 @@ extend_changed b c k when result name d law same told step live =
     )
 
 pub cancel_changed : {W : Type 0} (b c : Core (List ℕ) W) (k : KeyName) (result : ℕ) (name : List ℕ) (d : ℕ) → IsLawfulCore b → SameCore b c → result ≡ (word_at b.known k.entry.index).field
-    → Step b.slots.last_stamp (machine b) (Cancel k.entry.index k.stamp) (machine c) → IsLiveKey b k name d → IsCancelledLease b k result c name d
+    → Step b.slots.last_stamp (machine b) (Cancel k.entry.index k.stamp) (machine c) → IsLiveKey b k name d → IsEndedLease b k result c name d
 cancel_changed b c k result name d law same told step live =
     let is : step.0 ≡ live_entry k.entry.born name d = entry_is b k name d step.0 live step.2 in
-    let stamp : k.stamp ≡ (table_at (machine b) k.entry.index).stamp = sym step.3 in (
-      told ∙ (word_live b k name d law live).1,
-      record {
+    let stamp : k.stamp ≡ (table_at (machine b) k.entry.index).stamp = sym step.3 in
+    record {
+      told = told ∙ (word_live b k name d law live).1;
+      left = Some (record { born = k.entry.born; value = name; due = None });
+      none_live = refl;
+      changed = record {
         same = same_queue b c same;
         inside = step.2.0;
         machine_is = step.5 ∙ (λ j. put (machine b) k.entry.index (stamp j) (Some (record { born = (is j).born; value = (is j).value; due = None })));
-      },
-    )
+      };
+    }
 
-pub remove_changed : {W : Type 0} (b c : Core (List ℕ) W) (k : KeyName) (x : Removed (List ℕ)) (name : List ℕ) (d : ℕ) → SameCore b c → IsRemoved false b k.entry x c → IsLiveKey b k name d → IsRemovedLease b k x.deadline c name d
+pub remove_changed : {W : Type 0} (b c : Core (List ℕ) W) (k : KeyName) (x : Removed (List ℕ)) (name : List ℕ) (d : ℕ) → SameCore b c → IsRemoved false b k.entry x c → IsLiveKey b k name d → IsEndedLease b k x.deadline c name d
 remove_changed b c k x name d same r live =
     let here : r.run.0 ≡ machine b = alone b.slots.last_stamp (machine b) r.run.0 r.run.1 in
     let step = subst (λ m. Step b.slots.last_stamp m (Remove k.entry.index k.entry.born) (machine c)) here r.run.2 in
     let has : Has (machine b) k.entry.index (record { born = k.entry.born; value = x.value; due = Some x.deadline }) = subst (λ m. Has m k.entry.index (record { born = k.entry.born; value = x.value; due = Some x.deadline })) here r.run.3 in
-    let is = entry_is b k name d (record { born = k.entry.born; value = x.value; due = Some x.deadline }) live has in (
-      some_number x.deadline d (ap (λ e. e.due) is),
-      record { same = same_queue b c same; inside = has.0; machine_is = step.5 },
-    )
+    let is = entry_is b k name d (record { born = k.entry.born; value = x.value; due = Some x.deadline }) live has in
+    record {
+      told = some_number x.deadline d (ap (λ e. e.due) is);
+      left = None;
+      none_live = refl;
+      changed = record { same = same_queue b c same; inside = has.0; machine_is = step.5 };
+    }
 
 pub deadline_told : {W : Type 0} (b c : Core (List ℕ) W) (k : KeyName) (result : ℕ) (name : List ℕ) (d : ℕ) → SameCore b c → IsFoundLive false b k.entry result c → IsLiveKey b k name d → IsToldOf b k result c name d
 deadline_told b c k result name d same f live =

@@ -15,6 +15,7 @@ mod LiveSlots
 mod Keyed
 mod Runs
 mod Refused
+mod KeyRefused
 mod Tied
 mod KeyCalls
 mod Roomy

@@ -1,5 +1,5 @@
 -- What one line of a script comes to, for each way that it ends.
-use Rattle.std.proofs.Common.{◌≡◌, ℕ, ◌+◌, ◌≤◌, inl, inr, true, false, List, [], ◌∷◌, ◌++◌, length, take, drop, refl, arith}
+use Rattle.std.proofs.Common.{◌≡◌, ℕ, ◌+◌, ◌<◌, ◌≤◌, inl, inr, true, false, List, [], ◌∷◌, ◌++◌, length, take, drop, refl, arith}
 use Rattle.std.specs.Prelude.{Option, Some, None, Ok, Err, IfSome, ◌==◌}
 use Rattle.std.specs.Io.KnownBytes.{Appends, IsAtEnd}
 use Rattle.std.proofs.lemmas.Bool.{le-ltb}
@@ -12,7 +12,7 @@ use Rattle.dq_replay.specs.declared.fault.FaultKind.TheVariants.{LineTooLong, Un
 use Rattle.dq_replay.specs.declared.line.LineEnd.TheVariants.{Whole, Unfinished, Nothing, TooLong}
 use Rattle.dq_replay.specs.declared.line.TheConstants.{LINE_LIMIT, LAST_LINE}
 use Rattle.dq_replay.specs.Text.{lines_of, tokens_of}
-use Rattle.dq_replay.specs.Lines.{HasNoEnd, TakesLine}
+use Rattle.dq_replay.specs.Lines.{HasNoEnd, IsInLine, TakesLine}
 use Rattle.dq_replay.specs.Script.{State, Outcome, outcome_from, ends_by, command_of, step, line_does, rest_fault}
 use Rattle.dq_replay.specs.Replay.{Answers, StopsInLine, Ends, LineRan, IsLineFault, IsOutcome}
 use Rattle.dq_replay.proofs.Known.{appends_none}
@@ -26,40 +26,25 @@ answers_none number s more = refl
 pub answers_line : (number : ℕ) (s new : State) (line text : List ℕ) → HasNoEnd line → line_does number s line ≡ Ok (new, text) → Answers number s (line ++ 10 ∷ []) text (number + 1) new
 answers_line number s new line text no_end does more = after_line number s new line text more no_end does
 
+-- the front of a line was taken, and nothing of it answered
+stops_in_line : (number : ℕ) (s : State) (front : List ℕ) → IsInLine front → (LAST_LINE < number → front ≡ []) → StopsInLine number s front []
+stops_in_line number s front in_line none_past = record {
+  before = [];
+  front = front;
+  next = number;
+  now = s;
+  answered = answers_none number s;
+  in_line = in_line;
+  none_past = none_past;
+  taken_is = refl;
+}
+
 pub ran_unread : (had left held : Option (List ℕ)) (number : ℕ) (old new : State) (fault : ReplayFault) (line : List ℕ) → number ≤ LAST_LINE
     → TakesLine had left (Err fault) line → LineRan had left held held number old new (Err fault)
-ran_unread had left held number old new Read line known (front, in_line, taken) = (
-  front,
-  [],
-  taken,
-  appends_none held,
-  record {
-    before = [];
-    front = front;
-    next = number;
-    now = old;
-    answered = answers_none number old;
-    in_line = in_line;
-    none_past = λ past. absurd (omega arith);
-    taken_is = refl;
-  },
-)
-ran_unread had left held number old new NoMemory line known (front, in_line, taken) = (
-  front,
-  [],
-  taken,
-  appends_none held,
-  inl (record {
-    before = [];
-    front = front;
-    next = number;
-    now = old;
-    answered = answers_none number old;
-    in_line = in_line;
-    none_past = λ past. absurd (omega arith);
-    taken_is = refl;
-  }),
-)
+ran_unread had left held number old new Read line known (front, in_line, taken) =
+    (front, [], taken, appends_none held, stops_in_line number old front in_line (λ past. absurd (omega arith)))
+ran_unread had left held number old new NoMemory line known (front, in_line, taken) =
+    (front, [], taken, appends_none held, inl (stops_in_line number old front in_line (λ past. absurd (omega arith))))
 ran_unread had left held number old new BadConfig line known never = absurd never
 ran_unread had left held number old new (Script at kind) line known never = absurd never
 ran_unread had left held number old new Write line known never = absurd never
@@ -188,13 +173,4 @@ ran_too_long had left held number old new line known (front, no_end, long, taken
 
 -- a stop between two lines
 pub nothing_in_line : (number : ℕ) (s : State) → StopsInLine number s [] []
-nothing_in_line number s = record {
-  before = [];
-  front = [];
-  next = number;
-  now = s;
-  answered = answers_none number s;
-  in_line = (no_end_none, omega arith);
-  none_past = λ past. refl;
-  taken_is = refl;
-}
+nothing_in_line number s = stops_in_line number s [] (no_end_none, omega arith) (λ past. refl)

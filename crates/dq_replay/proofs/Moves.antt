@@ -1,15 +1,17 @@
 -- What each command does to the leases: they stay tied, and what they show.
 use Rattle.std.proofs.Common.{◌≡◌, ℕ, ◌+◌, ◌<◌, ◌≤◌, inr, false, List, length, refl, ap, sym, ◌∙◌, arith, suc, set}
-use Rattle.std.specs.Prelude.{Option, Some, None, max}
+use Rattle.std.specs.Prelude.{Option, Some, None, Err, max}
 use Rattle.dq_ticks.specs.Keys.{KeyName}
 use Rattle.dq_ticks.specs.declared.TheConstants.{LAST_STAMP}
 use Rattle.dq_core.specs.Machine.{table_at, put}
 use Rattle.dq_core.specs.Machine.{Entry}
 use Rattle.dq_core.specs.Core.{Core, machine}
 use Rattle.dq_replay.specs.declared.session.Lease.{Lease}
+use Rattle.dq_replay.specs.declared.leases.Refusal.{Refusal}
+use Rattle.dq_replay.specs.declared.leases.Refusal.TheVariants.{Missing, TooFar}
 use Rattle.dq_replay.specs.Script.{with_lease, has_name, deadline_of, without, moved}
 use Rattle.dq_replay.specs.Leases.{lease_of, with_lease_if, live_of, vacant, live_entry, key_at, NameTable, found_in, IsPutIn, one_if}
-use Rattle.dq_replay.specs.LeasesState.{leases_state, AreLeases, IsLiveKey, IsSomeKey, IsChangedAt, IsRoomy, IsNewLease, with_lease_at}
+use Rattle.dq_replay.specs.LeasesState.{leases_state, AreLeases, IsLiveKey, IsSomeKey, IsChangedAt, IsRoomy, IsNewLease, with_lease_at, FindsWithin, RefusesLease}
 use Rattle.dq_replay.proofs.Ordered.{length-with_lease}
 use Rattle.dq_replay.proofs.LiveSlots.{live_here, IsLease, without_is, deadline_is, no_deadline}
 use Rattle.dq_replay.proofs.Keyed.{IsPut}
@@ -89,6 +91,14 @@ key_deadline b t given name d k l live = deadline_is (live_of (machine b).table)
 
 pub none_deadline : {W : Type 0} (b : Core (List ℕ) W) (t : NameTable) (given : ℕ) (name : List ℕ) → AreLeases b t given → found_in t name ≡ None → deadline_of name (live_of (machine b).table) ≡ None
 none_deadline b t given name l none = no_deadline name (live_of (machine b).table) (no_key b.shard (machine b) (found_in t) l.keyed name none)
+
+-- why a live name's deadline stays
+pub refused_within : {W : Type 0} (b : Core (List ℕ) W) (t : NameTable) (given : ℕ) (name : List ℕ) (when limit : ℕ) (r : Refusal) → AreLeases b t given
+    → FindsWithin t name when limit (Err r) → RefusesLease (leases_state b given) name when limit r
+refused_within b t given name when limit Missing l none = none_deadline b t given name l none
+refused_within b t given name when limit TooFar l (k, at, beyond) =
+    let alive = live_key b t given name k l at in
+    (alive.0, key_deadline b t given name alive.0 k l alive.1, beyond)
 
 -- the slot of a live name changes
 module _ {W : Type 0} (b c : Core (List ℕ) W) (t u : NameTable) (given more s : ℕ) (e : Option (Entry (List ℕ))) (name : List ℕ) (d : ℕ) (k : KeyName)

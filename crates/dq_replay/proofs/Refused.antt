@@ -11,16 +11,12 @@ use Rattle.dq_ticks.specs.declared.words.Mark.TheVariants.{LiveMark, CancelledMa
 use Rattle.dq_core.specs.declared.slots.Held.{Held}
 use Rattle.dq_core.specs.declared.errors.CoreError.{CoreError}
 use Rattle.dq_core.specs.declared.errors.CoreError.TheVariants.{TooFar, Full, Missing, WasCancelled, Worn, TickTooLarge, BadConfig, NoMemory}
-use Rattle.dq_core.specs.declared.words.CallError.{CallError}
-use Rattle.dq_core.specs.declared.words.CallError.TheVariants.{TooFar as CallTooFar, Unknown, Stale, Ended}
 use Rattle.dq_core.specs.Slots.{row_at, is_held, is_worn, unused}
 use Rattle.dq_core.specs.Words.{word_at}
-use Rattle.dq_core.specs.WordRows.{CallRefused}
 use Rattle.dq_core.specs.Machine.{table_at}
 use Rattle.dq_core.specs.Machine.{Entry}
 use Rattle.dq_core.specs.Core.{Core, machine, entry_of, due_by, IsLawfulCore, IsPlaced}
 use Rattle.dq_core.specs.TableRows.{table_row_of}
-use Rattle.dq_core.specs.KeyCalls.{KeyRefused, ExtendingRefused}
 use Rattle.dq_core.specs.Calls.{InsertRefused, FindRefused, ResetRefused, IsMissing, IsFoundCancelled}
 use Rattle.dq_replay.specs.Leases.{live_entry}
 use Rattle.dq_replay.specs.LeasesState.{IsLiveKey, IsSomeKey}
@@ -146,31 +142,3 @@ stamp_some b k name d law live =
     let same = word_stamp b k name d law live in
     let known = at.stamp in
     omega (arith, some, same, known)
-
--- no call by the key of a live name is refused
-pub call_live : {W : Type 0} (b : Core (List ℕ) W) (k : KeyName) (e : CallError) → IsLawfulCore b → IsSomeKey b k → CallRefused b.known k e → ⊥
-call_live b k Unknown law (name, d, live) (inl past) =
-    let inside = inside_rows b law k.entry.index (live_entry k.entry.born name d) live.0 in
-    let same = law.as_known in
-    absurd (omega (arith, inside, past, same))
-call_live b k Unknown law (name, d, live) (inr (inl zero_stamp)) = let some = stamp_some b k name d law live in absurd (omega (arith, zero_stamp, some))
-call_live b k Unknown law (name, d, live) (inr (inr less)) = let same = word_stamp b k name d law live in absurd (omega (arith, less, same))
-call_live b k (Stale seen) law (name, d, live) (inside, some, seen_is, less) = let same = word_stamp b k name d law live in absurd (omega (arith, seen_is, less, same))
-call_live b k (Ended how) law (name, d, live) (inside, some, same, ended, how_is) = ended (word_live b k name d law live).0
-call_live b k (CallTooFar limit) law live r = r
-
-key_called : {W : Type 0} (b : Core (List ℕ) W) (k : KeyName) (e : CallError) → IsLawfulCore b → IsSomeKey b k → KeyRefused b k e → ⊥
-key_called b k Unknown law (name, d, live) (inl away) = away (ap (λ z. z.entry.shard) live.1)
-key_called b k Unknown law live (inr refused) = call_live b k Unknown law live refused
-key_called b k (Stale seen) law live r = call_live b k (Stale seen) law live r.1
-key_called b k (Ended how) law live r = call_live b k (Ended how) law live r.1
-key_called b k (CallTooFar limit) law live r = r.1
-
-pub extend_live : {W : Type 0} (b : Core (List ℕ) W) (k : KeyName) (when : ℕ) (e : CallError) → IsLawfulCore b → when ≤ LAST_TICK → IsSomeKey b k → ExtendingRefused b k when e → ⊥
-extend_live b k when Unknown law far live r = key_called b k Unknown law live r.1
-extend_live b k when (Stale seen) law far live r = key_called b k (Stale seen) law live r.1
-extend_live b k when (Ended how) law far live r = key_called b k (Ended how) law live r.1
-extend_live b k when (CallTooFar limit) law far live r = let beyond = r.1 in absurd (omega (arith, beyond, far))
-
-pub cancel_live : {W : Type 0} (b : Core (List ℕ) W) (k : KeyName) (e : CallError) → IsLawfulCore b → IsSomeKey b k → KeyRefused b k e → ⊥
-cancel_live b k e law live r = key_called b k e law live r

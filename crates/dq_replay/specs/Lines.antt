@@ -25,13 +25,16 @@ IsInLine bytes = HasNoEnd bytes × (length bytes ≤ LINE_LIMIT)
 abbrev pub TakesFront : Option (List ℕ) → Option (List ℕ) → Type 0
 TakesFront old new = (front : List ℕ) × IsInLine front × Consumes old new front
 
--- a line and its end; or, at the input's end, the bytes of a line or nothing; or one byte more than a line may have;
--- or, at a fault, the front of a line
-abbrev pub TakesLine : Option (List ℕ) → Option (List ℕ) → Result LineEnd ReplayFault → List ℕ → Type 0
+-- a line and its end; or, at the input's end, the bytes of a line or nothing; or one byte more than
+-- a line may have; or, at a fault, the front of a line
+abbrev pub TakesLine : Option (List ℕ) → Option (List ℕ) → Result LineEnd ReplayFault → List ℕ
+    → Type 0
 TakesLine old new (Ok Whole) line = IsInLine line × Consumes old new (line ++ 10 ∷ [])
-TakesLine old new (Ok Unfinished) line = IsInLine line × (0 < length line) × Consumes old new line × IsAtEnd new
+TakesLine old new (Ok Unfinished) line =
+    IsInLine line × (0 < length line) × Consumes old new line × IsAtEnd new
 TakesLine old new (Ok Nothing) line = Consumes old new [] × IsAtEnd new
-TakesLine old new (Ok TooLong) line = (front : List ℕ) × HasNoEnd front × (length front ≡ LINE_LIMIT + 1) × Consumes old new front
+TakesLine old new (Ok TooLong) line =
+    (front : List ℕ) × HasNoEnd front × (length front ≡ LINE_LIMIT + 1) × Consumes old new front
 TakesLine old new (Err Read) line = TakesFront old new
 TakesLine old new (Err NoMemory) line = TakesFront old new
 TakesLine old new (Err _) line = ⊥

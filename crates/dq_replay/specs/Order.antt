@@ -40,7 +40,8 @@ abbrev pub behind_answer : List ℕ → Option (State × List ℕ) → Option (S
 behind_answer answer None = None
 behind_answer answer (Some done) = Some (done.0, answer ++ done.1)
 
--- the state and the answers after whole lines, the first of which is line `number`; none where a line has a fault
+-- the state and the answers after whole lines, the first of which is line `number`; none where a
+-- line has a fault
 unfoldable pub after_lines : ℕ → State → List (List ℕ) → Option (State × List ℕ)
 after_lines number s [] = Some (s, [])
 after_lines number s (text ∷ more) = elim (line_does number s text) [

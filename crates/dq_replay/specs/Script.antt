@@ -16,7 +16,7 @@ use Rattle.dq_replay.specs.declared.line.TheConstants.{LINE_LIMIT, LAST_LINE}
 use Rattle.dq_replay.specs.Text.{lines_of, tokens_of, name_of, number_of}
 
 -- The live names with their deadlines in force, least deadline first and then by the name's bytes;
--- the greatest tick that was noted; the last tick that the script's edition knows; and the capacity.
+-- the greatest tick that was noted; the last tick that the script's edition knows; the capacity.
 pub record State : Type 0 where
   pub capacity : ℕ
   pub limit : ℕ
@@ -25,11 +25,18 @@ pub record State : Type 0 where
 
 -- before the first line
 abbrev pub first_state : ℕ → State
-first_state capacity = record { capacity = capacity; limit = FIRST_EDITION_LIMIT; live = []; noted = 0 }
+first_state capacity =
+    record { capacity = capacity; limit = FIRST_EDITION_LIMIT; live = []; noted = 0 }
+
+-- a name with a deadline in force
+abbrev pub lease : List ℕ → ℕ → Lease
+lease name deadline = record { name = name; deadline = deadline }
 
 -- an earlier deadline, or the same one and a lesser name
 abbrev pub comes_before : Lease → Lease → Bool
-comes_before a b = nat_lt a.deadline b.deadline || ((a.deadline == b.deadline) && is_lt (slice_cmp nat_cmp a.name b.name))
+comes_before a b =
+    nat_lt a.deadline b.deadline
+    || ((a.deadline == b.deadline) && is_lt (slice_cmp nat_cmp a.name b.name))
 
 -- the list with one more entry at its place
 abbrev pub with_lease : Lease → List Lease → List Lease
@@ -50,7 +57,7 @@ without name live = filter (λ e. not (bytes_eq e.name name)) live
 
 -- the list with a name at that deadline, where it was at another
 abbrev pub moved : List ℕ → ℕ → List Lease → List Lease
-moved name deadline live = with_lease (record { name = name; deadline = deadline }) (without name live)
+moved name deadline live = with_lease (lease name deadline) (without name live)
 
 -- an answer line: its text and its end
 abbrev pub line : List ℕ → List ℕ
@@ -83,7 +90,10 @@ insert_in s name when =
     if has_name name s.live then (s, line (codes "refused name-taken"))
     else if nat_lt s.limit when then (s, line (codes "refused too-far"))
     else if nat_le s.capacity (length s.live) then (s, line (codes "refused full"))
-    else (record s { live = with_lease (record { name = name; deadline = max when s.noted }) s.live }, at_line name (max when s.noted))
+    else (
+      record s { live = with_lease (lease name (max when s.noted)) s.live },
+      at_line name (max when s.noted),
+    )
 
 -- the commands on one name, by its deadline in force
 
@@ -99,15 +109,20 @@ abbrev pub extend_by : State → List ℕ → ℕ → Option ℕ → State × Li
 extend_by s name when None = (s, line (codes "refused missing"))
 extend_by s name when (Some deadline) =
     if nat_lt s.limit when then (s, line (codes "refused too-far"))
-    else (record s { live = moved name (max when deadline) s.live }, at_line name (max when deadline))
+    else (
+      record s { live = moved name (max when deadline) s.live },
+      at_line name (max when deadline),
+    )
 
 abbrev pub cancel_by : State → List ℕ → Option ℕ → State × List ℕ
 cancel_by s name None = (s, line (codes "refused missing"))
-cancel_by s name (Some deadline) = (record s { live = without name s.live }, cancelled_line name deadline)
+cancel_by s name (Some deadline) =
+    (record s { live = without name s.live }, cancelled_line name deadline)
 
 abbrev pub remove_by : State → List ℕ → Option ℕ → State × List ℕ
 remove_by s name None = (s, line (codes "refused missing"))
-remove_by s name (Some deadline) = (record s { live = without name s.live }, removed_line name deadline)
+remove_by s name (Some deadline) =
+    (record s { live = without name s.live }, removed_line name deadline)
 
 abbrev pub deadline_by : State → List ℕ → Option ℕ → State × List ℕ
 deadline_by s name None = (s, line (codes "refused missing"))
@@ -125,7 +140,9 @@ tick_to s now = (
 )
 
 abbrev pub tick_in : State → ℕ → State × List ℕ
-tick_in s to = if nat_lt s.limit to then (s, line (codes "refused tick-too-large")) else tick_to s (max s.noted to)
+tick_in s to =
+    if nat_lt s.limit to then (s, line (codes "refused tick-too-large"))
+    else tick_to s (max s.noted to)
 
 -- the state and the answer after a command
 abbrev pub step : State → Command → State × List ℕ

@@ -13,7 +13,8 @@ tokens_of text = slice_split (λ b. b == 32) text
 
 -- `a` to `z`, `0` to `9`, `_` or `-`
 abbrev pub is_name_byte : ℕ → Bool
-is_name_byte b = (nat_le 97 b && nat_le b 122) || (nat_le 48 b && nat_le b 57) || (b == 95) || (b == 45)
+is_name_byte b =
+    (nat_le 97 b && nat_le b 122) || (nat_le 48 b && nat_le b 57) || (b == 95) || (b == 45)
 
 -- 1 to 32 such bytes
 abbrev pub is_name : List ℕ → Bool

@@ -1,3 +1,4 @@
+-- No public clause cites this module.
 -- The tokens that are left of a line.
 use Rattle.std.specs.Prelude.{ℕ, List, [], Option, Some, None}
 use Rattle.std.specs.Borrow.{Bor}

@@ -185,7 +185,8 @@ impl<'t> Tokens<'t> {
     }
 
     fn next(&mut self) -> Option<&'t [u8]>
-        ensures { MatchOption result ((self.old ≡ []) × (self.new ≡ [])) (λ token. self.old ≡ token.now ∷ self.new) }
+        ensures { MatchOption result ((self.old ≡ []) × (self.new ≡ []))
+            (λ token. self.old ≡ token.now ∷ self.new) }
     {
         let (token, rest) = split_token(self.rest?);
         self.rest = rest;
@@ -236,7 +237,8 @@ fn digits(token: &[u8]) -> Option<u64>
 }
 
 fn push_digit(value: u64, byte: u8) -> Option<u64>
-    ensures none { IfNone result ((is_ascii_digit byte ≡ false) ⊎ (2 ^ 64 ≤ 10 * value + (byte - 48))) }
+    ensures none { IfNone result
+        ((is_ascii_digit byte ≡ false) ⊎ (2 ^ 64 ≤ 10 * value + (byte - 48))) }
     ensures digit { OnSome result (is_ascii_digit byte ≡ true) }
     ensures value { IfSome result (λ next. next ≡ 10 * value + (byte - 48)) }
 {

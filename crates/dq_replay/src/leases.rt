@@ -8,13 +8,13 @@ ghost use Rattle.dq_core.specs.Calls.{IsInserted};
 ghost use Rattle.dq_replay.specs.Script.{has_name, deadline_of};
 ghost use Rattle.dq_replay.specs.Leases.{live_of, live_entry};
 ghost use Rattle.dq_replay.specs.Order.{IsLined};
-ghost use Rattle.dq_replay.specs.LeasesState.{Ticks, LeasesState, IsLiveKey, IsSomeKey, OfLiveKey, IsNewLease, IsResetTo, IsExtendedTo, IsCancelledLease, IsRemovedLease, IsToldOf, IsChangedAt, IsSameQueue, IsRoomy, IsPolledTo, with_lease_at, ResetsLease, ExtendsLease, EndsLease, ExpiresLease};
+ghost use Rattle.dq_replay.specs.LeasesState.{Ticks, LeasesState, IsLiveKey, IsSomeKey, OfLiveKey, IsNewLease, IsResetTo, IsExtendedTo, IsEndedLease, FindsWithin, IsToldOf, IsChangedAt, IsSameQueue, IsRoomy, IsPolledTo, no_leases, with_lease_at, ResetsLease, ExtendsLease, EndsLease, ExpiresLease};
 
 use crate::name::Name;
 use crate::names::Names;
 use crate::session::Lease;
 use dq_core::{CoreConfig, CoreError, DelayCore, Turn, VecWords};
-use dq_ticks::{Key, LAST_STAMP, LAST_TICK};
+use dq_ticks::{CAPACITY_LIMIT, Key, LAST_STAMP, LAST_TICK};
 use std::alloc::{AllocError, Allocator};
 use std::marker::Model;
 
@@ -42,7 +42,8 @@ fn make_room<A: Allocator>(queue: &mut Queue<A>)
 /// Links a new name where there is room.
 fn link<A: Allocator>(queue: &mut Queue<A>, name: Name, when: u64) -> Key
     requires room { count_by is_held queue.old.slots.rows < length queue.old.slots.rows }
-    requires stamps { (i : ℕ) → (table_at (machine queue.old) i).stamp < queue.old.slots.last_stamp }
+    requires stamps { (i : ℕ)
+        → (table_at (machine queue.old) i).stamp < queue.old.slots.last_stamp }
     requires tick { when ≤ LAST_TICK }
     ensures { IsNewLease queue.old name when result queue.new }
 {
@@ -55,9 +56,11 @@ fn link<A: Allocator>(queue: &mut Queue<A>, name: Name, when: u64) -> Key
 
 fn reset_at<A: Allocator>(queue: &mut Queue<A>, key: &Key, when: u64) -> Key
     requires live { IsSomeKey queue.old key.now }
-    requires stamps { (i : ℕ) → (table_at (machine queue.old) i).stamp < queue.old.slots.last_stamp }
+    requires stamps { (i : ℕ)
+        → (table_at (machine queue.old) i).stamp < queue.old.slots.last_stamp }
     requires tick { when ≤ LAST_TICK }
-    ensures { OfLiveKey queue.old key.now (λ name d. IsResetTo queue.old key.now when result queue.new name) }
+    ensures { OfLiveKey queue.old key.now
+        (λ name d. IsResetTo queue.old key.now when result queue.new name) }
 {
     queue.law();
     match queue.reset(&key.entry(), when) {
@@ -80,7 +83,7 @@ fn extend_at<A: Allocator>(queue: &mut Queue<A>, key: &Key, when: u64) -> u64
 
 fn cancel_at<A: Allocator>(queue: &mut Queue<A>, key: &Key) -> u64
     requires { IsSomeKey queue.old key.now }
-    ensures { OfLiveKey queue.old key.now (IsCancelledLease queue.old key.now result queue.new) }
+    ensures { OfLiveKey queue.old key.now (IsEndedLease queue.old key.now result queue.new) }
 {
     queue.law();
     match queue.cancel(key) {
@@ -91,11 +94,28 @@ fn cancel_at<A: Allocator>(queue: &mut Queue<A>, key: &Key) -> u64
 
 fn remove_at<A: Allocator>(queue: &mut Queue<A>, key: &Key) -> u64
     requires { IsSomeKey queue.old key.now }
-    ensures { OfLiveKey queue.old key.now (IsRemovedLease queue.old key.now result queue.new) }
+    ensures { OfLiveKey queue.old key.now (IsEndedLease queue.old key.now result queue.new) }
 {
     match queue.remove(&key.entry()) {
         Ok(removed) => removed.deadline,
         Err(_) => unreachable!(),
+    }
+}
+
+/// How a live name ends: by whoever holds it, or by the queue's owner.
+#[derive(Clone, Copy)]
+pub enum Ending {
+    Cancelled,
+    Removed,
+}
+
+fn end_at<A: Allocator>(queue: &mut Queue<A>, key: &Key, ending: Ending) -> u64
+    requires { IsSomeKey queue.old key.now }
+    ensures { OfLiveKey queue.old key.now (IsEndedLease queue.old key.now result queue.new) }
+{
+    match ending {
+        Ending::Cancelled => cancel_at(queue, key),
+        Ending::Removed => remove_at(queue, key),
     }
 }
 
@@ -126,6 +146,24 @@ fn expire_one<A: Allocator>(queue: &mut Queue<A>, now: u64) -> Option<Lease>
     }
 }
 
+/// The key of a live name that may get such a deadline, or why it may not.
+fn key_within<A: Allocator + Clone>(
+    names: &Names<A>,
+    name: &Name,
+    when: u64,
+    limit: u64,
+) -> Result<Key, Refusal>
+    ensures { FindsWithin names.now name.now when limit result }
+{
+    let Some(key) = names.get(name) else {
+        return Err(Refusal::Missing);
+    };
+    if when > limit {
+        return Err(Refusal::TooFar);
+    }
+    Ok(key)
+}
+
 /// The live names of a script: a queue of them, and a key for each.
 ///
 /// Each call takes constant time, but for a sweep of a full queue and a clear, which look at every slot, and for a tick.
@@ -154,8 +192,8 @@ impl<A: Allocator + Copy> Leases<A> {
     /// No live names, and room for so many.
     pub fn new(alloc: A, capacity: usize) -> Result<Leases<A>, AllocError>
         requires some { 0 < capacity }
-        requires few { capacity ≤ 65536 }
-        ensures { IfOk result (λ leases. leases ≡ record { capacity = capacity; tick = 0; noted = 0; given = 0; live = [] }) }
+        requires few { capacity ≤ CAPACITY_LIMIT }
+        ensures { IfOk result (λ leases. leases ≡ no_leases capacity) }
     {
         let Ok(words) = VecWords::new(alloc, capacity) else {
             return Err(AllocError);
@@ -211,7 +249,8 @@ impl<A: Allocator + Copy> Leases<A> {
         requires room { length self.old.live < self.old.capacity }
         requires tick { when ≤ LAST_TICK }
         requires stamps { self.old.given < LAST_STAMP }
-        ensures ok { IfOk result (λ d. (d ≡ max when self.old.tick) × (self.new ≡ with_lease_at self.old name d)) }
+        ensures ok { IfOk result
+            (λ d. (d ≡ max when self.old.tick) × (self.new ≡ with_lease_at self.old name d)) }
         ensures err { OnErr result (self.new ≡ self.old) }
     {
         self.names.make_room()?;
@@ -230,12 +269,7 @@ impl<A: Allocator + Copy> Leases<A> {
         requires stamps { self.old.given < LAST_STAMP }
         ensures { ResetsLease self.old name.now when limit result self.new }
     {
-        let Some(key) = self.names.get(name) else {
-            return Err(Refusal::Missing);
-        };
-        if when > limit {
-            return Err(Refusal::TooFar);
-        }
+        let key = key_within(&self.names, name, when, limit)?;
         self.queue.law();
         let deadline = when.max(self.queue.noted());
         let next = reset_at(&mut self.queue, &key, deadline);
@@ -249,12 +283,7 @@ impl<A: Allocator + Copy> Leases<A> {
         requires { limit ≤ LAST_TICK }
         ensures { ExtendsLease self.old name.now when limit result self.new }
     {
-        let Some(key) = self.names.get(name) else {
-            return Err(Refusal::Missing);
-        };
-        if when > limit {
-            return Err(Refusal::TooFar);
-        }
+        let key = key_within(&self.names, name, when, limit)?;
         Ok(extend_at(&mut self.queue, &key, when))
     }
 
@@ -265,25 +294,31 @@ impl<A: Allocator + Copy> Leases<A> {
     pub fn cancel(&mut self, name: &Name) -> Option<u64>
         ensures { EndsLease self.old name.now result self.new }
     {
-        if self.names.len() > self.queue.capacity() / 2 {
-            return self.remove(name);
-        }
-        let Some(key) = self.names.get(name) else {
-            return None;
-        };
-        let deadline = cancel_at(&mut self.queue, &key);
-        self.names.remove(name);
-        Some(deadline)
+        let is_crowded = self.names.len() > self.queue.capacity() / 2;
+        self.end(
+            name,
+            if is_crowded {
+                Ending::Removed
+            } else {
+                Ending::Cancelled
+            },
+        )
     }
 
     /// Ends a live name as its owner does, and answers its deadline.
     pub fn remove(&mut self, name: &Name) -> Option<u64>
         ensures { EndsLease self.old name.now result self.new }
     {
+        self.end(name, Ending::Removed)
+    }
+
+    fn end(&mut self, name: &Name, ending: Ending) -> Option<u64>
+        ensures { EndsLease self.old name.now result self.new }
+    {
         let Some(key) = self.names.get(name) else {
             return None;
         };
-        let deadline = remove_at(&mut self.queue, &key);
+        let deadline = end_at(&mut self.queue, &key, ending);
         self.names.remove(name);
         Some(deadline)
     }

@@ -18,5 +18,5 @@ mod texts;
 
 pub use fault::{FaultKind, ReplayFault};
 pub use laws::live_names_are_in_order;
-pub use replay::{CAPACITY_LIMIT, run};
+pub use replay::run;
 pub use status::report;

@@ -6,7 +6,7 @@ ghost use Rattle.std.specs.Ordering.{nat_cmp};
 ghost use Rattle.std.specs.Cmp.{partial_equiv_from_equiv};
 ghost use Rattle.std.specs.Cmp.Lexicographic.{slice_cmp, nat_list_eq_equiv, nat_list_cmp_total, texts_po, texts_ties};
 ghost use Rattle.std.specs.Cmp.Rules.{hashing};
-ghost use Rattle.std.specs.Hash as fed;
+ghost use Rattle.std.specs.Hash.{str};
 ghost use Rattle.std.proofs.Common.{rules};
 ghost use Rattle.dq_replay.specs.Text.{is_name, is_name_byte, name_of};
 
@@ -99,7 +99,7 @@ impl Ord for Name {
 }
 
 impl Hash for Name {
-    ghost hash_input = { λ n. fed.str n };
+    ghost hash_input = { λ n. str n };
 
     ghost respects_eq = { Prim.search (hashing, rules) };
 

@@ -59,7 +59,8 @@ impl<A: Allocator + Clone> Names<A> {
     pub fn put(&mut self, name: Name, key: Key)
         requires { (0 < self.old.spare) ⊎ IsSome (found_in self.old name) }
         ensures put { IsPutIn self.old name (Some key) self.new }
-        ensures len { length self.new.entries + one_if (found_in self.old name) ≡ length self.old.entries + 1 }
+        ensures len { length self.new.entries + one_if (found_in self.old name)
+            ≡ length self.old.entries + 1 }
     {
         match self.keys.insert(name, key) {
             Ok(_) => (),
@@ -70,7 +71,8 @@ impl<A: Allocator + Clone> Names<A> {
     /// Takes a name out.
     pub fn remove(&mut self, name: &Name)
         ensures put { IsPutIn self.old name.now None self.new }
-        ensures len { length self.new.entries + one_if (found_in self.old name.now) ≡ length self.old.entries }
+        ensures len { length self.new.entries + one_if (found_in self.old name.now)
+            ≡ length self.old.entries }
     {
         self.keys.remove(name);
     }

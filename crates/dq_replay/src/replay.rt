@@ -11,13 +11,11 @@ use crate::header::limit_of;
 use crate::line::{LAST_LINE, LINE_LIMIT, LineEnd, next_byte, next_line};
 use crate::output::write_whole;
 use crate::session::Session;
+use dq_ticks::CAPACITY_LIMIT;
 use std::alloc::Allocator;
 use std::io::{Read, Write};
 
-/// The greatest capacity, in live names.
-pub const CAPACITY_LIMIT: usize = 65536;
-
-/// Reads a script and writes its answers, with at most `capacity` live names, 1 to 65536.
+/// Reads a script and writes its answers, with at most `capacity` live names, 1 to [`CAPACITY_LIMIT`].
 ///
 /// The reader is asked for one byte at a time, so that no byte is taken behind the one that decides the answer. Neither
 /// a read nor a write is tried again. The writer is flushed once, before the script's end or its fault is answered.
@@ -37,9 +35,12 @@ pub fn run<A: Allocator, R: Read, W: Write>(
         × Appends (W.contents writer.old) (W.contents writer.new) written
         × IsOutcome result written (outcome_of capacity input)) }
     // At each end: what was taken of the bytes, and what was written.
-    ensures runs { Ran (R.remaining reader.old) (R.remaining reader.new) (W.contents writer.old) (W.contents writer.new) 1 (first_state capacity) result }
-    ensures config { IsErrOf result ReplayFault.BadConfig ↔ ((capacity ≡ 0) ⊎ (CAPACITY_LIMIT < capacity)) }
-    ensures untouched { IsErrOf result ReplayFault.BadConfig → (reader.new ≡ reader.old) × (writer.new ≡ writer.old) }
+    ensures runs { Ran (R.remaining reader.old) (R.remaining reader.new)
+        (W.contents writer.old) (W.contents writer.new) 1 (first_state capacity) result }
+    ensures config { IsErrOf result ReplayFault.BadConfig
+        ↔ ((capacity ≡ 0) ⊎ (CAPACITY_LIMIT < capacity)) }
+    ensures untouched { IsErrOf result ReplayFault.BadConfig
+        → (reader.new ≡ reader.old) × (writer.new ≡ writer.old) }
 {
     if capacity == 0 || capacity > CAPACITY_LIMIT {
         return Err(ReplayFault::BadConfig);
@@ -75,7 +76,8 @@ fn replay<A: Allocator + Copy, R: Read, W: Write>(
 ) -> Result<(), ReplayFault>
     requires some { 0 < capacity }
     requires few { capacity ≤ CAPACITY_LIMIT }
-    ensures runs { Ran (R.remaining reader.old) (R.remaining reader.new) (W.contents writer.old) (W.contents writer.new) 1 (first_state capacity) result }
+    ensures runs { Ran (R.remaining reader.old) (R.remaining reader.new)
+        (W.contents writer.old) (W.contents writer.new) 1 (first_state capacity) result }
     ensures config { ¬ IsErrOf result ReplayFault.BadConfig }
 {
     let mut session = Session::new(alloc, capacity)?;
@@ -103,7 +105,9 @@ fn replay_line<A: Allocator + Copy, R: Read, W: Write>(
     requires lines { number ≤ LAST_LINE }
     // Each line gives at most one stamp.
     requires given { session.old.given < number }
-    ensures ran { LineRan (R.remaining reader.old) (R.remaining reader.new) (W.contents writer.old) (W.contents writer.new) number session.old.state session.new.state result }
+    ensures ran { LineRan (R.remaining reader.old) (R.remaining reader.new)
+        (W.contents writer.old) (W.contents writer.new)
+        number session.old.state session.new.state result }
     ensures given { IfOk result (λ _. session.new.given ≤ number) }
 {
     match next_line(reader, line)? {
@@ -129,7 +133,8 @@ fn answer<A: Allocator + Copy>(
     requires lines { number ≤ LAST_LINE }
     requires bytes { length line.now ≤ LINE_LIMIT }
     requires given { session.old.given < number }
-    ensures does { DoesLine number session.new.state result (line_does number session.old.state line.now) }
+    ensures does { DoesLine number session.new.state result
+        (line_does number session.old.state line.now) }
     ensures given { IfOk result (λ _. session.new.given ≤ number) }
 {
     if number == 1 {

@@ -1,7 +1,6 @@
 //! What a script has made so far, and what each command does to it.
 ghost use Rattle.std.specs.Prelude.{◌≡◌, ℕ, ◌+◌, ◌<◌, ◌≤◌, IfOk, string_bytes, length};
-ghost use Rattle.dq_replay.specs.Script.{first_state, step, insert_in, reset_by, extend_by, cancel_by, remove_by, deadline_by, deadline_of, clear_in, tick_in, live_line};
-ghost use Rattle.dq_replay.specs.SessionState.{SessionState};
+ghost use Rattle.dq_replay.specs.SessionState.{Steps, first_session};
 
 use crate::command::Command;
 use crate::header::FIRST_EDITION_LIMIT;
@@ -10,7 +9,7 @@ use crate::name::Name;
 use crate::texts::{
     at_text, cancelled_text, cleared_text, live_text, refusal_text, removed_text, tick_text,
 };
-use dq_ticks::{LAST_STAMP, LAST_TICK};
+use dq_ticks::{CAPACITY_LIMIT, LAST_STAMP, LAST_TICK};
 use std::alloc::{AllocError, Allocator};
 use std::marker::Model;
 
@@ -43,8 +42,8 @@ impl<A: Allocator> Model for Session<A> {
 impl<A: Allocator + Copy> Session<A> {
     pub fn new(alloc: A, capacity: usize) -> Result<Session<A>, AllocError>
         requires some { 0 < capacity }
-        requires few { capacity ≤ 65536 }
-        ensures { IfOk result (λ session. session ≡ record { state = first_state capacity; given = 0 }) }
+        requires few { capacity ≤ CAPACITY_LIMIT }
+        ensures { IfOk result (λ session. session ≡ first_session capacity) }
     {
         Ok(Session {
             limit: FIRST_EDITION_LIMIT,
@@ -64,7 +63,7 @@ impl<A: Allocator + Copy> Session<A> {
     /// Does a command, and gives the text of its answer.
     pub fn answer(&mut self, alloc: A, command: Command) -> Result<String<A>, AllocError>
         requires { self.old.given < LAST_STAMP }
-        ensures ok { IfOk result (λ text. step self.old.state command ≡ (self.new.state, string_bytes text)) }
+        ensures ok { IfOk result (λ text. Steps self.old.state command self.new.state text) }
         ensures given { IfOk result (λ _. self.new.given ≤ self.old.given + 1) }
     {
         match command {
@@ -82,7 +81,8 @@ impl<A: Allocator + Copy> Session<A> {
 
     fn insert(&mut self, alloc: A, name: Name, when: u64) -> Result<String<A>, AllocError>
         requires { self.old.given < LAST_STAMP }
-        ensures ok { IfOk result (λ text. insert_in self.old.state name when ≡ (self.new.state, string_bytes text)) }
+        ensures ok { IfOk result
+            (λ text. Steps self.old.state (Command.Insert name when) self.new.state text) }
         ensures given { IfOk result (λ _. self.new.given ≤ self.old.given + 1) }
     {
         if self.leases.is_live(&name) {
@@ -102,7 +102,8 @@ impl<A: Allocator + Copy> Session<A> {
 
     fn reset(&mut self, alloc: A, name: &Name, when: u64) -> Result<String<A>, AllocError>
         requires { self.old.given < LAST_STAMP }
-        ensures ok { IfOk result (λ text. reset_by self.old.state name.now when (deadline_of name.now self.old.state.live) ≡ (self.new.state, string_bytes text)) }
+        ensures ok { IfOk result
+            (λ text. Steps self.old.state (Command.Reset name.now when) self.new.state text) }
         ensures given { IfOk result (λ _. self.new.given ≤ self.old.given + 1) }
     {
         match self.leases.reset(name, when, self.limit) {
@@ -113,7 +114,8 @@ impl<A: Allocator + Copy> Session<A> {
     }
 
     fn extend(&mut self, alloc: A, name: &Name, when: u64) -> Result<String<A>, AllocError>
-        ensures ok { IfOk result (λ text. extend_by self.old.state name.now when (deadline_of name.now self.old.state.live) ≡ (self.new.state, string_bytes text)) }
+        ensures ok { IfOk result
+            (λ text. Steps self.old.state (Command.Extend name.now when) self.new.state text) }
         ensures given { IfOk result (λ _. self.new.given ≤ self.old.given + 1) }
     {
         match self.leases.extend(name, when, self.limit) {
@@ -124,7 +126,8 @@ impl<A: Allocator + Copy> Session<A> {
     }
 
     fn cancel(&mut self, alloc: A, name: &Name) -> Result<String<A>, AllocError>
-        ensures ok { IfOk result (λ text. cancel_by self.old.state name.now (deadline_of name.now self.old.state.live) ≡ (self.new.state, string_bytes text)) }
+        ensures ok { IfOk result
+            (λ text. Steps self.old.state (Command.Cancel name.now) self.new.state text) }
         ensures given { IfOk result (λ _. self.new.given ≤ self.old.given + 1) }
     {
         match self.leases.cancel(name) {
@@ -134,7 +137,8 @@ impl<A: Allocator + Copy> Session<A> {
     }
 
     fn remove(&mut self, alloc: A, name: &Name) -> Result<String<A>, AllocError>
-        ensures ok { IfOk result (λ text. remove_by self.old.state name.now (deadline_of name.now self.old.state.live) ≡ (self.new.state, string_bytes text)) }
+        ensures ok { IfOk result
+            (λ text. Steps self.old.state (Command.Remove name.now) self.new.state text) }
         ensures given { IfOk result (λ _. self.new.given ≤ self.old.given + 1) }
     {
         match self.leases.remove(name) {
@@ -144,7 +148,8 @@ impl<A: Allocator + Copy> Session<A> {
     }
 
     fn deadline(&mut self, alloc: A, name: &Name) -> Result<String<A>, AllocError>
-        ensures ok { IfOk result (λ text. deadline_by self.old.state name.now (deadline_of name.now self.old.state.live) ≡ (self.new.state, string_bytes text)) }
+        ensures ok { IfOk result
+            (λ text. Steps self.old.state (Command.Deadline name.now) self.new.state text) }
         ensures given { IfOk result (λ _. self.new.given ≤ self.old.given + 1) }
     {
         match self.leases.deadline(name) {
@@ -154,14 +159,14 @@ impl<A: Allocator + Copy> Session<A> {
     }
 
     fn live(&mut self, alloc: A) -> Result<String<A>, AllocError>
-        ensures ok { IfOk result (λ text. string_bytes text ≡ live_line (length self.old.state.live)) }
+        ensures ok { IfOk result (λ text. Steps self.old.state Command.Live self.new.state text) }
         ensures same { self.new ≡ self.old }
     {
         live_text(alloc, self.leases.len())
     }
 
     fn clear(&mut self, alloc: A) -> Result<String<A>, AllocError>
-        ensures ok { IfOk result (λ text. clear_in self.old.state ≡ (self.new.state, string_bytes text)) }
+        ensures ok { IfOk result (λ text. Steps self.old.state Command.Clear self.new.state text) }
         ensures given { IfOk result (λ _. self.new.given ≤ self.old.given + 1) }
     {
         let count = self.leases.clear();
@@ -169,7 +174,8 @@ impl<A: Allocator + Copy> Session<A> {
     }
 
     fn tick(&mut self, alloc: A, to: u64) -> Result<String<A>, AllocError>
-        ensures ok { IfOk result (λ text. tick_in self.old.state to ≡ (self.new.state, string_bytes text)) }
+        ensures ok { IfOk result
+            (λ text. Steps self.old.state (Command.Tick to) self.new.state text) }
         ensures given { IfOk result (λ _. self.new.given ≤ self.old.given + 1) }
     {
         if to > self.limit {

@@ -25,7 +25,8 @@ pub fn report<W: Write>(fault: &ReplayFault, writer: &mut W) -> u8
 
 /// Writes the line that tells a fault.
 fn tell<W: Write>(fault: &ReplayFault, writer: &mut W) -> io::Result<()>
-    ensures { OnOk result (Appends (W.contents writer.old) (W.contents writer.new) (report_line fault.now)) }
+    ensures { OnOk result
+        (Appends (W.contents writer.old) (W.contents writer.new) (report_line fault.now)) }
 {
     writeln!(writer, "delay-replay: {fault}")
 }

@@ -57,7 +57,8 @@ pub fn tick_text<A: Allocator + Copy>(
     due: &[Lease],
     now: u64,
 ) -> Result<String<A>, AllocError>
-    ensures { IfOk result (λ text. string_bytes text ≡ flat_map expired_line due.now ++ tick_line now) }
+    ensures { IfOk result
+        (λ text. string_bytes text ≡ flat_map expired_line due.now ++ tick_line now) }
 {
     let mut text = String::new(alloc);
     for lease in due {

@@ -2,7 +2,8 @@
 
 use crate::table::{fault_at, is_text, runs};
 use crate::writers::Full;
-use dq_replay::{CAPACITY_LIMIT, FaultKind, ReplayFault, report, run};
+use dq_replay::{FaultKind, ReplayFault, report, run};
+use dq_ticks::CAPACITY_LIMIT;
 use std::process::Abort;
 use std::test::Fail;
 

@@ -1,4 +1,4 @@
-use Rattle.dq_replay.proofs.Refused.{cancel_live}
+use Rattle.dq_replay.proofs.KeyRefused.{cancel_live}
 use Rattle.dq_replay.proofs.KeyCalls.{cancel_changed}
 use Rattle.dq_replay.proofs.leases.cancel_at.Goals as goal
 

@@ -1,4 +1,4 @@
-use Rattle.dq_replay.proofs.Refused.{extend_live}
+use Rattle.dq_replay.proofs.KeyRefused.{extend_live}
 use Rattle.dq_replay.proofs.KeyCalls.{extend_changed}
 use Rattle.dq_replay.proofs.leases.extend_at.Goals as goal
 
