@@ -3,6 +3,7 @@ pub mod CacheSteps
 pub mod Firsts
 pub mod Leasts
 pub mod PutSteps
+pub mod SeenCounts
 pub mod SeenPairs
 pub mod SeenSlots
 pub mod Shows

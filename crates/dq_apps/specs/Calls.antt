@@ -10,7 +10,7 @@ use Rattle.dq_core.specs.declared.errors.CoreError.TheVariants.{TooFar, Full, Mi
 use Rattle.dq_core.specs.declared.errors.CoreError.TheVariants.{TickTooLarge, NoMemory}
 use Rattle.dq_apps.specs.Setting.{IsSetting, SettingRefused}
 use Rattle.dq_apps.specs.Cache.{Item, CacheSlot, Cache, bare, slot_at, moment_at, is_kept}
-use Rattle.dq_apps.specs.Cache.{IsKeptAt, value_seen}
+use Rattle.dq_apps.specs.Cache.{IsKeptAt, value_seen, seen, entries_of}
 
 module _ {K V : Type 0} where
   -- new
@@ -46,6 +46,7 @@ module _ {K V : Type 0} where
       : Type 0 where
     pub values : (q : K) → lookup (eq q) pairs ≡ value_seen eq c q now
     pub distinct : IsDistinct eq (keys_of pairs)
+    pub count : length pairs ≡ length (seen (moment_at c now) (entries_of c.slots))
 
   -- purge
 

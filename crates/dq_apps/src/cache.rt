@@ -1,5 +1,5 @@
 //! An expiring cache of one owner: values that are seen until their deadline.
-ghost use Rattle.std.specs.Prelude.{◌≡◌, ℕ, ◌↔◌, IsTrue, IfOk, length, is_some};
+ghost use Rattle.std.specs.Prelude.{◌≡◌, ◌≤◌, ◌↔◌, IsTrue, IfOk, length, is_some};
 ghost use Rattle.std.specs.Option.{option_copied};
 ghost use Rattle.std.specs.List.{count_by};
 ghost use Rattle.dq_apps.specs.Cache.{is_kept, value_seen, IsCache};
@@ -11,6 +11,7 @@ use crate::seen::Seen;
 use crate::stock::{Stock, least_deadline};
 use crate::timers::{Timers, is_setting};
 use dq_core::CoreError;
+use dq_ticks::{CAPACITY_LIMIT, LAST_TICK};
 use std::alloc::{Allocator, Global};
 use std::collections::HashMap;
 use std::hash::Hash;
@@ -66,6 +67,15 @@ impl<K: Eq + Hash + Drop, V: Drop, A: Allocator> TtlCache<K, V, A> {
         self.timers.law();
     }
 
+    /// The moment, at first 0: the greatest tick of a put, a renewal or a purge. A call at an earlier tick is made at the
+    /// moment.
+    pub fn moment(&self) -> u64
+        ensures value { result ≡ self.now.moment }
+        ensures tick { result ≤ LAST_TICK }
+    {
+        self.moment
+    }
+
     /// How many keys are kept, seen or due.
     pub fn len(&self) -> usize
         ensures { result ≡ kept_count self.now }
@@ -112,8 +122,10 @@ impl<K: Eq + Hash + Drop, V: Drop, A: Allocator> TtlCache<K, V, A> {
 
     /// What is seen at `now`: each key with its value, once, in no order that is promised. It goes over all that is kept.
     pub fn seen(&self, now: u64) -> Seen<'_, K, V>
-        ensures { IsAllSeen K.eq self.now now result }
+        ensures all { IsAllSeen K.eq self.now now result }
+        ensures few { length result ≤ CAPACITY_LIMIT }
     {
+        self.law();
         Seen {
             entries: self.stock.iter(),
             moment: now.max(self.moment),

@@ -13,14 +13,6 @@ use std::alloc::Allocator;
 use std::hash::Hash;
 
 impl<K: Eq + Hash + Drop, V: Drop, A: Allocator> TtlCache<K, V, A> {
-    /// The moment: the greatest tick of a put, a renewal or a purge.
-    fn moment(&self) -> u64
-        ensures value { result ≡ self.now.moment }
-        ensures tick { result ≤ LAST_TICK }
-    {
-        self.moment
-    }
-
     /// Sets the moment.
     fn pass(&mut self, moment: u64)
         requires later { self.old.moment ≤ moment }

@@ -1,0 +1,96 @@
+//! Each allocation of a cache is refused in turn.
+
+use dq_apps::TtlCache;
+use dq_core::CoreError;
+use dq_ticks::LAST_STAMP;
+use linked_list_allocator::LocalHeap;
+use refusing_heap::RefusingHeap;
+use std::alloc::AllocError;
+use std::process::Abort;
+use std::test::Fail;
+
+// A heap that refuses one allocation.
+type Heap<'all> = RefusingHeap<&'all LocalHeap>;
+
+type Text<'heap, 'all> = String<&'heap Heap<'all>>;
+
+type Cache<'heap, 'all> = TtlCache<Text<'heap, 'all>, u32, &'heap Heap<'all>>;
+
+// Where the allocation was that was refused.
+#[derive(Clone, Copy, PartialEq, Eq, Debug)]
+enum Refused {
+    // In the test's own keys.
+    Keys,
+    // In the making of the cache.
+    New,
+    // In the first put, which makes room in the map and copies its key.
+    First,
+    // In the second put, which copies its key alone.
+    Second,
+    Nowhere,
+}
+
+fn key<'heap, 'all>(heap: &'heap Heap<'all>, text: &str) -> Result<Text<'heap, 'all>, AllocError> {
+    String::from_str(heap, text)
+}
+
+// Whether a refused put handed key and value back, for want of memory.
+fn came_back(refused: &(CoreError, Text, u32), text: &str, value: u32) -> bool {
+    refused.0 == CoreError::NoMemory && refused.1.as_str() == text && refused.2 == value
+}
+
+// Two keys are put, the second when the first is due.
+fn walk(rt: &impl Abort, heap: &Heap) -> Refused {
+    let (Ok(a), Ok(b), Ok(first)) = (key(heap, "a"), key(heap, "b"), key(heap, "a")) else {
+        return Refused::Keys;
+    };
+    let mut cache: Cache = match TtlCache::new(heap, 2, LAST_STAMP) {
+        Ok(cache) => cache,
+        Err(error) => {
+            assert_eq!(rt; error, CoreError::NoMemory);
+            return Refused::New;
+        }
+    };
+    if let Err(refused) = cache.put(first, 1, 5, 0) {
+        assert!(rt; came_back(&refused, "a", 1));
+        assert_eq!(rt; (cache.len(), cache.moment()), (0, 0));
+        return Refused::First;
+    }
+    if let Err(refused) = cache.put(b, 2, 5, 5) {
+        assert!(rt; came_back(&refused, "b", 2));
+        assert_eq!(rt; (cache.len(), cache.moment()), (0, 5));
+        assert_eq!(rt; cache.get(&a, 0).copied(), None);
+        return Refused::Second;
+    }
+    assert_eq!(rt; (cache.len(), cache.moment()), (1, 5));
+    Refused::Nowhere
+}
+
+#[test]
+fn cache_put_refused(rt: HostRuntime) -> Result<(), Fail> {
+    let (mut made, mut grown, mut copied) = (0usize, 0usize, 0usize);
+    for grants in 0..100u64 {
+        let all = LocalHeap::new(rt.alloc(), 1 << 16)?;
+        let heap = RefusingHeap::new(&all, grants);
+        let refused = walk(&rt, &heap);
+        assert_eq!(rt; all.used(), 0);
+        assert_eq!(rt;
+            heap.has_refused(),
+            refused != Refused::Nowhere,
+            "allocation {grants}"
+        );
+        match refused {
+            Refused::Keys => {}
+            Refused::New => made = made.saturating_add(1),
+            Refused::First => grown = grown.saturating_add(1),
+            Refused::Second => copied = copied.saturating_add(1),
+            Refused::Nowhere => {
+                // The making takes memory for words, wheel and slots; the first put room in the map and a copy of its key.
+                assert!(rt; made >= 3 && grown >= 2 && copied == 1);
+                return Ok(());
+            }
+        }
+    }
+    assert!(rt; false, "each run was refused");
+    Ok(())
+}
