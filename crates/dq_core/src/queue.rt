@@ -183,7 +183,7 @@ impl<T: Drop, W: Words, A: Allocator> DelayCore<T, W, A> {
     /// Puts an entry in that is live until `when`, a tick of one millisecond, or until the wheel's tick where `when` lies
     /// before it, and answers its key. Constant time. Refused as TooFar beyond the last tick, and else as Full where no
     /// slot is free; the value comes back then.
-    #[inline]
+    #[inline(always)]
     pub fn insert(&mut self, value: T, when: u64) -> Result<Key, (CoreError, T)>
         // The entry is live from now on, and no other entry changes.
         ensures live { IfOk result (λ k. IsLinkedAs self.new k value (base_for self.old when)) }
@@ -436,7 +436,7 @@ impl<T: Drop, W: Words, A: Allocator> DelayCore<T, W, A> {
     /// Gives a live entry another deadline, earlier or later, but not before the wheel's tick, and the slot's next stamp:
     /// keys from before are stale for callers. Answers the new key. Constant time. Refused as TooFar beyond the last
     /// tick, then as `deadline` is, then as Worn where the slot has no stamp left.
-    #[inline]
+    #[inline(always)]
     pub fn reset(&mut self, entry: &EntryId, when: u64) -> Result<Key, CoreError>
         // The same entry is live at its new base, under the slot's next stamp, and no other changes.
         ensures live { OnOk result
