@@ -1,0 +1,6 @@
+pub mod Answers
+pub mod Gives
+pub mod Items
+pub mod Polls
+pub mod Refusals
+pub mod Wakers
