@@ -1,11 +1,13 @@
 -- Who is parked after a registration, and until when.
-use Rattle.std.proofs.Common.{◌≡◌, ℕ, true, sym, ap, subst, Option, Some, None, Result, OnOk, IsSomeAnd, ◌⊎◌}
+use Rattle.std.proofs.Common.{◌≡◌, ℕ, ◌<◌, [], true, sym, ap, subst, Option, Some, None, Result, OnOk, IsSomeAnd, ◌⊎◌}
 use Rattle.futures.specs.Task.{Wakes}
 use Rattle.futures.specs.Poll.{OnPending}
 use Rattle.futures.specs.declared.task.Poll.TheVariants.{Ready, Pending}
 use Rattle.futures.specs.declared.task.context.Context.{Context}
 use Rattle.futures.specs.declared.task.waker.Waker.{Waker}
 use Rattle.dq_core.specs.Calls.{TellsWake}
+use Rattle.dq_core.specs.Core.{machine}
+use Rattle.dq_core.specs.Machine.{due}
 use Rattle.dq_shards.specs.Shard.{ShardView, IsShard}
 use Rattle.dq_stream.specs.declared.fault.StreamFault.{StreamFault}
 use Rattle.dq_stream.specs.Items.{Answer}
@@ -27,6 +29,7 @@ module _ {T : Type 0} (cx cy : Context) where
       → StreamPolls cx cy old tick a new → OnPending a (IsParkedAtWake T cx cy)
   parked_at_wake old new tick (Ready x) law polls = tt
   parked_at_wake old new tick Pending law (next, left, polled, (waker, own, is)) =
-      let answered = polled.0.2 in
-      let wake : TellsWake left.core (Some next) = answered.run.2.3 in
-      (new, next, waker, law, subst (λ (s : ShardView T). TellsWake s.core (Some next)) (sym is) wake, ap (λ s. s.parked) is, own)
+      let rests = polled.0.2.run.2 in
+      let P : ShardView T → Type 0 = λ s. (due (machine s.core) s.core.noted ≡ []) × TellsWake s.core (Some next) × (s.core.noted < next) in
+      let at : P new = subst P (sym is) (rests.2, rests.3, rests.4) in
+      (new, next, waker, law, at.0, at.1, at.2, ap (λ s. s.parked) is, own)

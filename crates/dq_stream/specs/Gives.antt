@@ -1,5 +1,6 @@
 -- What polls of a stream may give one after another.
-use Rattle.std.specs.Prelude.{◌≡◌, ℕ, ⊤, Bool, true, false, List, [], ◌∷◌, Option, Some, None, Ok, Err}
+use Rattle.std.specs.Prelude.{◌≡◌, ℕ, ⊤, Bool, true, false, List, [], ◌∷◌}
+use Rattle.std.specs.Prelude.{Option, Some, None, Ok, Err}
 use Rattle.dq_ticks.specs.declared.TheConstants.{LAST_TICK}
 use Rattle.dq_core.specs.declared.outcomes.Turn.TheVariants.{Out}
 use Rattle.dq_shards.specs.Changes.{ShardPolls, OnSome}

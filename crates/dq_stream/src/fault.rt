@@ -11,7 +11,7 @@ pub enum StreamFault {
         /// The last tick.
         limit: u64,
     },
-    /// Memory for the waker was refused. Nothing is parked, the task has asked for another poll, and the stream goes on.
+    /// Memory for the waker was refused. Nothing is parked, and the stream goes on.
     #[error("out of memory")]
     NoMemory,
 }

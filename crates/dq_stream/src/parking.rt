@@ -9,8 +9,8 @@ use dq_shards::LockedShard;
 use futures::task::{Context, Poll, Source, Waker};
 use std::alloc::Allocator;
 
-// Registers with the context, and parks its task at the next wake. The name stands for the shard, as a source that fires where
-// it wakes its poller.
+// Registers with the context, and parks its task at the next wake. The name stands for the shard, as a source that
+// fires where it wakes its poller.
 pub(crate) fn wait<T: Drop, A: Allocator>(
     shard: &mut LockedShard<'_, T, A>,
     next: u64,
@@ -29,8 +29,9 @@ pub(crate) fn wait<T: Drop, A: Allocator>(
     park_with(shard, next, slot)
 }
 
-/// Parks a poller at the shard's next wake, with the waker that a registration left. Refused as NoMemory where it left none; no
-/// poller is parked then that wasn't before. A future of your own over a locked shard may use it.
+/// Parks a poller at the shard's next wake, with the waker that a registration left. It takes the place of one that was
+/// parked before, which is not woken. Refused as NoMemory where the registration left none; the shard stays as it was
+/// then. A future of your own over a locked shard may use it.
 pub fn park_with<T: Drop, A: Allocator>(
     shard: &mut LockedShard<'_, T, A>,
     next: u64,

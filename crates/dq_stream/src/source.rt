@@ -10,14 +10,14 @@ pub trait TickSource: Drop {
     /// What it may answer, and what it is after that.
     ghost tells: { Self → ℕ → Self → Type 0 } = { λ _ _ _. ⊤ };
 
-    /// The tick of this moment, of one millisecond. A stream asks it while its shard's lock is held, so it must not take that
-    /// lock itself.
+    /// The tick of this moment, of one millisecond. A stream asks it while its shard's lock is held, so it must not
+    /// take that lock itself.
     fn now(&mut self) -> u64
         ensures { tells self.old result self.new };
 }
 
-/// The whole milliseconds since an instant of a clock. It never goes back: where the clock does, or fails, it stays at its last
-/// tick. Sources that share one start tell one time.
+/// The whole milliseconds since an instant of a clock. It never goes back: where the clock does, or fails, it stays at
+/// its last tick. Sources that share one start tell one time.
 #[derive(Drop)]
 pub struct MillisecondTicks<'c, C: Clock> {
     clock: &'c C,

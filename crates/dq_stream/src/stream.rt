@@ -1,5 +1,5 @@
 //! The stream of a shard's expired entries.
-ghost use Rattle.std.specs.Prelude.{◌≡◌, ◌<◌, ◌≤◌, ℕ, ⊤, true, false, [], Option, Some, None, Err, IfOk, IfErr, IfSome, OnSome};
+ghost use Rattle.std.specs.Prelude.{◌≡◌, ◌<◌, ◌≤◌, ℕ, ⊤, true, false, [], Option, Some, None, Err, IfOk, IfErr, IfSome, OnSome, ◌⊎◌};
 ghost use Rattle.futures.specs.Task.{Covers, Keeps};
 ghost use Rattle.futures.specs.Poll.{IfReady, OnPending};
 ghost use Rattle.futures.specs.Runs.{After, Within};
@@ -7,7 +7,7 @@ ghost use Rattle.dq_shards.specs.declared.errors.QueueError.TheVariants.{Unknown
 ghost use Rattle.dq_stream.specs.Items.{is_over};
 ghost use Rattle.dq_stream.specs.Polls.{StreamPolls, AnswersAt};
 ghost use Rattle.dq_stream.specs.Gives.{Gives};
-ghost use Rattle.dq_stream.specs.Answers.{WasDue, IsParkedAtWake, FaultIs};
+ghost use Rattle.dq_stream.specs.Answers.{IfGiven, IfFault, OnEnd, IsLeastDue, IsParkedAtWake, IsEmptyShard, IsFault};
 
 use crate::fault::StreamFault;
 use crate::parking::wait;
@@ -21,10 +21,10 @@ use std::sync::Wait;
 
 /// What expires in one shard, at the ticks of a source.
 ///
-/// Each poll takes the shard's lock once. It gives one entry that is due; it ends for now where nothing is linked, and later
-/// polls go on; else it parks in the shard until the shard's next wake, one poller a shard. The shard wakes it where its next
-/// wake comes sooner or is gone, and [`SharedDelayQueue::ring`] wakes it at a tick. It may be polled again at any time. A
-/// stream that is dropped stays parked until then.
+/// Each poll takes the shard's lock once. It gives one entry that is due. It ends for now where nothing is linked, and
+/// later polls go on. Else it parks in the shard until the shard's next wake, one poller a shard. The shard wakes it
+/// where its next wake comes sooner or is gone, and [`SharedDelayQueue::ring`] wakes it at a tick. It may be polled
+/// again at any time. A stream that is dropped stays parked until then.
 ///
 /// After a tick that is refused it has ended for good, and its source is asked no more.
 #[derive(Drop)]
@@ -71,10 +71,35 @@ impl<'q, T: Drop, S: TickSource, R: Wait, A: Allocator> Stream for ExpiredStream
 
     ghost yields = { λ stream. Gives T stream.ended };
 
-    /// An entry that is due, in order of deadlines; Pending, parked at the next wake; or None where nothing is linked. A tick
-    /// beyond the last one gives TickTooLarge once, and from then on None. Where no waker can be made for want of memory it
-    /// gives NoMemory, and goes on.
+    /// An entry that is due, one of least deadline; Pending, parked at the next wake; or None where nothing is linked.
+    /// A tick beyond the last one gives TickTooLarge once, and from then on None. Where no waker can be made for want
+    /// of memory it gives NoMemory, and goes on. Its cost is that of one poll of the shard.
     fn poll_next(&mut self, cx: &mut Context<'_>) -> Poll<Option<Result<Expired<T>, StreamFault>>>
+        // What is given is due, and no live entry of its shard has an earlier deadline.
+        ensures given { IfGiven result IsLeastDue }
+
+        // It waits where none is due: registered, and parked at the next wake with a waker of this task.
+        ensures waits { OnPending result (IsParkedAtWake T cx.old cx.new) }
+        ensures registered { OnPending result (Covers cx.new (λ s. s ≡ self.new.name.id)) }
+
+        // It gives nothing where nothing is linked. Once it has ended for good nothing changes any more.
+        ensures empty { OnEnd result ((self.old.ended ≡ true) ⊎ IsEmptyShard T) }
+        ensures over { self.old.ended ≡ true → (result ≡ Poll.Ready None) × (self.new ≡ self.old) }
+
+        // It ends for good after a refused tick, and only then.
+        ensures fault { IfFault result (λ e. IsFault e cx.new self.new.ended) }
+        ensures ends { self.old.ended ≡ false → self.new.ended ≡ is_over result }
+
+        // It stays a stream of its shard.
+        ensures stays { (self.new.queue ≡ self.old.queue) × (self.new.shard ≡ self.old.shard)
+            × (self.new.name ≡ self.old.name) × (self.new.rt ≡ self.old.rt) }
+
+        // All that it does: the shard's own poll, at a tick that the source told.
+        ensures polls { self.old.ended ≡ false → (tick : ℕ)
+            × S.tells self.old.source tick self.new.source
+            × AnswersAt T cx.old cx.new tick result }
+
+        // What every stream owes.
         ensures value { IfReady result (Gives T self.old.ended []) }
         ensures rest { IfReady result
             (λ o. IfSome o (λ x. After (Gives T self.old.ended) x (Gives T self.new.ended))) }
@@ -82,18 +107,7 @@ impl<'q, T: Drop, S: TickSource, R: Wait, A: Allocator> Stream for ExpiredStream
         ensures again { OnPending result ⊤ }
         ensures same { OnPending result
             (Within (Gives T self.old.ended) (Gives T self.new.ended)) }
-        ensures registered { OnPending result (Covers cx.new (λ s. s ≡ self.new.name.id)) }
         ensures kept { Keeps cx.old cx.new }
-        ensures due { WasDue result }
-        ensures parked { OnPending result (IsParkedAtWake T cx.old cx.new) }
-        ensures fault { FaultIs result cx.new self.new.ended }
-        ensures over { self.old.ended ≡ true → (result ≡ Poll.Ready None) × (self.new ≡ self.old) }
-        ensures ends { self.old.ended ≡ false → self.new.ended ≡ is_over result }
-        ensures stays { (self.new.queue ≡ self.old.queue) × (self.new.shard ≡ self.old.shard)
-            × (self.new.name ≡ self.old.name) × (self.new.rt ≡ self.old.rt) }
-        ensures polls { self.old.ended ≡ false → (tick : ℕ)
-            × S.tells self.old.source tick self.new.source
-            × AnswersAt T cx.old cx.new tick result }
     {
         if self.ended {
             return Poll::Ready(None);
