@@ -1,0 +1,35 @@
+-- Who is parked after a registration, and until when.
+use Rattle.std.proofs.Common.{◌≡◌, ℕ, ◌<◌, [], true, sym, ap, subst, Option, Some, None, Result, OnOk, IsSomeAnd, ◌⊎◌}
+use Rattle.futures.specs.Task.{Wakes}
+use Rattle.futures.specs.Poll.{OnPending}
+use Rattle.futures.specs.declared.task.Poll.TheVariants.{Ready, Pending}
+use Rattle.futures.specs.declared.task.context.Context.{Context}
+use Rattle.futures.specs.declared.task.waker.Waker.{Waker}
+use Rattle.dq_core.specs.Calls.{TellsWake}
+use Rattle.dq_core.specs.Core.{machine}
+use Rattle.dq_core.specs.Machine.{due}
+use Rattle.dq_shards.specs.Shard.{ShardView, IsShard}
+use Rattle.dq_stream.specs.declared.fault.StreamFault.{StreamFault}
+use Rattle.dq_stream.specs.Items.{Answer}
+use Rattle.dq_stream.specs.Wakers.{Parks, ParksWith}
+use Rattle.dq_stream.specs.Polls.{StreamPolls}
+use Rattle.dq_stream.specs.Answers.{IsParkedAtWake}
+
+module _ {T : Type 0} (cx cy : Context) where
+  -- the poller that is parked has the waker that the registration left
+  pub parks_own : (slot : Option Waker) (r : Result (Unit {0}) StreamFault) (old new : ShardView T) (next : ℕ)
+      → ParksWith old next slot r new
+      → (cy.lacks_waker ≡ true) ⊎ IsSomeAnd slot (λ waker. Wakes waker cx)
+      → OnOk r (Parks cx cy old next new)
+  parks_own None r old new next with left = rw (with.0) tt
+  parks_own (Some waker) r old new next with left = rw (with.0) (waker, left, with.1)
+
+  -- a pending poll leaves the task parked at the next wake of the shard as it is then
+  pub parked_at_wake : (old new : ShardView T) (tick : ℕ) (a : Answer T) → IsShard new
+      → StreamPolls cx cy old tick a new → OnPending a (IsParkedAtWake T cx cy)
+  parked_at_wake old new tick (Ready x) law polls = tt
+  parked_at_wake old new tick Pending law (next, left, polled, (waker, own, is)) =
+      let rests = polled.0.2.run.2 in
+      let P : ShardView T → Type 0 = λ s. (due (machine s.core) s.core.noted ≡ []) × TellsWake s.core (Some next) × (s.core.noted < next) in
+      let at : P new = subst P (sym is) (rests.2, rests.3, rests.4) in
+      (new, next, waker, law, at.0, at.1, at.2, ap (λ s. s.parked) is, own)

@@ -1,0 +1,61 @@
+-- What a reader wants to know of one answer of a stream.
+use Rattle.std.specs.Prelude.{◌≡◌, ℕ, ◌≤◌, ◌<◌, ⊤, Bool, true, false, [], Some, None, Ok, Err}
+use Rattle.futures.specs.declared.task.Poll.TheVariants.{Ready, Pending}
+use Rattle.futures.specs.declared.task.context.Context.{Context}
+use Rattle.futures.specs.declared.task.waker.Waker.{Waker}
+use Rattle.dq_ticks.specs.declared.TheConstants.{LAST_TICK}
+use Rattle.dq_core.specs.declared.outcomes.Expired.{Expired}
+use Rattle.dq_core.specs.Calls.{TellsWake}
+use Rattle.dq_core.specs.Core.{machine}
+use Rattle.dq_core.specs.Machine.{NoneLiveBefore, NoneLinked, due}
+use Rattle.dq_shards.specs.Parking.{poller}
+use Rattle.dq_shards.specs.Shard.{ShardView, IsShard}
+use Rattle.dq_stream.specs.declared.fault.StreamFault.{StreamFault}
+use Rattle.dq_stream.specs.declared.fault.StreamFault.TheVariants.{TickTooLarge, NoMemory}
+use Rattle.dq_stream.specs.Items.{Answer}
+use Rattle.dq_stream.specs.Wakers.{LacksWaker, IsOwn}
+
+-- where an entry is given
+abbrev pub IfGiven : {T : Type 0} → Answer T → (Expired T → Type 0) → Type 0
+IfGiven (Ready (Some (Ok x))) P = P x
+IfGiven (Ready (Some (Err e))) P = ⊤
+IfGiven (Ready None) P = ⊤
+IfGiven Pending P = ⊤
+
+-- where a fault is given
+abbrev pub IfFault : {T : Type 0} → Answer T → (StreamFault → Type 0) → Type 0
+IfFault (Ready (Some (Ok x))) P = ⊤
+IfFault (Ready (Some (Err e))) P = P e
+IfFault (Ready None) P = ⊤
+IfFault Pending P = ⊤
+
+-- where nothing is given, now or for good
+abbrev pub OnEnd : {T : Type 0} → Answer T → Type 0 → Type 0
+OnEnd (Ready (Some x)) P = ⊤
+OnEnd (Ready None) P = P
+OnEnd Pending P = ⊤
+
+-- An entry that a shard gave: its deadline in force is not after the noted tick, and no live entry
+-- of the shard has an earlier one.
+abbrev pub IsLeastDue : {T : Type 0} → Expired T → Type 0
+IsLeastDue {T} x =
+    (s : ShardView T) × IsShard s
+    × (x.noted ≡ s.core.noted) × (x.deadline ≤ x.noted) × NoneLiveBefore (machine s.core) x.deadline
+
+-- a shard in which none is due, with the polled task parked at the next wake, after the noted tick
+abbrev pub IsParkedAtWake : (T : Type 0) → Context → Context → Type 0
+IsParkedAtWake T cx cy =
+    (s : ShardView T) × (next : ℕ) × (waker : Waker) × IsShard s
+    × (due (machine s.core) s.core.noted ≡ [])
+    × TellsWake s.core (Some next) × (s.core.noted < next)
+    × (s.parked ≡ Some (poller next waker)) × IsOwn waker cx cy
+
+-- a shard in which nothing is linked
+abbrev pub IsEmptyShard : Type 0 → Type 0
+IsEmptyShard T = (s : ShardView T) × IsShard s × NoneLinked (machine s.core)
+
+-- why no entry is given: the tick was refused, and the stream has ended for good; or no waker could
+-- be made, and the stream goes on
+abbrev pub IsFault : StreamFault → Context → Bool → Type 0
+IsFault (TickTooLarge limit) cx ended = (limit ≡ LAST_TICK) × (ended ≡ true)
+IsFault NoMemory cx ended = LacksWaker cx × (ended ≡ false)

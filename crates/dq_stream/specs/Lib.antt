@@ -1,0 +1,7 @@
+pub mod Answers
+pub mod Endings
+pub mod Gives
+pub mod Items
+pub mod Polls
+pub mod Refusals
+pub mod Wakers

@@ -1,0 +1,167 @@
+//! The stream of a shard's expired entries.
+ghost use Rattle.std.specs.Prelude.{◌≡◌, ◌<◌, ◌≤◌, ℕ, ⊤, true, false, [], Option, Some, None, Err, IfOk, IfErr, IfSome, OnSome, ◌⊎◌};
+ghost use Rattle.futures.specs.Task.{Covers, Keeps};
+ghost use Rattle.futures.specs.Poll.{IfReady, OnPending};
+ghost use Rattle.futures.specs.Runs.{After, Within};
+ghost use Rattle.dq_shards.specs.declared.errors.QueueError.TheVariants.{Unknown};
+ghost use Rattle.dq_stream.specs.Items.{is_over};
+ghost use Rattle.dq_stream.specs.Polls.{StreamPolls, AnswersAt};
+ghost use Rattle.dq_stream.specs.Gives.{Gives};
+ghost use Rattle.dq_stream.specs.Answers.{IfGiven, IfFault, OnEnd, IsLeastDue, IsParkedAtWake, IsEmptyShard, IsFault};
+
+use crate::fault::StreamFault;
+use crate::parking::wait;
+use crate::source::TickSource;
+use dq_core::{CoreError, Expired, Turn};
+use dq_shards::{LockedShard, QueueError, SharedDelayQueue};
+use futures::Stream;
+use futures::task::{Context, Poll, Source};
+use std::alloc::{Allocator, Global};
+use std::sync::Wait;
+
+/// What expires in one shard, at the ticks of a source.
+///
+/// Each poll takes the shard's lock once. It gives one entry that is due. It ends for now where nothing is linked, and
+/// later polls go on. Else it parks in the shard until the shard's next wake, one poller a shard. The shard wakes it
+/// where its next wake comes sooner or is gone, and [`SharedDelayQueue::ring`] wakes it at a tick. It may be polled
+/// again at any time. A stream that is dropped stays parked until then.
+///
+/// After a tick that is refused it has ended for good, and its source is asked no more.
+#[derive(Drop)]
+pub struct ExpiredStream<'q, T, S, R: Wait, A: Allocator = Global> {
+    rt: &'q R,
+    queue: &'q SharedDelayQueue<T, A>,
+    shard: usize,
+    source: S,
+    name: Source,
+    ended: bool,
+    ghost in_range: { shard < queue.now },
+}
+
+impl<'q, T, S, R: Wait, A: Allocator> ExpiredStream<'q, T, S, R, A> {
+    /// A stream of a shard. Refused as Unknown for a shard out of range; the source comes back then.
+    pub fn new(
+        rt: &'q R,
+        queue: &'q SharedDelayQueue<T, A>,
+        shard: usize,
+        source: S,
+    ) -> Result<ExpiredStream<'q, T, S, R, A>, (QueueError, S)>
+        ensures opened { IfOk result (λ s. (shard < queue.now) × (s.queue ≡ queue.entry)
+            × (s.shard ≡ shard) × (s.source ≡ source) × (s.ended ≡ false)) }
+        ensures refused { IfErr result (λ e. (queue.now ≤ shard) × (e ≡ (Unknown, source))) }
+    {
+        if shard >= queue.shards() {
+            return Err((QueueError::Unknown, source));
+        }
+        Ok(ExpiredStream {
+            rt,
+            queue,
+            shard,
+            source,
+            name: Source::new(),
+            ended: false,
+        })
+    }
+}
+
+impl<'q, T: Drop, S: TickSource, R: Wait, A: Allocator> Stream for ExpiredStream<'q, T, S, R, A> {
+    type Item = Result<Expired<T>, StreamFault>;
+
+    ghost needs = { λ stream s. s ≡ stream.name.id };
+
+    ghost yields = { λ stream. Gives T stream.ended };
+
+    /// An entry that is due, one of least deadline; Pending, parked at the next wake; or None where nothing is linked.
+    /// A tick beyond the last one gives TickTooLarge once, and from then on None. Where no waker can be made for want
+    /// of memory it gives NoMemory, and goes on. Its cost is that of one poll of the shard.
+    fn poll_next(&mut self, cx: &mut Context<'_>) -> Poll<Option<Result<Expired<T>, StreamFault>>>
+        // What is given is due, and no live entry of its shard has an earlier deadline.
+        ensures given { IfGiven result IsLeastDue }
+
+        // It waits where none is due: registered, and parked at the next wake with a waker of this task.
+        ensures waits { OnPending result (IsParkedAtWake T cx.old cx.new) }
+        ensures registered { OnPending result (Covers cx.new (λ s. s ≡ self.new.name.id)) }
+
+        // It gives nothing where nothing is linked. Once it has ended for good nothing changes any more.
+        ensures empty { OnEnd result ((self.old.ended ≡ true) ⊎ IsEmptyShard T) }
+        ensures over { self.old.ended ≡ true → (result ≡ Poll.Ready None) × (self.new ≡ self.old) }
+
+        // It ends for good after a refused tick, and only then.
+        ensures fault { IfFault result (λ e. IsFault e cx.new self.new.ended) }
+        ensures ends { self.old.ended ≡ false → self.new.ended ≡ is_over result }
+
+        // It stays a stream of its shard.
+        ensures stays { (self.new.queue ≡ self.old.queue) × (self.new.shard ≡ self.old.shard)
+            × (self.new.name ≡ self.old.name) × (self.new.rt ≡ self.old.rt) }
+
+        // All that it does: the shard's own poll, at a tick that the source told.
+        ensures polls { self.old.ended ≡ false → (tick : ℕ)
+            × S.tells self.old.source tick self.new.source
+            × AnswersAt T cx.old cx.new tick result }
+
+        // What every stream owes.
+        ensures value { IfReady result (Gives T self.old.ended []) }
+        ensures rest { IfReady result
+            (λ o. IfSome o (λ x. After (Gives T self.old.ended) x (Gives T self.new.ended))) }
+        ensures goes { IfReady result (λ o. OnSome o ⊤) }
+        ensures again { OnPending result ⊤ }
+        ensures same { OnPending result
+            (Within (Gives T self.old.ended) (Gives T self.new.ended)) }
+        ensures kept { Keeps cx.old cx.new }
+    {
+        if self.ended {
+            return Poll::Ready(None);
+        }
+        let Ok(mut shard) = self.queue.enter(self.rt, self.shard) else {
+            unreachable!()
+        };
+        shard.law();
+        let answer = turn(&mut shard, &mut self.source, &self.name, cx);
+        shard.law();
+        self.ended = ends(&answer);
+        answer
+    }
+}
+
+// Whether a stream has ended for good after this answer.
+fn ends<T>(answer: &Poll<Option<Result<Expired<T>, StreamFault>>>) -> bool
+    ensures { result ≡ is_over answer.now }
+{
+    let Poll::Ready(Some(item)) = answer else {
+        return false;
+    };
+    let Err(fault) = item else {
+        return false;
+    };
+    match fault {
+        StreamFault::TickTooLarge { limit: _ } => true,
+        StreamFault::NoMemory => false,
+    }
+}
+
+// One poll of a stream, while the shard's lock is held.
+fn turn<T: Drop, S: TickSource, A: Allocator>(
+    shard: &mut LockedShard<'_, T, A>,
+    source: &mut S,
+    name: &Source,
+    cx: &mut Context<'_>,
+) -> Poll<Option<Result<Expired<T>, StreamFault>>>
+    ensures polls { (tick : ℕ) × S.tells source.old tick source.new
+        × StreamPolls cx.old cx.new shard.old tick result shard.new }
+    ensures registered { OnPending result (Covers cx.new (λ s. s ≡ name.now.id)) }
+    ensures kept { Keeps cx.old cx.new }
+{
+    shard.unpark();
+    match shard.poll(source.now()) {
+        Ok(Turn::Out(expired)) => Poll::Ready(Some(Ok(expired))),
+        Ok(Turn::Waiting { next }) => match wait(shard, next, name, cx) {
+            Ok(()) => Poll::Pending,
+            Err(fault) => Poll::Ready(Some(Err(fault))),
+        },
+        Ok(Turn::Idle) => Poll::Ready(None),
+        Err(CoreError::TickTooLarge { limit }) => {
+            Poll::Ready(Some(Err(StreamFault::TickTooLarge { limit })))
+        }
+        Err(_) => unreachable!(),
+    }
+}

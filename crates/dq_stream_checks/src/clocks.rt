@@ -1,0 +1,84 @@
+//! The ticks of a clock.
+
+use crate::streams::{Seen, Task, fill, letters, stream_of};
+use dq_stream::{MillisecondTicks, TickSource};
+use std::cell::Cell;
+use std::io;
+use std::io::ErrorKind;
+use std::test::Fail;
+use std::time::{Clock, Duration, Instant};
+
+/// Reads the nanoseconds that are set, and fails where none are.
+#[derive(Drop)]
+struct SetClock(Cell<Option<u64>>);
+
+impl Clock for SetClock {
+    fn monotonic(&self) -> io::Result<Duration> {
+        match self.0.get() {
+            Some(nanoseconds) => Ok(Duration::from_nanos(nanoseconds)),
+            None => Err(ErrorKind::Other.into()),
+        }
+    }
+
+    fn since_1970(&self) -> io::Result<Duration> {
+        self.monotonic()
+    }
+}
+
+#[test]
+fn whole_milliseconds_that_never_go_back(rt: HostRuntime) -> Result<(), Fail> {
+    let clock = SetClock(Cell::new(Some(5_000_700_000)));
+    let mut ticks = MillisecondTicks::new(&clock)?;
+    for (reading, tick) in [
+        (Some(5_000_700_000), 0),
+        (Some(5_001_699_999), 0),
+        (Some(5_001_700_000), 1),
+        (Some(5_100_000_000), 99),
+        (None, 99),
+        (Some(5_050_000_000), 99),
+        (Some(4_000_000_000), 99),
+        (Some(6_000_700_000), 1000),
+        (None, 1000),
+        (Some(18_446_744_073_709_551_615), 18_446_744_068_708),
+    ] {
+        clock.0.set(reading);
+        assert_eq!(rt; ticks.now(), tick);
+    }
+    Ok(())
+}
+
+#[test]
+fn no_ticks_of_a_clock_that_fails(rt: HostRuntime) -> Result<(), Fail> {
+    let clock = SetClock(Cell::new(None));
+    assert!(rt; MillisecondTicks::new(&clock).is_err());
+    Ok(())
+}
+
+#[test]
+fn one_start_one_time(rt: HostRuntime) -> Result<(), Fail> {
+    let clock = SetClock(Cell::new(Some(1_000_000)));
+    let start = Instant::now(&clock)?;
+    let mut first = MillisecondTicks::since(&clock, start);
+    clock.0.set(Some(8_000_000));
+    let mut second = MillisecondTicks::since(&clock, start);
+    assert_eq!(rt; (first.now(), second.now()), (7, 7));
+    Ok(())
+}
+
+#[test]
+fn stream_by_a_clock(rt: HostRuntime) -> Result<(), Fail> {
+    let queue = letters(rt.alloc(), 1)?;
+    let task = Task::new(&rt)?;
+    let clock = SetClock(Cell::new(Some(0)));
+    let mut stream = stream_of(&rt, &queue, 0, MillisecondTicks::new(&clock)?)?;
+    fill(&rt, &queue, 0, &[('v', 2)])?;
+    assert_eq!(rt; task.poll(&mut stream), Seen::Waits);
+    clock.0.set(Some(2_500_000));
+    let out = Seen::Out {
+        value: 'v',
+        deadline: 2,
+        noted: 2,
+    };
+    assert_eq!(rt; task.poll(&mut stream), out);
+    Ok(())
+}
