@@ -159,11 +159,11 @@ def lost_to_the_heap():
 def gate():
     """What each crate takes in the gate."""
     noted = runs.noted("gate")
-    lines = [row("Crate", "Proof and tests", "Measured as", "Must-fail edits"), "|---|--:|---|--:|"]
+    lines = [row("Crate", "Proof, tests and programs", "Must-fail edits", "Their minutes"), "|---|--:|--:|--:|"]
     for crate in tree.names():
-        minutes, edits = noted.get((crate, "proof"), "not yet"), tree.edits(crate)
-        told = f"{edits}, {noted.get((crate, 'edits'), 'not yet')}" if edits else "none"
-        lines.append(row(f"`{crate}`", minutes, noted.get((crate, "as"), ""), told))
+        edits = tree.edits(crate)
+        told = noted.get((crate, "edits"), "not yet") if edits else ""
+        lines.append(row(f"`{crate}`", noted.get((crate, "proof"), "not yet"), edits or "", told))
     return "\n".join(lines)
 
 
