@@ -70,6 +70,6 @@ abbrev pub config_of : ℕ → CoreConfig
 config_of capacity = record { shard = 0; capacity = capacity; last_stamp = LAST_STAMP }
 
 -- an answer whose refusal dropped the value, with the value put back
-abbrev pub giving_back : {T : Type 0} → T → Result Key CoreError → Result Key (CoreError × T)
-giving_back value (Ok k) = Ok k
-giving_back value (Err e) = Err (e, value)
+abbrev pub with_value_back : {T : Type 0} → T → Result Key CoreError → Result Key (CoreError × T)
+with_value_back value (Ok k) = Ok k
+with_value_back value (Err e) = Err (e, value)

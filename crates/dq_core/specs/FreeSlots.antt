@@ -29,9 +29,9 @@ pub record GivesBack (f : FreeIndexes) (i : ℕ) (g : FreeIndexes) : Type 0 wher
   pub room : length g.bits ≡ length f.bits
 
 -- a free index is taken, as if it had not been given back; none comes exactly where none is free
-abbrev pub Takes : FreeIndexes → Option ℕ → FreeIndexes → Type 0
-Takes f None g = ((i : ℕ) → free_times f i ≡ 0) × (g ≡ f)
-Takes f (Some i) g = GivesBack g i f
+abbrev pub TakesFree : FreeIndexes → Option ℕ → FreeIndexes → Type 0
+TakesFree f None g = ((i : ℕ) → free_times f i ≡ 0) × (g ≡ f)
+TakesFree f (Some i) g = GivesBack g i f
 
 -- a bit of the summary is 1 exactly where that word of bits is not 0
 abbrev pub IsSummed : List ℕ → List ℕ → Type 0

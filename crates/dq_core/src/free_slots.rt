@@ -7,7 +7,7 @@
 ghost use Rattle.std.specs.Prelude.{◌≡◌, ◌≢◌, ℕ, ◌+◌, ◌*◌, ◌/◌, ◌%◌, ◌<◌, ◌≤◌, ◌↔◌, length, slice_index, IfOk, MatchOption};
 ghost use Rattle.std.specs.Int.{bit_at};
 ghost use Rattle.dq_wheel.specs.Walks.{bit_of};
-ghost use Rattle.dq_core.specs.FreeSlots.{FreeIndexes, free_times, room_of, GivesBack, Takes, IsSummed};
+ghost use Rattle.dq_core.specs.FreeSlots.{FreeIndexes, free_times, room_of, GivesBack, TakesFree, IsSummed};
 
 use std::alloc::{AllocError, Allocator, Global};
 use std::marker::Model;
@@ -177,7 +177,7 @@ impl<A: Allocator> FreeSlots<A> {
     /// Takes a free index, if there is one.
     #[inline]
     pub fn take(&mut self) -> Option<usize>
-        ensures { Takes self.old result self.new }
+        ensures { TakesFree self.old result self.new }
     {
         if let Some(top) = self.recent.pop() {
             return Some(top as usize);

@@ -2,7 +2,7 @@
 
 ghost use Rattle.std.specs.Prelude.{◌≡◌, IfOk, IfErr, length};
 ghost use Rattle.dq_ticks.specs.declared.TheConstants.{LAST_STAMP};
-ghost use Rattle.dq_core.specs.AtTheCall.{config_of, giving_back};
+ghost use Rattle.dq_core.specs.AtTheCall.{config_of, with_value_back};
 
 use crate::errors::{CoreConfig, CoreError};
 use crate::queue::DelayCore;
@@ -66,7 +66,7 @@ impl<T: Drop, W: Words, A: Allocator> DelayCore<T, W, A> {
     /// TooFar beyond the last tick, and else Full where no slot is free.
     #[inline]
     pub fn insert_or_drop(&mut self, value: T, when: u64) -> Result<Key, CoreError>
-        ensures inserts { Inserts self.old value when (giving_back value result) self.new }
+        ensures inserts { Inserts self.old value when (with_value_back value result) self.new }
         ensures home { W.home self.new.words ≡ W.home self.old.words }
     {
         match self.insert(value, when) {

@@ -15,7 +15,7 @@ use Rattle.dq_core.specs.Sweeps.{Clears}
 use Rattle.dq_replay.specs.declared.session.Lease.{Lease}
 use Rattle.dq_replay.specs.Script.{with_lease, deadline_of}
 use Rattle.dq_replay.specs.Leases.{lease_of, with_lease_if, live_of, vacant, live_entry, key_at, AreKeyed, NameTable, found_in, IsPutIn, one_if}
-use Rattle.dq_replay.specs.LeasesState.{leases_state, AreLeases, IsLiveKey, OfLiveKey, IsSameQueue, IsResetTo, IsExtendedTo, IsEndedLease, IsToldOf, NoneDue, IsGone, IsResting, moved_lease, without_lease, ResetsLease, ExtendsLease, EndsLease, ExpiresLease}
+use Rattle.dq_replay.specs.LeasesState.{leases_state, AreLeases, IsLiveKey, OfLiveKey, IsSameQueue, IsResetTo, IsExtendedTo, IsEndedLease, IsToldOf, NoLeaseDue, IsLeaseOut, IsResting, moved_lease, without_lease, ResetsLease, ExtendsLease, EndsLease, ExpiresLease}
 use Rattle.dq_replay.proofs.Ordered.{length-with_lease}
 use Rattle.dq_replay.proofs.LiveSlots.{put_here, put_there, inside_slots, live_set, live_here}
 use Rattle.dq_replay.proofs.Keyed.{keyed_put}
@@ -228,10 +228,10 @@ rest_tied b c t given now l r = record {
 pub rest_shown : {W : Type 0} (b c : Core (List ℕ) W) (given now : ℕ) → IsResting b now c → ExpiresLease (leases_state b given) now None (leases_state c given)
 rest_shown b c given now r = (
   leases_path c given (record { capacity = length b.slots.rows; tick = now; noted = now; given = given; live = live_of (machine b).table }) r.same.rows r.tick r.noted refl r.kept.live,
-  subst (NoneDue now) r.kept.live r.none_due,
+  subst (NoLeaseDue now) r.kept.live r.none_due,
 )
 
-module _ {W : Type 0} (b c : Core (List ℕ) W) (t : NameTable) (given now : ℕ) (x : Lease) (l : AreLeases b t given) (gone : IsGone b now x c) where
+module _ {W : Type 0} (b c : Core (List ℕ) W) (t : NameTable) (given now : ℕ) (x : Lease) (l : AreLeases b t given) (gone : IsLeaseOut b now x c) where
   gone_keyed : AreKeyed b.shard gone.way.0 (found_in t)
   gone_keyed = gone.way.3.keyed (found_in t) l.keyed
 

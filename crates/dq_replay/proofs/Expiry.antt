@@ -10,7 +10,7 @@ use Rattle.dq_replay.specs.declared.session.Lease.{Lease}
 use Rattle.dq_replay.specs.Script.{comes_before, with_lease}
 use Rattle.dq_replay.specs.Order.{lease_cmp, IsLined}
 use Rattle.dq_replay.specs.Leases.{lease_of, with_lease_if, live_of}
-use Rattle.dq_replay.specs.LeasesState.{LeasesState, NoneDue, ExpiresLease, Ticks}
+use Rattle.dq_replay.specs.LeasesState.{LeasesState, NoLeaseDue, ExpiresLease, Ticks}
 use Rattle.dq_replay.proofs.Ordered.{in_order, with_first, with_later, with_commutes, order-with_lease, in_order-same, filter-in_order, length-with_lease}
 use Rattle.dq_replay.proofs.Sorted.{sorted_is}
 
@@ -72,11 +72,11 @@ none_late : (now : ℕ) (xs : List Lease) → AllByRecursion (λ e. e.deadline �
 none_late now [] a = refl
 none_late now (x ∷ xs) a = rw (le-ltb now x.deadline a.0) (none_late now xs a.1)
 
-all_late : (now : ℕ) (xs : List Lease) → NoneDue now xs → filter (λ e. nat_lt now e.deadline) xs ≡ xs
+all_late : (now : ℕ) (xs : List Lease) → NoLeaseDue now xs → filter (λ e. nat_lt now e.deadline) xs ≡ xs
 all_late now [] h = refl
 all_late now (x ∷ xs) h = elim (cases_lt now x.deadline) [
   | inl late ↦
-      let rest : NoneDue now xs = rw (lt-leb x.deadline now late) at h in
+      let rest : NoLeaseDue now xs = rw (lt-leb x.deadline now late) at h in
       rw (lt-ltb now x.deadline late) (ap (λ ys. x ∷ ys) (all_late now xs rest))
   | inr due ↦
       let some : x ∷ filter (λ e. nat_le e.deadline now) xs ≡ [] = rw (le-leb x.deadline now due) at h in

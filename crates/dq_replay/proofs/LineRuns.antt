@@ -13,7 +13,7 @@ use Rattle.dq_replay.specs.declared.line.LineEnd.TheVariants.{Whole, Unfinished,
 use Rattle.dq_replay.specs.declared.line.TheConstants.{LINE_LIMIT, LAST_LINE}
 use Rattle.dq_replay.specs.Text.{lines_of, tokens_of}
 use Rattle.dq_replay.specs.Lines.{HasNoEnd, IsInLine, TakesLine}
-use Rattle.dq_replay.specs.Script.{State, Outcome, outcome_from, ends_by, command_of, step, line_does, rest_fault}
+use Rattle.dq_replay.specs.Script.{State, Outcome, outcome_from, ended_by, command_of, step, line_does, rest_fault}
 use Rattle.dq_replay.specs.Replay.{Answers, StopsInLine, Ends, LineRan, IsLineFault, IsOutcome}
 use Rattle.dq_replay.proofs.Known.{appends_none}
 use Rattle.dq_replay.proofs.Outcomes.{after_line, faulty_line, last_line, last_answers, unfinished, too_long}
@@ -51,7 +51,7 @@ ran_unread had left held number old new Write line known never = absurd never
 
 -- the line has a fault, whatever follows, and none of it was answered
 pub ends_faulty : (left : Option (List ℕ)) (number : ℕ) (s : State) (kind : FaultKind) (taken : List ℕ)
-    → ((more : List ℕ) → outcome_from number s (lines_of (taken ++ more)) ≡ ends_by number (Some kind)) → Ends {T = Unit {0}} number s left (Err (Script number kind)) taken []
+    → ((more : List ℕ) → outcome_from number s (lines_of (taken ++ more)) ≡ ended_by number (Some kind)) → Ends {T = Unit {0}} number s left (Err (Script number kind)) taken []
 ends_faulty left number s kind taken faulty = record { of_taken = rw (← append-nil taken, faulty []) refl; of_all = all left }
   where
     all : (left : Option (List ℕ)) → IfSome left (λ more. IsOutcome {T = Unit {0}} (Err (Script number kind)) [] (outcome_from number s (lines_of (taken ++ more))))
@@ -122,7 +122,7 @@ ran_on had left held holds number old new line text (in_line, taken) does writte
     (line ++ 10 ∷ [], text, taken, written, answers_line number old new line text in_line.0 does)
 
 -- at the input's end
-at_end : (left : Option (List ℕ)) (number : ℕ) (s : State) (line : List ℕ) (P : Outcome → Type 0) → HasNoEnd line → IsAtEnd left → P (ends_by number (rest_fault number line))
+at_end : (left : Option (List ℕ)) (number : ℕ) (s : State) (line : List ℕ) (P : Outcome → Type 0) → HasNoEnd line → IsAtEnd left → P (ended_by number (rest_fault number line))
     → IfSome left (λ more. P (outcome_from number s (lines_of (line ++ more))))
 at_end None number s line P no_end end holds = tt
 at_end (Some more) number s line P no_end end holds = rw (end, append-nil line, last_line number s line no_end) holds

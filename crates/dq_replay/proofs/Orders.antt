@@ -12,7 +12,7 @@ use Rattle.dq_replay.specs.declared.command.Command.TheVariants.{Insert, Reset, 
 use Rattle.dq_replay.specs.declared.fault.FaultKind.{FaultKind}
 use Rattle.dq_replay.specs.declared.line.TheConstants.{LINE_LIMIT, LAST_LINE}
 use Rattle.dq_replay.specs.Text.{tokens_of}
-use Rattle.dq_replay.specs.Script.{State, Outcome, comes_before, with_lease, has_name, deadline_of, without, moved, insert_in, reset_by, extend_by, cancel_by, remove_by, deadline_by, tick_in, step, header_does, command_does, limit_of, command_of, line_does, outcome_from, after_answer, ends_by}
+use Rattle.dq_replay.specs.Script.{State, Outcome, comes_before, with_lease, has_name, deadline_of, without, moved, insert_in, reset_by, extend_by, cancel_by, remove_by, deadline_by, tick_in, step, header_does, command_does, limit_of, command_of, line_does, outcome_from, after_answer, ended_by}
 use Rattle.dq_replay.proofs.Whole.{after_two}
 use Rattle.dq_replay.specs.Order.{ComesBeforeAll, IsInOrder, HasDistinctNames, IsOrdered, behind_answer, after_lines}
 
@@ -253,7 +253,7 @@ behind_two a (Some done) next all is = ap (after_answer a) is ∙ after_two a do
 outcome_by : (number : ℕ) (text : List ℕ) (does : Result (State × List ℕ) FaultKind) (rest : State → Option (State × List ℕ)) (later next : State → Outcome)
     → ((s : State) → IfSome (rest s) (λ after. later s ≡ after_answer after.1 (next after.0)))
     → IfSome (elim does [ Ok done ↦ behind_answer done.1 (rest done.0) | Err kind ↦ None ])
-    (λ after. elim does [ Ok done ↦ after_answer done.1 (later done.0) | Err kind ↦ ends_by number (Some kind) ] ≡ after_answer after.1 (next after.0))
+    (λ after. elim does [ Ok done ↦ after_answer done.1 (later done.0) | Err kind ↦ ended_by number (Some kind) ] ≡ after_answer after.1 (next after.0))
 outcome_by number text (Ok done) rest later next is = behind_two done.1 (rest done.0) next (later done.0) (is done.0)
 outcome_by number text (Err kind) rest later next is = tt
 

@@ -10,7 +10,7 @@ use Rattle.dq_core.specs.Calls.{SameCore, IsPolled, noting}
 use Rattle.dq_core.specs.declared.outcomes.Turn.TheVariants.{Out, Waiting, Idle}
 use Rattle.dq_core.specs.Sweeps.{Sweeps}
 use Rattle.dq_replay.specs.Leases.{live_of}
-use Rattle.dq_replay.specs.LeasesState.{IsKept, IsRoomy, IsGone, IsResting}
+use Rattle.dq_replay.specs.LeasesState.{KeepsLive, IsRoomy, IsLeaseOut, IsResting}
 use Rattle.dq_replay.proofs.Runs.{kept_same, kept_then, kept_way, kept_sweep, count_live, none_due}
 use Rattle.dq_replay.proofs.KeyCalls.{same_queue}
 
@@ -24,11 +24,11 @@ swept_roomy b c n law same s few =
 
 -- a poll to a tick that isn't before the noted one
 
-noting_kept : {W : Type 0} (b : Core (List ℕ) W) (now : ℕ) → IsKept b.shard (machine b) (machine (noting b now))
+noting_kept : {W : Type 0} (b : Core (List ℕ) W) (now : ℕ) → KeepsLive b.shard (machine b) (machine (noting b now))
 noting_kept b now = kept_same b.shard (machine b) (machine (noting b now)) refl
 
 -- an entry came out
-pub out_gone : {W : Type 0} (b c : Core (List ℕ) W) (now : ℕ) (x : Expired (List ℕ)) → SameCore b c → b.noted ≤ now → IsPolled false b now (Out x) c → IsGone b now (record { name = x.value; deadline = x.deadline }) c
+pub out_gone : {W : Type 0} (b c : Core (List ℕ) W) (now : ℕ) (x : Expired (List ℕ)) → SameCore b c → b.noted ≤ now → IsPolled false b now (Out x) c → IsLeaseOut b now (record { name = x.value; deadline = x.deadline }) c
 out_gone b c now x same later polled =
     let answered = polled.2 in
     let m = answered.run.0 in
@@ -51,13 +51,13 @@ out_gone b c now x same later polled =
       noted = noted;
     }
 
-resting : {W : Type 0} (b c : Core (List ℕ) W) (now : ℕ) (m : Machine (List ℕ)) → SameCore b c → b.noted ≤ now → c.noted ≡ max b.noted now → IsKept b.shard (machine b) m → machine c ≡ m → (machine c).tick ≡ (machine c).noted
+resting : {W : Type 0} (b c : Core (List ℕ) W) (now : ℕ) (m : Machine (List ℕ)) → SameCore b c → b.noted ≤ now → c.noted ≡ max b.noted now → KeepsLive b.shard (machine b) m → machine c ≡ m → (machine c).tick ≡ (machine c).noted
     → due (machine c) (machine c).noted ≡ [] → IsResting b now c
 resting b c now m same later told kept is tick none =
     let noted : c.noted ≡ now = omega (arith, told, later) in
     record {
       same = same_queue b c same;
-      kept = subst (λ z. IsKept b.shard (machine b) z) (sym is) kept;
+      kept = subst (λ z. KeepsLive b.shard (machine b) z) (sym is) kept;
       none_due = none_due now (machine c).table (subst (λ t. due (machine c) t ≡ []) noted none);
       tick = tick ∙ noted;
       noted = noted;

@@ -14,7 +14,7 @@ use Rattle.dq_core.specs.Core.{table_of, entry_of, due_by}
 use Rattle.dq_core.specs.TableRows.{table_row_of}
 use Rattle.dq_replay.specs.declared.session.Lease.{Lease}
 use Rattle.dq_replay.specs.Leases.{lease_by, lease_of, with_lease_if, live_of, vacant, live_entry}
-use Rattle.dq_replay.specs.LeasesState.{IsKept, NoneDue}
+use Rattle.dq_replay.specs.LeasesState.{KeepsLive, NoLeaseDue}
 use Rattle.dq_replay.proofs.Ordered.{filter-with_lease_no, length-with_lease}
 use Rattle.dq_replay.proofs.LiveSlots.{put_here, put_there, live_set, live_here}
 
@@ -33,7 +33,7 @@ length-slots (r ∷ rs) (w ∷ ws) e = ap suc (length-slots rs ws (omega arith))
 
 -- kept
 
-pub kept_same : (shard : ℕ) (m n : Machine (List ℕ)) → n.table ≡ m.table → IsKept shard m n
+pub kept_same : (shard : ℕ) (m n : Machine (List ℕ)) → n.table ≡ m.table → KeepsLive shard m n
 kept_same shard m n slots =
     let at : (i : ℕ) → table_at n i ≡ table_at m i = λ i. ap (λ ss. get_or ss i vacant) slots in
     record {
@@ -47,7 +47,7 @@ kept_same shard m n slots =
       stamps = λ i. ap (λ s. s.stamp) (at i);
     }
 
-pub kept_then : (shard : ℕ) (a b c : Machine (List ℕ)) → IsKept shard a b → IsKept shard b c → IsKept shard a c
+pub kept_then : (shard : ℕ) (a b c : Machine (List ℕ)) → KeepsLive shard a b → KeepsLive shard b c → KeepsLive shard a c
 kept_then shard a b c p q = record {
   live = q.live ∙ p.live;
   keyed = λ keys tied. q.keyed keys (p.keyed keys tied);
@@ -64,7 +64,7 @@ lease_none : (e : Entry (List ℕ)) → e.due ≡ None → lease_of (Some e) ≡
 lease_none e h = ap (lease_by e.value) h
 
 -- a cancelled entry is reaped
-pub kept_reap : (shard : ℕ) (m : Machine (List ℕ)) (i : ℕ) (e : Entry (List ℕ)) → Has m i e → e.due ≡ None → IsKept shard m (put m i (table_at m i).stamp None)
+pub kept_reap : (shard : ℕ) (m : Machine (List ℕ)) (i : ℕ) (e : Entry (List ℕ)) → Has m i e → e.due ≡ None → KeepsLive shard m (put m i (table_at m i).stamp None)
 kept_reap shard m i e has none =
     let n : Machine (List ℕ) = put m i (table_at m i).stamp None in
     let here : table_at n i ≡ record { stamp = (table_at m i).stamp; entry = None } = put_here m i (table_at m i).stamp None has.0 in
@@ -95,7 +95,7 @@ kept_reap shard m i e has none =
     none_entry x q = cc
 
 -- one event on the way of a poll
-kept_on_the_way : (shard last : ℕ) (m n : Machine (List ℕ)) (e : Event (List ℕ)) → IsOnTheWay false e → Step last m e n → IsKept shard m n
+kept_on_the_way : (shard last : ℕ) (m n : Machine (List ℕ)) (e : Event (List ℕ)) → IsOnTheWay false e → Step last m e n → KeepsLive shard m n
 kept_on_the_way shard last m n (Note t) h s = absurd h
 kept_on_the_way shard last m n (Pass t) h s = kept_same shard m n (ap (λ x. x.table) s.3)
 kept_on_the_way shard last m n (Insert i v w) h s = absurd h
@@ -103,18 +103,18 @@ kept_on_the_way shard last m n (Reset i b w) h s = absurd h
 kept_on_the_way shard last m n (Extend i b w) h s = cc
 kept_on_the_way shard last m n (Cancel i b) h s = cc
 kept_on_the_way shard last m n (Remove i b) h s = absurd h
-kept_on_the_way shard last m n (Reap i b) h (x, has, born, none, is) = subst (λ z. IsKept shard m z) (sym is) (kept_reap shard m i x has none)
+kept_on_the_way shard last m n (Reap i b) h (x, has, born, none, is) = subst (λ z. KeepsLive shard m z) (sym is) (kept_reap shard m i x has none)
 kept_on_the_way shard last m n (Expire i b at) h s = absurd h
 
-kept_run : (shard last : ℕ) (m n : Machine (List ℕ)) (es : List (Event (List ℕ))) → AllByRecursion (IsOnTheWay false) es → Run last m es n → IsKept shard m n
-kept_run shard last m n [] a r = subst (λ z. IsKept shard m z) (sym r) (kept_same shard m m refl)
+kept_run : (shard last : ℕ) (m n : Machine (List ℕ)) (es : List (Event (List ℕ))) → AllByRecursion (IsOnTheWay false) es → Run last m es n → KeepsLive shard m n
+kept_run shard last m n [] a r = subst (λ z. KeepsLive shard m z) (sym r) (kept_same shard m m refl)
 kept_run shard last m n (e ∷ es) a (k, step, rest) = kept_then shard m k n (kept_on_the_way shard last m k e a.0 step) (kept_run shard last k n es a.1 rest)
 
-pub kept_way : (shard last : ℕ) (m n : Machine (List ℕ)) → RunOf (IsOnTheWay false) last m n → IsKept shard m n
+pub kept_way : (shard last : ℕ) (m n : Machine (List ℕ)) → RunOf (IsOnTheWay false) last m n → KeepsLive shard m n
 kept_way shard last m n r = kept_run shard last m n r.0 r.1 r.2
 
 -- a sweep passes to no other tick
-swept_event : (shard last : ℕ) (m n : Machine (List ℕ)) (e : Event (List ℕ)) → IsReaping false e → Step last m e n → IsKept shard m n × (n.tick ≡ m.tick)
+swept_event : (shard last : ℕ) (m n : Machine (List ℕ)) (e : Event (List ℕ)) → IsReaping false e → Step last m e n → KeepsLive shard m n × (n.tick ≡ m.tick)
 swept_event shard last m n (Note t) h s = absurd h
 swept_event shard last m n (Pass t) h s = absurd h
 swept_event shard last m n (Insert i v w) h s = absurd h
@@ -122,17 +122,17 @@ swept_event shard last m n (Reset i b w) h s = absurd h
 swept_event shard last m n (Extend i b w) h s = cc
 swept_event shard last m n (Cancel i b) h s = cc
 swept_event shard last m n (Remove i b) h s = absurd h
-swept_event shard last m n (Reap i b) h (x, has, born, none, is) = (subst (λ z. IsKept shard m z) (sym is) (kept_reap shard m i x has none), ap (λ z. z.tick) is)
+swept_event shard last m n (Reap i b) h (x, has, born, none, is) = (subst (λ z. KeepsLive shard m z) (sym is) (kept_reap shard m i x has none), ap (λ z. z.tick) is)
 swept_event shard last m n (Expire i b at) h s = absurd h
 
-swept_run : (shard last : ℕ) (m n : Machine (List ℕ)) (es : List (Event (List ℕ))) → AllByRecursion (IsReaping false) es → Run last m es n → IsKept shard m n × (n.tick ≡ m.tick)
-swept_run shard last m n [] a r = (subst (λ z. IsKept shard m z) (sym r) (kept_same shard m m refl), ap (λ z. z.tick) r)
+swept_run : (shard last : ℕ) (m n : Machine (List ℕ)) (es : List (Event (List ℕ))) → AllByRecursion (IsReaping false) es → Run last m es n → KeepsLive shard m n × (n.tick ≡ m.tick)
+swept_run shard last m n [] a r = (subst (λ z. KeepsLive shard m z) (sym r) (kept_same shard m m refl), ap (λ z. z.tick) r)
 swept_run shard last m n (e ∷ es) a (k, step, rest) =
     let one = swept_event shard last m k e a.0 step in
     let more = swept_run shard last k n es a.1 rest in
     (kept_then shard m k n one.0 more.0, more.1 ∙ one.1)
 
-pub kept_sweep : (shard last : ℕ) (m n : Machine (List ℕ)) → RunOf (IsReaping false) last m n → IsKept shard m n × (n.tick ≡ m.tick)
+pub kept_sweep : (shard last : ℕ) (m n : Machine (List ℕ)) → RunOf (IsReaping false) last m n → KeepsLive shard m n × (n.tick ≡ m.tick)
 kept_sweep shard last m n r = swept_run shard last m n r.0 r.1 r.2
 
 -- no caller's step comes between
@@ -194,12 +194,12 @@ not_due_lease now (Some e) live h = by e.due refl
         let late : nat_le d now ≡ false = sym (ap (is_due_by now) is) ∙ h in
         rw is (filter-with_lease_no (λ x. nat_le x.deadline now) (record { name = e.value; deadline = d }) live late)
 
-pub none_due : (now : ℕ) (ss : List (TableRow (List ℕ))) → filter (λ s. is_due_entry now s.entry) ss ≡ [] → NoneDue now (live_of ss)
+pub none_due : (now : ℕ) (ss : List (TableRow (List ℕ))) → filter (λ s. is_due_entry now s.entry) ss ≡ [] → NoLeaseDue now (live_of ss)
 none_due now [] h = refl
 none_due now (s ∷ ss) h = by (is_due_entry now s.entry) refl h (none_due now ss)
   where
     by : (t : Bool) → is_due_entry now s.entry ≡ t → cond t (s ∷ filter (λ x. is_due_entry now x.entry) ss) (filter (λ x. is_due_entry now x.entry) ss) ≡ []
-        → (filter (λ x. is_due_entry now x.entry) ss ≡ [] → NoneDue now (live_of ss)) → NoneDue now (live_of (s ∷ ss))
+        → (filter (λ x. is_due_entry now x.entry) ss ≡ [] → NoLeaseDue now (live_of ss)) → NoLeaseDue now (live_of (s ∷ ss))
     by true is e f = absurd (cons_nil s (filter (λ x. is_due_entry now x.entry) ss) e)
       where
         cons_nil : {A : Type 0} (x : A) (xs : List A) → ◌≡◌ {A = List A} (x ∷ xs) [] → ⊥

@@ -110,7 +110,7 @@ abbrev pub IsToldOf : {W : Type 0} → Core (List ℕ) W → KeyName → ℕ →
 IsToldOf b k result c name d = (result ≡ d) × (machine c ≡ machine b) × IsSameQueue b c
 
 -- a machine with the same live names, tied to the same keys, and the same stamps
-pub record IsKept (shard : ℕ) (m n : Machine (List ℕ)) : Type 0 where
+pub record KeepsLive (shard : ℕ) (m n : Machine (List ℕ)) : Type 0 where
   pub live : live_of n.table ≡ live_of m.table
   pub keyed : (keys : List ℕ → Option KeyName) → AreKeyed shard m keys → AreKeyed shard n keys
   pub stamps : (i : ℕ) → (table_at n i).stamp ≡ (table_at m i).stamp
@@ -118,20 +118,20 @@ pub record IsKept (shard : ℕ) (m n : Machine (List ℕ)) : Type 0 where
 -- room was made, and the live names are kept
 pub record IsRoomy {W : Type 0} (b c : Core (List ℕ) W) : Type 0 where
   pub same : IsSameQueue b c
-  pub kept : IsKept b.shard (machine b) (machine c)
+  pub kept : KeepsLive b.shard (machine b) (machine c)
   pub tick : c.wheel.filing.tick ≡ b.wheel.filing.tick
   pub noted : c.noted ≡ b.noted
   pub room : count_by is_held c.slots.rows < length c.slots.rows
 
 -- none of the names is due
-abbrev pub NoneDue : ℕ → List Lease → Type 0
-NoneDue now live = filter (λ e. nat_le e.deadline now) live ≡ []
+abbrev pub NoLeaseDue : ℕ → List Lease → Type 0
+NoLeaseDue now live = filter (λ e. nat_le e.deadline now) live ≡ []
 
 -- a live name left the queue, whose deadline in force is at most `now`
-pub record IsGone {W : Type 0} (b : Core (List ℕ) W) (now : ℕ) (x : Lease) (c : Core (List ℕ) W)
+pub record IsLeaseOut {W : Type 0} (b : Core (List ℕ) W) (now : ℕ) (x : Lease) (c : Core (List ℕ) W)
     : Type 0 where
   pub same : IsSameQueue b c
-  pub way : (m : Machine (List ℕ)) × (i : ℕ) × (born : ℕ) × IsKept b.shard (machine b) m
+  pub way : (m : Machine (List ℕ)) × (i : ℕ) × (born : ℕ) × KeepsLive b.shard (machine b) m
       × ((table_at m i).entry ≡ Some (live_entry born x.name x.deadline))
       × (machine c ≡ put m i (table_at m i).stamp None)
   pub due : x.deadline ≤ now
@@ -141,15 +141,15 @@ pub record IsGone {W : Type 0} (b : Core (List ℕ) W) (now : ℕ) (x : Lease) (
 pub record IsResting {W : Type 0} (b : Core (List ℕ) W) (now : ℕ) (c : Core (List ℕ) W)
     : Type 0 where
   pub same : IsSameQueue b c
-  pub kept : IsKept b.shard (machine b) (machine c)
-  pub none_due : NoneDue now (live_of (machine c).table)
+  pub kept : KeepsLive b.shard (machine b) (machine c)
+  pub none_due : NoLeaseDue now (live_of (machine c).table)
   pub tick : c.wheel.filing.tick ≡ now
   pub noted : c.noted ≡ now
 
 -- one poll
 abbrev pub IsPolledTo : {W : Type 0} → Core (List ℕ) W → ℕ → Option Lease → Core (List ℕ) W → Type 0
 IsPolledTo b now None c = IsResting b now c
-IsPolledTo b now (Some x) c = IsGone b now x c
+IsPolledTo b now (Some x) c = IsLeaseOut b now x c
 
 -- what the calls do to the leases
 
@@ -197,7 +197,7 @@ EndsLease b name (Some d) c = (deadline_of name b.live ≡ Some d) × (c ≡ wit
 
 -- one live name that is due leaves, or none is left that is
 abbrev pub ExpiresLease : LeasesState → ℕ → Option Lease → LeasesState → Type 0
-ExpiresLease b now None c = (c ≡ record b { tick = now; noted = now }) × NoneDue now b.live
+ExpiresLease b now None c = (c ≡ record b { tick = now; noted = now }) × NoLeaseDue now b.live
 ExpiresLease b now (Some x) c =
     (b.live ≡ with_lease x c.live) × (x.deadline ≤ now) × (c.noted ≡ now)
     × (c.capacity ≡ b.capacity) × (c.given ≡ b.given)

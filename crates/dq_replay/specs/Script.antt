@@ -273,20 +273,20 @@ pub record Outcome : Type 0 where
   pub answers : List ℕ
   pub fault : Option (ℕ × FaultKind)
 
-abbrev pub ends_by : ℕ → Option FaultKind → Outcome
-ends_by number None = record { answers = []; fault = None }
-ends_by number (Some kind) = record { answers = []; fault = Some (number, kind) }
+abbrev pub ended_by : ℕ → Option FaultKind → Outcome
+ended_by number None = record { answers = []; fault = None }
+ended_by number (Some kind) = record { answers = []; fault = Some (number, kind) }
 
 abbrev pub after_answer : List ℕ → Outcome → Outcome
 after_answer answer outcome = record { answers = answer ++ outcome.answers; fault = outcome.fault }
 
 -- the outcome from a line on: its number, the state before it, and the lines from there on
 unfoldable pub outcome_from : ℕ → State → List (List ℕ) → Outcome
-outcome_from number s [] = ends_by number None
-outcome_from number s (rest ∷ []) = ends_by number (rest_fault number rest)
+outcome_from number s [] = ended_by number None
+outcome_from number s (rest ∷ []) = ended_by number (rest_fault number rest)
 outcome_from number s (text ∷ next ∷ more) = elim (line_does number s text) [
   | Ok done ↦ after_answer done.1 (outcome_from (number + 1) done.0 (next ∷ more))
-  | Err kind ↦ ends_by number (Some kind)
+  | Err kind ↦ ended_by number (Some kind)
 ]
 
 -- the outcome of a script

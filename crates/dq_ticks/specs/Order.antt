@@ -37,24 +37,24 @@ abbrev pub WordsAreOrdered : Type 0
 WordsAreOrdered = (p q : Parts) → IsInRange p → IsInRange q → (packed p < packed q) ↔ IsBefore p q
 
 -- a live word of that stamp and field
-abbrev pub live : ℕ → ℕ → Parts
-live s d = record { stamp = s; mark = LiveMark; field = d }
+abbrev pub live_word : ℕ → ℕ → Parts
+live_word s d = record { stamp = s; mark = LiveMark; field = d }
 
 -- a cancelled word of that stamp
-abbrev pub cancelled : ℕ → Parts
-cancelled s = record { stamp = s; mark = CancelledMark; field = 0 }
+abbrev pub cancelled_word : ℕ → Parts
+cancelled_word s = record { stamp = s; mark = CancelledMark; field = 0 }
 
 -- an extend of a live word of its stamp gives the greater deadline
 abbrev pub ExtendsRaise : Type 0
 ExtendsRaise =
     (s d when : ℕ) →
-    max (packed (live s d)) (packed (live s when)) ≡ packed (live s (max d when))
+    max (packed (live_word s d)) (packed (live_word s when)) ≡ packed (live_word s (max d when))
 
 -- a cancel of a live word of its stamp gives the cancelled word
 abbrev pub CancelsEnd : Type 0
 CancelsEnd =
-    (s d : ℕ) → IsInRange (live s d) →
-    max (packed (live s d)) (packed (cancelled s)) ≡ packed (cancelled s)
+    (s d : ℕ) → IsInRange (live_word s d) →
+    max (packed (live_word s d)) (packed (cancelled_word s)) ≡ packed (cancelled_word s)
 
 -- a word that is past another stays
 abbrev pub PastWordsStay : Type 0

@@ -2,13 +2,13 @@
 
 use Rattle.std.proofs.Common.{◌≡◌, ℕ, ◌<◌, length, get_or, refl, None, Some}
 use Rattle.std.proofs.lemmas.List.{get_or-set_same, get_or-set_other}
-use Rattle.dq_wheel.specs.State.{Filing, filed_at, linked, unlinked, OthersStay}
+use Rattle.dq_wheel.specs.State.{Filing, filed_at, linked, unlinked, OthersStayFiled}
 
 -- what a filing says where index i was filed at f
 pub record HasLinked (old new : Filing) (i f : ℕ) : Type 0 where
   pub filed : filed_at new.filed i ≡ Some f
   pub unmoved : get_or new.moves i 0 ≡ 0
-  pub others : OthersStay old.filed new.filed i
+  pub others : OthersStayFiled old.filed new.filed i
   pub tick : new.tick ≡ old.tick
 
 pub has_linked : (old new : Filing) (i f : ℕ) → i < length old.filed → i < length old.moves → new ≡ linked old i f → HasLinked old new i f
@@ -23,7 +23,7 @@ has_linked old new i f i_in i_moved is =
 -- what a filing says where index i was unlinked
 pub record HasUnlinked (old new : Filing) (i : ℕ) : Type 0 where
   pub loose : filed_at new.filed i ≡ None
-  pub others : OthersStay old.filed new.filed i
+  pub others : OthersStayFiled old.filed new.filed i
   pub tick : new.tick ≡ old.tick
 
 pub has_unlinked : (old new : Filing) (i : ℕ) → i < length old.filed → new ≡ unlinked old i → HasUnlinked old new i

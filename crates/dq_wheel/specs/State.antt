@@ -42,8 +42,8 @@ unlinked w i =
     record w { filed = slice_set w.filed i None; moves = slice_set w.moves i 0 }
 
 -- each index but i is filed as before
-abbrev pub OthersStay : List (Option ℕ) → List (Option ℕ) → ℕ → Type 0
-OthersStay old new i = (j : ℕ) → j ≢ i → filed_at new j ≡ filed_at old j
+abbrev pub OthersStayFiled : List (Option ℕ) → List (Option ℕ) → ℕ → Type 0
+OthersStayFiled old new i = (j : ℕ) → j ≢ i → filed_at new j ≡ filed_at old j
 
 -- no index is filed
 abbrev pub NoneFiled : List (Option ℕ) → Type 0

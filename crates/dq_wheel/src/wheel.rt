@@ -2,7 +2,7 @@
 
 ghost use Rattle.std.specs.Prelude.{◌≡◌, ◌≢◌, ◌⊎◌, ℕ, ◌+◌, ◌<◌, ◌≤◌, ◌↔◌, length, slice_index, IfNone, IfSome, MatchBool, MatchOption, MatchResult};
 ghost use Rattle.std.specs.Int.{bit_at};
-ghost use Rattle.dq_wheel.specs.State.{filed_at, fresh_filing, linked, unlinked, IsLeast, NoneFiled, NoneFiledAt, NoneFiledBefore, OthersStay};
+ghost use Rattle.dq_wheel.specs.State.{filed_at, fresh_filing, linked, unlinked, IsLeast, NoneFiled, NoneFiledAt, NoneFiledBefore, OthersStayFiled};
 ghost use Rattle.dq_wheel.specs.Places.{place_for, IsSlotFilled};
 ghost use Rattle.dq_wheel.specs.Moves.{ReachesLimit, ReachesWake};
 ghost use Rattle.dq_wheel.specs.Wakes.{IsNextWake, IsWithin, WakesAreAhead};
@@ -262,7 +262,7 @@ impl<A: Allocator> Wheel<A> {
         // The index is filed at just that tick, and nothing else changes.
         ensures filed { filed_at self.new.filing.filed index ≡ Some filed }
         ensures unmoved { slice_index self.new.filing.moves index ≡ 0 }
-        ensures others { OthersStay self.old.filing.filed self.new.filing.filed index }
+        ensures others { OthersStayFiled self.old.filing.filed self.new.filing.filed index }
         ensures tick { self.new.filing.tick ≡ self.old.filing.tick }
         ensures exact { self.new.filing ≡ linked self.old.filing index filed }
     {
@@ -277,7 +277,7 @@ impl<A: Allocator> Wheel<A> {
         requires linked { filed_at self.old.filing.filed index ≢ None }
         // The index is loose, and nothing else changes.
         ensures loose { filed_at self.new.filing.filed index ≡ None }
-        ensures others { OthersStay self.old.filing.filed self.new.filing.filed index }
+        ensures others { OthersStayFiled self.old.filing.filed self.new.filing.filed index }
         ensures tick { self.new.filing.tick ≡ self.old.filing.tick }
         ensures exact { self.new.filing ≡ unlinked self.old.filing index }
     {
@@ -294,7 +294,7 @@ impl<A: Allocator> Wheel<A> {
         ensures loose { IfSome result (λ i. filed_at self.new.filing.filed i ≡ None) }
         // Nothing else changes, and nothing is left out.
         ensures others { IfSome result (λ i.
-            OthersStay self.old.filing.filed self.new.filing.filed i) }
+            OthersStayFiled self.old.filing.filed self.new.filing.filed i) }
         ensures none { IfNone result
             (NoneFiledAt self.old.filing.filed self.old.filing.tick) }
         ensures tick { self.new.filing.tick ≡ self.old.filing.tick }
