@@ -1,0 +1,148 @@
+//! What a crowd's threads are told of the stamps of a queue's slots, and what they count.
+
+use dq_shards::QueueConfig;
+use dq_ticks::{EntryId, Key};
+use std::alloc::{AllocError, Global};
+
+const SHARDS: usize = 4;
+
+const CAPACITY: usize = 64;
+
+/// Slots wear out while the crowd is at work.
+const LAST: u32 = 1000;
+
+/// The slots of all shards.
+pub const SLOTS: usize = SHARDS * CAPACITY;
+
+pub fn config() -> QueueConfig {
+    QueueConfig {
+        shards: SHARDS,
+        capacity: CAPACITY,
+        last_stamp: LAST,
+    }
+}
+
+/// The key of a slot's stamp, by the slot's place among those of all shards. Calls by key don't look at the birth stamp.
+pub fn key_at(place: usize, stamp: u32) -> Key {
+    let (shard, index) = (place / CAPACITY % SHARDS, place % CAPACITY);
+    Key::new(EntryId::new(shard as u32, index as u32, 1), stamp)
+}
+
+/// Where a key's stamp stands in a record.
+fn place_of(key: &Key) -> usize {
+    let entry = key.entry();
+    let slot = (entry.shard() as usize)
+        .saturating_mul(CAPACITY)
+        .saturating_add(entry.index() as usize);
+    slot.saturating_mul(LAST as usize + 1)
+        .saturating_add(key.stamp() as usize)
+}
+
+/// What is told of one stamp of one slot.
+#[derive(Clone, Copy, Default, Debug, PartialEq, Eq)]
+pub struct Fate {
+    /// The greatest deadline that a call was promised.
+    promised: u64,
+    /// The deadline at which it ended.
+    ended: u64,
+    /// How often it ended: by a poll, a remove or a cancel.
+    ends: u64,
+}
+
+impl Fate {
+    /// It ended at most once, and not before what was promised.
+    fn is_kept(&self) -> bool {
+        self.ends == 0 || (self.ends == 1 && self.promised <= self.ended)
+    }
+}
+
+/// The fate of each stamp of each slot.
+#[derive(Drop)]
+pub struct Fates {
+    fates: Vec<Fate>,
+}
+
+impl Fates {
+    pub fn new(alloc: Global) -> Result<Fates, AllocError> {
+        Ok(Fates {
+            fates: vec![in alloc; Fate::default(); SLOTS * (LAST as usize + 1)]?,
+        })
+    }
+
+    /// A call answered that the key's entry is live until a deadline, or until a later one.
+    pub fn promise(&mut self, key: &Key, deadline: u64) {
+        if let Some(fate) = self.fates.get_mut(place_of(key)) {
+            fate.promised = fate.promised.max(deadline);
+        }
+    }
+
+    /// A call answered that the key's entry ended at a deadline.
+    pub fn end(&mut self, key: &Key, deadline: u64) {
+        if let Some(fate) = self.fates.get_mut(place_of(key)) {
+            fate.ended = deadline;
+            fate.ends = fate.ends.saturating_add(1);
+        }
+    }
+
+    /// Adds what another thread was told.
+    pub fn add(&mut self, other: &Fates) {
+        for (fate, theirs) in self.fates.iter_mut().zip(other.fates.iter()) {
+            fate.promised = fate.promised.max(theirs.promised);
+            fate.ended = fate.ended.max(theirs.ended);
+            fate.ends = fate.ends.saturating_add(theirs.ends);
+        }
+    }
+
+    /// No stamp ended twice, or before what was promised of it.
+    pub fn are_kept(&self) -> bool {
+        self.fates.iter().all(|fate| fate.is_kept())
+    }
+}
+
+/// How many calls of a thread were accepted.
+#[derive(Clone, Copy, Default, Debug, PartialEq, Eq)]
+pub struct Counts {
+    pub inserted: u64,
+    pub expired: u64,
+    pub removed: u64,
+    pub cancelled: u64,
+    /// Extends.
+    pub extended: u64,
+    /// Answers that no state of the queue explains.
+    pub odd: u64,
+}
+
+impl Counts {
+    pub fn add(&mut self, other: &Counts) {
+        self.inserted = self.inserted.saturating_add(other.inserted);
+        self.expired = self.expired.saturating_add(other.expired);
+        self.removed = self.removed.saturating_add(other.removed);
+        self.cancelled = self.cancelled.saturating_add(other.cancelled);
+        self.extended = self.extended.saturating_add(other.extended);
+        self.odd = self.odd.saturating_add(other.odd);
+    }
+}
+
+/// Adds one.
+pub fn count(counted: &mut u64) {
+    *counted = counted.saturating_add(1);
+}
+
+/// A generator of Knuth's, "The Art of Computer Programming", volume 2: each thread has its own seed.
+#[derive(Drop)]
+pub struct Draw {
+    state: u64,
+}
+
+impl Draw {
+    pub fn new(seed: u64) -> Draw {
+        Draw { state: seed }
+    }
+
+    /// A number below the bound; 0 where there is none.
+    pub fn below(&mut self, bound: u64) -> u64 {
+        let next = self.state.wrapping_mul(6364136223846793005);
+        self.state = next.wrapping_add(1442695040888963407);
+        (self.state >> 33).checked_rem(bound).unwrap_or(0)
+    }
+}

@@ -1,0 +1,77 @@
+//! Queues of numbers, and how the threads of a race wait for one another.
+
+use dq_shards::{QueueConfig, QueueError, SharedDelayQueue};
+use dq_ticks::Key;
+use std::alloc::Global;
+use std::hint::spin_loop;
+use std::sync::Wait;
+use std::sync::atomic::AtomicU64;
+use std::sync::atomic::Ordering::SeqCst;
+use std::test::Fail;
+
+/// How often a loop turns before it gives up.
+pub const TURNS: u64 = 100_000_000;
+
+/// The entries of a race.
+pub const ENTRIES: usize = 200;
+
+pub type Numbers = SharedDelayQueue<usize>;
+
+/// One shard and four shards, with room for 256 entries in all.
+pub fn one_and_four() -> [QueueConfig; 2] {
+    [QueueConfig::of(1, 256), QueueConfig::of(4, 64)]
+}
+
+/// Puts an entry in at each deadline from 1 to 200, which is its route and its value too. Their keys, in that order.
+pub fn fill(rt: &impl Wait, alloc: Global, queue: &Numbers) -> Result<Vec<Key>, Fail> {
+    let mut keys = Vec::with_capacity(alloc, ENTRIES)?;
+    for deadline in 1..=ENTRIES {
+        match queue.insert(rt, deadline as u64, deadline, deadline as u64) {
+            Ok(key) => keys.push(key)?,
+            Err((error, _)) => return Err(error.into()),
+        }
+    }
+    Ok(keys)
+}
+
+/// The key of a new entry of a shard.
+pub fn insert(rt: &impl Wait, queue: &Numbers, shard: usize, when: u64) -> Result<Key, QueueError> {
+    let inserted = queue.insert(rt, shard as u64, shard, when);
+    inserted.map_err(|refused| refused.0)
+}
+
+/// A place that threads come to, each once.
+#[derive(Drop)]
+pub struct Gate {
+    here: AtomicU64,
+}
+
+impl Gate {
+    pub fn new() -> Gate {
+        Gate {
+            here: AtomicU64::new(0),
+        }
+    }
+
+    /// One thread more is here.
+    pub fn come(&self) {
+        self.here.fetch_add(1, SeqCst);
+    }
+
+    /// Waits until so many threads have come. False where it gives up.
+    pub fn opens_at(&self, threads: u64) -> bool {
+        for _ in 0..TURNS {
+            if self.here.load(SeqCst) >= threads {
+                return true;
+            }
+            spin_loop();
+        }
+        false
+    }
+
+    /// Comes, and waits until so many threads have. False where it gives up.
+    pub fn pass(&self, threads: u64) -> bool {
+        self.come();
+        self.opens_at(threads)
+    }
+}
