@@ -36,7 +36,7 @@ fn all_came<R: Wait + RandomSource + AllocGlobal>(
     let Ok(Ok(items)) = block_on(rt, stream.collect(rt.alloc())) else {
         return false;
     };
-    let mut came = 0;
+    let mut came: u64 = 0;
     for item in items {
         let Ok(expired) = item else {
             return false;
@@ -44,7 +44,7 @@ fn all_came<R: Wait + RandomSource + AllocGlobal>(
         if expired.value != came || expired.deadline > expired.noted {
             return false;
         }
-        came += 1;
+        came = came.saturating_add(1);
     }
     came == ENTRIES
 }
@@ -67,11 +67,7 @@ fn woken_from_another_thread(rt: HostRuntime) -> Result<(), Fail> {
     }
     let tick = AtomicU64::new(0);
     let (rt, queue, tick) = (&rt, &queue, &tick);
-    let (came, ()) = join(
-        rt,
-        || all_came(rt, queue, tick),
-        || go_on(rt, queue, tick),
-    );
+    let (came, ()) = join(rt, || all_came(rt, queue, tick), || go_on(rt, queue, tick));
     assert!(rt; came);
     Ok(())
 }
