@@ -6,7 +6,7 @@ use dq_ticks::Key;
 use futures::StreamExt;
 use futures::task::Poll;
 use futures::test::MockTask;
-use std::alloc::{AllocGlobal, Global};
+use std::alloc::{AllocGlobal, Allocator, Global};
 use std::cell::Cell;
 use std::random::RandomSource;
 use std::sync::Wait;
@@ -107,7 +107,10 @@ impl Task {
     }
 
     /// Polls a stream once.
-    pub fn poll<S: TickSource, R: Wait>(&self, stream: &mut ExpiredStream<'_, char, S, R>) -> Seen {
+    pub fn poll<S: TickSource, R: Wait, A: Allocator>(
+        &self,
+        stream: &mut ExpiredStream<'_, char, S, R, A>,
+    ) -> Seen {
         match self.mock.poll(&mut stream.next()) {
             Poll::Pending => Seen::Waits,
             Poll::Ready(None) => Seen::Ends,

@@ -82,3 +82,25 @@ fn out_leaves_nothing_parked(rt: HostRuntime) -> Result<(), Fail> {
     assert_eq!(rt; queue.parked(&rt, 0)?, Some(30));
     Ok(())
 }
+
+#[test]
+fn each_shard_wakes_its_own_task(rt: HostRuntime) -> Result<(), Fail> {
+    let queue = letters(rt.alloc(), 2)?;
+    let (first, second) = (Task::new(&rt)?, Task::new(&rt)?);
+    let tick = Cell::new(0);
+    fill(&rt, &queue, 0, &[('v', 10)])?;
+    fill(&rt, &queue, 1, &[('w', 20)])?;
+    let mut of_first = stream_of(&rt, &queue, 0, TickOf(&tick))?;
+    let mut of_second = stream_of(&rt, &queue, 1, TickOf(&tick))?;
+    assert_eq!(rt; first.poll(&mut of_first), Seen::Waits);
+    assert_eq!(rt; second.poll(&mut of_second), Seen::Waits);
+    assert_eq!(rt;
+        (queue.parked(&rt, 0)?, queue.parked(&rt, 1)?),
+        (Some(10), Some(20))
+    );
+    fill(&rt, &queue, 1, &[('x', 5)])?;
+    assert_eq!(rt; (first.was_woken(), second.was_woken()), (false, true));
+    queue.ring(&rt, 0, 10)?;
+    assert_eq!(rt; (first.was_woken(), second.was_woken()), (true, false));
+    Ok(())
+}
