@@ -2,6 +2,7 @@ pub mod CacheReads
 pub mod CacheSteps
 pub mod Firsts
 pub mod Leasts
+pub mod Logins
 pub mod PutSteps
 pub mod SeenCounts
 pub mod SeenPairs

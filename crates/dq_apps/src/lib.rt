@@ -1,13 +1,17 @@
-//! What servers build on the delay queue: an expiring cache.
+//! What servers build on the delay queue: an expiring cache, and sessions that end when they were idle.
 #![tactic(auto)]
 
 pub mod cache;
 mod calls;
 mod kept;
+pub mod name;
 pub mod seen;
+pub mod sessions;
 mod steps;
 mod stock;
 mod timers;
 
 pub use cache::TtlCache;
+pub use name::Name;
 pub use seen::Seen;
+pub use sessions::IdleSessions;
