@@ -1,0 +1,82 @@
+-- The code and the numbers of each answer.
+use Rattle.std.specs.Prelude.{ℕ}
+use Rattle.dq_core.specs.declared.errors.CoreError.{CoreError}
+use Rattle.dq_core.specs.declared.errors.CoreError.TheVariants.{TooFar, Full, Missing, WasCancelled}
+use Rattle.dq_core.specs.declared.errors.CoreError.TheVariants.{Worn, TickTooLarge, BadConfig}
+use Rattle.dq_core.specs.declared.errors.CoreError.TheVariants.{NoMemory}
+use Rattle.dq_core.specs.declared.words.CallError.{CallError}
+use Rattle.dq_core.specs.declared.words.CallError.TheVariants.{TooFar as TooFarOff, Unknown, Stale}
+use Rattle.dq_core.specs.declared.words.CallError.TheVariants.{Ended}
+use Rattle.dq_core.specs.declared.words.Look.{Look}
+use Rattle.dq_core.specs.declared.words.Look.TheVariants.{StillLive, LookCancelled, LookExpired}
+use Rattle.dq_core.specs.declared.words.Look.TheVariants.{LookRemoved}
+use Rattle.dq_words.specs.declared.keeper.WordsError.{WordsError}
+use Rattle.dq_words.specs.declared.keeper.WordsError.TheVariants.{BadConfig as NoSize}
+use Rattle.dq_words.specs.declared.keeper.WordsError.TheVariants.{NoMemory as NoRoom}
+use Rattle.dq_words.specs.declared.keeper.WordsError.TheVariants.{TooManyHandles}
+use Rattle.dq_c.specs.declared.answers.DqAnswer.{DqAnswer}
+use Rattle.dq_c.specs.declared.answers.TheConstants.{DQ_OK, DQ_EMPTY, DQ_HELD, DQ_TOO_FAR, DQ_FULL}
+use Rattle.dq_c.specs.declared.answers.TheConstants.{DQ_MISSING, DQ_WAS_CANCELLED, DQ_WORN}
+use Rattle.dq_c.specs.declared.answers.TheConstants.{DQ_TICK_TOO_LARGE, DQ_BAD_CONFIG, DQ_NO_MEMORY}
+use Rattle.dq_c.specs.declared.answers.TheConstants.{DQ_UNKNOWN, DQ_STALE, DQ_ENDED}
+use Rattle.dq_c.specs.declared.answers.TheConstants.{DQ_TOO_MANY_CALLERS, DQ_LIVE, DQ_CANCELLED}
+use Rattle.dq_c.specs.declared.answers.TheConstants.{DQ_EXPIRED, DQ_REMOVED}
+
+-- a code with its two numbers
+abbrev pub two_numbers : ℕ → ℕ → ℕ → DqAnswer
+two_numbers code first second = record { code = code; first = first; second = second }
+
+-- a code with one number
+abbrev pub one_number : ℕ → ℕ → DqAnswer
+one_number code first = two_numbers code first 0
+
+-- a code that carries no number
+abbrev pub plain : ℕ → DqAnswer
+plain code = two_numbers code 0 0
+
+-- done, with nothing to tell
+abbrev pub done : DqAnswer
+done = plain DQ_OK
+
+-- done, with a number to tell
+abbrev pub tells : ℕ → DqAnswer
+tells number = one_number DQ_OK number
+
+-- the handle holds nothing
+abbrev pub empty : DqAnswer
+empty = plain DQ_EMPTY
+
+-- the handle holds something already
+abbrev pub held : DqAnswer
+held = plain DQ_HELD
+
+-- why the owner's call is refused
+abbrev pub core_answer : CoreError → DqAnswer
+core_answer (TooFar limit) = one_number DQ_TOO_FAR limit
+core_answer (Full linked worn) = two_numbers DQ_FULL linked worn
+core_answer Missing = plain DQ_MISSING
+core_answer WasCancelled = plain DQ_WAS_CANCELLED
+core_answer Worn = plain DQ_WORN
+core_answer (TickTooLarge limit) = one_number DQ_TICK_TOO_LARGE limit
+core_answer BadConfig = plain DQ_BAD_CONFIG
+core_answer NoMemory = plain DQ_NO_MEMORY
+
+-- why no caller is issued
+abbrev pub words_answer : WordsError → DqAnswer
+words_answer NoSize = plain DQ_BAD_CONFIG
+words_answer NoRoom = plain DQ_NO_MEMORY
+words_answer (TooManyHandles limit) = one_number DQ_TOO_MANY_CALLERS limit
+
+-- how an entry stands, under a code: as what, and at which deadline
+abbrev pub look_answer : ℕ → Look → DqAnswer
+look_answer code (StillLive d) = two_numbers code DQ_LIVE d
+look_answer code LookCancelled = two_numbers code DQ_CANCELLED 0
+look_answer code (LookExpired d) = two_numbers code DQ_EXPIRED d
+look_answer code (LookRemoved d) = two_numbers code DQ_REMOVED d
+
+-- why a call by key is refused
+abbrev pub call_answer : CallError → DqAnswer
+call_answer (TooFarOff limit) = one_number DQ_TOO_FAR limit
+call_answer Unknown = plain DQ_UNKNOWN
+call_answer (Stale seen) = one_number DQ_STALE seen
+call_answer (Ended how) = look_answer DQ_ENDED how

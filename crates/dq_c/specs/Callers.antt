@@ -1,0 +1,65 @@
+-- What a caller's calls say. Each is a call of the caller that the handle holds, or is refused where
+-- the handle is empty.
+use Rattle.std.specs.Prelude.{◌≡◌, ℕ, Option, Some, None, Result, Ok, Err}
+use Rattle.dq_core.specs.declared.words.CallError.{CallError}
+use Rattle.dq_core.specs.declared.words.Look.{Look}
+use Rattle.dq_words.specs.AtTheCall.{cancels_of}
+use Rattle.dq_words.specs.CallerCalls.{CallerExtends, CallerCancels, CallerLooks}
+use Rattle.dq_words.specs.Seats.{Sat}
+use Rattle.dq_handle.specs.declared.caller.Seat.{Seat}
+use Rattle.dq_c.specs.Answers.{tells, empty, call_answer, look_answer}
+use Rattle.dq_c.specs.Keys.{named}
+use Rattle.dq_c.specs.declared.answers.DqAnswer.{DqAnswer}
+use Rattle.dq_c.specs.declared.answers.TheConstants.{DQ_OK}
+use Rattle.dq_c.specs.declared.keys.DqKey.{DqKey}
+
+-- the caller that a handle holds, as contracts see it
+abbrev pub caller_in : Option Seat → Option Sat
+caller_in None = None
+caller_in (Some seat) = seat.caller
+
+-- the caller made a call at its own table; where there is none the handle is refused as empty
+abbrev pub CallerGoes : Option Sat → Option Sat → DqAnswer → (Sat → Sat → Type 0) → Type 0
+CallerGoes (Some b) (Some c) answer Goes = Goes b c × (c.table ≡ b.table)
+CallerGoes None None answer Goes = answer ≡ empty
+CallerGoes b c answer Goes = ⊥
+
+-- a deadline is told, or the refusal is
+abbrev pub TickSays : Result ℕ CallError → DqAnswer → Type 0
+TickSays (Ok d) answer = answer ≡ tells d
+TickSays (Err e) answer = answer ≡ call_answer e
+
+-- an extend
+abbrev pub ExtendSays : Option Seat → DqKey → ℕ → DqAnswer → Option Seat → Type 0
+ExtendSays old key when answer new =
+    CallerGoes (caller_in old) (caller_in new) answer
+    (λ b c. (r : Result ℕ CallError) × CallerExtends b.view (named key) when r c.view
+    × TickSays r answer)
+
+-- a cancel
+abbrev pub CancelSays : Option Seat → DqKey → DqAnswer → Option Seat → Type 0
+CancelSays old key answer new =
+    CallerGoes (caller_in old) (caller_in new) answer
+    (λ b c. (r : Result ℕ CallError) × CallerCancels b.view (named key) r c.view
+    × TickSays r answer)
+
+-- how the entry stands is told, or the refusal is
+abbrev pub ShownSays : Result Look CallError → DqAnswer → Type 0
+ShownSays (Ok how) answer = answer ≡ look_answer DQ_OK how
+ShownSays (Err e) answer = answer ≡ call_answer e
+
+-- a look
+abbrev pub LookSays : Option Seat → DqKey → DqAnswer → Option Seat → Type 0
+LookSays old key answer new =
+    CallerGoes (caller_in old) (caller_in new) answer
+    (λ b c. (r : Result Look CallError) × CallerLooks b.view (named key) r c.view
+    × ShownSays r answer)
+
+-- the accepted cancels of a caller that is given back
+abbrev pub GivenSays : Option Sat → DqAnswer → Type 0
+GivenSays (Some b) answer = answer ≡ tells (cancels_of b)
+GivenSays None answer = answer ≡ empty
+
+-- a caller is given back, and the handle is empty then
+abbrev pub GiveBackSays : Option Seat → DqAnswer → Option Seat → Type 0
+GiveBackSays old answer new = (new ≡ None) × GivenSays (caller_in old) answer

@@ -1,0 +1,2 @@
+pub mod QueueBox
+pub mod SeatBox

@@ -1,0 +1,5 @@
+pub mod Owned
+pub mod OwnedQueue
+pub mod OwnedSeat
+pub mod QueueLoan
+pub mod SeatLoan
