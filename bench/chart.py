@@ -7,10 +7,12 @@ from xml.sax.saxutils import escape
 COLOURS = {
     "ours-owned": "#cc79a7",
     "ours": "#d55e00",
+    "ours-shards": "#d55e00",
     "fetch-max": "#000000",
     "heap-note": "#56b4e9",
     "heap-note-locked": "#0072b2",
     "heap-tight": "#8a6fd1",
+    "heap-tight-locked": "#5a3fa1",
     "heap-push": "#9ad9c3",
     "heap-push-locked": "#009e73",
     "delay-queue": "#f0c800",
@@ -19,16 +21,36 @@ COLOURS = {
 WIDTH = 1900
 LEFT, RIGHT = 56, 16
 PANEL, GAP, TOP = 190, 62, 96
-STEPS = [1, 2, 5, 10, 20, 50, 100, 200, 500, 1_000, 2_000, 5_000]
+STEPS = [1, 2, 5, 10, 20, 50, 100, 200, 500, 1_000, 2_000, 5_000, 10_000, 20_000, 50_000]
+# Rows whose time has all that their calls leave behind.
+WHOLE = {"insert+poll", "reset+poll", "remove+poll", "mixed", "churn", "heartbeat"}
+
+
+def place(case):
+    """Where a case stands: the order and the title of its panel, and its label there."""
+    entries = f"{case.entries:,} entries"
+    if case.shards:
+        shards = f"{case.shards} shards" if case.shards > 1 else "one shard"
+        label = f"{case.call}, {case.threads} threads" if case.threads > 1 else case.call
+        return (2, case.shards, case.entries), f"The shared queue, {shards} of {entries}", label
+    if case.row in WHOLE:
+        return (1, case.entries), f"{entries}, with all that the calls leave behind", case.row
+    label = f"callers {case.threads}" if case.row == "callers" else case.row
+    return (0, case.entries), entries, label
 
 
 def panels(cases):
     """The panels from above: title, and its groups as (label, case)."""
     found = {}
     for case in cases:
-        label = f"callers {case.threads}" if case.row == "callers" else case.row
-        found.setdefault(case.entries, []).append((label, case))
-    return [(f"{entries:,} entries", groups) for entries, groups in sorted(found.items())]
+        order, title, label = place(case)
+        found.setdefault((order, title), []).append((label, case))
+    return [(title, groups) for (_, title), groups in sorted(found.items(), key=lambda it: it[0])]
+
+
+def shown_in_chart(case):
+    """Of one shard the chart shows one size; the table has all."""
+    return case.shards != 1 or case.entries == 10_000
 
 
 def text(x, y, words, size=12, anchor="start", weight="normal", fill="#222"):
@@ -73,6 +95,7 @@ def bars(groups, axis, base, peers):
 
 
 def draw(cases, names, about):
+    cases = [case for case in cases if shown_in_chart(case)] or cases
     peers = [peer for peer in names if any(peer in case.samples for case in cases)]
     shown = panels(cases)
     axis = Axis(cases)

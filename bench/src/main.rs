@@ -7,6 +7,7 @@ mod heap;
 mod plan;
 mod queue;
 mod rows;
+mod shards;
 mod tight;
 mod tokio_queue;
 
@@ -14,19 +15,45 @@ use std::process::ExitCode;
 
 use floor::Floor;
 use heap::{Extending, HeapQueue};
+use plan::shard_room;
 use queue::{Locked, Queue, Shared};
 use rows::{Clock, Counts, Load, NoClock, Row, Sample};
+use shards::{Call, ShardLoad};
 use tight::TightHeap;
 use tokio_queue::{PausedClock, TokioQueue};
 
 const USAGE: &str = "usage: peers time ROW ENTRIES THREADS ROUNDS [PEER..]
-rows: insert extend reset remove cancel poll insert+poll reset+poll remove+poll mixed churn heartbeat callers
-entries: 1 to 65536; threads: 1, and 1 to 64 for callers";
+rows: insert extend reset remove cancel poll insert+poll reset+poll remove+poll mixed churn heartbeat callers,
+and over 1 to 64 shards insert/SHARDS extend/SHARDS reset/SHARDS remove/SHARDS poll/SHARDS insert-burst/SHARDS poll-burst/SHARDS
+entries: 1 to 65536, of each shard; threads: 1, and 1 to 64 for callers and over shards";
+
+/// What is timed: a row of one queue, or a row of shards and their number.
+#[derive(Clone, Copy, Debug, PartialEq, Eq)]
+enum Timed {
+    One(Row),
+    Shards(Call, usize),
+}
+
+impl Timed {
+    fn read(name: &str) -> Option<Timed> {
+        let Some((name, shards)) = name.split_once('/') else {
+            return Row::ALL.into_iter().find(|(known, _)| *known == name).map(|(_, row)| Timed::One(row));
+        };
+        let (_, call) = Call::ALL.into_iter().find(|(known, _)| *known == name)?;
+        let shards = shards.parse().ok().filter(|shards| (1..=64).contains(shards))?;
+        Some(Timed::Shards(call, shards))
+    }
+
+    /// Whether several threads may call.
+    fn is_shared(self) -> bool {
+        matches!(self, Timed::One(Row::Callers) | Timed::Shards(..))
+    }
+}
 
 /// What one call of the program times.
 struct Asked {
     row_name: String,
-    row: Row,
+    timed: Timed,
     entries: usize,
     threads: usize,
     rounds: usize,
@@ -38,15 +65,15 @@ impl Asked {
         let [time, row_name, entries, threads, rounds, peers @ ..] = args else {
             return None;
         };
-        let (_, row) = Row::ALL.into_iter().find(|(name, _)| name == row_name)?;
+        let timed = Timed::read(row_name)?;
         let entries = entries.parse().ok().filter(|entries| (1..=65_536).contains(entries))?;
         let threads = threads.parse().ok().filter(|threads| (1..=64).contains(threads))?;
         let rounds = rounds.parse().ok()?;
-        let known = peers.iter().all(|peer| peers_of(row).contains(&peer.as_str()));
-        if time != "time" || !known || (row != Row::Callers && threads != 1) {
+        let known = peers.iter().all(|peer| peers_of(timed).contains(&peer.as_str()));
+        if time != "time" || !known || (threads != 1 && !timed.is_shared()) {
             return None;
         }
-        Some(Asked { row_name: row_name.clone(), row, entries, threads, rounds, peers: peers.to_vec() })
+        Some(Asked { row_name: row_name.clone(), timed, entries, threads, rounds, peers: peers.to_vec() })
     }
 
     fn wants(&self, peer: &str) -> bool {
@@ -55,9 +82,9 @@ impl Asked {
 }
 
 /// The peers of a row. The two heaps differ in an extend alone, and only what is locked can be shared.
-fn peers_of(row: Row) -> &'static [&'static str] {
-    match row {
-        Row::Extend => &[
+fn peers_of(timed: Timed) -> &'static [&'static str] {
+    match timed {
+        Timed::One(Row::Extend) => &[
             "delay-queue",
             "delay-queue-locked",
             "heap-push",
@@ -67,7 +94,7 @@ fn peers_of(row: Row) -> &'static [&'static str] {
             "heap-tight",
             "fetch-max",
         ],
-        Row::Mixed => &[
+        Timed::One(Row::Mixed) => &[
             "delay-queue",
             "delay-queue-locked",
             "heap-push",
@@ -76,8 +103,9 @@ fn peers_of(row: Row) -> &'static [&'static str] {
             "heap-note-locked",
             "heap-tight",
         ],
-        Row::Callers => &["fetch-max", "heap-push-locked", "heap-note-locked", "delay-queue-locked"],
-        _ => &["delay-queue", "delay-queue-locked", "heap-note", "heap-note-locked", "heap-tight"],
+        Timed::One(Row::Callers) => &["fetch-max", "heap-push-locked", "heap-note-locked", "delay-queue-locked"],
+        Timed::Shards(..) => &["heap-note-locked", "heap-tight-locked", "delay-queue-locked"],
+        Timed::One(_) => &["delay-queue", "delay-queue-locked", "heap-note", "heap-note-locked", "heap-tight"],
     }
 }
 
@@ -85,20 +113,20 @@ fn peers_of(row: Row) -> &'static [&'static str] {
 type Rounds<'a> = Box<dyn FnMut() -> Sample + 'a>;
 
 /// The rounds of one owner. One pass warms up.
-fn owned<'a, Q: Queue + 'a>(asked: &'a Asked, queue: Q, clock: &'a dyn Clock) -> Rounds<'a> {
+fn owned<'a, Q: Queue + 'a>(asked: &'a Asked, row: Row, queue: Q, clock: &'a dyn Clock) -> Rounds<'a> {
     let mut load = Load::new(queue, clock, asked.entries);
-    clock.within(&mut || load.pass(asked.row));
+    clock.within(&mut || load.pass(row));
     Box::new(move || {
         let mut sample = Sample::default();
-        clock.within(&mut || sample = load.round(asked.row));
+        clock.within(&mut || sample = load.round(row));
         sample
     })
 }
 
 /// The rounds of a queue behind a lock, or of one that needs none.
-fn shared<'a, Q: Shared + 'a>(asked: &'a Asked, queue: Q, clock: &'a dyn Clock) -> Rounds<'a> {
-    if asked.row != Row::Callers {
-        return owned(asked, queue, clock);
+fn shared<'a, Q: Shared + 'a>(asked: &'a Asked, row: Row, queue: Q, clock: &'a dyn Clock) -> Rounds<'a> {
+    if row != Row::Callers {
+        return owned(asked, row, queue, clock);
     }
     let mut load = Load::new(queue, clock, asked.entries);
     clock.within(&mut || load.pass(Row::Insert));
@@ -109,23 +137,53 @@ fn shared<'a, Q: Shared + 'a>(asked: &'a Asked, queue: Q, clock: &'a dyn Clock) 
     })
 }
 
+/// The rounds of queues in shards.
+fn sharded<'a, Q: Queue + Send + 'a>(asked: &'a Asked, call: Call, shards: Vec<Q>, clock: &'a dyn Clock) -> Rounds<'a> {
+    let mut load = ShardLoad::new(shards, clock, asked.entries, asked.threads);
+    clock.within(&mut || load.pass(call));
+    Box::new(move || {
+        let mut sample = Sample::default();
+        clock.within(&mut || sample = load.round(call));
+        sample
+    })
+}
+
 fn rounds_of<'a>(asked: &'a Asked, peer: &str, clock: &'a PausedClock) -> Rounds<'a> {
+    match asked.timed {
+        Timed::One(row) => rounds_of_one(asked, row, peer, clock),
+        Timed::Shards(call, shards) => rounds_of_shards(asked, call, shards, peer, clock),
+    }
+}
+
+fn rounds_of_one<'a>(asked: &'a Asked, row: Row, peer: &str, clock: &'a PausedClock) -> Rounds<'a> {
     let entries = asked.entries;
     match peer {
-        "delay-queue" => owned(asked, TokioQueue::new(clock, entries), clock),
-        "delay-queue-locked" => shared(asked, Locked::new(TokioQueue::new(clock, entries)), clock),
-        "heap-push" => owned(asked, HeapQueue::new(Extending::Push, entries), &NoClock),
-        "heap-push-locked" => shared(asked, Locked::new(HeapQueue::new(Extending::Push, entries)), &NoClock),
-        "heap-note" => owned(asked, HeapQueue::new(Extending::Note, entries), &NoClock),
-        "heap-note-locked" => shared(asked, Locked::new(HeapQueue::new(Extending::Note, entries)), &NoClock),
-        "heap-tight" => owned(asked, TightHeap::new(entries), &NoClock),
-        _ => shared(asked, Floor::new(entries), &NoClock),
+        "delay-queue" => owned(asked, row, TokioQueue::new(clock, entries), clock),
+        "delay-queue-locked" => shared(asked, row, Locked::new(TokioQueue::new(clock, entries)), clock),
+        "heap-push" => owned(asked, row, HeapQueue::new(Extending::Push, entries), &NoClock),
+        "heap-push-locked" => shared(asked, row, Locked::new(HeapQueue::new(Extending::Push, entries)), &NoClock),
+        "heap-note" => owned(asked, row, HeapQueue::new(Extending::Note, entries), &NoClock),
+        "heap-note-locked" => shared(asked, row, Locked::new(HeapQueue::new(Extending::Note, entries)), &NoClock),
+        "heap-tight" => owned(asked, row, TightHeap::new(entries), &NoClock),
+        _ => shared(asked, row, Floor::new(entries), &NoClock),
+    }
+}
+
+fn rounds_of_shards<'a>(asked: &'a Asked, call: Call, shards: usize, peer: &str, clock: &'a PausedClock) -> Rounds<'a> {
+    let room = shard_room(asked.entries);
+    match peer {
+        "delay-queue-locked" => {
+            sharded(asked, call, (0..shards).map(|_| TokioQueue::new(clock, room)).collect(), clock)
+        }
+        "heap-tight-locked" => sharded(asked, call, (0..shards).map(|_| TightHeap::new(room)).collect(), &NoClock),
+        _ => sharded(asked, call, (0..shards).map(|_| HeapQueue::new(Extending::Note, room)).collect(), &NoClock),
     }
 }
 
 /// Whether a peer's last deadlines are the schedule's: `DelayQueue` has no call that only raises a deadline.
 fn is_by_schedule(asked: &Asked, peer: &str) -> bool {
-    asked.threads > 1 && peer.starts_with("delay-queue")
+    let extends = matches!(asked.timed, Timed::One(Row::Callers) | Timed::Shards(Call::Extend, _));
+    extends && asked.threads > 1 && peer.starts_with("delay-queue")
 }
 
 fn print_sample(asked: &Asked, peer: &str, round: usize, sample: &Sample) {
@@ -140,7 +198,7 @@ fn print_sample(asked: &Asked, peer: &str, round: usize, sample: &Sample) {
 }
 
 fn time(asked: &Asked) {
-    let names: Vec<&str> = peers_of(asked.row).iter().copied().filter(|peer| asked.wants(peer)).collect();
+    let names: Vec<&str> = peers_of(asked.timed).iter().copied().filter(|peer| asked.wants(peer)).collect();
     let clocks: Vec<PausedClock> = names.iter().map(|_| PausedClock::new()).collect();
     let mut peers: Vec<(&str, Rounds)> =
         names.iter().zip(&clocks).map(|(name, clock)| (*name, rounds_of(asked, name, clock))).collect();
@@ -177,15 +235,25 @@ fn main() -> ExitCode {
 mod tests {
     use super::*;
 
-    fn asked(row: Row, threads: usize) -> Asked {
-        Asked { row_name: String::new(), row, entries: 500, threads, rounds: 1, peers: Vec::new() }
+    fn asked(timed: Timed, entries: usize, threads: usize) -> Asked {
+        Asked { row_name: String::new(), timed, entries, threads, rounds: 1, peers: Vec::new() }
     }
 
     /// Every peer does in every row what the others do.
     #[test]
     fn peers_agree() {
         for (_, row) in Row::ALL {
-            time(&asked(row, if row == Row::Callers { 2 } else { 1 }));
+            time(&asked(Timed::One(row), 500, if row == Row::Callers { 2 } else { 1 }));
+        }
+    }
+
+    /// The same over shards, by one thread and by several.
+    #[test]
+    fn peers_agree_over_shards() {
+        for (_, call) in Call::ALL {
+            for (shards, threads) in [(1, 1), (3, 1), (1, 4), (4, 2)] {
+                time(&asked(Timed::Shards(call, shards), 5_000, threads));
+            }
         }
     }
 

@@ -1,5 +1,7 @@
 //! What is drawn, and in which order: README.md says it in words, and the program of the other side draws the same.
 
+use std::ops::Range;
+
 /// Where every run of a peer begins to draw.
 pub const SEED: u64 = 20_251_122;
 
@@ -29,12 +31,33 @@ pub const TURNS: u64 = 4;
 pub const STRIDE: u64 = 600;
 pub const REST: u64 = 1;
 
+/// The calls that a thread makes in a burst under one lock.
+pub const BURST: usize = 64;
+
 /// The calls that a round of a short row makes at least, but for what a whole pass leaves over.
 const ROUND: usize = 65_536;
+
+/// The most passes of a round of a row of shards.
+const MOST_PASSES: usize = 1_024;
 
 /// The passes of a round of a short row.
 pub fn passes(entries: usize) -> usize {
     (ROUND / entries).max(1)
+}
+
+/// The passes of a round of a row of shards, which have so many entries together.
+pub fn shard_passes(total: usize) -> usize {
+    passes(total).min(MOST_PASSES)
+}
+
+/// The room of a shard for its entries: where they come in bursts, a shard may get one more than its share.
+pub fn shard_room(entries: usize) -> usize {
+    (entries + BURST).min(65_536)
+}
+
+/// The places of a list that are dealt out to one of so many threads.
+pub fn part(length: usize, thread: usize, threads: usize) -> Range<usize> {
+    length * thread / threads..length * (thread + 1) / threads
 }
 
 /// The generator of Steele, Lea and Flood, "Fast splittable pseudorandom number generators" (2014).

@@ -8,7 +8,7 @@ use crate::plan::{passes, SplitMix64, BEAT, BEATS, HEARTBEATS, IDLE, KEPT, PASS,
 use crate::queue::{Queue, Shared};
 
 /// Where a peer reads the time from. It is moved outside of what is timed.
-pub trait Clock {
+pub trait Clock: Sync {
     /// Runs a round where the clock is read.
     fn within(&self, round: &mut dyn FnMut());
     /// It is that tick now.

@@ -1,6 +1,8 @@
 //! What the command line asks for.
 
 use crate::load::Row;
+use crate::shards::Call;
+use dq_shards::SHARD_LIMIT;
 use std::fmt;
 
 /// The rows of one owner.
@@ -19,11 +21,23 @@ pub const ROWS: [(&str, Row); 12] = [
     ("heartbeat", Row::Heartbeat),
 ];
 
-/// What is timed: a row of one owner, or the callers.
+/// The rows of the shared queue; a number of shards stands behind the name, as in `insert/4`.
+pub const CALLS: [(&str, Call); 7] = [
+    ("insert", Call::Insert),
+    ("extend", Call::Extend),
+    ("reset", Call::Reset),
+    ("remove", Call::Remove),
+    ("poll", Call::Poll),
+    ("insert-burst", Call::InsertBurst),
+    ("poll-burst", Call::PollBurst),
+];
+
+/// What is timed: a row of one owner, the callers, or a row of the shared queue with its number of shards.
 #[derive(Clone, Copy, Debug, PartialEq, Eq)]
 pub enum Timed {
     Owned(Row),
     Callers,
+    Shards(Call, usize),
 }
 
 /// One command.
@@ -70,7 +84,7 @@ impl Timed {
     fn most_threads(self) -> u64 {
         match self {
             Timed::Owned(_) => 1,
-            Timed::Callers => 64,
+            Timed::Callers | Timed::Shards(..) => 64,
         }
     }
 }
@@ -87,9 +101,22 @@ fn row_of(name: &str) -> Option<Timed> {
     if name == "callers" {
         return Some(Timed::Callers);
     }
+    if let Some((call, shards)) = name.split_once('/') {
+        let shards = number(shards, SHARD_LIMIT as u64)?;
+        return Some(Timed::Shards(call_of(call)?, shards as usize));
+    }
     for (known, row) in ROWS {
         if known == name {
             return Some(Timed::Owned(row));
+        }
+    }
+    None
+}
+
+fn call_of(name: &str) -> Option<Call> {
+    for (known, call) in CALLS {
+        if known == name {
+            return Some(call);
         }
     }
     None

@@ -10,13 +10,16 @@ mod load;
 mod plan;
 mod queues;
 mod sample;
+mod shards;
+mod work;
 
 use anyhow::{Result, bail};
-use asked::{Asked, ROWS, Timed};
+use asked::{Asked, CALLS, ROWS, Timed};
 use load::{Load, Row};
 use plan::SplitMix64;
 use queues::{Issues, Owned, Queue, Shared};
 use sample::Sample;
+use shards::{Call, ShardLoad};
 use std::env;
 use std::rt::Clock;
 use std::sync::Wait;
@@ -26,6 +29,11 @@ use std::thread::Threads;
 const SMALL: usize = 100;
 
 const SMALL_CALLERS: u64 = 2;
+
+/// The shards of the small run, and the entries of each where several threads call.
+const SMALL_SHARDS: usize = 2;
+
+const SMALL_SHARED: usize = 4_000;
 
 fn main(rt: HostRuntime) -> Result<()> {
     let words: Result<Vec<String>, _> = env::args(&rt)?.skip(1).collect(rt.alloc());
@@ -42,13 +50,14 @@ where
     let Some(asked) = Asked::read(words) else {
         bail!("usage: dq_load time ROW ENTRIES THREADS ROUNDS (bench/README.md has the rows)");
     };
-    let shared = Shared::new(rt.alloc(), asked.entries)?;
     match asked.timed {
         Timed::Owned(row) => {
             let owned = Owned::new(rt.alloc(), asked.entries)?;
+            let shared = Shared::new(rt.alloc(), asked.entries)?;
             time_row(rt, &asked, row, owned, shared)
         }
-        Timed::Callers => time_callers(rt, &asked, shared),
+        Timed::Callers => time_callers(rt, &asked, Shared::new(rt.alloc(), asked.entries)?),
+        Timed::Shards(call, shards) => time_shards(rt, &asked, call, shards),
     }
 }
 
@@ -63,7 +72,26 @@ where
         small_row(rt, "ours", name, row, Shared::new(rt.alloc(), SMALL)?)?;
     }
     small_callers(rt, Shared::new(rt.alloc(), SMALL)?)?;
+    for (name, call) in CALLS {
+        small_shards(rt, name, call, SMALL, 1)?;
+        small_shards(rt, name, call, SMALL_SHARED, SMALL_CALLERS as usize)?;
+    }
     print_bytes(rt)
+}
+
+fn small_shards<R>(rt: &R, name: &str, call: Call, entries: usize, threads: usize) -> Result<()>
+where
+    R: Clock + Print + AllocGlobal + Threads + Wait + Clone + Drop + Send + 'static,
+{
+    let mut load = ShardLoad::new(rt, rt.alloc(), SMALL_SHARDS, entries, threads)?;
+    load.pass(rt, call)?;
+    let Sample {
+        operations,
+        counts,
+        ..
+    } = load.round(rt, call)?;
+    println!(rt; "ours-shards {name}/{SMALL_SHARDS} {entries} {threads} {operations} {counts}")?;
+    Ok(())
 }
 
 fn small_callers<R, Q>(rt: &R, queue: Q) -> Result<()>
@@ -152,6 +180,21 @@ where
     for round in 1..=asked.rounds {
         let sample = load.callers(rt, asked.threads)?;
         println!(rt; "ours {asked} {round} {sample}")?;
+    }
+    Ok(())
+}
+
+/// Times rounds of the shared queue.
+fn time_shards<R>(rt: &R, asked: &Asked, call: Call, shards: usize) -> Result<()>
+where
+    R: Clock + Print + AllocGlobal + Threads + Wait + Clone + Drop + Send + 'static,
+{
+    let threads = asked.threads as usize;
+    let mut load = ShardLoad::new(rt, rt.alloc(), shards, asked.entries, threads)?;
+    load.pass(rt, call)?;
+    for round in 1..=asked.rounds {
+        let sample = load.round(rt, call)?;
+        println!(rt; "ours-shards {asked} {round} {sample}")?;
     }
     Ok(())
 }

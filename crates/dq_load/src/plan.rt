@@ -1,6 +1,7 @@
 //! What is drawn, and in which order. bench/README.md says it in words, and the peers there draw the same.
 ghost use Rattle.std.specs.Prelude.{◌<◌};
 
+use dq_ticks::CAPACITY_LIMIT;
 use std::alloc::{AllocError, Global};
 
 /// Where every run begins to draw.
@@ -36,12 +37,37 @@ pub const STRIDE: u64 = 600;
 /// What the keeper rests after a poll beside the callers, in milliseconds.
 pub const REST: u64 = 1;
 
+/// The calls that a thread makes in a burst under one lock.
+pub const BURST: usize = 64;
+
 /// The calls that a round of a short row makes at least, but for what a whole pass leaves over.
 const ROUND: usize = 65_536;
+
+/// The most passes of a round of a row of shards.
+const MOST_PASSES: usize = 1_024;
 
 /// The passes of a round of a short row.
 pub fn passes(entries: usize) -> usize {
     ROUND.checked_div(entries).unwrap_or(1).max(1)
+}
+
+/// The passes of a round of a row of shards, which have so many entries together.
+pub fn shard_passes(entries: usize) -> usize {
+    passes(entries).min(MOST_PASSES)
+}
+
+/// The room of a shard for its entries: where they come in bursts, a shard may get one more than its share.
+pub fn shard_room(entries: usize) -> usize {
+    entries.saturating_add(BURST).min(CAPACITY_LIMIT)
+}
+
+/// The places of a list that are dealt out to one of so many threads, from the first up to an end.
+pub fn part(length: usize, thread: usize, threads: usize) -> (usize, usize) {
+    let place = |turn: usize| length
+        .saturating_mul(turn)
+        .checked_div(threads)
+        .unwrap_or(0);
+    (place(thread), place(thread.saturating_add(1)))
 }
 
 /// The generator of Steele, Lea and Flood, "Fast splittable pseudorandom number generators" (2014).

@@ -2,9 +2,10 @@
 
 use anyhow::Result;
 use dq_core::{CallError, CoreConfig, CoreError, DelayCore, Turn, VecWords, Words};
+use dq_shards::QueueError;
 use dq_ticks::{Key, LAST_STAMP};
 use dq_words::{Caller, Keeper};
-use std::alloc::Global;
+use std::alloc::{AllocError, Global};
 use thiserror::Error;
 
 /// Why a call was refused, or what it was asked of isn't there. No row wants a refusal.
@@ -12,8 +13,14 @@ use thiserror::Error;
 pub enum Refusal {
     #[error("the queue refused a call: {0}")]
     Core(CoreError),
+    #[error("the shared queue refused a call: {0}")]
+    Queue(QueueError),
     #[error("a caller was refused: {0}")]
     Call(CallError),
+    #[error("an extend was lost")]
+    Lost,
+    #[error("{0}")]
+    Memory(#[from(alloc)] AllocError),
     #[error("the plan asks for an entry that isn't there")]
     NoEntry,
 }
