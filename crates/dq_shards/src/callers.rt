@@ -10,7 +10,8 @@ use std::alloc::Allocator;
 
 impl<T: Drop, A: Allocator> ShardState<T, A> {
     /// One caller more of this shard's words, which may go to any thread. Refused as TooManyHandles where 1,024
-    /// callers were issued, given back or not, and as NoMemory.
+    /// callers were issued, given back or not, and else as NoMemory.
+    #[tactic(auto, using(crate::proofs::Parking::parked_over))]
     pub fn issue(&mut self) -> Result<Caller<A>, WordsError>
         // One more, which sits at the table of this shard's keeper and knows nothing yet.
         ensures counted { OnOk result
@@ -29,6 +30,7 @@ impl<T: Drop, A: Allocator> ShardState<T, A> {
     }
 
     /// The issued callers that are not given back, by one load. One that was dropped is out for good.
+    #[tactic(auto, using(crate::proofs::Parking::parked_over))]
     pub fn out(&mut self) -> u64
         ensures at_most { result ≤ (keeper_of self.new).issued }
         ensures stays { OnlyKeeperGoesOn self.old self.new }

@@ -1,7 +1,7 @@
 //! The calls of a queue of shards by name: each takes one shard's lock and makes the state's call.
 ghost use Rattle.std.specs.Prelude.{◌≡◌, ◌%◌, ◌<◌, ◌≤◌, ◌↔◌, option_map, IfOk, IfErr, IsErrOf, IsErrAnd};
 ghost use Rattle.dq_ticks.specs.declared.TheConstants.{LAST_TICK};
-ghost use Rattle.dq_core.specs.declared.errors.CoreError.TheVariants.{TooFar};
+ghost use Rattle.dq_core.specs.declared.errors.CoreError.TheVariants.{TooFar, TickTooLarge};
 ghost use Rattle.dq_shards.specs.declared.errors.QueueError.TheVariants.{Core, Unknown};
 ghost use Rattle.dq_core.specs.Calls.{TellsWake};
 ghost use Rattle.dq_core.specs.Readers.{IsTally};
@@ -28,8 +28,9 @@ fn to_shard(key: Key, shard: u32) -> Key
 }
 
 impl<T: Drop, A: Allocator> SharedDelayQueue<T, A> {
-    /// Puts an entry into the shard `route` modulo the number of shards, as [`ShardState::insert`] does, and answers
-    /// its key there. Refused as TooFar and as Full; the value comes back then.
+    /// Puts an entry into the shard `route` modulo the number of shards, live until `when`, a tick of one millisecond,
+    /// as [`ShardState::insert`] does, and answers its key there. Constant time. Refused as TooFar beyond the last
+    /// tick, and else as Full where that shard has no free slot; the value comes back then.
     pub fn insert<R: Wait>(
         &self,
         rt: &R,
@@ -57,9 +58,15 @@ impl<T: Drop, A: Allocator> SharedDelayQueue<T, A> {
         }
     }
 
-    /// As [`ShardState::reset`], and refused as Unknown for a shard out of range, before all else.
+    /// As [`ShardState::reset`], `when` a tick of one millisecond. Refused as Unknown for a shard out of range, before
+    /// all else, and then as TooFar, as Missing, as WasCancelled and as Worn.
     pub fn reset<R: Wait>(&self, rt: &R, entry: &EntryId, when: u64) -> Result<Key, QueueError>
+        // As unknown exactly out of range; else as too far exactly beyond the last tick.
         ensures unknown { IsErrOf result Unknown ↔ (self.now ≤ entry.now.shard) }
+        ensures too_far { IsErrOf result (Core (TooFar LAST_TICK))
+            ↔ (entry.now.shard < self.now) × (LAST_TICK < when) }
+
+        // All that it answers.
         ensures answers { OnShardOr {T = T} self.now entry.now.shard
             (λ old r new. ShardResets old entry.now when r new) result }
     {
@@ -72,7 +79,8 @@ impl<T: Drop, A: Allocator> SharedDelayQueue<T, A> {
         }
     }
 
-    /// As [`ShardState::remove`], and refused as Unknown for a shard out of range, before all else.
+    /// As [`ShardState::remove`]. Refused as Unknown for a shard out of range, before all else, and then as Missing and
+    /// as WasCancelled.
     pub fn remove<R: Wait>(&self, rt: &R, entry: &EntryId) -> Result<Removed<T>, QueueError>
         ensures unknown { IsErrOf result Unknown ↔ (self.now ≤ entry.now.shard) }
         ensures answers { OnShardOr {T = T} self.now entry.now.shard
@@ -87,7 +95,8 @@ impl<T: Drop, A: Allocator> SharedDelayQueue<T, A> {
         }
     }
 
-    /// As [`ShardState::deadline`], and refused as Unknown for a shard out of range, before all else.
+    /// As [`ShardState::deadline`], a tick of one millisecond. Refused as Unknown for a shard out of range, before all
+    /// else, and then as Missing and as WasCancelled.
     pub fn deadline<R: Wait>(&self, rt: &R, entry: &EntryId) -> Result<u64, QueueError>
         ensures unknown { IsErrOf result Unknown ↔ (self.now ≤ entry.now.shard) }
         ensures answers { OnShardOr {T = T} self.now entry.now.shard
@@ -102,7 +111,8 @@ impl<T: Drop, A: Allocator> SharedDelayQueue<T, A> {
         }
     }
 
-    /// As [`ShardState::poll`], and refused as Unknown for a shard out of range, before all else.
+    /// As [`ShardState::poll`], `tick` of one millisecond. Refused as Unknown for a shard out of range, before all else,
+    /// and then as TickTooLarge beyond the last tick.
     ///
     /// Each call takes the shard's lock. Whoever wants many entries out polls in a loop under one lock, by
     /// [`SharedDelayQueue::lend`]:
@@ -121,7 +131,12 @@ impl<T: Drop, A: Allocator> SharedDelayQueue<T, A> {
     /// })?;
     /// ```
     pub fn poll<R: Wait>(&self, rt: &R, shard: usize, tick: u64) -> Result<Turn<T>, QueueError>
+        // As unknown exactly out of range; else as too large exactly beyond the last tick.
         ensures unknown { IsErrOf result Unknown ↔ (self.now ≤ shard) }
+        ensures too_large { IsErrOf result (Core (TickTooLarge LAST_TICK))
+            ↔ (shard < self.now) × (LAST_TICK < tick) }
+
+        // All that it answers.
         ensures answers { OnShardOr {T = T} self.now shard
             (λ old r new. ShardPolls old tick r new) result }
     {
@@ -178,8 +193,8 @@ impl<T: Drop, A: Allocator> SharedDelayQueue<T, A> {
         Ok(shard.tally())
     }
 
-    /// Takes out and wakes a poller that is parked at or before `tick`. True where there was one. Refused as Unknown
-    /// for a shard out of range.
+    /// Takes out and wakes a poller that is parked at or before `tick`, of one millisecond. True where there was one.
+    /// Refused as Unknown for a shard out of range.
     pub fn ring<R: Wait>(&self, rt: &R, shard: usize, tick: u64) -> Result<bool, QueueError>
         ensures unknown { IsErrOf result Unknown ↔ (self.now ≤ shard) }
         ensures answers { OnShard {T = T} self.now shard
@@ -191,7 +206,8 @@ impl<T: Drop, A: Allocator> SharedDelayQueue<T, A> {
         Ok(rung)
     }
 
-    /// The tick until which a poller is parked. Refused as Unknown for a shard out of range.
+    /// The tick of one millisecond until which a poller is parked; none where none is. Refused as Unknown for a shard
+    /// out of range.
     pub fn parked<R: Wait>(&self, rt: &R, shard: usize) -> Result<Option<u64>, QueueError>
         ensures unknown { IsErrOf result Unknown ↔ (self.now ≤ shard) }
         ensures answers { OnShard {T = T} self.now shard

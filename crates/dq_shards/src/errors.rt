@@ -40,10 +40,10 @@ pub enum QueueError {
     /// The shard's queue refused it.
     #[error("{0}")]
     Core(CoreError),
-    /// There is no such shard.
+    /// The queue has no such shard.
     #[error("there is no such shard")]
     Unknown,
-    /// A shard has issued as many callers as it may.
+    /// A shard has issued as many callers as it may, given back or not.
     #[error("no more than {limit} handles are issued")]
     TooManyHandles {
         /// How many it may issue.

@@ -19,7 +19,7 @@ use std::sync::Wait;
 /// Extends and cancels entries of a queue of shards, and looks at them, from any thread. It has one caller for each
 /// shard. Its calls take no lock and no memory, and wait for nobody.
 ///
-/// A handle that is dropped counts as out for good.
+/// A handle that is dropped counts as out for good: see [`Handle::give_back`].
 #[derive(Drop)]
 pub struct Handle<A: Allocator = Global> {
     callers: Vec<Caller<A>, A>,
@@ -38,7 +38,10 @@ impl<A: Allocator> Model for Handle<A> {
 }
 
 impl<A: Allocator> Handle<A> {
-    /// As [`Caller::extend`], and refused as Unknown for a shard out of range too.
+    /// Raises the deadline of a live entry to `when`, a tick of one millisecond, as [`Caller::extend`] of the key's shard
+    /// does, and answers the deadline that is then in force. Constant time. Refused as TooFar beyond the last tick, as
+    /// Unknown where no slot has the key or its shard is out of range, as Stale where the slot has a later stamp, and
+    /// as Ended where the entry isn't live.
     pub fn extend(&mut self, key: &Key, when: u64) -> Result<u64, CallError>
         ensures { HandleExtends self.old key.now when result self.new }
     {
@@ -52,7 +55,8 @@ impl<A: Allocator> Handle<A> {
         Err(CallError::Unknown)
     }
 
-    /// As [`Caller::cancel`], and refused as Unknown for a shard out of range too.
+    /// Cancels a live entry, as [`Caller::cancel`] of the key's shard does, and answers the deadline that it gave up, a
+    /// tick of one millisecond. Constant time. Refused as `extend` is, but never as TooFar.
     pub fn cancel(&mut self, key: &Key) -> Result<u64, CallError>
         ensures { HandleCancels self.old key.now result self.new }
     {
@@ -63,7 +67,8 @@ impl<A: Allocator> Handle<A> {
         Err(CallError::Unknown)
     }
 
-    /// As [`Caller::look`], and refused as Unknown for a shard out of range too.
+    /// What the entry of a key is, as [`Caller::look`] of the key's shard tells. Constant time. Refused as Unknown where
+    /// no slot has the key or its shard is out of range, and as Stale where the slot has a later stamp.
     pub fn look(&mut self, key: &Key) -> Result<Look, CallError>
         ensures { HandleLooks self.old key.now result self.new }
     {
@@ -74,7 +79,7 @@ impl<A: Allocator> Handle<A> {
         Err(CallError::Unknown)
     }
 
-    /// The number of accepted cancels of its callers.
+    /// The number of accepted cancels of its callers, of which there is one a shard.
     pub fn cancels(&self) -> u64
         ensures { result ≡ all_cancels self.now }
     {
@@ -85,7 +90,8 @@ impl<A: Allocator> Handle<A> {
         cancels
     }
 
-    /// Gives back each of its callers, and answers the number of their accepted cancels.
+    /// Gives back each of its callers, and answers the number of their accepted cancels. An audit tells totals only once
+    /// every handle is given back.
     pub fn give_back(self) -> u64
         ensures { result ≡ all_cancels self }
     {
@@ -141,9 +147,9 @@ impl<T: Drop, A: Allocator> SharedDelayQueue<T, A> {
 }
 
 impl<T: Drop, A: Allocator + Clone + Drop> SharedDelayQueue<T, A> {
-    /// A handle, with a caller of each shard, each issued under that shard's lock. Refused as TooManyHandles where a
-    /// shard has issued as many as it may, and as NoMemory; the callers that were issued before are given back then,
-    /// but stay counted.
+    /// A handle, with a caller of each shard, issued in turn under that shard's lock. Refused as NoMemory where there is
+    /// no room for the callers, and then, shard by shard, as TooManyHandles where 1,024 callers were issued, given back
+    /// or not, and as NoMemory. The callers that were issued before are given back then, but stay counted.
     pub fn handle<R: Wait>(&self, rt: &R) -> Result<Handle<A>, QueueError>
         ensures { QueueHandles T self.now result }
     {

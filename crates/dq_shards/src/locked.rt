@@ -136,6 +136,7 @@ impl<'q, T: Drop, A: Allocator> LockedShard<'q, T, A> {
     {
         self.state.out()
     }
+
     /// As [`ShardState::audit`].
     pub fn audit(&mut self) -> Result<Totals, HandlesOut>
         ensures { ShardAudits self.old result self.new }

@@ -11,7 +11,7 @@ use std::alloc::Allocator;
 use std::mem;
 
 impl<T: Drop, A: Allocator> ShardState<T, A> {
-    /// The tick until which a poller is parked; none where none is.
+    /// The tick of one millisecond until which a poller is parked; none where none is.
     pub fn parked(&self) -> Option<u64>
         ensures { result ≡ option_map (λ p. p.next) self.now.parked }
     {
@@ -21,8 +21,8 @@ impl<T: Drop, A: Allocator> ShardState<T, A> {
         }
     }
 
-    /// Parks a poller until the tick `next`, which is not after the next wake. It takes the place of one that was
-    /// parked before, which is not woken.
+    /// Parks a poller until `next`, a tick of one millisecond that is not after the next wake: nobody may park where
+    /// nothing is linked. It takes the place of one that was parked before, which is not woken.
     pub fn park(&mut self, next: u64, waker: Waker)
         requires { IsParked self.old.core (Some (poller next waker)) }
         ensures { self.new ≡ record self.old { parked = Some (poller next waker) } }
@@ -45,7 +45,7 @@ impl<T: Drop, A: Allocator> ShardState<T, A> {
         }
     }
 
-    /// Takes out and wakes a poller that is parked at or before `tick`. True where there was one.
+    /// Takes out and wakes a poller that is parked at or before `tick`, of one millisecond. True where there was one.
     pub fn ring(&mut self, tick: u64) -> bool
         ensures { Rings self.old tick result self.new }
     {

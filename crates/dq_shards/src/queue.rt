@@ -91,7 +91,7 @@ fn row_of<T: Drop, A: Allocator + Clone + Drop>(
 
 impl<T: Drop, A: Allocator + Clone + Drop> SharedDelayQueue<T, A> {
     /// A queue of empty shards at tick 0. Refused as BadConfig where a number of the configuration is out of its range,
-    /// and else as NoMemory. All memory of the queue is taken here.
+    /// and else as NoMemory. All memory of the queue is taken here: no other call takes any, but `handle` and `issue`.
     pub fn new(alloc: A, config: QueueConfig) -> Result<SharedDelayQueue<T, A>, QueueError>
         ensures { QueueIsMade config result }
     {
@@ -117,6 +117,8 @@ impl<T, A: Allocator> SharedDelayQueue<T, A> {
 
 impl<T: Drop, A: Allocator> SharedDelayQueue<T, A> {
     /// The shard, with its lock held until the answer is dropped. Refused as Unknown exactly out of range.
+    ///
+    /// A thread that holds a shard and takes its lock once more, by any call that names the shard, waits for ever.
     pub fn enter<R: Wait>(&self, rt: &R, shard: usize) -> Result<LockedShard<'_, T, A>, QueueError>
         ensures entered { IfOk result (λ state. (shard < self.now) × IsShard state) }
         ensures refused { IfErr result (λ e. (self.now ≤ shard) × (e ≡ Unknown)) }
@@ -150,7 +152,8 @@ impl<T, A: Allocator + Clone> SharedDelayQueue<T, A> {
 
 impl<T: Drop> SharedDelayQueue<T> {
     /// Calls `f` once with the shard's state while its lock is held, and gives back its answer. Refused as Unknown
-    /// exactly out of range; `f` isn't called then.
+    /// exactly out of range; `f` isn't called then. What `f` does on the shard it does on the state: see
+    /// [`SharedDelayQueue::enter`] for what waits for ever.
     pub fn lend<R: Wait, O, F: FnOnce(&mut ShardState<T>) -> O + Drop>(
         &self,
         rt: &R,

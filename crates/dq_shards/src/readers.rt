@@ -12,7 +12,7 @@ use dq_wheel::Place;
 use std::alloc::Allocator;
 
 impl<T: Drop, A: Allocator> ShardState<T, A> {
-    /// The next wake: the tick at which the queue has something to do, none where nothing is linked.
+    /// The next wake: the tick of one millisecond at which the queue has something to do, none where nothing is linked.
     pub fn next_wake(&self) -> Option<u64>
         ensures { TellsWake self.now.core result }
     {
@@ -40,21 +40,22 @@ impl<T: Drop, A: Allocator> ShardState<T, A> {
         self.core.capacity()
     }
 
-    /// The wheel's tick, which is not after the noted one.
+    /// The wheel's tick of one millisecond, which is not after the noted one.
     pub fn tick(&self) -> u64
         ensures { result ≡ self.now.core.wheel.filing.tick }
     {
         self.core.tick()
     }
 
-    /// The greatest accepted tick.
+    /// The greatest tick of one millisecond that a poll accepted; at first 0.
     pub fn noted(&self) -> u64
         ensures { result ≡ self.now.core.noted }
     {
         self.core.noted()
     }
 
-    /// How many entries came and went. Its `cancelled` counts those that were reaped.
+    /// How many entries came and went. Its `cancelled` counts those that were reaped, so it may be fewer than the
+    /// accepted cancels, which an audit tells.
     pub fn tally(&self) -> Tally
         ensures { IsTally self.now.core result }
     {
@@ -75,7 +76,8 @@ impl<T: Drop, A: Allocator> ShardState<T, A> {
         self.core.place(entry)
     }
 
-    /// The tick by which an entry is filed; none where the entry is missing.
+    /// The tick of one millisecond by which an entry is filed, which is not after its deadline in force; none where the
+    /// entry is missing.
     pub fn filed(&self, entry: &EntryId) -> Option<u64>
         ensures { TellsFiled self.now.core entry.now result }
     {

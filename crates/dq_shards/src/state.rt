@@ -56,7 +56,7 @@ impl<T: Drop, A: Allocator> ShardState<T, A> {
         ShardState { core, parked: None }
     }
 
-    /// What every shard keeps.
+    /// What every shard keeps. The call does nothing, and is for proofs.
     pub fn law(&self)
         ensures { IsShard self.now }
     {
@@ -190,7 +190,8 @@ impl<T: Drop, A: Allocator> ShardState<T, A> {
         answer
     }
 
-    /// Reaps each linked entry that is found cancelled, and answers how many. It looks at every slot.
+    /// Reaps each linked entry that is found cancelled, and answers how many. Their values are dropped. It looks at every
+    /// slot.
     pub fn sweep(&mut self) -> usize
         // No entry is left that is known as cancelled, and so many are fewer. Nothing is ended by it.
         ensures reaped { NoneCancelled (machine self.new.core) }
