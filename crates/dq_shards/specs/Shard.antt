@@ -39,4 +39,5 @@ pub record IsShard {T : Type 0} (s : ShardView T) : Type 0 where
 
 -- the poller stays parked exactly where the parked law holds with the queue as it is now
 abbrev pub Settles : {T : Type 0} → Core T Sat → Option Parked → Option Parked → Type 0
-Settles c old new = (wake : Option ℕ) × TellsWake c wake × (new ≡ still_parked old wake)
+Settles c None new = new ≡ None
+Settles c (Some p) new = (wake : Option ℕ) × TellsWake c wake × (new ≡ still_parked (Some p) wake)

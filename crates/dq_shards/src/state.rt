@@ -19,13 +19,17 @@ use dq_words::Keeper;
 use std::alloc::{Allocator, Global};
 use std::marker::Model;
 
-// Wakes the poller where it stands parked against the parked law with the queue as it is now.
+// Wakes the poller where it stands parked against the parked law with the queue as it is now. Where none is parked, which is so
+// in most calls, the next wake isn't asked for.
+#[inline]
 fn settle<T: Drop, A: Allocator>(core: &DelayCore<T, Keeper<A>, A>, parked: &mut Option<Parked>)
     ensures settles { Settles core.now parked.old parked.new }
     ensures law { IsParked core.now parked.new }
     ensures empty { NoneLinked (machine core.now) → parked.new ≡ None }
 {
-    keep_until(parked, core.next_wake());
+    if parked.is_some() {
+        keep_until(parked, core.next_wake());
+    }
 }
 
 /// The value behind a shard's lock: a queue over words that callers share, and the poller that is parked there.
