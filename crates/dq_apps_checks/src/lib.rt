@@ -1,5 +1,5 @@
-//! Tests of the expiring cache: the worked rows, refused memory, and thousands of calls beside a slow model of it. They stand
-//! in a crate of their own, so that the cache is proved once.
+//! Tests of the expiring cache and of idle sessions: the worked rows, refused memory, thousands of calls of the cache beside a
+//! slow model of it, and touches from another thread. They stand in a crate of their own, so that the two are proved once.
 #![tactic(auto)]
 
 #[cfg(test)]
@@ -10,3 +10,7 @@ mod model;
 mod rows;
 #[cfg(test)]
 mod same_calls;
+#[cfg(test)]
+mod sessions;
+#[cfg(test)]
+mod sessions_memory;
