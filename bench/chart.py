@@ -17,6 +17,8 @@ COLOURS = {
     "heap-push-locked": "#009e73",
     "delay-queue": "#f0c800",
     "delay-queue-locked": "#b08900",
+    "kit-delay-queue": "#c8b77a",
+    "kit-wheel": "#8c8c8c",
 }
 WIDTH = 1900
 LEFT, RIGHT = 56, 16

@@ -6,6 +6,7 @@
 mod asked;
 mod bytes;
 mod callers;
+mod kit;
 mod load;
 mod plan;
 mod queues;
@@ -15,12 +16,14 @@ mod work;
 
 use anyhow::{Result, bail};
 use asked::{Asked, CALLS, ROWS, Timed};
+use kit::{KitQueue, KitWheel};
 use load::{Load, Row};
 use plan::SplitMix64;
 use queues::{Issues, Owned, Queue, Shared};
 use sample::Sample;
 use shards::{Call, ShardLoad};
 use std::env;
+use std::random::RandomSource;
 use std::rt::Clock;
 use std::sync::Wait;
 use std::thread::Threads;
@@ -42,7 +45,7 @@ fn main(rt: HostRuntime) -> Result<()> {
 
 fn run<R>(rt: &R, words: &[String]) -> Result<()>
 where
-    R: Clock + Print + AllocGlobal + Threads + Wait + Clone + Drop + Send + 'static,
+    R: Clock + Print + AllocGlobal + RandomSource + Threads + Wait + Clone + Drop + Send + 'static,
 {
     if words.is_empty() {
         return small(rt);
@@ -51,11 +54,7 @@ where
         bail!("usage: dq_load time ROW ENTRIES THREADS ROUNDS (bench/README.md has the rows)");
     };
     match asked.timed {
-        Timed::Owned(row) => {
-            let owned = Owned::new(rt.alloc(), asked.entries)?;
-            let shared = Shared::new(rt.alloc(), asked.entries)?;
-            time_row(rt, &asked, row, owned, shared)
-        }
+        Timed::Owned(row) => time_row(rt, &asked, row),
         Timed::Callers => time_callers(rt, &asked, Shared::new(rt.alloc(), asked.entries)?),
         Timed::Shards(call, shards) => time_shards(rt, &asked, call, shards),
     }
@@ -64,12 +63,20 @@ where
 /// Makes each row once, and prints what was done.
 fn small<R>(rt: &R) -> Result<()>
 where
-    R: Clock + Print + AllocGlobal + Threads + Wait + Clone + Drop + Send + 'static,
+    R: Clock + Print + AllocGlobal + RandomSource + Threads + Wait + Clone + Drop + Send + 'static,
 {
     print_draws(rt)?;
     for (name, row) in ROWS {
         small_row(rt, "ours-owned", name, row, Owned::new(rt.alloc(), SMALL)?)?;
         small_row(rt, "ours", name, row, Shared::new(rt.alloc(), SMALL)?)?;
+        small_row(
+            rt,
+            "kit-wheel",
+            name,
+            row,
+            KitWheel::new(rt.alloc(), SMALL)?,
+        )?;
+        small_row(rt, "kit-delay-queue", name, row, KitQueue::new(rt, SMALL)?)?;
     }
     small_callers(rt, Shared::new(rt.alloc(), SMALL)?)?;
     for (name, call) in CALLS {
@@ -153,20 +160,46 @@ where
     Ok(load)
 }
 
+/// Times rounds of our queues in turns, and then of the two peers here.
+fn time_row<R>(rt: &R, asked: &Asked, row: Row) -> Result<()>
+where
+    R: Clock + Print + AllocGlobal + RandomSource,
+{
+    let (alloc, entries) = (rt.alloc(), asked.entries);
+    let (owned, shared) = (Owned::new(alloc, entries)?, Shared::new(alloc, entries)?);
+    time_both(rt, asked, row, ("ours-owned", "ours"), owned, shared)?;
+    let (wheel, queue) = (KitWheel::new(alloc, entries)?, KitQueue::new(rt, entries)?);
+    time_both(
+        rt,
+        asked,
+        row,
+        ("kit-wheel", "kit-delay-queue"),
+        wheel,
+        queue,
+    )
+}
+
 /// Times rounds of two queues in turns.
-fn time_row<R, P, Q>(rt: &R, asked: &Asked, row: Row, owned: P, shared: Q) -> Result<()>
+fn time_both<R, P, Q>(
+    rt: &R,
+    asked: &Asked,
+    row: Row,
+    names: (&str, &str),
+    first: P,
+    second: Q,
+) -> Result<()>
 where
     R: Clock + Print + AllocGlobal,
     P: Queue + Drop,
     Q: Queue + Drop,
 {
-    let mut owned = warmed(rt, owned, asked.entries, row)?;
-    let mut shared = warmed(rt, shared, asked.entries, row)?;
+    let mut first = warmed(rt, first, asked.entries, row)?;
+    let mut second = warmed(rt, second, asked.entries, row)?;
     for round in 1..=asked.rounds {
-        let sample = owned.round(rt, row)?;
-        println!(rt; "ours-owned {asked} {round} {sample}")?;
-        let sample = shared.round(rt, row)?;
-        println!(rt; "ours {asked} {round} {sample}")?;
+        let sample = first.round(rt, row)?;
+        println!(rt; "{} {asked} {round} {sample}", names.0)?;
+        let sample = second.round(rt, row)?;
+        println!(rt; "{} {asked} {round} {sample}", names.1)?;
     }
     Ok(())
 }
