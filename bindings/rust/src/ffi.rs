@@ -1,0 +1,216 @@
+//! The library's calls, as `include/hontkhale.h` declares them. This is the only module with `unsafe`.
+
+use std::ffi::c_void;
+use std::ptr;
+
+pub const OK: u32 = 0;
+pub const TOO_FAR: u32 = 3;
+pub const FULL: u32 = 4;
+pub const MISSING: u32 = 5;
+pub const WAS_CANCELLED: u32 = 6;
+pub const WORN: u32 = 7;
+pub const TICK_TOO_LARGE: u32 = 8;
+pub const BAD_CONFIG: u32 = 9;
+pub const NO_MEMORY: u32 = 10;
+pub const WAITING: u32 = 11;
+pub const IDLE: u32 = 12;
+pub const UNKNOWN: u32 = 13;
+pub const STALE: u32 = 14;
+pub const ENDED: u32 = 15;
+pub const TOO_MANY_CALLERS: u32 = 16;
+pub const CALLERS_OUT: u32 = 17;
+
+pub const LIVE: u64 = 0;
+pub const CANCELLED: u64 = 1;
+pub const EXPIRED: u64 = 2;
+pub const REMOVED: u64 = 3;
+
+#[repr(C)]
+#[derive(Clone, Copy, Debug)]
+pub struct Answer {
+    pub code: u32,
+    pub first: u64,
+    pub second: u64,
+}
+
+#[repr(C)]
+struct RawHandle {
+    ptr: *mut c_void,
+    held: bool,
+}
+
+impl RawHandle {
+    fn empty() -> RawHandle {
+        RawHandle { ptr: ptr::null_mut(), held: false }
+    }
+}
+
+#[repr(C)]
+#[derive(Clone, Copy, Debug, Default, PartialEq, Eq, Hash)]
+pub struct RawKey {
+    pub shard: u32,
+    pub index: u32,
+    pub born: u32,
+    pub stamp: u32,
+}
+
+#[repr(C)]
+#[derive(Clone, Copy, Default)]
+pub struct RawExpired {
+    pub key: RawKey,
+    pub deadline: u64,
+    pub noted: u64,
+    pub value: u64,
+}
+
+#[repr(C)]
+#[derive(Clone, Copy, Default)]
+pub struct RawRemoved {
+    pub key: RawKey,
+    pub deadline: u64,
+    pub value: u64,
+}
+
+#[repr(C)]
+#[derive(Clone, Copy, Default)]
+pub struct RawTally {
+    pub inserted: u64,
+    pub expired: u64,
+    pub removed: u64,
+    pub cancelled: u64,
+    pub linked: u64,
+    pub moves: u64,
+}
+
+extern "C" {
+    fn dq_new(queue: &mut RawHandle, shard: u32, capacity: usize, last_stamp: u32) -> Answer;
+    fn dq_free(queue: &mut RawHandle) -> Answer;
+    fn dq_insert(queue: &mut RawHandle, value: u64, when: u64, key: &mut RawKey) -> Answer;
+    fn dq_reset(queue: &mut RawHandle, key: &mut RawKey, when: u64) -> Answer;
+    fn dq_remove(queue: &mut RawHandle, key: &RawKey, removed: &mut RawRemoved) -> Answer;
+    fn dq_deadline(queue: &mut RawHandle, key: &RawKey) -> Answer;
+    fn dq_poll(queue: &mut RawHandle, tick: u64, expired: &mut RawExpired) -> Answer;
+    fn dq_next_wake(queue: &mut RawHandle) -> Answer;
+    fn dq_len(queue: &mut RawHandle) -> Answer;
+    fn dq_sweep(queue: &mut RawHandle) -> Answer;
+    fn dq_clear(queue: &mut RawHandle) -> Answer;
+    fn dq_tally(queue: &mut RawHandle, tally: &mut RawTally) -> Answer;
+    fn dq_issue(queue: &mut RawHandle, caller: &mut RawHandle) -> Answer;
+    fn dq_extend(caller: &mut RawHandle, key: &RawKey, when: u64) -> Answer;
+    fn dq_cancel(caller: &mut RawHandle, key: &RawKey) -> Answer;
+    fn dq_look(caller: &mut RawHandle, key: &RawKey) -> Answer;
+    fn dq_give_back(caller: &mut RawHandle) -> Answer;
+    fn dq_returned(queue: &mut RawHandle) -> Answer;
+}
+
+/// A queue's handle, freed when it is dropped.
+pub struct QueueHandle(RawHandle);
+
+// SAFETY: the library's handle is proved to be `Send`: it owns the queue, and nothing of it belongs to a thread.
+unsafe impl Send for QueueHandle {}
+
+/// A caller's handle, given back when it is dropped.
+pub struct CallerHandle(RawHandle);
+
+// SAFETY: the library's handle is proved to be `Send`, and what it shares with its queue are words that are changed by
+// atomic steps alone.
+unsafe impl Send for CallerHandle {}
+
+// SAFETY, of each call below: a handle is made here as empty and is written by the library alone; `&mut self` and Rust's
+// rules of borrowing keep it to one call at a time, and keep what is passed beside it alive, written and apart. Whoever
+// moves a handle to another thread orders that, as Rust does for what is `Send`.
+impl QueueHandle {
+    pub fn new(shard: u32, capacity: usize, last_stamp: u32) -> Result<QueueHandle, Answer> {
+        let mut handle = QueueHandle(RawHandle::empty());
+        let answer = unsafe { dq_new(&mut handle.0, shard, capacity, last_stamp) };
+        if answer.code == OK {
+            Ok(handle)
+        } else {
+            Err(answer)
+        }
+    }
+
+    pub fn insert(&mut self, value: u64, when: u64, key: &mut RawKey) -> Answer {
+        unsafe { dq_insert(&mut self.0, value, when, key) }
+    }
+
+    pub fn reset(&mut self, key: &mut RawKey, when: u64) -> Answer {
+        unsafe { dq_reset(&mut self.0, key, when) }
+    }
+
+    pub fn remove(&mut self, key: &RawKey, removed: &mut RawRemoved) -> Answer {
+        unsafe { dq_remove(&mut self.0, key, removed) }
+    }
+
+    pub fn deadline(&mut self, key: &RawKey) -> Answer {
+        unsafe { dq_deadline(&mut self.0, key) }
+    }
+
+    pub fn poll(&mut self, tick: u64, expired: &mut RawExpired) -> Answer {
+        unsafe { dq_poll(&mut self.0, tick, expired) }
+    }
+
+    pub fn next_wake(&mut self) -> Answer {
+        unsafe { dq_next_wake(&mut self.0) }
+    }
+
+    pub fn len(&mut self) -> Answer {
+        unsafe { dq_len(&mut self.0) }
+    }
+
+    pub fn sweep(&mut self) -> Answer {
+        unsafe { dq_sweep(&mut self.0) }
+    }
+
+    pub fn clear(&mut self) -> Answer {
+        unsafe { dq_clear(&mut self.0) }
+    }
+
+    pub fn tally(&mut self, tally: &mut RawTally) -> Answer {
+        unsafe { dq_tally(&mut self.0, tally) }
+    }
+
+    pub fn issue(&mut self) -> Result<CallerHandle, Answer> {
+        let mut caller = CallerHandle(RawHandle::empty());
+        let answer = unsafe { dq_issue(&mut self.0, &mut caller.0) };
+        if answer.code == OK {
+            Ok(caller)
+        } else {
+            Err(answer)
+        }
+    }
+
+    pub fn returned(&mut self) -> Answer {
+        unsafe { dq_returned(&mut self.0) }
+    }
+}
+
+impl Drop for QueueHandle {
+    fn drop(&mut self) {
+        unsafe { dq_free(&mut self.0) };
+    }
+}
+
+impl CallerHandle {
+    pub fn extend(&mut self, key: &RawKey, when: u64) -> Answer {
+        unsafe { dq_extend(&mut self.0, key, when) }
+    }
+
+    pub fn cancel(&mut self, key: &RawKey) -> Answer {
+        unsafe { dq_cancel(&mut self.0, key) }
+    }
+
+    pub fn look(&mut self, key: &RawKey) -> Answer {
+        unsafe { dq_look(&mut self.0, key) }
+    }
+
+    pub fn give_back(&mut self) -> Answer {
+        unsafe { dq_give_back(&mut self.0) }
+    }
+}
+
+impl Drop for CallerHandle {
+    fn drop(&mut self) {
+        self.give_back();
+    }
+}

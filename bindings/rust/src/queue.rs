@@ -1,0 +1,290 @@
+use crate::caller::Caller;
+use crate::error::{unknown, InsertError, IssueError, NewError, QueueError};
+use crate::ffi::{self, QueueHandle, RawExpired, RawKey, RawRemoved, RawTally};
+use crate::key::Key;
+use crate::LAST_STAMP;
+use std::fmt;
+
+/// What a queue is made by.
+#[derive(Clone, Copy, Debug, PartialEq, Eq)]
+pub struct Config {
+    /// The number that the queue's keys carry. The queue's own calls refuse a key of another.
+    pub shard: u32,
+    /// The number of slots, from 1 to [`CAPACITY_LIMIT`](crate::CAPACITY_LIMIT).
+    pub capacity: usize,
+    /// The stamp after which a slot is worn, from 1 to [`LAST_STAMP`].
+    pub last_stamp: u32,
+}
+
+/// A queue of entries that come out when their deadline is reached.
+///
+/// Deadlines are ticks of one millisecond, and the owner says how late it is: no clock is read. The room is fixed when the
+/// queue is made. Beside what [`tokio_util`'s `DelayQueue`][peer] does, other threads may extend or cancel entries, each by
+/// a [`Caller`] and without a lock; a poll takes out only what is due by the latest deadline that was accepted.
+///
+/// What the library does at each call is proved. Not so this crate, which keeps the values beside the queue, by their
+/// slots.
+///
+/// The value of an entry that a caller cancelled is dropped when its slot is taken again, by a `sweep` or a `clear`, or
+/// with the queue.
+///
+/// [peer]: https://docs.rs/tokio-util/latest/tokio_util/time/delay_queue/struct.DelayQueue.html
+pub struct DelayQueue<T> {
+    handle: QueueHandle,
+    shard: u32,
+    values: Vec<Option<Stored<T>>>,
+}
+
+/// A value, with the key under which it was inserted.
+struct Stored<T> {
+    key: RawKey,
+    value: T,
+}
+
+/// An entry that came out.
+#[derive(Debug)]
+pub struct Expired<T> {
+    key: Key,
+    deadline: u64,
+    value: T,
+}
+
+/// What a poll answers.
+#[derive(Debug)]
+pub enum Turn<T> {
+    /// An entry whose deadline is reached. There may be more.
+    Out(Expired<T>),
+    /// None is due: there is nothing to do before the tick `next`.
+    Waiting {
+        /// A tick of one millisecond.
+        next: u64,
+    },
+    /// The queue is empty.
+    Idle,
+}
+
+/// How many entries came and went.
+#[derive(Clone, Copy, Debug, PartialEq, Eq)]
+pub struct Tally {
+    /// Inserts.
+    pub inserted: u64,
+    /// Entries that came out.
+    pub expired: u64,
+    /// Entries that were removed.
+    pub removed: u64,
+    /// Cancelled entries that were reaped.
+    pub cancelled: u64,
+    /// Entries that are linked.
+    pub linked: u64,
+    /// Moves from one level of the wheels to a lower one.
+    pub moves: u64,
+}
+
+impl<T> DelayQueue<T> {
+    /// A queue of that many slots.
+    ///
+    /// # Errors
+    /// `BadConfig` where the capacity isn't 1 to 65,536, `NoMemory`.
+    pub fn with_capacity(capacity: usize) -> Result<DelayQueue<T>, NewError> {
+        DelayQueue::with_config(Config { shard: 0, capacity, last_stamp: LAST_STAMP })
+    }
+
+    /// A queue of that configuration.
+    ///
+    /// # Errors
+    /// `BadConfig` where a number is out of its range, `NoMemory`.
+    pub fn with_config(config: Config) -> Result<DelayQueue<T>, NewError> {
+        let Config { shard, capacity, last_stamp } = config;
+        let handle = QueueHandle::new(shard, capacity, last_stamp).map_err(NewError::of)?;
+        let mut values = Vec::new();
+        values.try_reserve_exact(capacity).map_err(|_| NewError::NoMemory)?;
+        values.resize_with(capacity, || None);
+        Ok(DelayQueue { handle, shard, values })
+    }
+
+    /// Puts a value in that comes out at the tick `when`, or at the next poll where `when` is over. Constant time.
+    ///
+    /// # Errors
+    /// `TooFar` beyond the last tick, `Full` where no slot is free; the value comes back.
+    pub fn insert_at(&mut self, value: T, when: u64) -> Result<Key, InsertError<T>> {
+        let mut key = RawKey::default();
+        let answer = self.handle.insert(0, when, &mut key);
+        if answer.code != ffi::OK {
+            return Err(InsertError { error: QueueError::of(answer), value });
+        }
+        let key = Key(key);
+        self.values[key.slot()] = Some(Stored { key: key.0, value });
+        Ok(key)
+    }
+
+    /// Notes how late it is, and takes out one entry whose deadline is reached. Call it until it answers another turn.
+    ///
+    /// # Errors
+    /// `TickTooLarge` beyond the last tick.
+    pub fn poll_expired(&mut self, now: u64) -> Result<Turn<T>, QueueError> {
+        let mut out = RawExpired::default();
+        let answer = self.handle.poll(now, &mut out);
+        match answer.code {
+            ffi::OK => Ok(Turn::Out(self.taken(Key(out.key), out.deadline))),
+            ffi::WAITING => Ok(Turn::Waiting { next: answer.first }),
+            ffi::IDLE => Ok(Turn::Idle),
+            _ => Err(QueueError::of(answer)),
+        }
+    }
+
+    /// Takes a live entry out. Constant time.
+    ///
+    /// # Errors
+    /// `Missing`, `WasCancelled`.
+    pub fn remove(&mut self, key: &Key) -> Result<Expired<T>, QueueError> {
+        let mut out = RawRemoved::default();
+        let answer = self.handle.remove(&key.0, &mut out);
+        if answer.code != ffi::OK {
+            return Err(QueueError::of(answer));
+        }
+        Ok(self.taken(Key(out.key), out.deadline))
+    }
+
+    /// Gives a live entry another deadline, earlier or later, and answers its new key: callers refuse the old one.
+    /// Constant time.
+    ///
+    /// # Errors
+    /// `TooFar`, `Missing`, `WasCancelled`, `Worn`.
+    pub fn reset_at(&mut self, key: &Key, when: u64) -> Result<Key, QueueError> {
+        let mut named = key.0;
+        let answer = self.handle.reset(&mut named, when);
+        if answer.code != ffi::OK {
+            return Err(QueueError::of(answer));
+        }
+        Ok(Key(named))
+    }
+
+    /// The deadline of a live entry, as its callers left it.
+    ///
+    /// # Errors
+    /// `Missing`, `WasCancelled`.
+    pub fn deadline(&mut self, key: &Key) -> Result<u64, QueueError> {
+        let answer = self.handle.deadline(&key.0);
+        if answer.code != ffi::OK {
+            return Err(QueueError::of(answer));
+        }
+        Ok(answer.first)
+    }
+
+    /// The next tick at which there is something to do, none where the queue is empty.
+    pub fn next_wake(&mut self) -> Option<u64> {
+        let answer = self.handle.next_wake();
+        if answer.code == ffi::WAITING {
+            Some(answer.first)
+        } else {
+            None
+        }
+    }
+
+    /// The number of entries, those among them that were cancelled and aren't reaped yet.
+    pub fn len(&mut self) -> usize {
+        self.handle.len().first as usize
+    }
+
+    /// Whether there is no entry.
+    pub fn is_empty(&mut self) -> bool {
+        self.len() == 0
+    }
+
+    /// The number of slots.
+    pub fn capacity(&self) -> usize {
+        self.values.len()
+    }
+
+    /// Takes every entry out and drops its value. Goes over every slot.
+    pub fn clear(&mut self) {
+        self.handle.clear();
+        self.values.iter_mut().for_each(|stored| *stored = None);
+    }
+
+    /// Reaps the entries that were cancelled, drops their values, and answers how many it reaped. Goes over every slot.
+    pub fn sweep(&mut self) -> usize {
+        let reaped = self.handle.sweep().first as usize;
+        for stored in &mut self.values {
+            if let Some(Stored { key, .. }) = stored {
+                if self.handle.deadline(key).code == ffi::MISSING {
+                    *stored = None;
+                }
+            }
+        }
+        reaped
+    }
+
+    /// How many entries came and went.
+    pub fn tally(&mut self) -> Tally {
+        let mut tally = RawTally::default();
+        self.handle.tally(&mut tally);
+        Tally {
+            inserted: tally.inserted,
+            expired: tally.expired,
+            removed: tally.removed,
+            cancelled: tally.cancelled,
+            linked: tally.linked,
+            moves: tally.moves,
+        }
+    }
+
+    /// A caller, which may go to another thread. A queue issues at most 1,024, given back or not.
+    ///
+    /// # Errors
+    /// `NoMemory`, `TooManyCallers`.
+    pub fn caller(&mut self) -> Result<Caller, IssueError> {
+        let shard = self.shard;
+        self.handle.issue().map(|handle| Caller::of(handle, shard)).map_err(IssueError::of)
+    }
+
+    /// The accepted cancels of all callers, once each is given back or dropped; else the number of those that are out.
+    pub fn returned(&mut self) -> Result<u64, u64> {
+        let answer = self.handle.returned();
+        match answer.code {
+            ffi::OK => Ok(answer.first),
+            ffi::CALLERS_OUT => Err(answer.first),
+            code => unknown(code),
+        }
+    }
+
+    /// The value of an entry that left its slot.
+    fn taken(&mut self, key: Key, deadline: u64) -> Expired<T> {
+        let stored = self.values[key.slot()].take();
+        let Stored { value, .. } = stored.expect("each linked entry's value is at its slot");
+        Expired { key, deadline, value }
+    }
+}
+
+impl<T> fmt::Debug for DelayQueue<T> {
+    fn fmt(&self, f: &mut fmt::Formatter<'_>) -> fmt::Result {
+        f.debug_struct("DelayQueue").field("capacity", &self.capacity()).finish_non_exhaustive()
+    }
+}
+
+impl<T> Expired<T> {
+    /// The value.
+    pub fn get_ref(&self) -> &T {
+        &self.value
+    }
+
+    /// The value, to be changed.
+    pub fn get_mut(&mut self) -> &mut T {
+        &mut self.value
+    }
+
+    /// The value alone.
+    pub fn into_inner(self) -> T {
+        self.value
+    }
+
+    /// The deadline that was in force, a tick of one millisecond.
+    pub fn deadline(&self) -> u64 {
+        self.deadline
+    }
+
+    /// The entry's key, of its last stamp.
+    pub fn key(&self) -> Key {
+        self.key
+    }
+}
