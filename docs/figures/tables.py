@@ -163,7 +163,7 @@ def gate():
     for crate in tree.names():
         edits = tree.edits(crate)
         told = noted.get((crate, "edits"), "not yet") if edits else ""
-        lines.append(row(f"`{crate}`", noted.get((crate, "proof"), "not yet"), edits or "", told))
+        lines.append(row(f"`{crate}`", noted.get((crate, "proof"), "not yet"), str(edits or ""), told))
     return "\n".join(lines)
 
 
