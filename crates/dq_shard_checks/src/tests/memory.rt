@@ -1,0 +1,109 @@
+//! Each allocation of a queue of shards, of a handle and of a caller is refused in turn, and counted.
+
+use dq_core::CoreError;
+use dq_shards::{QueueConfig, QueueError, SharedDelayQueue};
+use dq_words::HANDLE_LIMIT;
+use linked_list_allocator::LocalHeap;
+use refusing_heap::RefusingHeap;
+use std::process::Abort;
+use std::sync::Wait;
+use std::test::Fail;
+
+type Heap<'all> = RefusingHeap<&'all LocalHeap>;
+
+type Letters<'heap, 'all> = SharedDelayQueue<char, &'heap Heap<'all>>;
+
+const NO_MEMORY: QueueError = QueueError::Core(CoreError::NoMemory);
+
+/// Where memory was refused.
+#[derive(Clone, Copy, Debug, PartialEq, Eq)]
+enum Refused {
+    InNew,
+    InHandle,
+    Nowhere,
+}
+
+// Each shard has so many callers out.
+fn are_out<R: Abort + Wait>(rt: &R, queue: &Letters, out: u64) -> Result<(), QueueError> {
+    for shard in 0..queue.shards() {
+        assert_eq!(rt; queue.enter(rt, shard)?.out(), out, "shard {shard}");
+    }
+    Ok(())
+}
+
+// Whether a handle is made, and given back, over a queue that has none out. It is refused for want of memory alone.
+fn is_handle_made<R: Abort + Wait>(rt: &R, queue: &Letters) -> Result<bool, QueueError> {
+    match queue.handle(rt) {
+        Ok(handle) => {
+            let counted = are_out(rt, queue, 1);
+            assert_eq!(rt; handle.give_back(), 0);
+            counted?;
+            Ok(true)
+        }
+        Err(NO_MEMORY) => {
+            are_out(rt, queue, 0)?;
+            Ok(false)
+        }
+        Err(error) => Err(error),
+    }
+}
+
+// A queue is made, and a handle, once more where the first was refused.
+fn makes<R: Abort + Wait>(rt: &R, heap: &Heap, shards: usize) -> Result<Refused, QueueError> {
+    let queue: Letters = match SharedDelayQueue::new(heap, QueueConfig::of(shards, 4)) {
+        Ok(queue) => queue,
+        Err(NO_MEMORY) => return Ok(Refused::InNew),
+        Err(error) => return Err(error),
+    };
+    assert!(rt; !heap.has_refused());
+    if is_handle_made(rt, &queue)? {
+        return Ok(Refused::Nowhere);
+    }
+    assert!(rt; is_handle_made(rt, &queue)?);
+    Ok(Refused::InHandle)
+}
+
+// How many allocations were refused in the making of a queue, and of a handle.
+fn refusals<R>(rt: &R, shards: usize) -> Result<(usize, usize), Fail>
+where
+    R: Abort + Wait + AllocGlobal,
+{
+    let (mut in_new, mut in_handle) = (0usize, 0usize);
+    for grants in 0..100u64 {
+        let all = LocalHeap::new(rt.alloc(), 1 << 16)?;
+        let heap = RefusingHeap::new(&all, grants);
+        let refused = makes(rt, &heap, shards)?;
+        assert_eq!(rt; all.used(), 0, "of {grants} grants");
+        assert_eq!(rt; heap.has_refused(), refused != Refused::Nowhere);
+        match refused {
+            Refused::InNew => in_new = in_new.saturating_add(1),
+            Refused::InHandle => in_handle = in_handle.saturating_add(1),
+            Refused::Nowhere => return Ok((in_new, in_handle)),
+        }
+    }
+    Err(Fail::new("each run was refused"))
+}
+
+/// A queue takes a row of its shards. Each shard takes four times for its words (a row of zeros, the table's words, its row of
+/// no slots, the table itself), three times for its slots (cells, and two rows of those that are free) and three times for its
+/// wheel (links with heads, filed ticks, moves). A handle takes a row of callers.
+#[test]
+fn each_allocation_is_refused(rt: HostRuntime) -> Result<(), Fail> {
+    assert_eq!(rt; refusals(&rt, 1)?, (11, 1));
+    assert_eq!(rt; refusals(&rt, 3)?, (31, 1));
+    Ok(())
+}
+
+/// Over a heap that refuses what comes behind the queue's own allocations.
+#[test]
+fn issued_callers_take_no_memory(rt: HostRuntime) -> Result<(), Fail> {
+    let all = LocalHeap::new(rt.alloc(), 1 << 16)?;
+    let heap = RefusingHeap::new(&all, 31);
+    let queue: Letters = SharedDelayQueue::new(&heap, QueueConfig::of(3, 4))?;
+    for _ in 0..HANDLE_LIMIT {
+        let _cancels = queue.enter(&rt, 1)?.issue()?.give_back();
+    }
+    assert!(rt; !heap.has_refused());
+    assert!(rt; !is_handle_made(&rt, &queue)? && heap.has_refused());
+    Ok(())
+}
