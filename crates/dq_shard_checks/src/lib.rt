@@ -4,24 +4,4 @@
 #![tactic(auto)]
 
 #[cfg(test)]
-mod cases;
-#[cfg(test)]
-mod draining;
-#[cfg(test)]
-mod handles;
-#[cfg(test)]
-mod keys;
-#[cfg(test)]
-mod memory;
-#[cfg(test)]
-mod play;
-#[cfg(test)]
-mod rows;
-#[cfg(test)]
-mod shards;
-#[cfg(test)]
-mod swapped;
-#[cfg(test)]
-mod threads;
-#[cfg(test)]
-mod twins;
+mod tests;

@@ -1,15 +1,15 @@
 //! The worked cases of a queue and a handle: for each its name, the shards and the capacity of its fresh queue, and its calls
 //! with their answers. A new case is a new entry here.
 
-use crate::keys::Answer::{
+use super::keys::Answer::{
     Count, Given, Idle, Moved, NotDone, Out, Refused, Seen, Stands, Tallies, Tick, Until, Waiting,
 };
-use crate::keys::Call::{
+use super::keys::Call::{
     Cancel, Deadline, Extend, FiledAt, Insert, Len, LookAt, Moves, NextWake, PlaceOf, Poll, Remove,
     Reset, TellTally,
 };
-use crate::keys::Named::{Forged, Nth};
-use crate::keys::{Answer, Call, Part};
+use super::keys::Named::{Forged, Nth};
+use super::keys::{Answer, Call, Part};
 use dq_core::Look::{LookCancelled, LookExpired, StillLive};
 use dq_core::{CallError, CoreError, Tally};
 use dq_shards::QueueError;

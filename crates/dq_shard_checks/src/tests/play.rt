@@ -1,6 +1,6 @@
 //! A queue of letters and a handle of it, which are given calls: the queue by name, or its shards' states by `lend`.
 
-use crate::keys::{Answer, Call, Keys};
+use super::keys::{Answer, Call, Keys};
 use dq_core::CoreError;
 use dq_shards::{Handle, QueueConfig, QueueError, ShardState, SharedDelayQueue};
 use std::alloc::Global;

@@ -1,8 +1,8 @@
 //! Each worked case, by name and by `lend`.
 
-use crate::cases::{BY_HANDLE, Case, OUTS};
-use crate::keys::{Answer, Call};
-use crate::play::{Play, Way};
+use super::cases::{BY_HANDLE, Case, OUTS};
+use super::keys::{Answer, Call};
+use super::play::{Play, Way};
 use dq_shards::{HandlesOut, QueueConfig};
 use std::process::Abort;
 use std::sync::Wait;

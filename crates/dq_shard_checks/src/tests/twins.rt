@@ -1,10 +1,11 @@
 //! Two queues are given the same 300 calls, drawn by a fixed generator: one by name, the other by `lend` with its states'
 //! calls.
 
-use crate::keys::{Call, Named, Part};
-use crate::play::{Letters, Play, Way};
+use super::keys::{Call, Named, Part};
+use super::play::{Letters, Play, Way};
 use dq_core::Tally;
 use dq_shards::{QueueConfig, QueueError, Totals};
+use draws::Draw;
 use std::process::Abort;
 use std::sync::Wait;
 use std::test::Fail;
@@ -54,22 +55,14 @@ const ROUND: &[Kind] = &[
     Kind::Parked,
 ];
 
-/// Draws numbers, always the same ones.
+/// Draws calls, always the same ones.
 #[derive(Drop)]
-struct Numbers(u64);
+struct Calls(Draw);
 
-impl Numbers {
-    /// A number below that many, by xorshift; 0 where there is none.
-    fn draw(&mut self, many: u64) -> u64 {
-        self.0 ^= self.0 << 13;
-        self.0 ^= self.0 >> 7;
-        self.0 ^= self.0 << 17;
-        (self.0 >> 32).checked_rem(many).unwrap_or(0)
-    }
-
+impl Calls {
     /// A shard, at times one that isn't there.
     fn shard(&mut self) -> usize {
-        match self.draw(16) {
+        match self.0.below(16) {
             0 => SHARDS,
             drawn => drawn as usize % SHARDS,
         }
@@ -79,8 +72,8 @@ impl Numbers {
     fn named(&mut self, keys: usize) -> Named {
         let nth = keys
             .saturating_sub(1)
-            .saturating_sub(self.draw(12) as usize);
-        match self.draw(16) {
+            .saturating_sub(self.0.below(12) as usize);
+        match self.0.below(16) {
             0 => Named::Forged(nth, Part::Shard(SHARDS as u32)),
             1 => Named::Forged(nth, Part::Shard(0)),
             _ => Named::Nth(nth),
@@ -89,20 +82,20 @@ impl Numbers {
 
     /// A deadline that no other turn has: mostly soon, at times behind the wheel's tick, beyond a lap or beyond the last tick.
     fn deadline(&mut self, turn: u64) -> u64 {
-        let steps = match self.draw(24) {
+        let steps = match self.0.below(24) {
             0 => 0,
             1 => 1 << 28,
             2 => 1 << 34,
-            _ => self.draw(8).saturating_add(turn / 8),
+            _ => self.0.below(8).saturating_add(turn / 8),
         };
         steps.saturating_mul(512).saturating_add(turn)
     }
 
     /// The tick of a poll, now and then beyond the last one.
     fn tick(&mut self, turn: u64) -> u64 {
-        match self.draw(24) {
+        match self.0.below(24) {
             0 => 4398046511104,
-            _ => self.draw(1024).saturating_add(turn.saturating_mul(64)),
+            _ => self.0.below(1024).saturating_add(turn.saturating_mul(64)),
         }
     }
 
@@ -112,7 +105,7 @@ impl Numbers {
         match kind {
             Kind::Insert => {
                 let letter = char::from(b'a' + (turn % 26) as u8);
-                Call::Insert(self.draw(1000), letter, self.deadline(turn))
+                Call::Insert(self.0.below(1000), letter, self.deadline(turn))
             }
             Kind::Reset => Call::Reset(named, self.deadline(turn)),
             Kind::Remove => Call::Remove(named),
@@ -154,16 +147,10 @@ fn agree<R: Abort + Wait>(rt: &R, one: &Play, other: &Play, turn: u64) {
 }
 
 /// Makes a round of calls on both.
-fn round<R: Abort + Wait>(
-    rt: &R,
-    one: &mut Play,
-    other: &mut Play,
-    numbers: &mut Numbers,
-    first: u64,
-) {
+fn round<R: Abort + Wait>(rt: &R, one: &mut Play, other: &mut Play, calls: &mut Calls, first: u64) {
     let mut turn = first;
     for kind in ROUND {
-        let call = numbers.call(*kind, one.keys.len(), turn);
+        let call = calls.call(*kind, one.keys.len(), turn);
         let answers = (
             one.answer(rt, Way::ByName, call),
             other.answer(rt, Way::ByLend, call),
@@ -192,9 +179,9 @@ fn by_name_and_by_lend_agree(rt: HostRuntime) -> Result<(), Fail> {
     };
     let mut one = Play::new(&rt, rt.alloc(), config)?;
     let mut other = Play::new(&rt, rt.alloc(), config)?;
-    let mut numbers = Numbers(7);
+    let mut calls = Calls(Draw::new(7));
     for number in 0..ROUNDS {
-        round(&rt, &mut one, &mut other, &mut numbers, number * 20);
+        round(&rt, &mut one, &mut other, &mut calls, number * 20);
     }
     let (ended, twin) = (end(&rt, one)?, end(&rt, other)?);
     assert_eq!(rt; ended, twin);

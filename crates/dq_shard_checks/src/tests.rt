@@ -1,0 +1,11 @@
+mod cases;
+mod draining;
+mod handles;
+mod keys;
+mod memory;
+mod play;
+mod rows;
+mod shards;
+mod swapped;
+mod threads;
+mod twins;
