@@ -41,7 +41,8 @@ impl<K: Eq + Hash, V, A: Allocator> Model for TtlCache<K, V, A> {
 
 impl<K: Eq + Hash + Drop, V: Drop, A: Allocator + Clone> TtlCache<K, V, A> {
     /// A cache for so many keys where nothing is kept, at moment 0. Refused as BadConfig where the capacity isn't 1 to 65536
-    /// or the last stamp isn't 1 to 1048575, and else as NoMemory.
+    /// or the last stamp isn't 1 to 1048575, and else as NoMemory. Time and memory as the capacity; the map takes its own
+    /// later, as puts fill it.
     pub fn new(alloc: A, capacity: usize, last_stamp: u32) -> Result<TtlCache<K, V, A>, CoreError>
         ensures makes { MakesCache capacity last_stamp result }
         ensures empty { IfOk result (ShowsNothing K.eq) }
@@ -99,7 +100,7 @@ impl<K: Eq + Hash + Drop, V: Drop, A: Allocator> TtlCache<K, V, A> {
         self.timers.capacity()
     }
 
-    /// The value at a key, where its deadline is later than `now` and than the moment.
+    /// The value at a key, where its deadline is later than `now` and than the moment. Constant time.
     pub fn get(&self, key: &K, now: u64) -> Option<&V>
         ensures { option_copied result ≡ value_seen K.eq self.now key.now now }
     {
@@ -113,7 +114,7 @@ impl<K: Eq + Hash + Drop, V: Drop, A: Allocator> TtlCache<K, V, A> {
         }
     }
 
-    /// Whether a value is seen at a key.
+    /// Whether a value is seen at a key. Constant time.
     pub fn contains(&self, key: &K, now: u64) -> bool
         ensures { result ≡ is_some (value_seen K.eq self.now key.now now) }
     {
@@ -133,6 +134,8 @@ impl<K: Eq + Hash + Drop, V: Drop, A: Allocator> TtlCache<K, V, A> {
     }
 
     /// The least deadline of what is kept, seen or due: before it a purge has nothing to drop. None where nothing is kept.
+    /// Time as the keys whose deadlines share the first one's slot of the wheel; as all that is kept, where the first deadline
+    /// is more than two years ahead.
     pub fn next_deadline(&self) -> Option<u64>
         ensures { TellsNextDeadline self.now result }
     {
