@@ -46,7 +46,7 @@ enum {
     DQ_TICK_TOO_LARGE = 8,    /* the tick is beyond the last tick, `first` */
     DQ_BAD_CONFIG = 9,        /* a number of the configuration is out of its range */
     DQ_NO_MEMORY = 10,        /* memory was refused */
-    DQ_WAITING = 11,          /* nothing is due: `first` is the next tick with something to do */
+    DQ_WAITING = 11,          /* nothing is due: a number is the next tick with something to do */
     DQ_IDLE = 12,             /* nothing is linked */
     DQ_UNKNOWN = 13,          /* the key names no slot, or a stamp that its slot wasn't given */
     DQ_STALE = 14,            /* the slot has a later stamp, `first` */
@@ -135,6 +135,11 @@ dq_answer dq_deadline(dq_queue *queue, const dq_key *key);
 /* Notes a tick, and takes out one entry whose deadline is reached: DQ_OK, call again. Else DQ_WAITING with the tick to
  * come again, or DQ_IDLE. DQ_EMPTY, DQ_TICK_TOO_LARGE. */
 dq_answer dq_poll(dq_queue *queue, uint64_t tick, dq_expired *expired);
+
+/* The same for a row of `places`: takes out as many as are due and have a place, and writes them from its front. DQ_OK with
+ * how many where the row is full: call again. Else DQ_WAITING with how many and, in `second`, the tick to come again, or
+ * DQ_IDLE with how many. DQ_EMPTY, DQ_TICK_TOO_LARGE. */
+dq_answer dq_poll_many(dq_queue *queue, uint64_t tick, dq_expired *expired, size_t places);
 
 /* DQ_WAITING with the next tick with something to do, DQ_IDLE, DQ_EMPTY. */
 dq_answer dq_next_wake(dq_queue *queue);

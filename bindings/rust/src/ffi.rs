@@ -90,6 +90,7 @@ extern "C" {
     fn dq_remove(queue: &mut RawHandle, key: &RawKey, removed: &mut RawRemoved) -> Answer;
     fn dq_deadline(queue: &mut RawHandle, key: &RawKey) -> Answer;
     fn dq_poll(queue: &mut RawHandle, tick: u64, expired: &mut RawExpired) -> Answer;
+    fn dq_poll_many(queue: &mut RawHandle, tick: u64, expired: *mut RawExpired, places: usize) -> Answer;
     fn dq_next_wake(queue: &mut RawHandle) -> Answer;
     fn dq_len(queue: &mut RawHandle) -> Answer;
     fn dq_sweep(queue: &mut RawHandle) -> Answer;
@@ -148,6 +149,10 @@ impl QueueHandle {
 
     pub fn poll(&mut self, tick: u64, expired: &mut RawExpired) -> Answer {
         unsafe { dq_poll(&mut self.0, tick, expired) }
+    }
+
+    pub fn poll_many(&mut self, tick: u64, row: &mut [RawExpired]) -> Answer {
+        unsafe { dq_poll_many(&mut self.0, tick, row.as_mut_ptr(), row.len()) }
     }
 
     pub fn next_wake(&mut self) -> Answer {

@@ -5,6 +5,9 @@ use crate::key::Key;
 use crate::LAST_STAMP;
 use std::fmt;
 
+/// How many entries a call of the library takes out at most.
+const ROW: usize = 64;
+
 /// What a queue is made by.
 #[derive(Clone, Copy, Debug, PartialEq, Eq)]
 pub struct Config {
@@ -129,6 +132,28 @@ impl<T> DelayQueue<T> {
             ffi::WAITING => Ok(Turn::Waiting { next: answer.first }),
             ffi::IDLE => Ok(Turn::Idle),
             _ => Err(QueueError::of(answer)),
+        }
+    }
+
+    /// Notes how late it is, and takes every entry out whose deadline is reached, onto `outs`. Answers the next tick at
+    /// which there is something to do, none where the queue is empty.
+    ///
+    /// # Errors
+    /// `TickTooLarge` beyond the last tick.
+    pub fn poll_many(&mut self, now: u64, outs: &mut Vec<Expired<T>>) -> Result<Option<u64>, QueueError> {
+        let mut row = [RawExpired::default(); ROW];
+        loop {
+            let answer = self.handle.poll_many(now, &mut row);
+            let (taken, next) = match answer.code {
+                ffi::OK => (answer.first as usize, None),
+                ffi::WAITING => (answer.first as usize, Some(Some(answer.second))),
+                ffi::IDLE => (answer.first as usize, Some(None)),
+                _ => return Err(QueueError::of(answer)),
+            };
+            outs.extend(row[..taken].iter().map(|out| self.taken(Key(out.key), out.deadline)));
+            if let Some(next) = next {
+                return Ok(next);
+            }
         }
     }
 

@@ -179,3 +179,27 @@ fn errors_print_what_they_carry() {
     let ended: Box<dyn std::error::Error> = Box::new(CallError::Ended { how: Look::Expired(5) });
     assert_eq!(ended.to_string(), "the entry expired at 5");
 }
+
+#[test]
+fn many_at_once_are_one_by_one() {
+    for entries in [0, 1, 63, 64, 65, 200] {
+        let mut one_by_one = DelayQueue::with_capacity(1000).unwrap();
+        let mut at_once = DelayQueue::with_capacity(1000).unwrap();
+        for entry in 0..entries {
+            let when = entry * 37 % 101;
+            one_by_one.insert_at(entry, when).unwrap();
+            at_once.insert_at(entry, when).unwrap();
+        }
+        at_once.insert_at(entries, 500).unwrap();
+        let mut outs = Vec::new();
+        assert_eq!(at_once.poll_many(200, &mut outs), Ok(at_once.next_wake()));
+        for many in outs {
+            assert_eq!(out(one_by_one.poll_expired(200)), (*many.get_ref(), many.deadline()));
+        }
+        assert!(is_idle(one_by_one.poll_expired(200)));
+        let mut last = Vec::new();
+        assert_eq!(at_once.poll_many(500, &mut last), Ok(None));
+        assert_eq!(last.len(), 1);
+        assert!(at_once.poll_many(LAST_TICK + 1, &mut last).is_err());
+    }
+}

@@ -3,5 +3,6 @@ pub mod Callers
 pub mod Issuing
 pub mod Keys
 pub mod Making
+pub mod Many
 pub mod Owner
 pub mod Readers

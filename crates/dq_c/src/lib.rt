@@ -9,5 +9,6 @@ pub mod callers;
 pub mod issuing;
 pub mod keys;
 pub mod making;
+pub mod many;
 pub mod owner;
 pub mod readers;
