@@ -178,9 +178,9 @@ impl<T: Drop, A: Allocator> SharedDelayQueue<T, A> {
             (λ old r new. ShardClears old r new) result }
     {
         let mut shard = self.enter(rt, shard)?;
-        let removed = shard.clear();
+        let cleared = shard.clear();
         shard.law();
-        Ok(removed)
+        Ok(cleared)
     }
 
     /// As [`ShardState::tally`]. Refused as Unknown for a shard out of range.

@@ -116,7 +116,8 @@ fn give_back_all<A: Allocator>(mut callers: Vec<Caller<A>, A>) -> u64
     let mut cancels = 0;
     while let Some(caller) = callers.pop() {
         caller.law();
-        cancels += caller.give_back();
+        let given = caller.give_back();
+        cancels += given;
     }
     cancels
 }

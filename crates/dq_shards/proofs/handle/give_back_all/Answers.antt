@@ -10,7 +10,7 @@ loop-caller-preserved g c =
     let left = c.pop.new.self.items in
     let split : all_cancels c.loop-caller.callers.items ≡ all_cancels left + cancels_in c.in-Some.caller.view.calls =
     rw c.in-Some.ensures.items (total_append _ left c.in-Some.caller) in
-    let given = c.give_back-cancels.ensures in
+    let given = c.give_back-given.ensures in
     let few = c.law.ensures.caller.2 in
     let len = c.in-Some.ensures.len in
     (omega (arith, before.0, len), omega (arith, before.1, split, given), omega (arith, before.2, given, few, len))
