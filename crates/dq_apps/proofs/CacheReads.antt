@@ -13,7 +13,7 @@ use Rattle.dq_apps.specs.declared.kept.Kept.{Kept}
 use Rattle.dq_apps.specs.Cache.{Item, Cache, slot_at, entries_of, seen, value_at, is_kept, IsKeptAt, IsCache}
 use Rattle.dq_apps.specs.Calls.{IsUnseen, IsAbsent, is_used_up, IsLeastDeadline, TellsNextDeadline}
 use Rattle.dq_apps.specs.TimerTable.{TimerTable, IsTimer, AreWithin, AreInRange, is_set, is_spent, IsFirst}
-use Rattle.dq_apps.specs.Tied.{shown, cache_of, IsStock, TellsLeast}
+use Rattle.dq_apps.specs.Tied.{shown, cache_of, IsStock, TellsFirstDeadline}
 use Rattle.dq_apps.proofs.Ties.{shown_at, found, kept_in, at_slot, distinct_shown, looked_alike, count_kept, count_used}
 use Rattle.dq_apps.proofs.Shows.{seen_kept, unseen_none, absent_none}
 
@@ -114,7 +114,7 @@ module _ {K V : Type 0} {eq : K → K → Bool} (laws : IsEquivalence eq) (es : 
       }
 
   -- the least deadline of the map, too
-  pub stock_least : (o : Option ℕ) → TellsLeast es o → TellsNextDeadline c o
+  pub stock_least : (o : Option ℕ) → TellsFirstDeadline es o → TellsNextDeadline c o
   stock_least None none = λ i. by i (slot_at c.slots i).item refl
     where
       by : (i : ℕ) (o : Option (Item K V)) → (slot_at c.slots i).item ≡ o → (slot_at c.slots i).item ≡ None

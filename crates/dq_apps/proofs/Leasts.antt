@@ -4,7 +4,7 @@ use Rattle.std.specs.List.{All, slice_get}
 use Rattle.std.proofs.lemmas.Bool.{cases_lt}
 use Rattle.std.proofs.lemmas.List.Elements.{All-cons, All-nil}
 use Rattle.dq_apps.specs.declared.kept.Kept.{Kept}
-use Rattle.dq_apps.specs.Tied.{TellsLeast, lesser_of}
+use Rattle.dq_apps.specs.Tied.{TellsFirstDeadline, lesser_of}
 
 module _ {K V : Type 0} where
   -- the least deadline of entries and of one before them
@@ -38,12 +38,12 @@ module _ {K V : Type 0} where
         },
       )
 
-  pub least_told : (es : List (K × Kept V)) → TellsLeast es (least_of None es)
+  pub least_told : (es : List (K × Kept V)) → TellsFirstDeadline es (least_of None es)
   least_told [] = refl
   least_told (e ∷ es) =
       let r = least_is e.1.deadline es in
       let l = r.2 in
-      let P : Option ℕ → Type 0 = λ o. TellsLeast (e ∷ es) o in
+      let P : Option ℕ → Type 0 = λ o. TellsFirstDeadline (e ∷ es) o in
       subst P (sym r.1) (
         elim l.some [
           | inl same ↦ (0, e.0, e.1, refl, sym same)

@@ -10,7 +10,7 @@ use Rattle.dq_shards.specs.declared.errors.QueueError.TheVariants.{Core}
 use Rattle.dq_shards.specs.Answers.{QueueInserts, OnShardOr}
 use Rattle.dq_shards.specs.Changes.{ShardPolls}
 use Rattle.dq_shards.specs.Endings.{OutsAreInForce}
-use Rattle.dq_apps.specs.Sessions.{Sessions, Text, deadline_from, LogsIn, IfOut, WasIdle}
+use Rattle.dq_apps.specs.Sessions.{Sessions, Text, deadline_from, LogsIn, IfComesOut, WasIdle}
 
 -- what the insert of a name at a deadline answers is what the login answers
 at_login : (s : Sessions) (route now d : ℕ) (name text : Text) (r : Result Key (QueueError × Text))
@@ -40,7 +40,7 @@ refused s route now d name text back e same same_back is small does =
 -- whoever comes out was idle
 pub idle : (shards shard tick : ℕ) (r : Result (Turn Text) QueueError) → OutsAreInForce Text
     → OnShardOr {T = Text} shards shard (λ old a new. ShardPolls old tick a new) r
-    → IfOk r (λ turn. IfOut turn WasIdle)
+    → IfOk r (λ turn. IfComesOut turn WasIdle)
 idle shards shard tick (Ok (Out x)) in_force (inside, (old, new, before, after, polled)) =
     (new, after, in_force old new tick x after polled)
 idle shards shard tick (Ok (Waiting next)) in_force does = tt {0}

@@ -45,10 +45,10 @@ LogsIn s route name now (Err e) =
     × QueueInserts s.shards route name (deadline_from s now) (Err (e, name))
 
 -- where a session comes out
-abbrev pub IfOut : Turn Text → (Expired Text → Type 0) → Type 0
-IfOut (Out x) P = P x
-IfOut (Waiting next) P = ⊤
-IfOut Idle P = ⊤
+abbrev pub IfComesOut : Turn Text → (Expired Text → Type 0) → Type 0
+IfComesOut (Out x) P = P x
+IfComesOut (Waiting next) P = ⊤
+IfComesOut Idle P = ⊤
 
 -- A session that came out was idle for long enough: its deadline in force, the greatest of its
 -- login's and of all touches that were accepted, is not after the shard's noted tick.

@@ -93,9 +93,9 @@ TellsTimer {V} o (Some t) =
     (s : Kept V) × (o ≡ Some s) × (s.deadline ≡ t.deadline) × (s.key ≡ t.key)
 
 -- the least deadline of what a map has, none exactly where it has nothing
-abbrev pub TellsLeast : {K V : Type 0} → List (K × Kept V) → Option ℕ → Type 0
-TellsLeast es None = es ≡ []
-TellsLeast {K} {V} es (Some d) =
+abbrev pub TellsFirstDeadline : {K V : Type 0} → List (K × Kept V) → Option ℕ → Type 0
+TellsFirstDeadline es None = es ≡ []
+TellsFirstDeadline {K} {V} es (Some d) =
     ((i : ℕ) × (k : K) × (s : Kept V) × (slice_get es i ≡ Some (k, s)) × (s.deadline ≡ d))
     × All (λ e. d ≤ e.1.deadline) es
 

@@ -8,7 +8,7 @@ ghost use Rattle.dq_shards.specs.Answers.{OnShardOr};
 ghost use Rattle.dq_shards.specs.Changes.{ShardPolls};
 ghost use Rattle.dq_shards.specs.Handles.{HandleExtends, HandleCancels};
 ghost use Rattle.dq_shards.specs.Issuing.{QueueHandles};
-ghost use Rattle.dq_apps.specs.Sessions.{Text, deadline_from, SessionsAreMade, LogsIn, IfOut, WasIdle};
+ghost use Rattle.dq_apps.specs.Sessions.{Text, deadline_from, SessionsAreMade, LogsIn, IfComesOut, WasIdle};
 
 use crate::name::Name;
 use dq_core::{CallError, CoreError, Turn};
@@ -165,7 +165,7 @@ impl<A: Allocator + Drop> IdleSessions<A> {
         ensures unknown { IsErrOf result Unknown ↔ (self.now.shards ≤ shard) }
 
         // What comes out expired at its deadline in force, which was reached.
-        ensures idle { IfOk result (λ turn. IfOut turn WasIdle) }
+        ensures idle { IfOk result (λ turn. IfComesOut turn WasIdle) }
 
         // All that it answers.
         ensures polls { OnShardOr {T = Text} self.now.shards shard

@@ -2,7 +2,7 @@
 ghost use Rattle.std.specs.Prelude.{◌≡◌, ◌<◌, IsSome, Some, None};
 ghost use Rattle.std.specs.Map.{lookup};
 ghost use Rattle.dq_apps.specs.Tied.{IsRenewedAt, IsReplacedAt, HadValue, TellsTimer};
-ghost use Rattle.dq_apps.specs.Tied.{TellsLeast, lesser_of};
+ghost use Rattle.dq_apps.specs.Tied.{TellsFirstDeadline, lesser_of};
 
 use crate::kept::{Kept, Timer};
 use dq_ticks::Key;
@@ -81,7 +81,7 @@ fn lesser(other: Option<u64>, deadline: u64) -> u64
 
 /// The least deadline of what is there; none where nothing is.
 pub(crate) fn least_deadline<K: Eq + Hash, V, A: Allocator>(stock: &Stock<K, V, A>) -> Option<u64>
-    ensures { TellsLeast stock.now.entries result }
+    ensures { TellsFirstDeadline stock.now.entries result }
 {
     let mut least = None;
     for (_key, kept) in stock.iter() {

@@ -7,7 +7,7 @@ use Rattle.dq_core.specs.declared.errors.CoreError.{CoreError}
 use Rattle.dq_core.specs.declared.outcomes.Turn.{Turn}
 use Rattle.dq_c.specs.Answers.{tells}
 use Rattle.dq_c.specs.Keys.{IsOutOf}
-use Rattle.dq_c.specs.Many.{ComeOut, ComesOut, RestSays, FillSays, blank}
+use Rattle.dq_c.specs.Many.{ComeOut, ComesOut, RestSays, FillSays, no_expired}
 use Rattle.dq_c.specs.Owner.{Owned, SameQueue}
 use Rattle.dq_c.specs.declared.answers.DqAnswer.{DqAnswer}
 use Rattle.dq_c.specs.declared.keys.DqExpired.{DqExpired}
@@ -23,7 +23,7 @@ pub still_out : (b : Owned) (tick n k : ℕ) (row : List DqExpired) (out : DqExp
 unfolding ComeOut
 still_out b tick zero k row out c few h = h
 still_out b tick (suc n) k row out c few (m, before, (x, polled, is)) =
-    let same : get_or (set row k out) n blank ≡ get_or row n blank = get_or-set_other row k n out blank (λ e. omega (arith, few, e)) in
+    let same : get_or (set row k out) n no_expired ≡ get_or row n no_expired = get_or-set_other row k n out no_expired (λ e. omega (arith, few, e)) in
     (m, still_out b tick n k row out m (omega (arith, few)) before, (x, polled, subst (λ (y : DqExpired). IsOutOf y x) (sym same) is))
 
 -- one more came out, and stands at the place n
@@ -31,7 +31,7 @@ pub one_more : (b : Owned) (tick n : ℕ) (row : List DqExpired) (out : DqExpire
     → n < length row → ComeOut b tick n row m → ComesOut m tick out c → ComeOut b tick (n + 1) (set row n out) c
 unfolding ComeOut
 one_more b tick n row out m c inside before (x, polled, is) =
-    let there : get_or (set row n out) n blank ≡ out = get_or-set_same row n out blank inside in
+    let there : get_or (set row n out) n no_expired ≡ out = get_or-set_same row n out no_expired inside in
     let after : ComeOut b tick (suc n) (set row n out) c = (m, still_out b tick n n row out m (omega arith) before, (x, polled, subst (λ (y : DqExpired). IsOutOf y x) (sym there) is)) in
     let next : suc n ≡ n + 1 = omega arith in
     subst (λ (k : ℕ). ComeOut b tick k (set row n out) c) next after

@@ -27,45 +27,45 @@ abbrev pub two_numbers : ℕ → ℕ → ℕ → DqAnswer
 two_numbers code first second = record { code = code; first = first; second = second }
 
 -- a code with one number
-abbrev pub one_number : ℕ → ℕ → DqAnswer
-one_number code first = two_numbers code first 0
+abbrev pub with_number : ℕ → ℕ → DqAnswer
+with_number code first = two_numbers code first 0
 
 -- a code that carries no number
-abbrev pub plain : ℕ → DqAnswer
-plain code = two_numbers code 0 0
+abbrev pub no_numbers : ℕ → DqAnswer
+no_numbers code = two_numbers code 0 0
 
 -- done, with nothing to tell
 abbrev pub done : DqAnswer
-done = plain DQ_OK
+done = no_numbers DQ_OK
 
 -- done, with a number to tell
 abbrev pub tells : ℕ → DqAnswer
-tells number = one_number DQ_OK number
+tells number = with_number DQ_OK number
 
 -- the handle holds nothing
 abbrev pub empty : DqAnswer
-empty = plain DQ_EMPTY
+empty = no_numbers DQ_EMPTY
 
 -- the handle holds something already
 abbrev pub held : DqAnswer
-held = plain DQ_HELD
+held = no_numbers DQ_HELD
 
 -- why the owner's call is refused
 abbrev pub core_answer : CoreError → DqAnswer
-core_answer (TooFar limit) = one_number DQ_TOO_FAR limit
+core_answer (TooFar limit) = with_number DQ_TOO_FAR limit
 core_answer (Full linked worn) = two_numbers DQ_FULL linked worn
-core_answer Missing = plain DQ_MISSING
-core_answer WasCancelled = plain DQ_WAS_CANCELLED
-core_answer Worn = plain DQ_WORN
-core_answer (TickTooLarge limit) = one_number DQ_TICK_TOO_LARGE limit
-core_answer BadConfig = plain DQ_BAD_CONFIG
-core_answer NoMemory = plain DQ_NO_MEMORY
+core_answer Missing = no_numbers DQ_MISSING
+core_answer WasCancelled = no_numbers DQ_WAS_CANCELLED
+core_answer Worn = no_numbers DQ_WORN
+core_answer (TickTooLarge limit) = with_number DQ_TICK_TOO_LARGE limit
+core_answer BadConfig = no_numbers DQ_BAD_CONFIG
+core_answer NoMemory = no_numbers DQ_NO_MEMORY
 
 -- why no caller is issued
 abbrev pub words_answer : WordsError → DqAnswer
-words_answer NoSize = plain DQ_BAD_CONFIG
-words_answer NoRoom = plain DQ_NO_MEMORY
-words_answer (TooManyHandles limit) = one_number DQ_TOO_MANY_CALLERS limit
+words_answer NoSize = no_numbers DQ_BAD_CONFIG
+words_answer NoRoom = no_numbers DQ_NO_MEMORY
+words_answer (TooManyHandles limit) = with_number DQ_TOO_MANY_CALLERS limit
 
 -- how an entry stands, under a code: as what, and at which deadline
 abbrev pub look_answer : ℕ → Look → DqAnswer
@@ -76,7 +76,7 @@ look_answer code (LookRemoved d) = two_numbers code DQ_REMOVED d
 
 -- why a call by key is refused
 abbrev pub call_answer : CallError → DqAnswer
-call_answer (TooFarOff limit) = one_number DQ_TOO_FAR limit
-call_answer Unknown = plain DQ_UNKNOWN
-call_answer (Stale seen) = one_number DQ_STALE seen
+call_answer (TooFarOff limit) = with_number DQ_TOO_FAR limit
+call_answer Unknown = no_numbers DQ_UNKNOWN
+call_answer (Stale seen) = with_number DQ_STALE seen
 call_answer (Ended how) = look_answer DQ_ENDED how

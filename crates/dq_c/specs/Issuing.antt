@@ -6,7 +6,7 @@ use Rattle.dq_words.specs.Seats.{Sat}
 use Rattle.dq_words.specs.declared.keeper.WordsError.{WordsError}
 use Rattle.dq_handle.specs.declared.caller.Seat.{Seat}
 use Rattle.dq_handle.specs.declared.queue.Queue.{Queue}
-use Rattle.dq_c.specs.Answers.{plain, one_number, done, tells, empty, held, words_answer}
+use Rattle.dq_c.specs.Answers.{no_numbers, with_number, done, tells, empty, held, words_answer}
 use Rattle.dq_c.specs.Callers.{caller_in}
 use Rattle.dq_c.specs.Owner.{Owned}
 use Rattle.dq_c.specs.declared.answers.DqAnswer.{DqAnswer}
@@ -31,14 +31,14 @@ IssueSays None before answer c seat = (answer ≡ empty) × (c ≡ None) × (sea
 IssueSays (Some b) (Some s) answer c seat = (answer ≡ held) × (c ≡ Some b) × (seat ≡ Some s)
 IssueSays (Some b) None answer (Some c) seat =
     QueueIssues b.core answer c.core seat
-    ⊎ ((answer ≡ plain DQ_NO_MEMORY) × (c ≡ b) × (seat ≡ None))
+    ⊎ ((answer ≡ no_numbers DQ_NO_MEMORY) × (c ≡ b) × (seat ≡ None))
 IssueSays (Some b) None answer None seat = ⊥
 
 -- the accepted cancels are told, which account for all that was begun, or how many are out
 abbrev pub BackSays : Result ℕ ℕ → Owned → DqAnswer → Type 0
 BackSays (Ok n) c answer =
     (answer ≡ tells n) × Accounts c.words n × EndsFit (counts_by c.words) n
-BackSays (Err out) c answer = answer ≡ one_number DQ_CALLERS_OUT out
+BackSays (Err out) c answer = answer ≡ with_number DQ_CALLERS_OUT out
 
 -- what is told of the callers that were given back
 abbrev pub ReturnedSays : Option Queue → DqAnswer → Option Queue → Type 0

@@ -5,7 +5,7 @@ use Rattle.dq_core.specs.Words.{AreFresh}
 use Rattle.dq_wheel.specs.State.{fresh_filing}
 use Rattle.dq_handle.specs.declared.queue.Queue.{Queue}
 use Rattle.dq_words.specs.AtTheCall.{KnowsNothing}
-use Rattle.dq_c.specs.Answers.{plain, done, empty, held}
+use Rattle.dq_c.specs.Answers.{no_numbers, done, empty, held}
 use Rattle.dq_c.specs.Owner.{Owned}
 use Rattle.dq_c.specs.declared.answers.DqAnswer.{DqAnswer}
 use Rattle.dq_c.specs.declared.answers.TheConstants.{DQ_BAD_CONFIG, DQ_NO_MEMORY}
@@ -21,8 +21,8 @@ IsNewQueue shard capacity last c =
 -- why none is made: out of the ranges first, and else for want of memory
 abbrev pub NotMade : ℕ → ℕ → DqAnswer → Type 0
 NotMade capacity last answer =
-    ((answer ≡ plain DQ_BAD_CONFIG) × ¬ IsConfig capacity last capacity)
-    ⊎ ((answer ≡ plain DQ_NO_MEMORY) × IsConfig capacity last capacity)
+    ((answer ≡ no_numbers DQ_BAD_CONFIG) × ¬ IsConfig capacity last capacity)
+    ⊎ ((answer ≡ no_numbers DQ_NO_MEMORY) × IsConfig capacity last capacity)
 
 -- a queue is made into an empty handle, which stays empty where it is refused; one that holds a
 -- queue keeps it

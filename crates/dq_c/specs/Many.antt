@@ -7,7 +7,7 @@ use Rattle.dq_core.specs.declared.outcomes.Expired.{Expired}
 use Rattle.dq_core.specs.declared.outcomes.Turn.{Turn}
 use Rattle.dq_core.specs.declared.outcomes.Turn.TheVariants.{Out, Waiting, Idle}
 use Rattle.dq_handle.specs.declared.queue.Queue.{Queue}
-use Rattle.dq_c.specs.Answers.{one_number, two_numbers, tells, empty, core_answer}
+use Rattle.dq_c.specs.Answers.{with_number, two_numbers, tells, empty, core_answer}
 use Rattle.dq_c.specs.Keys.{IsOutOf}
 use Rattle.dq_c.specs.Owner.{Owned, SameQueue}
 use Rattle.dq_c.specs.declared.answers.DqAnswer.{DqAnswer}
@@ -15,8 +15,8 @@ use Rattle.dq_c.specs.declared.answers.TheConstants.{DQ_WAITING, DQ_IDLE}
 use Rattle.dq_c.specs.declared.keys.DqExpired.{DqExpired}
 
 -- a place of a row that isn't there
-abbrev pub blank : DqExpired
-blank =
+abbrev pub no_expired : DqExpired
+no_expired =
     record {
       key = record { shard = 0; index = 0; born = 0; stamp = 0 };
       deadline = 0;
@@ -26,7 +26,7 @@ blank =
 
 -- what stands at a place of a row
 abbrev pub place_at : List DqExpired → ℕ → DqExpired
-place_at row i = slice_index_or row i blank
+place_at row i = slice_index_or row i no_expired
 
 -- the entry of the place n came out of one poll
 abbrev pub ComesOut : Owned → ℕ → DqExpired → Owned → Type 0
@@ -42,7 +42,7 @@ ComeOut b tick (suc n) row c =
 abbrev pub RestSays : ℕ → Result (Turn ℕ) CoreError → DqAnswer → Type 0
 RestSays n (Ok (Out x)) answer = ⊥
 RestSays n (Ok (Waiting next)) answer = answer ≡ two_numbers DQ_WAITING n next
-RestSays n (Ok Idle) answer = answer ≡ one_number DQ_IDLE n
+RestSays n (Ok Idle) answer = answer ≡ with_number DQ_IDLE n
 RestSays n (Err e) answer = answer ≡ core_answer e
 
 -- the row is full, or a last poll took nothing out

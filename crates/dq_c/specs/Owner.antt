@@ -11,7 +11,7 @@ use Rattle.dq_core.specs.declared.outcomes.Turn.{Turn}
 use Rattle.dq_core.specs.declared.outcomes.Turn.TheVariants.{Out, Waiting, Idle}
 use Rattle.dq_words.specs.Seats.{Sat}
 use Rattle.dq_handle.specs.declared.queue.Queue.{Queue}
-use Rattle.dq_c.specs.Answers.{plain, one_number, done, tells, empty, core_answer}
+use Rattle.dq_c.specs.Answers.{no_numbers, with_number, done, tells, empty, core_answer}
 use Rattle.dq_c.specs.Keys.{named, IsOutOf, IsRemovedOf}
 use Rattle.dq_c.specs.declared.answers.DqAnswer.{DqAnswer}
 use Rattle.dq_c.specs.declared.answers.TheConstants.{DQ_WAITING, DQ_IDLE}
@@ -33,16 +33,16 @@ KeySays (Ok name) answer before key = (answer ≡ done) × (named key ≡ name)
 KeySays (Err e) answer before key = (answer ≡ core_answer e) × (key ≡ before)
 
 -- an insert's answer without the value that comes back
-abbrev pub key_of : Result KeyName (CoreError × ℕ) → Result KeyName CoreError
-key_of (Ok name) = Ok name
-key_of (Err e) = Err e.0
+abbrev pub key_given : Result KeyName (CoreError × ℕ) → Result KeyName CoreError
+key_given (Ok name) = Ok name
+key_given (Err e) = Err e.0
 
 -- an insert
 abbrev pub InsertSays : Option Queue → ℕ → ℕ → DqAnswer → DqKey → DqKey → Option Queue → Type 0
 InsertSays (Some b) value when answer before key (Some c) =
     SameQueue b.core c.core
     × ((r : Result KeyName (CoreError × ℕ)) × Inserts b.core value when r c.core
-    × KeySays (key_of r) answer before key)
+    × KeySays (key_given r) answer before key)
 InsertSays None value when answer before key None = (answer ≡ empty) × (key ≡ before)
 InsertSays b value when answer before key c = ⊥
 
@@ -74,8 +74,8 @@ RemoveSays b key answer before out c = ⊥
 abbrev pub TurnSays : Result (Turn ℕ) CoreError → DqAnswer → DqExpired → DqExpired → Type 0
 TurnSays (Ok (Out x)) answer before out = (answer ≡ done) × IsOutOf out x
 TurnSays (Ok (Waiting next)) answer before out =
-    (answer ≡ one_number DQ_WAITING next) × (out ≡ before)
-TurnSays (Ok Idle) answer before out = (answer ≡ plain DQ_IDLE) × (out ≡ before)
+    (answer ≡ with_number DQ_WAITING next) × (out ≡ before)
+TurnSays (Ok Idle) answer before out = (answer ≡ no_numbers DQ_IDLE) × (out ≡ before)
 TurnSays (Err e) answer before out = (answer ≡ core_answer e) × (out ≡ before)
 
 -- a poll

@@ -6,7 +6,7 @@ use Rattle.dq_core.specs.Readers.{IsTally}
 use Rattle.dq_core.specs.declared.errors.CoreError.{CoreError}
 use Rattle.dq_core.specs.declared.outcomes.Tally.{Tally}
 use Rattle.dq_handle.specs.declared.queue.Queue.{Queue}
-use Rattle.dq_c.specs.Answers.{plain, one_number, done, tells, empty, core_answer}
+use Rattle.dq_c.specs.Answers.{no_numbers, with_number, done, tells, empty, core_answer}
 use Rattle.dq_c.specs.Keys.{named, IsTallyOf}
 use Rattle.dq_c.specs.Owner.{SameQueue}
 use Rattle.dq_c.specs.declared.answers.DqAnswer.{DqAnswer}
@@ -30,8 +30,8 @@ DeadlineSays b key answer c = ⊥
 
 -- the tick to wait for is told, or that there is none
 abbrev pub NextSays : Option ℕ → DqAnswer → Type 0
-NextSays (Some next) answer = answer ≡ one_number DQ_WAITING next
-NextSays None answer = answer ≡ plain DQ_IDLE
+NextSays (Some next) answer = answer ≡ with_number DQ_WAITING next
+NextSays None answer = answer ≡ no_numbers DQ_IDLE
 
 -- the next wake, and the queue is as it was
 abbrev pub WakeSays : Option Queue → DqAnswer → Option Queue → Type 0

@@ -1,6 +1,6 @@
 //! What a call answers: a code, and two numbers that some codes carry.
 ghost use Rattle.std.specs.Prelude.{◌≡◌};
-ghost use Rattle.dq_c.specs.Answers.{two_numbers, one_number, plain, tells, core_answer, words_answer};
+ghost use Rattle.dq_c.specs.Answers.{two_numbers, with_number, no_numbers, tells, core_answer, words_answer};
 ghost use Rattle.dq_c.specs.Answers.{look_answer, call_answer};
 
 use dq_core::{CallError, CoreError, Look};
@@ -78,14 +78,14 @@ pub(crate) fn with_two(code: u32, first: u64, second: u64) -> DqAnswer
 
 /// The answer of a code with one number.
 pub(crate) fn with_one(code: u32, first: u64) -> DqAnswer
-    ensures { result ≡ one_number code first }
+    ensures { result ≡ with_number code first }
 {
     with_two(code, first, 0)
 }
 
 /// The answer of a code that carries no number.
 pub(crate) fn only(code: u32) -> DqAnswer
-    ensures { result ≡ plain code }
+    ensures { result ≡ no_numbers code }
 {
     with_two(code, 0, 0)
 }

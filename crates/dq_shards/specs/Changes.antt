@@ -11,7 +11,7 @@ use Rattle.dq_core.specs.Readers.{with_words}
 use Rattle.dq_words.specs.Seats.{Sat}
 use Rattle.dq_words.specs.declared.keeper.WordsError.{WordsError}
 use Rattle.dq_words.specs.KeeperCalls.{Issues, Tells}
-use Rattle.dq_shards.specs.Parking.{is_due, after_ring}
+use Rattle.dq_shards.specs.Parking.{is_rung, after_ring}
 use Rattle.dq_shards.specs.Shard.{ShardView, IsShard, Settles}
 
 module _ {T : Type 0} where
@@ -60,7 +60,7 @@ module _ {T : Type 0} where
   -- a ring at a tick takes out a poller that is parked at or before it
   abbrev pub Rings : ShardView T → ℕ → Bool → ShardView T → Type 0
   Rings old tick result new =
-      (result ≡ is_due old.parked tick)
+      (result ≡ is_rung old.parked tick)
       × (new ≡ record old { parked = after_ring old.parked tick })
 
   -- the shard with other words that are known alike

@@ -13,18 +13,18 @@ use Rattle.dq_words.specs.CallerCalls.{CallerExtends, CallerCancels, CallerLooks
 use Rattle.dq_shards.specs.Sums.{total_of}
 
 -- a handle as what its callers know, by their shards
-abbrev pub Callers : Type 0
-Callers = List Sat
+abbrev pub HandleCallers : Type 0
+HandleCallers = List Sat
 
 -- the caller of one shard goes from what it knew to what it knows now, at the table where it sits,
 -- and the others stay
-abbrev pub OfShard : Callers → ℕ → (View → View → Type 0) → Callers → Type 0
+abbrev pub OfShard : HandleCallers → ℕ → (View → View → Type 0) → HandleCallers → Type 0
 OfShard old shard goes new =
     (v : Sat) × (w : Sat) × (slice_get old shard ≡ Some v) × goes v.view w.view
     × (w.table ≡ v.table) × (new ≡ slice_set old shard w)
 
 -- the shard is out of range, and nothing changed
-abbrev pub OutOfRange : Callers → ℕ → Callers → Type 0
+abbrev pub OutOfRange : HandleCallers → ℕ → HandleCallers → Type 0
 OutOfRange old shard new = (length old ≤ shard) × (new ≡ old)
 
 -- out of range an extend is refused: first of all as too far, else as unknown
@@ -34,23 +34,23 @@ ExtendOutOfRange when result =
     ⊎ ((when ≤ LAST_TICK) × (result ≡ Err Unknown))
 
 -- an extend is that of the caller of the key's shard
-abbrev pub HandleExtends : Callers → KeyName → ℕ → Result ℕ CallError → Callers → Type 0
+abbrev pub HandleExtends : HandleCallers → KeyName → ℕ → Result ℕ CallError → HandleCallers → Type 0
 HandleExtends old k when result new =
     OfShard old k.entry.shard (λ v w. CallerExtends v k when result w) new
     ⊎ (OutOfRange old k.entry.shard new × ExtendOutOfRange when result)
 
 -- a cancel is that of the caller of the key's shard, and out of range it is unknown
-abbrev pub HandleCancels : Callers → KeyName → Result ℕ CallError → Callers → Type 0
+abbrev pub HandleCancels : HandleCallers → KeyName → Result ℕ CallError → HandleCallers → Type 0
 HandleCancels old k result new =
     OfShard old k.entry.shard (λ v w. CallerCancels v k result w) new
     ⊎ (OutOfRange old k.entry.shard new × (result ≡ Err Unknown))
 
 -- a look is that of the caller of the key's shard, and out of range it is unknown
-abbrev pub HandleLooks : Callers → KeyName → Result Look CallError → Callers → Type 0
+abbrev pub HandleLooks : HandleCallers → KeyName → Result Look CallError → HandleCallers → Type 0
 HandleLooks old k result new =
     OfShard old k.entry.shard (λ v w. CallerLooks v k result w) new
     ⊎ (OutOfRange old k.entry.shard new × (result ≡ Err Unknown))
 
 -- the accepted cancels of all callers
-abbrev pub all_cancels : Callers → ℕ
+abbrev pub all_cancels : HandleCallers → ℕ
 all_cancels vs = total_of (λ (v : Sat). cancels_in v.view.calls) vs

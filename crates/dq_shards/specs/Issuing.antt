@@ -6,12 +6,12 @@ use Rattle.dq_words.specs.declared.keeper.WordsError.{WordsError}
 use Rattle.dq_shards.specs.declared.errors.QueueError.{QueueError}
 use Rattle.dq_shards.specs.declared.errors.QueueError.TheVariants.{Core, Unknown, TooManyHandles}
 use Rattle.dq_shards.specs.Changes.{OnSome, ShardIssues}
-use Rattle.dq_shards.specs.Handles.{Callers}
+use Rattle.dq_shards.specs.Handles.{HandleCallers}
 use Rattle.dq_shards.specs.Refusals.{issued_all, no_room}
 
 -- A handle has a caller of each shard, each issued by some state. It is refused where a state
 -- refuses to issue one, or where memory is refused.
-abbrev pub QueueHandles : (T : Type 0) → ℕ → Result Callers QueueError → Type 0
+abbrev pub QueueHandles : (T : Type 0) → ℕ → Result HandleCallers QueueError → Type 0
 QueueHandles T shards (Ok vs) =
     (length vs ≡ shards) × AllByRecursion (λ v. OnSome {T = T} ShardIssues (Ok v)) vs
 QueueHandles T shards (Err (TooManyHandles limit)) =

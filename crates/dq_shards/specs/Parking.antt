@@ -14,9 +14,9 @@ still_parked (Some p) None = None
 still_parked (Some p) (Some wake) = if nat_le p.next wake then Some p else None
 
 -- whether a poller is parked at or before a tick
-abbrev pub is_due : Option Parked → ℕ → Bool
-is_due None tick = false
-is_due (Some p) tick = nat_le p.next tick
+abbrev pub is_rung : Option Parked → ℕ → Bool
+is_rung None tick = false
+is_rung (Some p) tick = nat_le p.next tick
 
 -- the poller that a ring at a tick leaves parked
 abbrev pub after_ring : Option Parked → ℕ → Option Parked

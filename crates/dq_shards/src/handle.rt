@@ -28,9 +28,9 @@ pub struct Handle<A: Allocator = Global> {
 impl<A: Allocator> Model for Handle<A> {
     ghost use Rattle.std.specs.Prelude.{◌≤◌, length};
     ghost use Rattle.dq_shards.specs.declared.errors.TheConstants.{SHARD_LIMIT};
-    ghost use Rattle.dq_shards.specs.Handles.{Callers};
+    ghost use Rattle.dq_shards.specs.Handles.{HandleCallers};
 
-    ghost Value = { Callers };
+    ghost Value = { HandleCallers };
 
     ghost view = { λ h. h.callers.items };
 

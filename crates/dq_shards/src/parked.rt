@@ -1,6 +1,6 @@
 //! A poller that waits for a shard's next wake.
 ghost use Rattle.std.specs.Prelude.{◌≡◌, None};
-ghost use Rattle.dq_shards.specs.Parking.{still_parked, after_ring, is_due};
+ghost use Rattle.dq_shards.specs.Parking.{still_parked, after_ring, is_rung};
 
 use futures::task::Waker;
 
@@ -40,7 +40,7 @@ pub(crate) fn keep_until(parked: &mut Option<Parked>, next_wake: Option<u64>)
 
 // Wakes the poller where it is parked at or before a tick, and answers whether it was.
 pub(crate) fn ring(parked: &mut Option<Parked>, tick: u64) -> bool
-    ensures is_due { result ≡ is_due parked.old tick }
+    ensures is_rung { result ≡ is_rung parked.old tick }
     ensures left { parked.new ≡ after_ring parked.old tick }
 {
     let Some(poller) = parked else {

@@ -6,7 +6,7 @@ use Rattle.futures.specs.declared.task.Poll.TheVariants.{Ready, Pending}
 use Rattle.futures.specs.declared.task.context.Context.{Context}
 use Rattle.dq_shards.specs.Shard.{ShardView, IsShard}
 use Rattle.dq_stream.specs.declared.fault.StreamFault.TheVariants.{TickTooLarge, NoMemory}
-use Rattle.dq_stream.specs.Items.{Item, Answer, is_over}
+use Rattle.dq_stream.specs.Items.{StreamItem, Answer, is_over}
 use Rattle.dq_stream.specs.Polls.{unparked, StreamPolls}
 use Rattle.dq_stream.specs.Answers.{IfGiven, OnEnd, IsLeastDue, IsEmptyShard}
 use Rattle.dq_stream.proofs.Least.{none_earlier, noted_at}
@@ -18,7 +18,7 @@ module _ {T : Type 0} where
   lawful s law = record { core = law.core; wheel = law.wheel; known = law.known; counts = law.counts; keeper = law.keeper; stood = law.stood; parked = tt }
 
   module _ (cx cy : Context) (old new : ShardView T) (tick : ℕ) (before : IsShard old) (after : IsShard new) where
-    pub item : (x : Item T) → StreamPolls cx cy old tick (Ready (Some x)) new → IsGiven x
+    pub item : (x : StreamItem T) → StreamPolls cx cy old tick (Ready (Some x)) new → IsGiven x
     item (Ok x) polls = (tick, (unparked old, new, lawful old before, after, polls))
     item (Err (TickTooLarge limit)) polls = search rules
     item (Err NoMemory) polls = tt

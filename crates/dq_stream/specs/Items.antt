@@ -7,21 +7,21 @@ use Rattle.dq_stream.specs.declared.fault.StreamFault.{StreamFault}
 use Rattle.dq_stream.specs.declared.fault.StreamFault.TheVariants.{TickTooLarge, NoMemory}
 
 -- an item of a stream: an entry that expired, or why there is none
-abbrev pub Item : Type 0 → Type 0
-Item T = Result (Expired T) StreamFault
+abbrev pub StreamItem : Type 0 → Type 0
+StreamItem T = Result (Expired T) StreamFault
 
 -- what one poll of a stream answers
 abbrev pub Answer : Type 0 → Type 0
-Answer T = Poll (Option (Item T))
+Answer T = Poll (Option (StreamItem T))
 
 -- whether a stream has ended for good after this item: after a refused tick
-abbrev pub ends_at : {T : Type 0} → Item T → Bool
-ends_at (Ok x) = false
-ends_at (Err (TickTooLarge limit)) = true
-ends_at (Err NoMemory) = false
+abbrev pub ends_with : {T : Type 0} → StreamItem T → Bool
+ends_with (Ok x) = false
+ends_with (Err (TickTooLarge limit)) = true
+ends_with (Err NoMemory) = false
 
 -- whether a stream has ended for good after this answer
 abbrev pub is_over : {T : Type 0} → Answer T → Bool
-is_over (Ready (Some item)) = ends_at item
+is_over (Ready (Some item)) = ends_with item
 is_over (Ready None) = false
 is_over Pending = false
