@@ -1,6 +1,6 @@
 //! Keys that no queue gave out, and keys of another queue.
 
-use crate::numbers::{Numbers, fill, insert, one_and_four};
+use super::numbers::{Numbers, fill, insert, one_and_four};
 use dq_core::{CallError, CoreError, Look, Turn};
 use dq_shards::{Handle, QueueConfig, QueueError, SharedDelayQueue, Totals};
 use dq_ticks::{EntryId, Key, LAST_STAMP, LAST_TICK};
@@ -14,7 +14,7 @@ const GREATEST: u32 = 4294967295;
 /// its own once they are cut to the bits that a key or a word has for them.
 const SHARDS: [u32; 8] = [0, 1, 2, 3, 4, 64, 257, GREATEST];
 
-const INDEXES: [u32; 7] = [0, 1, 3, 4, 65535, 65536, GREATEST];
+const INDEXES: [u32; 8] = [0, 1, 2, 3, 4, 65535, 65536, GREATEST];
 
 const STAMPS: [u32; 6] = [0, 1, 2, LAST_STAMP, LAST_STAMP + 2, GREATEST];
 

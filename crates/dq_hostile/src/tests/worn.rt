@@ -1,6 +1,6 @@
 //! A slot whose stamps come to their end.
 
-use crate::numbers::{Numbers, insert};
+use super::numbers::{Numbers, insert};
 use dq_core::{CallError, CoreError, Look, Turn};
 use dq_shards::{Handle, QueueConfig, QueueError, SharedDelayQueue};
 use dq_ticks::Key;

@@ -1,10 +1,11 @@
 //! A thread of a crowd that fills and polls the shards.
 
-use crate::fates::{Counts, Draw, Fates, count};
-use crate::numbers::Numbers;
+use super::fates::{Counts, Fates, count};
+use super::numbers::Numbers;
 use dq_core::{CoreError, Turn};
 use dq_shards::QueueError;
 use dq_ticks::Key;
+use draws::Draw;
 use std::alloc::{AllocError, Global};
 use std::sync::Wait;
 use std::sync::atomic::AtomicU64;

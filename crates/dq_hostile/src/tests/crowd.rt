@@ -1,9 +1,9 @@
 //! Four handles and four pollers at work at once, and what the audit says of it.
 
-use crate::fates::{Counts, Fates, config};
-use crate::numbers::{Gate, Numbers};
-use crate::owners::Owner;
-use crate::strangers::Stranger;
+use super::fates::{Counts, Fates, config};
+use super::numbers::{Gate, Numbers};
+use super::owners::Owner;
+use super::strangers::Stranger;
 use dq_core::Turn;
 use dq_shards::{Handle, SharedDelayQueue, Totals};
 use dq_ticks::LAST_TICK;
@@ -146,6 +146,7 @@ fn four_handles_and_four_pollers(rt: HostRuntime) -> Result<(), Fail> {
     let (fates, counts) = work(&rt, rt.alloc(), &queue)?;
     assert_eq!(rt; counts.odd, 0);
     assert!(rt; fates.are_kept());
+    assert!(rt; fates.reach_the_last_stamp());
     assert!(rt; counts.inserted > 0 && counts.expired > 0 && counts.removed > 0);
     assert!(rt; counts.cancelled > 0 && counts.extended > 0);
     adds_up(&rt, &queue, &counts)

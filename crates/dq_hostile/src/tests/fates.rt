@@ -93,6 +93,18 @@ impl Fates {
         }
     }
 
+    /// Whether a slot came to its last stamp.
+    pub fn reach_the_last_stamp(&self) -> bool {
+        for place in 0..SLOTS {
+            if let Some(fate) = self.fates.get(place_of(&key_at(place, LAST))) {
+                if fate.promised > 0 {
+                    return true;
+                }
+            }
+        }
+        false
+    }
+
     /// No stamp ended twice, or before what was promised of it.
     pub fn are_kept(&self) -> bool {
         self.fates.iter().all(|fate| fate.is_kept())
@@ -126,23 +138,4 @@ impl Counts {
 /// Adds one.
 pub fn count(counted: &mut u64) {
     *counted = counted.saturating_add(1);
-}
-
-/// A generator of Knuth's, "The Art of Computer Programming", volume 2: each thread has its own seed.
-#[derive(Drop)]
-pub struct Draw {
-    state: u64,
-}
-
-impl Draw {
-    pub fn new(seed: u64) -> Draw {
-        Draw { state: seed }
-    }
-
-    /// A number below the bound; 0 where there is none.
-    pub fn below(&mut self, bound: u64) -> u64 {
-        let next = self.state.wrapping_mul(6364136223846793005);
-        self.state = next.wrapping_add(1442695040888963407);
-        (self.state >> 33).checked_rem(bound).unwrap_or(0)
-    }
 }

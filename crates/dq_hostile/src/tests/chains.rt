@@ -1,6 +1,6 @@
 //! Threads that wait for one another's extends.
 
-use crate::numbers::{Gate, Numbers, TURNS, insert, one_and_four};
+use super::numbers::{Gate, Numbers, TURNS, insert, one_and_four};
 use dq_core::Look;
 use dq_shards::{Handle, QueueError, SharedDelayQueue};
 use dq_ticks::Key;

@@ -15,6 +15,9 @@ pub const TURNS: u64 = 100_000_000;
 /// The entries of a race.
 pub const ENTRIES: usize = 200;
 
+/// How often a race of few calls is run over a fresh queue.
+pub const ROUNDS: usize = 50;
+
 pub type Numbers = SharedDelayQueue<usize>;
 
 /// One shard and four shards, with room for 256 entries in all.

@@ -113,7 +113,7 @@ fn other_calls_take_no_memory(rt: HostRuntime) -> Result<(), Fail> {
             assert_eq!(rt; hand.give_back(), 3);
             assert!(rt; queue.audit(&rt).is_ok());
             assert!(rt; !heap.has_refused());
-            // The row of shards; of each shard its words (4 allocations), slots (3) and wheel (3); the row of a handle's callers.
+            // The shards' row; of each shard its words (4 allocations), slots (3) and wheel (3); the row of a handle's callers.
             assert_eq!(rt; grants, 1 + 3 * 10 + 1);
             return Ok(());
         }

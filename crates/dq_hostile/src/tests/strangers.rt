@@ -1,8 +1,9 @@
 //! A thread of a crowd that has a handle, and was given no key.
 
-use crate::fates::{Counts, Draw, Fates, SLOTS, count, key_at};
+use super::fates::{Counts, Fates, SLOTS, count, key_at};
 use dq_core::CallError;
 use dq_shards::Handle;
+use draws::Draw;
 use std::alloc::{AllocError, Global};
 use std::sync::atomic::AtomicU64;
 use std::sync::atomic::Ordering::SeqCst;

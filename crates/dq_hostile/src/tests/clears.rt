@@ -1,14 +1,11 @@
 //! A handle that cancels all, beside a thread that clears or sweeps.
 
-use crate::numbers::{Gate, Numbers, TURNS, fill, one_and_four};
+use super::numbers::{Gate, Numbers, ROUNDS, TURNS, fill, one_and_four};
 use dq_shards::{Handle, QueueError, SharedDelayQueue, Totals};
 use dq_ticks::Key;
 use std::sync::Wait;
 use std::test::Fail;
 use std::thread::{Threads, join};
-
-/// How often each race is run.
-const ROUNDS: usize = 50;
 
 /// How many cancels of those keys are accepted. None where no other thread comes.
 fn cancel_all(handle: &mut Handle, keys: &[Key], gate: &Gate) -> Option<u64> {

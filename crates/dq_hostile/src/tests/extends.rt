@@ -1,9 +1,10 @@
 //! A handle that extends, a handle that cancels and a poller, each in a thread of its own.
 
-use crate::numbers::{ENTRIES, Gate, Numbers, fill, one_and_four};
+use super::numbers::{ENTRIES, Gate, Numbers, ROUNDS, fill, one_and_four};
 use dq_core::Turn;
-use dq_shards::{Handle, SharedDelayQueue, Totals};
+use dq_shards::{Handle, QueueConfig, SharedDelayQueue, Totals};
 use dq_ticks::Key;
+use std::alloc::Global;
 use std::process::Abort;
 use std::sync::Wait;
 use std::test::Fail;
@@ -116,32 +117,44 @@ fn agree(rt: &impl Abort, extended: &Answers, cancelled: &Answers, expired: &Ans
     }
 }
 
+/// One race over a fresh queue, and what is left of it.
+fn races<R: Abort + Threads + Wait + Sync>(
+    rt: &R,
+    alloc: Global,
+    config: QueueConfig,
+) -> Result<(), Fail> {
+    let queue = SharedDelayQueue::new(alloc, config)?;
+    let keys = fill(rt, alloc, &queue)?;
+    let mut extender = queue.handle(rt)?;
+    let mut canceller = queue.handle(rt)?;
+    let handles = (&mut extender, &mut canceller);
+    let ((extended, cancelled), expired) = race(rt, &queue, handles, &keys);
+    let (Some(extended), Some(cancelled)) = (extended, cancelled) else {
+        panic!(rt; "a handle's thread gave up")
+    };
+    let Some(expired) = expired else {
+        panic!(rt; "the polls came to no end, or an entry came out before its deadline")
+    };
+    agree(rt, &extended, &cancelled, &expired);
+    let cancels = cancelled.iter().flatten().count() as u64;
+    assert_eq!(rt; (extender.give_back(), canceller.give_back()), (0, cancels));
+    let totals = Totals {
+        inserted: 200,
+        expired: 200u64.saturating_sub(cancels),
+        removed: 0,
+        cancelled: cancels,
+        live: 0,
+    };
+    assert_eq!(rt; queue.audit(rt), Ok(totals));
+    Ok(())
+}
+
 #[test]
 fn extends_cancels_and_polls(rt: HostRuntime) -> Result<(), Fail> {
     for config in one_and_four() {
-        let queue = SharedDelayQueue::new(rt.alloc(), config)?;
-        let keys = fill(&rt, rt.alloc(), &queue)?;
-        let mut extender = queue.handle(&rt)?;
-        let mut canceller = queue.handle(&rt)?;
-        let handles = (&mut extender, &mut canceller);
-        let ((extended, cancelled), expired) = race(&rt, &queue, handles, &keys);
-        let (Some(extended), Some(cancelled)) = (extended, cancelled) else {
-            panic!(rt; "a handle's thread gave up")
-        };
-        let Some(expired) = expired else {
-            panic!(rt; "the polls came to no end, or an entry came out before its deadline")
-        };
-        agree(&rt, &extended, &cancelled, &expired);
-        let cancels = cancelled.iter().flatten().count() as u64;
-        assert_eq!(rt; (extender.give_back(), canceller.give_back()), (0, cancels));
-        let totals = Totals {
-            inserted: 200,
-            expired: 200u64.saturating_sub(cancels),
-            removed: 0,
-            cancelled: cancels,
-            live: 0,
-        };
-        assert_eq!(rt; queue.audit(&rt), Ok(totals));
+        for _ in 0..ROUNDS {
+            races(&rt, rt.alloc(), config)?;
+        }
     }
     Ok(())
 }
