@@ -23,8 +23,8 @@ def text_bytes(lines):
     return sum(len(re.sub(r"\\.", ".", line)) + 1 for line in lines)
 
 
-SCRIPTS = "crates/dq_scripts/src/scripts.rt"
-REFUSED = "crates/dq_scripts/src/memory.rt"
+SCRIPTS = "crates/dq_scripts/src/tests/scripts.rt"
+REFUSED = "crates/dq_scripts/src/tests/memory.rt"
 SAME_CALLS = "crates/dq_model/src/tests/same_calls.rt"
 
 

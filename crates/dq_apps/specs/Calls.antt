@@ -1,6 +1,7 @@
 -- What each call of an expiring cache does, and why it is refused.
 use Rattle.std.specs.Prelude.{◌≡◌, ◌≢◌, ℕ, ◌+◌, ◌<◌, ◌≤◌, nat_lt, nat_le, Bool, true, false, List}
-use Rattle.std.specs.Prelude.{Option, Some, None, Result, Ok, Err, length, map, replicate, slice_set}
+use Rattle.std.specs.Prelude.{Option, Some, None, Result, Ok, Err, length, map, replicate}
+use Rattle.std.specs.Prelude.{slice_set}
 use Rattle.std.specs.Prelude.{◌&&◌, not, is_none, if◌then◌else◌}
 use Rattle.std.specs.List.{count_by, IsDistinct}
 use Rattle.std.specs.Map.{lookup, keys_of}

@@ -1,7 +1,8 @@
 //! The cache and the slow model of it are given the same calls, drawn by a fixed generator, and agree after each.
 
-use crate::model::{Draw, LAST, SlowCache};
+use crate::model::{LAST, SlowCache};
 use dq_apps::TtlCache;
+use draws::Draw;
 use std::alloc::Global;
 use std::ops::Range;
 use std::process::Abort;

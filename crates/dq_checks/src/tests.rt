@@ -1,6 +1,7 @@
 //! The worked cases of the queue over plain words and over shared ones, of shared words alone, threads and refused memory.
 
 mod cases;
+mod front;
 mod makings;
 mod queues;
 mod race;

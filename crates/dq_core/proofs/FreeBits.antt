@@ -1,58 +1,15 @@
 -- Bits of the free indexes, and of their summary.
-use Rattle.std.proofs.Common.{◌≡◌, ◌≢◌, ℕ, ◌+◌, ◌-◌, ◌*◌, ◌/◌, ◌%◌, ◌^◌, ◌<◌, ◌≤◌, ◌↔◌, List, [], ◌∷◌, ◌++◌, cond, eqb, length, get_or, set, refl, sym, arith, ◌∙◌, ap, ⊎_elim, bit_and, bit_or}
+use Rattle.std.proofs.Common.{◌≡◌, ◌≢◌, ℕ, ◌+◌, ◌-◌, ◌*◌, ◌/◌, ◌%◌, ◌^◌, ◌<◌, ◌≤◌, ◌↔◌, List, [], ◌∷◌, ◌++◌, cond, eqb, length, get_or, set, refl, sym, arith, ◌∙◌, ap, ⊎_elim, bit_and}
 use Rattle.std.specs.Int.{bit_at}
-use Rattle.std.specs.Int.Width.{w64}
-use Rattle.std.proofs.lemmas.Nat.Bits.{bit_at_set_same, bit_at_set_other, bit_at_clear_same, bit_at_clear_other, bit_at-zero}
+use Rattle.std.proofs.lemmas.Nat.Bits.{bit_at-zero}
 use Rattle.std.proofs.lemmas.List.{get_or-set_same, get_or-set_other, get_or_past}
 use Rattle.std.proofs.lemmas.Bool.{cases_eq, cases_lt, eq-eqb, ne_eqb}
 use Rattle.std.proofs.Math.Nat.{div-div-eq-div-mul, pow-le-pow_right, div-eq_of_lt}
 use Rattle.std.proofs.lemmas.Nat.{pow-add}
 use Rattle.std.proofs.lemmas.List.Sums.{sum_by_push}
-use Rattle.dq_core.specs.FreeSlots.{times, bit_of, IsSummed, GivesBack}
-
--- a written word is read
-written : (words : List ℕ) (p q v : ℕ) → p / 64 < length words → q / 64 ≡ p / 64 → bit_of (set words (p / 64) v) q ≡ bit_at v (q % 64)
-written words p q v p_in e = ap (λ w. bit_at w (q % 64)) (ap (λ n. get_or (set words (p / 64) v) n 0) e ∙ get_or-set_same words (p / 64) v 0 p_in)
-
--- the bits of the other words stay
-elsewhere : (words : List ℕ) (p q v : ℕ) → q / 64 ≢ p / 64 → bit_of (set words (p / 64) v) q ≡ bit_of words q
-elsewhere words p q v d = ap (λ w. bit_at w (q % 64)) (get_or-set_other words (p / 64) (q / 64) v 0 d)
-
--- of two numbers with one quotient the remainders differ
-apart : (p q : ℕ) → q ≢ p → q / 64 ≡ p / 64 → q % 64 ≢ p % 64
-apart p q d e f = d (omega arith)
-
-abbrev pub with_bit : List ℕ → ℕ → List ℕ
-with_bit words p = set words (p / 64) (bit_or (get_or words (p / 64) 0) (1 * 2 ^ (p % 64) % 18446744073709551616))
-
-abbrev pub without_bit : List ℕ → ℕ → List ℕ
-without_bit words p = set words (p / 64) (bit_and (get_or words (p / 64) 0) (18446744073709551615 - 1 * 2 ^ (p % 64) % 18446744073709551616))
-
-pub bit_is_set : (words : List ℕ) (p : ℕ) → p / 64 < length words → bit_of (with_bit words p) p ≡ 1
-bit_is_set words p p_in = written words p p _ p_in refl ∙ bit_at_set_same w64 (get_or words (p / 64) 0) (p % 64) (omega arith)
-
-pub bit_stays_set : (words : List ℕ) (p q : ℕ) → p / 64 < length words → q ≢ p → bit_of (with_bit words p) q ≡ bit_of words q
-bit_stays_set words p q p_in d =
-    ⊎_elim
-    (λ e.
-    written words p q _ p_in e
-    ∙ (bit_at_set_other w64 (get_or words (p / 64) 0) (p % 64) (omega arith) (q % 64) (apart p q d e)
-    ∙ ap (λ n. bit_at (get_or words n 0) (q % 64)) (sym e)))
-    (λ e. elsewhere words p q _ e)
-    (cases_eq (q / 64) (p / 64))
-
-pub bit_is_cleared : (words : List ℕ) (p : ℕ) → p / 64 < length words → bit_of (without_bit words p) p ≡ 0
-bit_is_cleared words p p_in = written words p p _ p_in refl ∙ bit_at_clear_same w64 (get_or words (p / 64) 0) (p % 64) (omega arith)
-
-pub bit_stays_cleared : (words : List ℕ) (p q : ℕ) → p / 64 < length words → q ≢ p → bit_of (without_bit words p) q ≡ bit_of words q
-bit_stays_cleared words p q p_in d =
-    ⊎_elim
-    (λ e.
-    written words p q _ p_in e
-    ∙ (bit_at_clear_other w64 (get_or words (p / 64) 0) (p % 64) (omega arith) (q % 64) (omega arith) (apart p q d e)
-    ∙ ap (λ n. bit_at (get_or words n 0) (q % 64)) (sym e)))
-    (λ e. elsewhere words p q _ e)
-    (cases_eq (q / 64) (p / 64))
+use Rattle.dq_wheel.specs.Walks.{bit_of}
+use Rattle.dq_wheel.proofs.Bits.{with_bit, without_bit, bit_is_set, bit_stays_set, bit_is_cleared, bit_stays_cleared}
+use Rattle.dq_core.specs.FreeSlots.{times, IsSummed, GivesBack}
 
 -- a word with a bit is not 0
 pub bit_in_word : (v k : ℕ) → bit_at v k ≡ 1 → 0 < v

@@ -1,5 +1,7 @@
 -- What one wants to know first of a call: short words over the queue before it and after it.
-use Rattle.std.specs.Prelude.{◌≡◌, ◌≢◌, ℕ, ◌<◌, length, Option, Some, None, Result, Ok}
+use Rattle.std.specs.Prelude.{◌≡◌, ◌≢◌, ℕ, ◌<◌, length, Option, Some, None, Result, Ok, Err}
+use Rattle.dq_ticks.specs.declared.TheConstants.{LAST_STAMP}
+use Rattle.dq_core.specs.declared.errors.CoreConfig.{CoreConfig}
 use Rattle.std.specs.List.{count_by}
 use Rattle.dq_ticks.specs.declared.keys.Key.{Key}
 use Rattle.dq_ticks.specs.declared.keys.EntryId.{EntryId}
@@ -60,3 +62,14 @@ abbrev pub IsKeyCancelled : {T W : Type 0} → Core T W → Key → Type 0
 IsKeyCancelled c k =
     (k.entry.shard ≡ c.shard) × (k.entry.index < length c.known)
     × (word_at c.known k.entry.index ≡ cancelled k.stamp)
+
+-- the front door
+
+-- what is made for a number of slots: shard 0, with every stamp to be given
+abbrev pub config_of : ℕ → CoreConfig
+config_of capacity = record { shard = 0; capacity = capacity; last_stamp = LAST_STAMP }
+
+-- an answer whose refusal dropped the value, with the value put back
+abbrev pub giving_back : {T : Type 0} → T → Result Key CoreError → Result Key (CoreError × T)
+giving_back value (Ok k) = Ok k
+giving_back value (Err e) = Err (e, value)

@@ -1,17 +1,13 @@
 -- No public clause cites this module.
 -- The free indexes of a row: those freed last on a stack, and a bit for each of the others.
-use Rattle.std.specs.Prelude.{◌≡◌, ◌≢◌, ℕ, ◌+◌, ◌*◌, ◌/◌, ◌%◌, ◌<◌, ◌≤◌, ◌↔◌, ◌==◌, List, Option}
+use Rattle.std.specs.Prelude.{◌≡◌, ◌≢◌, ℕ, ◌+◌, ◌*◌, ◌<◌, ◌≤◌, ◌↔◌, ◌==◌, List, Option}
 use Rattle.std.specs.Prelude.{Some, None, length, slice_index}
 use Rattle.std.specs.List.{count_by}
-use Rattle.std.specs.Int.{bit_at}
+use Rattle.dq_wheel.specs.Walks.{bit_of}
 
 -- how often an index stands in a list
 abbrev pub times : ℕ → List ℕ → ℕ
 times i xs = count_by (λ k. k == i) xs
-
--- bit i of a row of words
-abbrev pub bit_of : List ℕ → ℕ → ℕ
-bit_of words i = bit_at (slice_index words (i / 64)) (i % 64)
 
 -- the free indexes: those on the stack, and those of the bits
 pub record FreeIndexes : Type 0 where

@@ -6,7 +6,8 @@
 //! full, where the few free bits would lie far apart. Each call takes constant time.
 ghost use Rattle.std.specs.Prelude.{◌≡◌, ◌≢◌, ℕ, ◌+◌, ◌*◌, ◌/◌, ◌%◌, ◌<◌, ◌≤◌, ◌↔◌, length, slice_index, IfOk, MatchOption};
 ghost use Rattle.std.specs.Int.{bit_at};
-ghost use Rattle.dq_core.specs.FreeSlots.{FreeIndexes, free_times, room_of, bit_of, GivesBack, Takes, IsSummed};
+ghost use Rattle.dq_wheel.specs.Walks.{bit_of};
+ghost use Rattle.dq_core.specs.FreeSlots.{FreeIndexes, free_times, room_of, GivesBack, Takes, IsSummed};
 
 use std::alloc::{AllocError, Allocator, Global};
 use std::marker::Model;

@@ -12,6 +12,7 @@
 mod callers;
 pub mod errors;
 mod free_slots;
+mod front;
 mod key_calls;
 pub mod laws;
 mod outcomes;

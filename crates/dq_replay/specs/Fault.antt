@@ -1,9 +1,13 @@
 -- The texts of faults.
 use Rattle.std.specs.Prelude.{ℕ, List, [], ◌∷◌, ◌++◌, codes, decimal}
 use Rattle.dq_replay.specs.declared.fault.FaultKind.{FaultKind}
-use Rattle.dq_replay.specs.declared.fault.FaultKind.TheVariants.{TooManyLines, LineTooLong, UnfinishedLine, BadHeader, UnknownCommand, BadShape, BadName, BadNumber}
+use Rattle.dq_replay.specs.declared.fault.FaultKind.TheVariants.{TooManyLines, LineTooLong}
+use Rattle.dq_replay.specs.declared.fault.FaultKind.TheVariants.{UnfinishedLine, BadHeader}
+use Rattle.dq_replay.specs.declared.fault.FaultKind.TheVariants.{UnknownCommand, BadShape, BadName}
+use Rattle.dq_replay.specs.declared.fault.FaultKind.TheVariants.{BadNumber}
 use Rattle.dq_replay.specs.declared.fault.ReplayFault.{ReplayFault}
-use Rattle.dq_replay.specs.declared.fault.ReplayFault.TheVariants.{BadConfig, NoMemory, Script, Read, Write}
+use Rattle.dq_replay.specs.declared.fault.ReplayFault.TheVariants.{BadConfig, NoMemory, Script}
+use Rattle.dq_replay.specs.declared.fault.ReplayFault.TheVariants.{Read, Write}
 
 abbrev pub kind_text : FaultKind → List ℕ
 kind_text TooManyLines = codes "too many lines"

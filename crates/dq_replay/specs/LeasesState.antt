@@ -1,6 +1,7 @@
 -- No public clause cites this module.
 -- The leases of a script as its commands see them, and what holds of the queue and the names below.
-use Rattle.std.specs.Prelude.{◌≡◌, ℕ, ◌+◌, ◌<◌, ◌≤◌, max, nat_le, nat_lt, List, [], Option, Some, None, Result, Ok, Err, length, filter}
+use Rattle.std.specs.Prelude.{◌≡◌, ℕ, ◌+◌, ◌<◌, ◌≤◌, max, nat_le, nat_lt, List, [], Option, Some}
+use Rattle.std.specs.Prelude.{None, Result, Ok, Err, length, filter}
 use Rattle.std.specs.List.{count_by}
 use Rattle.dq_ticks.specs.Keys.{KeyName}
 use Rattle.dq_ticks.specs.declared.TheConstants.{LAST_STAMP}
@@ -12,7 +13,8 @@ use Rattle.dq_replay.specs.declared.session.Lease.{Lease}
 use Rattle.dq_replay.specs.declared.leases.Refusal.{Refusal}
 use Rattle.dq_replay.specs.declared.leases.Refusal.TheVariants.{Missing, TooFar}
 use Rattle.dq_replay.specs.Script.{lease, with_lease, deadline_of, without, moved}
-use Rattle.dq_replay.specs.Leases.{lease_of, live_of, live_entry, key_at, AreKeyed, NameTable, found_in}
+use Rattle.dq_replay.specs.Leases.{lease_of, live_of, live_entry, key_at, AreKeyed, NameTable}
+use Rattle.dq_replay.specs.Leases.{found_in}
 
 -- the number of slots, the wheel's tick and the noted one, a bound on the stamps that were given,
 -- and the live names in order

@@ -1,9 +1,12 @@
 -- What a replay read, wrote and answered, against the outcome of the script.
-use Rattle.std.specs.Prelude.{◌≡◌, ℕ, ◌+◌, ◌<◌, ◌≤◌, List, [], ◌∷◌, ◌++◌, Option, Some, None, Result, Ok, Err, IfSome, string_bytes, String, ⊤, ◌⊎◌, Bool, true, false}
+use Rattle.std.specs.Prelude.{◌≡◌, ℕ, ◌+◌, ◌<◌, ◌≤◌, List, [], ◌∷◌, ◌++◌, Option, Some, None}
+use Rattle.std.specs.Prelude.{Result, Ok, Err, IfSome, string_bytes, String, ⊤, ◌⊎◌, Bool, true}
+use Rattle.std.specs.Prelude.{false}
 use Rattle.std.specs.Io.KnownBytes.{Consumes, Appends}
 use Rattle.dq_replay.specs.declared.fault.ReplayFault.{ReplayFault}
 use Rattle.dq_replay.specs.declared.fault.FaultKind.{FaultKind}
-use Rattle.dq_replay.specs.declared.fault.ReplayFault.TheVariants.{BadConfig, NoMemory, Script, Read, Write}
+use Rattle.dq_replay.specs.declared.fault.ReplayFault.TheVariants.{BadConfig, NoMemory, Script}
+use Rattle.dq_replay.specs.declared.fault.ReplayFault.TheVariants.{Read, Write}
 use Rattle.dq_replay.specs.declared.line.TheConstants.{LAST_LINE}
 use Rattle.dq_replay.specs.Text.{lines_of}
 use Rattle.dq_replay.specs.Script.{State, Outcome, outcome_from, after_answer, line_does}

@@ -1,15 +1,24 @@
 -- What a script is answered: a function of all its bytes and the capacity.
-use Rattle.std.specs.Prelude.{ℕ, ◌+◌, max, Bool, not, ◌&&◌, ◌||◌, List, [], ◌∷◌, ◌++◌, length, if◌then◌else◌, nat_lt, nat_le, ◌==◌, Option, Some, None, Result, Ok, Err, bytes_eq, codes, decimal, filter, flat_map}
+use Rattle.std.specs.Prelude.{ℕ, ◌+◌, max, Bool, not, ◌&&◌, ◌||◌, List, [], ◌∷◌, ◌++◌, length}
+use Rattle.std.specs.Prelude.{if◌then◌else◌, nat_lt, nat_le, ◌==◌, Option, Some, None, Result, Ok}
+use Rattle.std.specs.Prelude.{Err, bytes_eq, codes, decimal, filter, flat_map}
 use Rattle.std.specs.Cmp.Lexicographic.{slice_cmp}
 use Rattle.std.specs.Ordering.{nat_cmp, is_lt}
 use Rattle.std.specs.List.{list_any}
 use Rattle.dq_ticks.specs.declared.TheConstants.{LAST_TICK}
 use Rattle.dq_replay.specs.declared.fault.FaultKind.{FaultKind}
-use Rattle.dq_replay.specs.declared.fault.FaultKind.TheVariants.{TooManyLines, LineTooLong, UnfinishedLine, BadHeader, UnknownCommand, BadShape, BadName, BadNumber}
+use Rattle.dq_replay.specs.declared.fault.FaultKind.TheVariants.{TooManyLines, LineTooLong}
+use Rattle.dq_replay.specs.declared.fault.FaultKind.TheVariants.{UnfinishedLine, BadHeader}
+use Rattle.dq_replay.specs.declared.fault.FaultKind.TheVariants.{UnknownCommand, BadShape, BadName}
+use Rattle.dq_replay.specs.declared.fault.FaultKind.TheVariants.{BadNumber}
 use Rattle.dq_replay.specs.declared.command.Command.{Command}
-use Rattle.dq_replay.specs.declared.command.Command.TheVariants.{Insert, Reset, Extend, Cancel, Remove, Deadline, Live, Clear, Tick}
+use Rattle.dq_replay.specs.declared.command.Command.TheVariants.{Insert, Reset, Extend, Cancel}
+use Rattle.dq_replay.specs.declared.command.Command.TheVariants.{Remove, Deadline, Live, Clear}
+use Rattle.dq_replay.specs.declared.command.Command.TheVariants.{Tick}
 use Rattle.dq_replay.specs.declared.command.Verb.{Verb}
-use Rattle.dq_replay.specs.declared.command.Verb.TheVariants.{ToInsert, ToReset, ToExtend, ToCancel, ToRemove, ToTell, ToCount, ToClear, ToTick}
+use Rattle.dq_replay.specs.declared.command.Verb.TheVariants.{ToInsert, ToReset, ToExtend, ToCancel}
+use Rattle.dq_replay.specs.declared.command.Verb.TheVariants.{ToRemove, ToTell, ToCount, ToClear}
+use Rattle.dq_replay.specs.declared.command.Verb.TheVariants.{ToTick}
 use Rattle.dq_replay.specs.declared.session.Lease.{Lease}
 use Rattle.dq_replay.specs.declared.header.TheConstants.{FIRST_EDITION_LIMIT}
 use Rattle.dq_replay.specs.declared.line.TheConstants.{LINE_LIMIT, LAST_LINE}

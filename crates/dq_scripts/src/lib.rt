@@ -3,14 +3,4 @@
 #![tactic(auto)]
 
 #[cfg(test)]
-mod faults;
-#[cfg(test)]
-mod memory;
-#[cfg(test)]
-mod readers;
-#[cfg(test)]
-mod scripts;
-#[cfg(test)]
-mod table;
-#[cfg(test)]
-mod writers;
+mod tests;

@@ -122,7 +122,8 @@ pub record Tallied (rows : ℕ) (t : State ℕ View) : Type 0 where
       slice_index t.words rows ≡ total goes t.views + ONE_CANCEL * total gone_cancels t.views
   pub older : gone_by (returns_in t.views) ≤ total goes t.views
   pub same :
-      gone_by (returns_in t.views) ≡ total goes t.views → returns_in t.views ≡ slice_index t.words rows
+      gone_by (returns_in t.views) ≡ total goes t.views →
+      returns_in t.views ≡ slice_index t.words rows
   pub balance :
       IsBalanced (keeper_writes t.views) (total own_cancels t.views) (below lives t.words rows)
   pub ordered : InOrder (keeper_writes t.views)

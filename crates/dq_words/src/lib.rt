@@ -7,6 +7,7 @@
 
 pub mod caller;
 pub mod endings;
+mod front;
 pub mod keeper;
 mod parts;
 mod seated;
@@ -14,4 +15,5 @@ mod tries;
 pub mod views;
 
 pub use caller::Caller;
+pub use front::shared_queue;
 pub use keeper::{HANDLE_LIMIT, Keeper, WordsError};

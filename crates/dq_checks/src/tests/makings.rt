@@ -97,14 +97,14 @@ fn each_allocation_is_refused(rt: HostRuntime) -> Result<(), Fail> {
     for (making, allocations) in [
         // three rows of entries: their links with the heads of the lists, their filed ticks, their moves
         (Making::Wheel, 3),
-        // the cells, and the stack of those that are free
-        (Making::Slots, 2),
+        // the cells, and of those that are free the small stack and the bits
+        (Making::Slots, 3),
         (Making::PlainWords, 1),
         // the row of zeros, the table's words, its row of no slots, and the table itself
         (Making::SharedWords, 4),
         // the slots and the wheel: the words are there already
-        (Making::QueueOverPlainWords, 5),
-        (Making::QueueOverSharedWords, 5),
+        (Making::QueueOverPlainWords, 6),
+        (Making::QueueOverSharedWords, 6),
         (Making::PlainTwin, 1),
     ] {
         for capacity in [4, 4096] {

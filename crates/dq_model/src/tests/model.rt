@@ -457,24 +457,3 @@ impl SlowQueue {
         least
     }
 }
-
-/// A fixed generator of numbers.
-#[derive(Drop)]
-pub struct Draw {
-    state: u64,
-}
-
-impl Draw {
-    pub fn new(seed: u64) -> Draw {
-        Draw { state: seed }
-    }
-
-    /// A number below the bound, or 0.
-    pub fn below(&mut self, bound: u64) -> u64 {
-        self.state = self
-            .state
-            .wrapping_mul(6364136223846793005)
-            .wrapping_add(1442695040888963407);
-        (self.state >> 33).checked_rem(bound).unwrap_or(0)
-    }
-}

@@ -1,7 +1,8 @@
 //! The slow model and the queue's plain twin are given the same inserts and polls, and agree.
 
-use super::model::{Draw, Expected, SlowQueue};
+use super::model::{Expected, SlowQueue};
 use dq_core::{PlainQueue, PlainTurn};
+use draws::Draw;
 use std::test::Fail;
 
 // The model and the plain queue answer a poll alike.

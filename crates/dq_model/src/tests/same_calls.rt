@@ -1,8 +1,9 @@
 //! The queue and the slow model of it are given the same calls, drawn by a fixed generator, and agree after each.
 
-use super::model::{Draw, Expected, LAST, SlowQueue};
+use super::model::{Expected, LAST, SlowQueue};
 use dq_core::{CoreConfig, DelayCore, PlainQueue, PlainTurn, Turn, VecWords};
 use dq_ticks::{EntryId, Key};
+use draws::Draw;
 use std::alloc::Global;
 use std::process::Abort;
 use std::test::Fail;

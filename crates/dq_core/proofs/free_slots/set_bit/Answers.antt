@@ -1,5 +1,6 @@
 use Rattle.std.proofs.Common.{arith}
-use Rattle.dq_core.proofs.FreeBits.{bit_is_set, bit_stays_set, set_summed}
+use Rattle.dq_wheel.proofs.Bits.{bit_is_set, bit_stays_set}
+use Rattle.dq_core.proofs.FreeBits.{set_summed}
 use Rattle.dq_core.proofs.free_slots.set_bit.Goals as goal
 
 pub returns-clause-set : goal.returns-clause-set

@@ -1,7 +1,7 @@
 //! Scripts with a fault, bad capacities, and what is told of each fault.
 
-use crate::table::{fault_at, is_text, runs};
-use crate::writers::Full;
+use super::table::{fault_at, is_text, runs};
+use super::writers::Full;
 use dq_replay::{FaultKind, ReplayFault, report, run};
 use dq_ticks::CAPACITY_LIMIT;
 use std::process::Abort;

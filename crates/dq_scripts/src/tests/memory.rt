@@ -1,7 +1,7 @@
 //! Each allocation of a script's run is refused in turn.
 
-use crate::scripts::EVERY_COMMAND;
-use crate::table::{Row, joined};
+use super::scripts::EVERY_COMMAND;
+use super::table::{Row, joined};
 use dq_replay::{ReplayFault, run};
 use linked_list_allocator::LocalHeap;
 use refusing_heap::RefusingHeap;

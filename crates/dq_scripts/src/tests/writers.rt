@@ -1,8 +1,8 @@
 //! Writers that take little or nothing, and writers that fail.
 
-use crate::faults::FAULTY;
-use crate::scripts::{THREE_NAMES, TWO_NAMES};
-use crate::table::{fault_at, is_text, joined};
+use super::faults::FAULTY;
+use super::scripts::{THREE_NAMES, TWO_NAMES};
+use super::table::{fault_at, is_text, joined};
 use dq_replay::{FaultKind, ReplayFault, run};
 use std::io::Write;
 use std::process::Abort;

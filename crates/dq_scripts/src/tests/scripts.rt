@@ -1,6 +1,6 @@
 //! Scripts without a fault.
 
-use crate::table::{Row, answers};
+use super::table::{Row, answers};
 
 /// A script of two names.
 pub const TWO_NAMES: [Row<'static>; 4] = [

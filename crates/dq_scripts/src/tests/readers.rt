@@ -1,8 +1,8 @@
 //! Readers that fail, and readers without an end.
 
-use crate::scripts::THREE_NAMES;
-use crate::table::{fault_at, is_text, joined};
-use crate::writers::Count;
+use super::scripts::THREE_NAMES;
+use super::table::{fault_at, is_text, joined};
+use super::writers::Count;
 use dq_replay::{FaultKind, ReplayFault, run};
 use std::io::Read;
 use std::process::Abort;

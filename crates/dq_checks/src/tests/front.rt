@@ -1,0 +1,67 @@
+//! The front door: queues made by their capacity, and an insert that `?` takes.
+
+use dq_core::{CoreConfig, CoreError, DelayCore, Turn, VecWords};
+use dq_ticks::{LAST_STAMP, LAST_TICK};
+use dq_words::shared_queue;
+use std::alloc::Global;
+use std::test::Fail;
+
+fn plain_queue(alloc: Global, capacity: usize) -> Result<DelayCore<char, VecWords>, CoreError> {
+    DelayCore::with_capacity(alloc, capacity)
+}
+
+#[test]
+fn a_config_of_a_capacity(rt: HostRuntime) -> Result<(), Fail> {
+    let config = CoreConfig {
+        shard: 0,
+        capacity: 7,
+        last_stamp: LAST_STAMP,
+    };
+    assert_eq!(rt; CoreConfig::of(7), config);
+    Ok(())
+}
+
+#[test]
+fn a_queue_by_its_capacity(rt: HostRuntime) -> Result<(), Fail> {
+    let mut queue = plain_queue(rt.alloc(), 2)?;
+    queue.insert_or_drop('b', 20)?;
+    queue.insert_or_drop('a', 10)?;
+    let full = CoreError::Full { linked: 2, worn: 0 };
+    assert_eq!(rt; queue.insert_or_drop('c', 5).err(), Some(full));
+    let late = CoreError::TooFar { limit: LAST_TICK };
+    assert_eq!(rt;
+        queue.insert_or_drop('c', LAST_TICK.saturating_add(1)).err(),
+        Some(late)
+    );
+    let Turn::Out(first) = queue.poll(10)? else {
+        return Err(Fail::from("nothing came out"));
+    };
+    assert_eq!(rt; (first.value, first.deadline), ('a', 10));
+    Ok(())
+}
+
+#[test]
+fn a_queue_that_callers_extend(rt: HostRuntime) -> Result<(), Fail> {
+    let mut queue = shared_queue(rt.alloc(), 2)?;
+    let key = queue.insert_or_drop('a', 10)?;
+    let mut caller = queue.issue()?;
+    assert_eq!(rt; caller.extend(&key, 30), Ok(30));
+    let Turn::Waiting { next } = queue.poll(10)? else {
+        return Err(Fail::from("it came out before its deadline"));
+    };
+    assert_eq!(rt; next, 30);
+    Ok(())
+}
+
+#[test]
+fn capacities_out_of_range(rt: HostRuntime) -> Result<(), Fail> {
+    for capacity in [0, 65537] {
+        assert_eq!(rt;
+            plain_queue(rt.alloc(), capacity).err(),
+            Some(CoreError::BadConfig)
+        );
+        let shared = shared_queue::<char, Global>(rt.alloc(), capacity);
+        assert_eq!(rt; shared.err(), Some(CoreError::BadConfig));
+    }
+    Ok(())
+}

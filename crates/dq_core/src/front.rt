@@ -1,0 +1,77 @@
+//! The front door: what most users of a queue of one owner write.
+
+ghost use Rattle.std.specs.Prelude.{◌≡◌, IfOk, IfErr, length};
+ghost use Rattle.dq_ticks.specs.declared.TheConstants.{LAST_STAMP};
+ghost use Rattle.dq_core.specs.AtTheCall.{config_of, giving_back};
+
+use crate::errors::{CoreConfig, CoreError};
+use crate::queue::DelayCore;
+use crate::vec_words::VecWords;
+use crate::words::Words;
+use dq_ticks::{CAPACITY_LIMIT, Key, LAST_STAMP};
+use std::alloc::Allocator;
+
+impl CoreConfig {
+    /// Shard 0, with that many slots, each of which may be used until the last stamp there is.
+    pub fn of(capacity: usize) -> CoreConfig
+        ensures { result ≡ config_of capacity }
+    {
+        CoreConfig {
+            shard: 0,
+            capacity,
+            last_stamp: LAST_STAMP,
+        }
+    }
+}
+
+impl<T: Drop, A: Allocator + Clone + Drop> DelayCore<T, VecWords<A>, A> {
+    ghost use Rattle.dq_core.specs.Core.{machine};
+    ghost use Rattle.dq_core.specs.Machine.{NoneLinked};
+    ghost use Rattle.dq_core.specs.Words.{AreFresh};
+    ghost use Rattle.dq_core.specs.Calls.{NewRefused};
+
+    /// A queue of one owner for that many entries, over plain words, at tick 0 with nothing linked. All of its memory is
+    /// taken here.
+    ///
+    /// # Errors
+    /// BadConfig where the capacity isn't 1 to [`CAPACITY_LIMIT`], and else NoMemory.
+    pub fn with_capacity(
+        alloc: A,
+        capacity: usize,
+    ) -> Result<DelayCore<T, VecWords<A>, A>, CoreError>
+        ensures empty { IfOk result (λ q. NoneLinked (machine q)) }
+        ensures start { IfOk result (λ q. (q.noted ≡ 0) × (q.wheel.filing.tick ≡ 0)) }
+        ensures size { IfOk result (λ q. (q.shard ≡ 0) × (length q.slots.rows ≡ capacity)) }
+        ensures stamps { IfOk result (λ q. q.slots.last_stamp ≡ LAST_STAMP) }
+        ensures fresh { IfOk result (λ q. AreFresh q.known q.counts) }
+        ensures refused { IfErr result (λ e. NewRefused capacity LAST_STAMP capacity e) }
+    {
+        if capacity == 0 || capacity > CAPACITY_LIMIT {
+            return Err(CoreError::BadConfig);
+        }
+        let words = VecWords::new(alloc.clone()?, capacity)?;
+        match DelayCore::new(alloc, CoreConfig::of(capacity), words) {
+            Ok(queue) => Ok(queue),
+            Err((error, _)) => Err(error),
+        }
+    }
+}
+
+impl<T: Drop, W: Words, A: Allocator> DelayCore<T, W, A> {
+    ghost use Rattle.dq_core.specs.Calls.{Inserts};
+
+    /// As [`DelayCore::insert`], for callers that answer a refusal with `?`: the value is dropped then.
+    ///
+    /// # Errors
+    /// TooFar beyond the last tick, and else Full where no slot is free.
+    #[inline]
+    pub fn insert_or_drop(&mut self, value: T, when: u64) -> Result<Key, CoreError>
+        ensures inserts { Inserts self.old value when (giving_back value result) self.new }
+        ensures home { W.home self.new.words ≡ W.home self.old.words }
+    {
+        match self.insert(value, when) {
+            Ok(key) => Ok(key),
+            Err((error, _)) => Err(error),
+        }
+    }
+}

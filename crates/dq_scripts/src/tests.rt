@@ -1,0 +1,6 @@
+mod faults;
+mod memory;
+mod readers;
+mod scripts;
+mod table;
+mod writers;
