@@ -4,18 +4,4 @@
 #![tactic(auto)]
 
 #[cfg(test)]
-mod clocks;
-#[cfg(test)]
-mod executors;
-#[cfg(test)]
-mod handles;
-#[cfg(test)]
-mod refusals;
-#[cfg(test)]
-mod rows;
-#[cfg(test)]
-mod streams;
-#[cfg(test)]
-mod threads;
-#[cfg(test)]
-mod wakes;
+mod tests;

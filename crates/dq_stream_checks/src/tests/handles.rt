@@ -1,6 +1,6 @@
 //! Streams over entries that a handle extends and cancels meanwhile, without the shard's lock.
 
-use crate::streams::{Seen, Task, TickOf, fill, letters, stream_of};
+use super::streams::{Seen, Task, TickOf, fill, letters, stream_of};
 use std::cell::Cell;
 use std::test::Fail;
 

@@ -1,6 +1,6 @@
 //! Whose task a shard wakes, and how often.
 
-use crate::streams::{Seen, Task, TickOf, fill, letters, stream_of};
+use super::streams::{Seen, Task, TickOf, fill, letters, stream_of};
 use std::cell::Cell;
 use std::test::Fail;
 

@@ -1,6 +1,6 @@
 //! The worked rows of a stream.
 
-use crate::streams::{Seen, Task, Ticks, fill, letters, stream_of};
+use super::streams::{Seen, Task, Ticks, fill, letters, stream_of};
 use dq_stream::StreamFault;
 use dq_stream::parking::park_with;
 use std::cell::Cell;

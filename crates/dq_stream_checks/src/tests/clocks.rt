@@ -1,6 +1,6 @@
 //! The ticks of a clock.
 
-use crate::streams::{Seen, Task, fill, letters, stream_of};
+use super::streams::{Seen, Task, fill, letters, stream_of};
 use dq_stream::{MillisecondTicks, TickSource};
 use std::cell::Cell;
 use std::io;

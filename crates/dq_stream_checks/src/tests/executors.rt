@@ -1,6 +1,6 @@
 //! Streams under the executors of `futures`.
 
-use crate::streams::{TickOf, fill, letters, stream_of};
+use super::streams::{TickOf, fill, letters, stream_of};
 use dq_shards::{QueueConfig, SharedDelayQueue};
 use dq_stream::ExpiredStream;
 use futures::executor::{block_on, run_all};

@@ -1,6 +1,6 @@
 //! What a stream refuses, and what it leaves then.
 
-use crate::streams::{Seen, Task, TickOf, Ticks, fill, letters, stream_of};
+use super::streams::{Seen, Task, TickOf, Ticks, fill, letters, stream_of};
 use dq_shards::{QueueConfig, QueueError, SharedDelayQueue};
 use dq_stream::{ExpiredStream, StreamFault, TickSource};
 use linked_list_allocator::LocalHeap;

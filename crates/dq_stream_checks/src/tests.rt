@@ -1,0 +1,9 @@
+mod clocks;
+mod executors;
+mod handles;
+mod parkers;
+mod refusals;
+mod rows;
+mod streams;
+mod threads;
+mod wakes;
