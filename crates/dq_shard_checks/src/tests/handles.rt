@@ -92,7 +92,6 @@ fn out<R: Wait>(rt: &R, queue: &Letters, shard: usize) -> Result<u64, QueueError
     queue.lend(rt, shard, |state| state.out())
 }
 
-/// Fails where `lend` lends the state of another shard (lend_of_another_shard).
 #[test]
 fn issue_by_lend(rt: HostRuntime) -> Result<(), Fail> {
     let queue: Letters = SharedDelayQueue::new(rt.alloc(), QueueConfig::of(2, 4))?;
