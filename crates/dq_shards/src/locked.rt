@@ -3,7 +3,9 @@ ghost use Rattle.std.specs.Prelude.{◌≡◌, Some};
 ghost use Rattle.dq_shards.specs.Parking.{poller};
 ghost use Rattle.dq_shards.specs.Shard.{IsParked, IsShard};
 ghost use Rattle.dq_shards.specs.Audits.{ShardAudits};
-ghost use Rattle.dq_shards.specs.Changes.{ShardInserts, ShardResets, ShardRemoves, ShardDeadline, ShardPolls, ShardSweeps, ShardClears, Unparks, Rings, ShardIssues, ShardTells};
+ghost use Rattle.dq_shards.specs.Changes.{ShardInserts, ShardResets, ShardRemoves, ShardDeadline};
+ghost use Rattle.dq_shards.specs.Changes.{ShardPolls, ShardSweeps, ShardClears};
+ghost use Rattle.dq_shards.specs.Changes.{Unparks, Rings, ShardIssues, ShardTells};
 
 use crate::state::ShardState;
 use crate::totals::{HandlesOut, Totals};
