@@ -101,21 +101,16 @@ impl DqRemoved {
     }
 }
 
-/// How many entries came and went.
+/// A [`Tally`], as C reads it: six numbers of 64 bits.
 #[repr(C)]
 #[derive(Clone, Copy)]
 pub struct DqTally {
-    /// Inserts.
+    /// As of [`Tally`], like each number below.
     pub inserted: u64,
-    /// Entries that came out.
     pub expired: u64,
-    /// Entries that were removed.
     pub removed: u64,
-    /// Cancelled entries that were reaped.
     pub cancelled: u64,
-    /// Entries that are linked.
     pub linked: u64,
-    /// Moves from one level's slot to a lower level's slot, or the greatest number of 64 bits.
     pub moves: u64,
 }
 
