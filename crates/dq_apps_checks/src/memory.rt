@@ -94,3 +94,51 @@ fn cache_put_refused(rt: HostRuntime) -> Result<(), Fail> {
     assert!(rt; false, "each run was refused");
     Ok(())
 }
+
+// The keys of a run that takes all its room.
+const NAMES: [&str; 16] = [
+    "a", "b", "c", "d", "e", "f", "g", "h", "i", "j", "k", "l", "m", "n", "o", "p",
+];
+
+// Each of the names is put, a tick after the one before. Answers which put was refused, if one was.
+fn fill(rt: &impl Abort, heap: &Heap) -> Option<usize> {
+    let Ok(mut cache): Result<Cache, CoreError> = TtlCache::new(heap, NAMES.len(), LAST_STAMP)
+    else {
+        return None;
+    };
+    for (turn, text) in NAMES.iter().enumerate() {
+        let Ok(name) = key(heap, text) else {
+            return None;
+        };
+        if let Err(refused) = cache.put(name, turn as u32, 100, turn as u64) {
+            assert!(rt; came_back(&refused, text, turn as u32));
+            assert_eq!(rt; (cache.len(), cache.moment()), (turn, turn as u64));
+            assert_eq!(rt; cache.seen(0).count(), turn);
+            return Some(turn);
+        }
+    }
+    None
+}
+
+// A put copies its key, and at times the map grows: each of both is refused at a first key and at a later one.
+#[test]
+fn each_growth_of_a_put_is_refused(rt: HostRuntime) -> Result<(), Fail> {
+    let mut refusals = [0u32; 16];
+    for grants in 0..100u64 {
+        let all = LocalHeap::new(rt.alloc(), 1 << 16)?;
+        let heap = RefusingHeap::new(&all, grants);
+        let refused = fill(&rt, &heap).unwrap_or(NAMES.len());
+        if let Some(times) = refusals.get_mut(refused) {
+            *times = times.saturating_add(1);
+        }
+        assert_eq!(rt; all.used(), 0);
+        if !heap.has_refused() {
+            assert!(rt; refusals.iter().all(|times| *times >= 1));
+            assert!(rt; refusals[0] >= 2);
+            assert!(rt; refusals[1..].iter().any(|times| *times >= 2));
+            return Ok(());
+        }
+    }
+    assert!(rt; false, "each run was refused");
+    Ok(())
+}
