@@ -1,12 +1,12 @@
 //! What servers build on the delay queue: an expiring cache, and sessions that end when they were idle.
 #![tactic(auto)]
 
-pub mod cache;
+mod cache;
 mod calls;
 mod kept;
-pub mod name;
-pub mod seen;
-pub mod sessions;
+mod name;
+mod seen;
+mod sessions;
 mod steps;
 mod stock;
 mod timers;

@@ -10,26 +10,26 @@
 #![tactic(auto)]
 
 mod callers;
-pub mod errors;
+mod errors;
 mod free_slots;
 mod front;
 mod key_calls;
 pub mod laws;
 mod outcomes;
 mod packed_row;
-pub mod plain;
-pub mod queue;
+mod plain;
+mod queue;
 mod readers;
 pub mod runs;
-pub mod slots;
+mod slots;
 mod sweeps;
-pub mod vec_words;
-pub mod words;
+mod vec_words;
+mod words;
 
 pub use errors::{CoreConfig, CoreError};
 pub use outcomes::{Expired, Removed, Tally, Turn};
 pub use plain::{Pending, PlainQueue, PlainTurn};
 pub use queue::DelayCore;
 pub use slots::{Held, Slots};
-pub use vec_words::VecWords;
+pub use vec_words::{VecWords, shown};
 pub use words::{CallError, Look, Settled, SharedWords, Words};

@@ -17,8 +17,7 @@ use crate::outcomes::{Expired, Progress, Removed, Tally, Turn};
 use crate::slots::Slots;
 use crate::words::{Settled, Words};
 use dq_ticks::{CAPACITY_LIMIT, EntryId, Key, LAST_STAMP, LAST_TICK, Mark, REACH};
-use dq_wheel::Wheel;
-use dq_wheel::wheel::wakes_are_ahead;
+use dq_wheel::{Wheel, wakes_are_ahead};
 use std::alloc::{AllocError, Allocator, Global};
 use std::marker::Model;
 

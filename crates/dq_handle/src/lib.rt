@@ -4,9 +4,9 @@
 //! a handle that was freed is empty, and a call refuses it by name without a look behind its pointer.
 #![tactic(auto)]
 
-pub mod caller;
+mod caller;
 pub mod heap_handle;
-pub mod queue;
+mod queue;
 
 pub use caller::{CallerHandle, Seat};
 pub use queue::{Queue, QueueHandle};

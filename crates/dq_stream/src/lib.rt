@@ -14,10 +14,10 @@
 #![tactic(auto)]
 
 pub mod endings;
-pub mod fault;
+mod fault;
 pub mod parking;
-pub mod source;
-pub mod stream;
+mod source;
+mod stream;
 
 pub use fault::StreamFault;
 pub use source::{MillisecondTicks, TickSource};

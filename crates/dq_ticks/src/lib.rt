@@ -19,13 +19,16 @@
 ghost use Rattle.std.specs.Prelude.{◌≡◌, ◌+◌, ◌^◌};
 ghost use Rattle.dq_ticks.specs.Units.{lap, mark_unit, stamp_count, tick_limit};
 
-pub mod digits;
-pub mod keys;
-pub mod words;
+mod digits;
+mod keys;
+mod words;
 
-pub use digits::{digit, level_of, slot_start, span};
+pub use digits::{
+    digit, level_of, places_are_stable, slot_start, soonest_slots_come_first, span,
+    starts_have_digits,
+};
 pub use keys::{EntryId, Key, is_same_entry, is_same_key};
-pub use words::{Mark, Parts, pack, unpack};
+pub use words::{Mark, Parts, greater_words_win, pack, unpack, words_are_ordered};
 
 /// The levels of a wheel, one for each base-64 digit of a lap.
 pub const LEVELS: usize = 6;

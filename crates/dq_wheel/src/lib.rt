@@ -19,9 +19,9 @@ mod lists;
 mod maps;
 mod rings;
 mod row;
-pub mod wheel;
+mod wheel;
 
-pub use wheel::{Place, Wheel, WheelError};
+pub use wheel::{Place, Wheel, WheelError, wakes_are_ahead};
 
 /// The lists of a wheel, one for each slot of each level: list `64 * level + slot`.
 pub const LISTS: usize = 384;

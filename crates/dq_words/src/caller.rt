@@ -12,8 +12,7 @@ ghost use Rattle.dq_words.specs.Keeping.{Knew};
 
 use crate::parts::{cancelled_word, live_word, stamp};
 use crate::seated::Seated;
-use dq_core::vec_words::shown;
-use dq_core::{CallError, Look};
+use dq_core::{CallError, Look, shown};
 use dq_ticks::{Key, LAST_TICK, Mark, unpack};
 use std::alloc::{Allocator, Global};
 use std::marker::Model;

@@ -5,10 +5,10 @@
 //! of its own, extend and cancel entries by one atomic step on that word, whatever the owner does meanwhile.
 #![tactic(auto)]
 
-pub mod caller;
+mod caller;
 pub mod endings;
 mod front;
-pub mod keeper;
+mod keeper;
 mod parts;
 mod seated;
 mod tries;
