@@ -1,8 +1,10 @@
-//! A handle that cancels all, beside a thread that clears or sweeps.
+//! A handle that cancels all, beside a thread that clears, sweeps or resets.
 
 use super::numbers::{Gate, Numbers, ROUNDS, TURNS, fill, one_and_four};
-use dq_shards::{Handle, QueueError, SharedDelayQueue, Totals};
+use dq_shards::{Handle, QueueConfig, QueueError, SharedDelayQueue, Totals};
 use dq_ticks::Key;
+use std::alloc::Global;
+use std::process::Abort;
 use std::sync::Wait;
 use std::test::Fail;
 use std::thread::{Threads, join};
@@ -60,18 +62,34 @@ fn sweep_until_empty(rt: &impl Wait, queue: &Numbers, shard: usize) -> Option<u6
     None
 }
 
-/// What ends the entries beside the handle.
+/// How many entries are reset to a later deadline.
+fn reset_all(rt: &impl Wait, queue: &Numbers, keys: &[Key], gate: &Gate) -> Option<u64> {
+    if !gate.pass(2) {
+        return None;
+    }
+    let mut renewed = 0u64;
+    for key in keys {
+        if queue.reset(rt, &key.entry(), 1000).is_ok() {
+            renewed = renewed.saturating_add(1);
+        }
+    }
+    Some(renewed)
+}
+
+/// What is done to the entries beside the handle.
 #[derive(Clone, Copy, Debug)]
 enum Other {
     Clears,
     Sweeps,
+    Resets,
 }
 
 impl Other {
-    fn ends(self, rt: &impl Wait, queue: &Numbers, gate: &Gate) -> Option<u64> {
+    fn works(self, rt: &impl Wait, queue: &Numbers, keys: &[Key], gate: &Gate) -> Option<u64> {
         match self {
             Other::Clears => clear_all(rt, queue, gate),
             Other::Sweeps => sweep_all(rt, queue, gate),
+            Other::Resets => reset_all(rt, queue, keys, gate),
         }
     }
 }
@@ -89,36 +107,45 @@ fn race<R: Threads + Wait + Sync>(
     join(
         rt,
         || cancel_all(handle, keys, gate),
-        || other.ends(rt, queue, gate),
+        || other.works(rt, queue, keys, gate),
     )
+}
+
+/// A race over a fresh queue: the accepted cancels, what the other thread answers, and the audit behind it.
+fn races<R: Abort + Threads + Wait + Sync>(
+    rt: &R,
+    alloc: Global,
+    config: QueueConfig,
+    other: Other,
+) -> Result<(u64, u64, Totals), Fail> {
+    let queue = SharedDelayQueue::new(alloc, config)?;
+    let keys = fill(rt, alloc, &queue)?;
+    let mut handle = queue.handle(rt)?;
+    let (Some(cancelled), Some(others)) = race(rt, &queue, &mut handle, &keys, other) else {
+        panic!(rt; "{other:?}: a thread gave up")
+    };
+    assert_eq!(rt; handle.give_back(), cancelled);
+    Ok((cancelled, others, queue.audit(rt)?))
+}
+
+/// The totals of 200 entries, of which none came out.
+fn totals(removed: u64, cancelled: u64, live: u64) -> Totals {
+    Totals {
+        inserted: 200,
+        expired: 0,
+        removed,
+        cancelled,
+        live,
+    }
 }
 
 #[test]
 fn cancels_against_clear(rt: HostRuntime) -> Result<(), Fail> {
     for config in one_and_four() {
         for _ in 0..ROUNDS {
-            let queue = SharedDelayQueue::new(rt.alloc(), config)?;
-            let keys = fill(&rt, rt.alloc(), &queue)?;
-            let mut handle = queue.handle(&rt)?;
-            let (Some(cancelled), Some(removed)) = race(
-                &rt,
-                &queue,
-                &mut handle,
-                &keys,
-                Other::Clears,
-            ) else {
-                panic!(rt; "a thread gave up")
-            };
+            let (cancelled, removed, audit) = races(&rt, rt.alloc(), config, Other::Clears)?;
             assert_eq!(rt; cancelled.saturating_add(removed), 200);
-            assert_eq!(rt; handle.give_back(), cancelled);
-            let totals = Totals {
-                inserted: 200,
-                expired: 0,
-                removed,
-                cancelled,
-                live: 0,
-            };
-            assert_eq!(rt; queue.audit(&rt), Ok(totals));
+            assert_eq!(rt; audit, totals(removed, cancelled, 0));
         }
     }
     Ok(())
@@ -128,20 +155,23 @@ fn cancels_against_clear(rt: HostRuntime) -> Result<(), Fail> {
 fn cancels_against_sweep(rt: HostRuntime) -> Result<(), Fail> {
     for config in one_and_four() {
         for _ in 0..ROUNDS {
-            let queue = SharedDelayQueue::new(rt.alloc(), config)?;
-            let keys = fill(&rt, rt.alloc(), &queue)?;
-            let mut handle = queue.handle(&rt)?;
-            let answers = race(&rt, &queue, &mut handle, &keys, Other::Sweeps);
-            assert_eq!(rt; answers, (Some(200), Some(200)));
-            assert_eq!(rt; handle.give_back(), 200);
-            let totals = Totals {
-                inserted: 200,
-                expired: 0,
-                removed: 0,
-                cancelled: 200,
-                live: 0,
-            };
-            assert_eq!(rt; queue.audit(&rt), Ok(totals));
+            let (cancelled, reaped, audit) = races(&rt, rt.alloc(), config, Other::Sweeps)?;
+            assert_eq!(rt; (cancelled, reaped), (200, 200));
+            assert_eq!(rt; audit, totals(0, 200, 0));
+        }
+    }
+    Ok(())
+}
+
+/// Of an entry's reset and the cancel by its first key one is accepted: a cancelled entry isn't reset, and the key of a reset
+/// one is stale.
+#[test]
+fn cancels_against_resets(rt: HostRuntime) -> Result<(), Fail> {
+    for config in one_and_four() {
+        for _ in 0..ROUNDS {
+            let (cancelled, renewed, audit) = races(&rt, rt.alloc(), config, Other::Resets)?;
+            assert_eq!(rt; cancelled.saturating_add(renewed), 200);
+            assert_eq!(rt; audit, totals(0, cancelled, renewed));
         }
     }
     Ok(())
