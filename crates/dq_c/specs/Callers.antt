@@ -1,5 +1,5 @@
--- What a caller's calls say. Each is a call of the caller that the handle holds, or is refused where
--- the handle is empty.
+-- What a caller's calls say. Each is a call of the caller that the handle holds, or is refused
+-- where the handle is empty.
 use Rattle.std.specs.Prelude.{◌≡◌, ℕ, Option, Some, None, Result, Ok, Err}
 use Rattle.dq_core.specs.declared.words.CallError.{CallError}
 use Rattle.dq_core.specs.declared.words.Look.{Look}

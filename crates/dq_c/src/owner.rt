@@ -20,7 +20,8 @@ pub extern "C" fn dq_insert(
     when: u64,
     key: &mut DqKey,
 ) -> DqAnswer
-    ensures { InsertSays queue.old.part.value value when result key.old key.new queue.new.part.value }
+    ensures { InsertSays queue.old.part.value value when result key.old key.new
+        queue.new.part.value }
 {
     if !queue.is_held() {
         return only(DQ_EMPTY);
