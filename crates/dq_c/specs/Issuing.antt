@@ -1,5 +1,5 @@
 -- What an issue says, and what is told of the callers that were given back.
-use Rattle.std.specs.Prelude.{◌≡◌, ◌⊎◌, ℕ, ◌<◌, Option, Some, None, Result, Ok, Err, IfOk}
+use Rattle.std.specs.Prelude.{◌≡◌, ◌⊎◌, ℕ, Option, Some, None, Result, Ok, Err}
 use Rattle.dq_core.specs.Readers.{with_words}
 use Rattle.dq_words.specs.KeeperCalls.{Issues, Returns, Accounts, EndsFit, counts_by}
 use Rattle.dq_words.specs.Seats.{Sat}

@@ -1,5 +1,5 @@
 -- What making and freeing say.
-use Rattle.std.specs.Prelude.{◌≡◌, ◌⊎◌, ℕ, Option, Some, None, length}
+use Rattle.std.specs.Prelude.{◌≡◌, ◌⊎◌, ℕ, Option, Some, None}
 use Rattle.dq_core.specs.Calls.{IsConfig, new_core}
 use Rattle.dq_core.specs.Words.{AreFresh}
 use Rattle.dq_wheel.specs.State.{fresh_filing}

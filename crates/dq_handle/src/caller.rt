@@ -124,8 +124,8 @@ impl CallerHandle {
 
     /// The seat that it held, where it held one.
     pub fn into_box(self) -> Option<Box<Seat>>
-        ensures { MatchOption result (self.part.value ≡ None)
-            (λ b. self.part.value ≡ Some b.value) }
+        ensures { MatchOption result
+            (self.part.value ≡ None) (λ b. self.part.value ≡ Some b.value) }
     {
         let CallerHandle { part, held } = self;
         if held {

@@ -125,8 +125,8 @@ impl QueueHandle {
 
     /// The queue that it held, where it held one.
     pub fn into_box(self) -> Option<Box<Queue>>
-        ensures { MatchOption result (self.part.value ≡ None)
-            (λ b. self.part.value ≡ Some b.value) }
+        ensures { MatchOption result
+            (self.part.value ≡ None) (λ b. self.part.value ≡ Some b.value) }
     {
         let QueueHandle { part, held } = self;
         if held {
