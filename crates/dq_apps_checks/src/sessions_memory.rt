@@ -113,8 +113,8 @@ fn each_allocation_of_sessions_is_refused(rt: HostRuntime) -> Result<(), Fail> {
             Refused::Login => copied = copied.saturating_add(1),
             Refused::Handle => handed = handed.saturating_add(1),
             Refused::Nowhere => {
-                // The making takes memory for the row of shards, and for the words, wheel and slots of each.
-                assert!(rt; made >= 7 && copied == 1 && handed == 1);
+                // The row of shards, and the words, wheel and slots of both; a name; the row of callers.
+                assert_eq!(rt; (made, copied, handed), (21, 1, 1));
                 return Ok(());
             }
         }
