@@ -10,17 +10,18 @@ use std::process::Abort;
 use std::test::Fail;
 
 /// Runs a script again and again, each time with the next of its allocations refused, until none is. A refused run ends
-/// between two answers; answers how often it ended later than the run before, the first run counted too.
+/// between two answers; answers how often it ended later than the run before, the first run counted too, and how many
+/// allocations the script makes.
 fn refuse_each_allocation(
     rt: &impl Abort,
     alloc: Global,
     capacity: usize,
     script: &[u8],
     answers: &[u8],
-) -> Result<usize, Fail> {
-    let mut ends = 0;
+) -> Result<(usize, u64), Fail> {
+    let mut ends = 0usize;
     let mut answered = 0;
-    for grants in 0..1000 {
+    for grants in 0..1000u64 {
         let all = LocalHeap::new(alloc, 1 << 16)?;
         let heap = RefusingHeap::new(&all, grants);
         let mut reader = script;
@@ -31,7 +32,7 @@ fn refuse_each_allocation(
         if !heap.has_refused() {
             assert_eq!(rt; end, Ok(()));
             assert!(rt; written.len() == answers.len());
-            return Ok(ends);
+            return Ok((ends, grants));
         }
         assert_eq!(rt; end, Err(ReplayFault::NoMemory));
         assert!(rt; written.is_empty() || written.ends_with(b"\n"));
@@ -41,20 +42,28 @@ fn refuse_each_allocation(
         answered = written.len();
     }
     assert!(rt; false, "each run was refused");
-    Ok(ends)
+    Ok((ends, 0))
 }
 
-/// Each command of a table takes memory, so the refused runs end before the first answer and behind each but the last.
+/// Each command of a table takes memory, so the refused runs end before the first answer and behind each but the last. There are
+/// as many of them as the whole script makes allocations.
 fn each_command_takes_memory(
     rt: &impl Abort,
     alloc: Global,
     capacity: usize,
     first: &str,
     rows: &[Row],
+    allocations: u64,
 ) -> Result<(), Fail> {
     let (script, answers) = joined(alloc, first, rows)?;
-    let ends = refuse_each_allocation(rt, alloc, capacity, script.as_bytes(), answers.as_bytes())?;
-    assert_eq!(rt; ends, rows.len());
+    let refused = refuse_each_allocation(
+        rt,
+        alloc,
+        capacity,
+        script.as_bytes(),
+        answers.as_bytes(),
+    )?;
+    assert_eq!(rt; refused, (rows.len(), allocations));
     Ok(())
 }
 
@@ -79,13 +88,13 @@ fn refused_memory(rt: HostRuntime) -> Result<(), Fail> {
             "a expired 5\naaaaaaaaaaaaaaaaaaaaaaaaaaaaaaaa expired 5\ntick 9",
         ),
     ];
-    each_command_takes_memory(&rt, rt.alloc(), 6, "delay 1", table)
+    each_command_takes_memory(&rt, rt.alloc(), 6, "delay 1", table, 45)
 }
 
 #[test]
 fn refused_memory_at_every_command(rt: HostRuntime) -> Result<(), Fail> {
     for first in ["delay 1", "delay 2"] {
-        each_command_takes_memory(&rt, rt.alloc(), 2, first, &EVERY_COMMAND)?;
+        each_command_takes_memory(&rt, rt.alloc(), 2, first, &EVERY_COMMAND, 61)?;
     }
     Ok(())
 }
