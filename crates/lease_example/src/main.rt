@@ -1,25 +1,36 @@
 //! Leases of a lock server. Many threads may give them and renew them; here one thread renews a lease while another polls.
+//!
+//! Without arguments the ticks are handed in, so that each run prints the same. `lease_example live` goes by the real clock.
 #![tactic(auto)]
+
+mod live;
 
 use anyhow::{Result, anyhow};
 use dq_core::Turn;
 use dq_shards::{Handle, QueueConfig, SharedDelayQueue};
 use dq_ticks::Key;
+use std::io::ErrorKind;
+use std::process::ExitCode;
+use std::rt::Clock;
 use std::sync::Wait;
-use std::thread;
 use std::thread::Threads;
+use std::{env, io, thread};
 
-/// How many leases a shard may have at once. All memory is taken when the queue is made.
+/// What the command line may say.
+const USAGE: &str = "usage: lease_example [live] (live: by the real clock, some five seconds)";
+
+/// How many leases a shard may have at once. All memory but that of names is taken when the queue is made.
 const LEASES: usize = 64;
 
 /// A new lease until a tick: milliseconds of the server's own clock. The route picks the shard.
-fn lease<R: Wait>(
+fn lease<R: AllocGlobal + Wait>(
     rt: &R,
-    queue: &SharedDelayQueue<&'static str>,
+    queue: &SharedDelayQueue<String>,
     route: u64,
-    holder: &'static str,
+    holder: &str,
     until: u64,
 ) -> Result<Key> {
+    let holder = String::from_str(rt.alloc(), holder)?;
     let given = queue.insert(rt, route, holder, until);
     Ok(given.map_err(|refused| refused.0)?)
 }
@@ -40,14 +51,9 @@ where
 }
 
 /// Tells which leases of a shard have ended by a tick.
-fn end_leases<R>(
-    rt: &R,
-    queue: &SharedDelayQueue<&'static str>,
-    shard: usize,
-    tick: u64,
-) -> Result<()>
+fn end_leases<R>(rt: &R, queue: &SharedDelayQueue<String>, shard: usize, tick: u64) -> Result<()>
 where
-    R: Print + AllocGlobal + Wait,
+    R: Print + Wait,
 {
     for _ in 0..LEASES {
         match queue.poll(rt, shard, tick)? {
@@ -61,14 +67,50 @@ where
     Ok(())
 }
 
-fn main(rt: HostRuntime) -> Result<()> {
+/// Gives two leases, of which one is renewed, and ends both.
+fn walk<R>(rt: &R) -> Result<()>
+where
+    R: Print + AllocGlobal + Threads + Wait + Clone + Drop + Send + 'static,
+{
     let queue = SharedDelayQueue::new(rt.alloc(), QueueConfig::of(4, LEASES))?;
-    let first = lease(&rt, &queue, 7, "ann", 30_000)?;
-    lease(&rt, &queue, 7, "bob", 30_000)?;
-    let handle = queue.handle(&rt)?;
-    let until = renew(&rt, handle, first, 45_000)?;
+    let first = lease(rt, &queue, 7, "ann", 30_000)?;
+    lease(rt, &queue, 7, "bob", 30_000)?;
+    let handle = queue.handle(rt)?;
+    let until = renew(rt, handle, first, 45_000)?;
     println!(rt; "ann holds her lease until {until}")?;
     let shard = first.entry().shard() as usize;
-    end_leases(&rt, &queue, shard, 30_000)?;
-    end_leases(&rt, &queue, shard, 45_000)
+    end_leases(rt, &queue, shard, 30_000)?;
+    end_leases(rt, &queue, shard, 45_000)
+}
+
+fn main(rt: HostRuntime) -> Result<ExitCode> {
+    match env::args(&rt) {
+        Ok(words) => {
+            let words: Result<Vec<String>, _> = words.skip(1).collect(rt.alloc());
+            run(&rt, words?.as_slice())
+        }
+        // A word isn't text.
+        Err(error) if error.kind() == ErrorKind::InvalidData => Ok(refuse(&rt)?),
+        Err(error) => Err(error.into()),
+    }
+}
+
+/// Does what the words of the command line ask for, and gives the status.
+fn run<R>(rt: &R, words: &[String]) -> Result<ExitCode>
+where
+    R: Clock + Print + Eprint + AllocGlobal + Threads + Wait + Clone + Drop + Send + 'static,
+{
+    match words {
+        [] => walk(rt)?,
+        [word] if word.as_str() == "live" => live::run(rt)?,
+        [word] if word.as_str() == "--help" => println!(rt; "{USAGE}")?,
+        _ => return Ok(refuse(rt)?),
+    }
+    Ok(ExitCode::SUCCESS)
+}
+
+/// Says what the command line may say.
+fn refuse(rt: &impl Eprint) -> io::Result<ExitCode> {
+    eprintln!(rt; "{USAGE}")?;
+    Ok(ExitCode::from(2))
 }

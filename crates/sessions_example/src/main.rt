@@ -1,70 +1,72 @@
 //! Sessions of a server, each of which ends when nobody touched it for a while. One thread touches them by a handle, without a
-//! lock, while another polls for those that ended. The ticks are handed in, so that each run prints the same.
+//! lock, while another polls for those that ended.
+//!
+//! Without arguments the ticks are handed in, so that each run prints the same. `sessions_example live` goes by the real clock:
+//! each line of standard input is the name of who was just active.
 #![tactic(auto)]
+
+mod live;
+mod walk;
 
 use anyhow::Result;
 use dq_apps::IdleSessions;
-use dq_core::{CallError, Turn};
-use dq_shards::{Handle, QueueConfig};
-use dq_ticks::Key;
+use dq_core::Turn;
+use std::io::ErrorKind;
+use std::process::ExitCode;
+use std::rt::Clock;
 use std::sync::Wait;
-use std::thread;
 use std::thread::Threads;
+use std::{env, io};
+
+/// What the command line may say.
+const USAGE: &str =
+    "usage: sessions_example [live] (live: by the real clock, who is active on standard input)";
 
 /// How many sessions there may be at once.
 const SESSIONS: usize = 64;
 
-/// For how many ticks of a millisecond a session may be idle.
-const IDLE: u64 = 30_000;
-
-/// Logs three in, lets one stay and one leave, and prints who times out.
-fn main(rt: HostRuntime) -> Result<()> {
-    let sessions = IdleSessions::new(rt.alloc(), QueueConfig::of(1, SESSIONS), IDLE)?;
-    let ann = sessions.login(&rt, 0, "ann", 0)?;
-    sessions.login(&rt, 0, "bob", 0)?;
-    let cy = sessions.login(&rt, 0, "cy", 10_000)?;
-    let handle = sessions.handle(&rt)?;
-    let until = visit(&rt, &sessions, handle, ann, cy)?;
-    println!(rt; "ann may be idle until {until}")?;
-    for tick in [30_000, 40_000, 55_000] {
-        time_out(&rt, &sessions, tick)?;
+fn main(rt: HostRuntime) -> Result<ExitCode> {
+    match env::args(&rt) {
+        Ok(words) => {
+            let words: Result<Vec<String>, _> = words.skip(1).collect(rt.alloc());
+            run(&rt, words?.as_slice())
+        }
+        // A word isn't text.
+        Err(error) if error.kind() == ErrorKind::InvalidData => Ok(refuse(&rt)?),
+        Err(error) => Err(error.into()),
     }
-    sessions.login(&rt, 0, "dan", 55_000)?;
-    tell_audit(&rt, sessions)
 }
 
-/// In a thread of its own one is active at two ticks and another logs out, while this thread polls.
-fn visit<R>(rt: &R, sessions: &IdleSessions, handle: Handle, ann: Key, cy: Key) -> Result<u64>
+/// Does what the words of the command line ask for, and gives the status.
+fn run<R>(rt: &R, words: &[String]) -> Result<ExitCode>
 where
-    R: Print + Threads + Wait + Sync,
+    R: Clock + Input + Print + Eprint + AllocGlobal + Threads + Wait + Sync,
 {
-    let (until, polled) = thread::join(
-        rt,
-        move || touch(sessions, handle, ann, cy),
-        move || time_out(rt, sessions, 20_000),
-    );
-    polled?;
-    Ok(until?)
+    match words {
+        [] => walk::run(rt)?,
+        [word] if word.as_str() == "live" => live::run(rt)?,
+        [word] if word.as_str() == "--help" => println!(rt; "{USAGE}")?,
+        _ => return Ok(refuse(rt)?),
+    }
+    Ok(ExitCode::SUCCESS)
 }
 
-/// By a handle: no lock is taken, whatever the polling thread does.
-fn touch(sessions: &IdleSessions, mut handle: Handle, ann: Key, cy: Key) -> Result<u64, CallError> {
-    sessions.touch(&mut handle, &ann, 15_000)?;
-    let until = sessions.touch(&mut handle, &ann, 25_000)?;
-    sessions.logout(&mut handle, &cy)?;
-    let _cancels = handle.give_back();
-    Ok(until)
+/// Says what the command line may say.
+fn refuse(rt: &impl Eprint) -> io::Result<ExitCode> {
+    eprintln!(rt; "{USAGE}")?;
+    Ok(ExitCode::from(2))
 }
 
-/// Prints which sessions have timed out by a tick.
-fn time_out<R: Print + Wait>(rt: &R, sessions: &IdleSessions, tick: u64) -> Result<()> {
+/// Prints which sessions have timed out by a tick, and answers the tick to poll at next, if there is one.
+fn time_out<R: Print + Wait>(rt: &R, sessions: &IdleSessions, tick: u64) -> Result<Option<u64>> {
     for _ in 0..SESSIONS {
         match sessions.next_idle(rt, 0, tick)? {
             Turn::Out(ended) => println!(rt; "{}: {} timed out", ended.deadline, ended.value)?,
-            Turn::Waiting { .. } | Turn::Idle => return Ok(()),
+            Turn::Waiting { next } => return Ok(Some(next)),
+            Turn::Idle => return Ok(None),
         }
     }
-    Ok(())
+    Ok(Some(tick))
 }
 
 /// Prints what became of all sessions, when every handle is given back.

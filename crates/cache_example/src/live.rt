@@ -1,0 +1,50 @@
+//! Hosts that are looked up by the real clock.
+
+use crate::addresses::Addresses;
+use anyhow::Result;
+use dq_stream::{MillisecondTicks, TickSource};
+use std::rt::Clock;
+use std::thread;
+use std::time::Duration;
+
+/// How long an address is remembered, in ticks of one millisecond.
+const TIME_TO_LIVE: u64 = 3_000;
+
+/// Looks up the host that each line of standard input names. At the end of input it waits until each address is forgotten.
+pub fn run<R>(rt: &R) -> Result<()>
+where
+    R: Clock + Input + Print + AllocGlobal,
+{
+    let mut ticks = MillisecondTicks::new(rt)?;
+    let mut addresses = Addresses::new(rt.alloc(), TIME_TO_LIVE)?;
+    for line in rt.lines(rt.alloc()) {
+        let line = line?;
+        let (host, now) = (line.trim(), ticks.now());
+        let address = addresses.address(String::from_str(rt.alloc(), host)?, now)?;
+        let (hits, misses) = (addresses.hits, addresses.misses);
+        println!(rt; "{now}: {host} is {address} (hits {hits}, misses {misses})")?;
+    }
+    forget_all(rt, &mut ticks, &mut addresses)
+}
+
+/// Sleeps until the next address is to be forgotten, and forgets it, until none is left.
+fn forget_all<R>(rt: &R, ticks: &mut impl TickSource, addresses: &mut Addresses) -> Result<()>
+where
+    R: Clock + Print,
+{
+    // A sleep may end early, and then nothing is forgotten: so the turns are bounded by a number far beyond the hosts.
+    for _ in 0..1_000 {
+        let Some(next) = addresses.next_forgotten() else {
+            return Ok(());
+        };
+        let now = ticks.now();
+        thread::sleep(rt, Duration::from_millis(next.saturating_sub(now)));
+        let now = ticks.now();
+        let forgotten = addresses.forget(now)?;
+        println!(rt;
+            "{now}: {forgotten} forgotten, {} remembered",
+            addresses.len()
+        )?;
+    }
+    Ok(())
+}
