@@ -9,9 +9,8 @@ use anyhow::{Result, anyhow};
 use dq_core::Turn;
 use dq_shards::{Handle, QueueConfig, SharedDelayQueue};
 use dq_ticks::Key;
-use std::io::ErrorKind;
+use example_mode::{Mode, asked};
 use std::process::ExitCode;
-use std::rt::Clock;
 use std::sync::Wait;
 use std::thread::Threads;
 use std::{env, io, thread};
@@ -84,33 +83,10 @@ where
 }
 
 fn main(rt: HostRuntime) -> Result<ExitCode> {
-    match env::args(&rt) {
-        Ok(words) => {
-            let words: Result<Vec<String>, _> = words.skip(1).collect(rt.alloc());
-            run(&rt, words?.as_slice())
-        }
-        // A word isn't text.
-        Err(error) if error.kind() == ErrorKind::InvalidData => Ok(refuse(&rt)?),
-        Err(error) => Err(error.into()),
-    }
-}
-
-/// Does what the words of the command line ask for, and gives the status.
-fn run<R>(rt: &R, words: &[String]) -> Result<ExitCode>
-where
-    R: Clock + Print + Eprint + AllocGlobal + Threads + Wait + Clone + Drop + Send + 'static,
-{
-    match words {
-        [] => walk(rt)?,
-        [word] if word.as_str() == "live" => live::run(rt)?,
-        [word] if word.as_str() == "--help" => println!(rt; "{USAGE}")?,
-        _ => return Ok(refuse(rt)?),
+    match asked(&rt, USAGE)? {
+        Ok(Mode::Walk) => walk(&rt)?,
+        Ok(Mode::Live) => live::run(&rt)?,
+        Err(status) => return Ok(status),
     }
     Ok(ExitCode::SUCCESS)
-}
-
-/// Says what the command line may say.
-fn refuse(rt: &impl Eprint) -> io::Result<ExitCode> {
-    eprintln!(rt; "{USAGE}")?;
-    Ok(ExitCode::from(2))
 }

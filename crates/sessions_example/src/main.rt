@@ -11,12 +11,9 @@ mod walk;
 use anyhow::Result;
 use dq_apps::IdleSessions;
 use dq_core::Turn;
-use std::io::ErrorKind;
+use example_mode::{Mode, asked};
 use std::process::ExitCode;
-use std::rt::Clock;
 use std::sync::Wait;
-use std::thread::Threads;
-use std::{env, io};
 
 /// What the command line may say.
 const USAGE: &str =
@@ -26,35 +23,12 @@ const USAGE: &str =
 const SESSIONS: usize = 64;
 
 fn main(rt: HostRuntime) -> Result<ExitCode> {
-    match env::args(&rt) {
-        Ok(words) => {
-            let words: Result<Vec<String>, _> = words.skip(1).collect(rt.alloc());
-            run(&rt, words?.as_slice())
-        }
-        // A word isn't text.
-        Err(error) if error.kind() == ErrorKind::InvalidData => Ok(refuse(&rt)?),
-        Err(error) => Err(error.into()),
-    }
-}
-
-/// Does what the words of the command line ask for, and gives the status.
-fn run<R>(rt: &R, words: &[String]) -> Result<ExitCode>
-where
-    R: Clock + Input + Print + Eprint + AllocGlobal + Threads + Wait + Sync,
-{
-    match words {
-        [] => walk::run(rt)?,
-        [word] if word.as_str() == "live" => live::run(rt)?,
-        [word] if word.as_str() == "--help" => println!(rt; "{USAGE}")?,
-        _ => return Ok(refuse(rt)?),
+    match asked(&rt, USAGE)? {
+        Ok(Mode::Walk) => walk::run(&rt)?,
+        Ok(Mode::Live) => live::run(&rt)?,
+        Err(status) => return Ok(status),
     }
     Ok(ExitCode::SUCCESS)
-}
-
-/// Says what the command line may say.
-fn refuse(rt: &impl Eprint) -> io::Result<ExitCode> {
-    eprintln!(rt; "{USAGE}")?;
-    Ok(ExitCode::from(2))
 }
 
 /// Prints which sessions have timed out by a tick, and answers the tick to poll at next, if there is one.
