@@ -6,7 +6,7 @@ use std::sync::Mutex;
 use std::thread;
 use std::time::{Duration, Instant};
 
-use crate::plan::{part, shard_passes, SplitMix64, BURST, IDLE, PASS, SEED};
+use crate::plan::{part, shard_pass, shard_passes, SplitMix64, BURST, IDLE, SEED};
 use crate::queue::Queue;
 use crate::rows::{Clock, Sample};
 
@@ -163,7 +163,7 @@ impl<'a, Q: Queue + Send> ShardLoad<'a, Q> {
 
     /// Takes out what is left, and goes to the start of the next pass.
     fn end_pass(&mut self) {
-        let tick = self.now + PASS;
+        let tick = self.now + shard_pass(self.total());
         self.clock.moment(tick);
         for shard in &mut self.queue.0 {
             let queue = shard.get_mut().expect("no call panics under the lock");

@@ -56,6 +56,11 @@ pub fn shard_passes(entries: usize) -> usize {
     passes(entries).min(MOST_PASSES)
 }
 
+/// The ticks of a pass of a row of shards: the last of its extends is due by then, however many there are.
+pub fn shard_pass(entries: usize) -> u64 {
+    PASS.max((IDLE + 1).wrapping_add(entries as u64))
+}
+
 /// The room of a shard for its entries: where they come in bursts, a shard may get one more than its share.
 pub fn shard_room(entries: usize) -> usize {
     entries.saturating_add(BURST).min(CAPACITY_LIMIT)

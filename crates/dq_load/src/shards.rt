@@ -3,7 +3,7 @@
 
 ghost use Rattle.std.specs.Prelude.{◌<◌};
 
-use crate::plan::{BURST, IDLE, PASS, SEED, SplitMix64, part, shard_passes, shard_room};
+use crate::plan::{BURST, IDLE, SEED, SplitMix64, part, shard_pass, shard_passes, shard_room};
 use crate::queues::Refusal;
 use crate::sample::Sample;
 use crate::work::{Begun, Done, Round, Shards, Work, insert_all};
@@ -102,7 +102,7 @@ impl ShardLoad {
 
     /// Takes out what is left, and goes to the start of the next pass.
     fn end_pass<R: Wait>(&mut self, rt: &R) -> Result<()> {
-        let tick = self.now.wrapping_add(PASS);
+        let tick = self.now.wrapping_add(shard_pass(self.entries));
         for shard in 0..self.shards.shards() {
             for _ in 0..=self.entries {
                 let Turn::Out(out) = self.shards.poll(rt, shard, tick)? else {
