@@ -1,6 +1,6 @@
 //! A plain row of words, for a queue that nobody shares.
 
-ghost use Rattle.std.specs.Prelude.{◌≡◌, ℕ, ◌+◌, ◌<◌, ◌≤◌, length, slice_set, replicate, false, max, MatchOption, MatchResult};
+ghost use Rattle.std.specs.Prelude.{◌≡◌, ℕ, ◌+◌, ◌<◌, ◌≤◌, length, slice_set, replicate, false, max, MatchOption, MatchResult, Ok};
 ghost use Rattle.dq_core.specs.Words.{Counts, word_at, look_by};
 ghost use Rattle.dq_core.specs.WordRows.{IsMadeRow, IsWordRow, IsNamed, IsCallable, CallRefused, IsExtend, IsCancel, IsLook};
 ghost use Rattle.dq_ticks.specs.declared.TheConstants.{LAST_STAMP, LAST_TICK};
@@ -8,7 +8,7 @@ ghost use Rattle.dq_ticks.specs.declared.TheConstants.{LAST_STAMP, LAST_TICK};
 use crate::errors::CoreError;
 use crate::packed_row::PackedRow;
 use crate::words::{CallError, Look, Settled, Words};
-use dq_ticks::{CAPACITY_LIMIT, Key, LAST_TICK, Mark, Parts};
+use dq_ticks::{CAPACITY_LIMIT, Key, LAST_STAMP, LAST_TICK, Mark, Parts};
 use std::alloc::{Allocator, Global};
 use std::marker::Model;
 
@@ -87,6 +87,22 @@ impl<A: Allocator> VecWords<A> {
         self.row.live_at(index, key.stamp())
     }
 
+    /// Raises the deadline of the word that a key names, where it is live at the key's stamp.
+    #[inline]
+    fn raised(&mut self, key: &Key, when: u64) -> Option<u64>
+        requires { when ≤ LAST_TICK }
+        ensures { MatchOption result
+            ((¬ IsCallable self.old.known key.now) × (self.new ≡ self.old))
+            (λ d. IsExtend self.old key.now when (Ok d) self.new) }
+    {
+        let index = key.entry().index() as usize;
+        let stamp = key.stamp();
+        if index >= self.row.len() || stamp == 0 || stamp > LAST_STAMP {
+            return None;
+        }
+        self.row.raise_live(index, stamp, when)
+    }
+
     /// Why a call by a key is refused.
     fn refusal(&self, key: &Key) -> CallError
         requires { ¬ IsCallable self.now.known key.now }
@@ -108,19 +124,10 @@ impl<A: Allocator> VecWords<A> {
         if when > LAST_TICK {
             return Err(CallError::TooFar { limit: LAST_TICK });
         }
-        let Some(deadline) = self.live_by(key) else {
-            return Err(self.refusal(key));
-        };
-        let deadline = deadline.max(when);
-        self.row.set(
-            key.entry().index() as usize,
-            Parts {
-                stamp: key.stamp(),
-                mark: Mark::LiveMark,
-                field: deadline,
-            },
-        );
-        Ok(deadline)
+        match self.raised(key, when) {
+            Some(deadline) => Ok(deadline),
+            None => Err(self.refusal(key)),
+        }
     }
 
     /// Cancels a live word, and answers the deadline that is given up.
