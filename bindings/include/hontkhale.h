@@ -136,9 +136,9 @@ dq_answer dq_deadline(dq_queue *queue, const dq_key *key);
  * come again, or DQ_IDLE. DQ_EMPTY, DQ_TICK_TOO_LARGE. */
 dq_answer dq_poll(dq_queue *queue, uint64_t tick, dq_expired *expired);
 
-/* The same for a row of `places`: takes out as many as are due and have a place, and writes them from its front. DQ_OK with
- * how many where the row is full: call again. Else DQ_WAITING with how many and, in `second`, the tick to come again, or
- * DQ_IDLE with how many. DQ_EMPTY, DQ_TICK_TOO_LARGE. */
+/* The same for a row of `places`: takes out as many as are due and have a place, and writes them from its front; the places
+ * behind them stay. DQ_OK with how many where the row is full: call again. Else DQ_WAITING with how many and, in `second`,
+ * the tick to come again, or DQ_IDLE with how many. DQ_EMPTY, DQ_TICK_TOO_LARGE. */
 dq_answer dq_poll_many(dq_queue *queue, uint64_t tick, dq_expired *expired, size_t places);
 
 /* DQ_WAITING with the next tick with something to do, DQ_IDLE, DQ_EMPTY. */

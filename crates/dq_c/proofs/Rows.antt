@@ -7,7 +7,7 @@ use Rattle.dq_core.specs.declared.errors.CoreError.{CoreError}
 use Rattle.dq_core.specs.declared.outcomes.Turn.{Turn}
 use Rattle.dq_c.specs.Answers.{tells}
 use Rattle.dq_c.specs.Keys.{IsOutOf}
-use Rattle.dq_c.specs.Many.{ComeOut, ComesOut, RestSays, FillSays, no_expired}
+use Rattle.dq_c.specs.Many.{ComeOut, ComesOut, KeepsFrom, RestSays, FillSays, no_expired}
 use Rattle.dq_c.specs.Owner.{Owned, SameQueue}
 use Rattle.dq_c.specs.declared.answers.DqAnswer.{DqAnswer}
 use Rattle.dq_c.specs.declared.keys.DqExpired.{DqExpired}
@@ -36,18 +36,22 @@ one_more b tick n row out m c inside before (x, polled, is) =
     let next : suc n ≡ n + 1 = omega arith in
     subst (λ (k : ℕ). ComeOut b tick k (set row n out) c) next after
 
+-- what was written at the place n lies before those from n + 1 on
+pub keeps_on : (n : ℕ) (before row : List DqExpired) (out : DqExpired) → KeepsFrom n before row → KeepsFrom (n + 1) before (set row n out)
+keeps_on n before row out h i past = get_or-set_other row n i out no_expired (λ e. omega (arith, past, e)) ∙ h i (omega (arith, past))
+
 -- what no call changes, over two calls
 pub same_on : (b m c : Owned) → SameQueue b m → SameQueue m c → SameQueue b c
 same_on b m c s t = ((t.0.0 ∙ s.0.0, t.0.1 ∙ s.0.1, t.0.2 ∙ s.0.2), t.1 ∙ s.1)
 
--- the last poll took nothing out
-pub rests : (b : Owned) (tick n : ℕ) (row : List DqExpired) (m c : Owned) (r r' : Result (Turn ℕ) CoreError) (answer : DqAnswer)
-    → SameQueue b m → ComeOut b tick n row m → SameQueue m c → Polls true m tick r c → r ≡ r' → RestSays n r' answer → FillSays b tick row answer c
-rests b tick n row m c r r' answer before come after polled e says =
+-- the row has room, and the last poll took nothing out
+pub rests : (b : Owned) (tick n : ℕ) (before row : List DqExpired) (m c : Owned) (r r' : Result (Turn ℕ) CoreError) (answer : DqAnswer)
+    → SameQueue b m → ComeOut b tick n row m → KeepsFrom n before row → n < length row → SameQueue m c → Polls true m tick r c → r ≡ r' → RestSays n r' answer → FillSays b tick before row answer c
+rests b tick n before row m c r r' answer same come keeps room after polled e says =
     let told = subst (λ (x : Result (Turn ℕ) CoreError). Polls true m tick x c) e polled in
-    (same_on b m c before after, (n, m, come, inr (r', told, says)))
+    (same_on b m c same after, (n, m, come, keeps, inr (room, (r', told, says))))
 
 -- the row is full
-pub full : (b : Owned) (tick n : ℕ) (row : List DqExpired) (m : Owned) (answer : DqAnswer)
-    → SameQueue b m → ComeOut b tick n row m → n ≡ length row → answer ≡ tells n → FillSays b tick row answer m
-full b tick n row m answer before come size says = (before, (n, m, come, inl (size, says, refl)))
+pub full : (b : Owned) (tick n : ℕ) (before row : List DqExpired) (m : Owned) (answer : DqAnswer)
+    → SameQueue b m → ComeOut b tick n row m → KeepsFrom n before row → n ≡ length row → answer ≡ tells n → FillSays b tick before row answer m
+full b tick n before row m answer same come keeps size says = (same, (n, m, come, keeps, inl (size, says, refl)))

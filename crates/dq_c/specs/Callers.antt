@@ -1,6 +1,6 @@
 -- What a caller's calls say. Each is a call of the caller that the handle holds, or is refused
 -- where the handle is empty.
-use Rattle.std.specs.Prelude.{◌≡◌, ℕ, Option, Some, None, Result, Ok, Err}
+use Rattle.std.specs.Prelude.{◌≡◌, ℕ, Option, Some, None, MatchOption, Result, Ok, Err}
 use Rattle.dq_core.specs.declared.words.CallError.{CallError}
 use Rattle.dq_core.specs.declared.words.Look.{Look}
 use Rattle.dq_words.specs.AtTheCall.{cancels_of}
@@ -18,11 +18,17 @@ abbrev pub caller_in : Option Seat → Option Sat
 caller_in None = None
 caller_in (Some seat) = seat.caller
 
--- the caller made a call at its own table; where there is none the handle is refused as empty
-abbrev pub CallerGoes : Option Sat → Option Sat → DqAnswer → (Sat → Sat → Type 0) → Type 0
-CallerGoes (Some b) (Some c) answer Goes = Goes b c × (c.table ≡ b.table)
-CallerGoes None None answer Goes = answer ≡ empty
-CallerGoes b c answer Goes = ⊥
+-- the caller made a call at its own table
+abbrev pub AtItsTable : (Sat → Sat → Type 0) → Sat → Option Sat → Type 0
+AtItsTable Goes b (Some c) = Goes b c × (c.table ≡ b.table)
+AtItsTable Goes b None = ⊥
+
+-- the caller that the handle holds made a call; where there is none the handle is refused as empty,
+-- and stays
+abbrev pub CallerGoes : Option Seat → Option Seat → DqAnswer → (Sat → Sat → Type 0) → Type 0
+CallerGoes old new answer Goes =
+    MatchOption (caller_in old)
+    ((answer ≡ empty) × (new ≡ old)) (λ b. AtItsTable Goes b (caller_in new))
 
 -- a deadline is told, or the refusal is
 abbrev pub TickSays : Result ℕ CallError → DqAnswer → Type 0
@@ -32,14 +38,14 @@ TickSays (Err e) answer = answer ≡ call_answer e
 -- an extend
 abbrev pub ExtendSays : Option Seat → DqKey → ℕ → DqAnswer → Option Seat → Type 0
 ExtendSays old key when answer new =
-    CallerGoes (caller_in old) (caller_in new) answer
+    CallerGoes old new answer
     (λ b c. (r : Result ℕ CallError) × CallerExtends b.view (named key) when r c.view
     × TickSays r answer)
 
 -- a cancel
 abbrev pub CancelSays : Option Seat → DqKey → DqAnswer → Option Seat → Type 0
 CancelSays old key answer new =
-    CallerGoes (caller_in old) (caller_in new) answer
+    CallerGoes old new answer
     (λ b c. (r : Result ℕ CallError) × CallerCancels b.view (named key) r c.view
     × TickSays r answer)
 
@@ -51,7 +57,7 @@ ShownSays (Err e) answer = answer ≡ call_answer e
 -- a look
 abbrev pub LookSays : Option Seat → DqKey → DqAnswer → Option Seat → Type 0
 LookSays old key answer new =
-    CallerGoes (caller_in old) (caller_in new) answer
+    CallerGoes old new answer
     (λ b c. (r : Result Look CallError) × CallerLooks b.view (named key) r c.view
     × ShownSays r answer)
 

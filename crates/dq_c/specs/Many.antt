@@ -1,6 +1,6 @@
 -- What a poll says that takes out many entries: the polls one after another.
-use Rattle.std.specs.Prelude.{◌≡◌, ◌⊎◌, ℕ, zero, suc, Option, Some, None, List, Result, Ok, Err}
-use Rattle.std.specs.Prelude.{length, slice_index_or, true}
+use Rattle.std.specs.Prelude.{◌≡◌, ◌<◌, ◌≤◌, ◌⊎◌, ℕ, zero, suc, Option, Some, None, List, Result}
+use Rattle.std.specs.Prelude.{Ok, Err, length, slice_index_or, true}
 use Rattle.dq_core.specs.Calls.{Polls}
 use Rattle.dq_core.specs.declared.errors.CoreError.{CoreError}
 use Rattle.dq_core.specs.declared.outcomes.Expired.{Expired}
@@ -38,6 +38,10 @@ ComeOut b tick zero row c = c ≡ b
 ComeOut b tick (suc n) row c =
     (m : Owned) × ComeOut b tick n row m × ComesOut m tick (place_at row n) c
 
+-- the places of a row from n on hold what they held before
+abbrev pub KeepsFrom : ℕ → List DqExpired → List DqExpired → Type 0
+KeepsFrom n before row = (i : ℕ) → n ≤ i → place_at row i ≡ place_at before i
+
 -- the last poll took nothing out: what it answered is told with the number that came out before
 abbrev pub RestSays : ℕ → Result (Turn ℕ) CoreError → DqAnswer → Type 0
 RestSays n (Ok (Out x)) answer = ⊥
@@ -45,22 +49,24 @@ RestSays n (Ok (Waiting next)) answer = answer ≡ two_numbers DQ_WAITING n next
 RestSays n (Ok Idle) answer = answer ≡ with_number DQ_IDLE n
 RestSays n (Err e) answer = answer ≡ core_answer e
 
--- the row is full, or a last poll took nothing out
+-- the row is full, or it has room and a last poll took nothing out
 abbrev pub EndsAt : Owned → ℕ → ℕ → List DqExpired → DqAnswer → Owned → Type 0
 EndsAt m tick n row answer c =
     ((n ≡ length row) × (answer ≡ tells n) × (c ≡ m))
-    ⊎ ((r : Result (Turn ℕ) CoreError) × Polls true m tick r c × RestSays n r answer)
+    ⊎ ((n < length row)
+    × ((r : Result (Turn ℕ) CoreError) × Polls true m tick r c × RestSays n r answer))
 
--- a row is filled from its front
-abbrev pub FillSays : Owned → ℕ → List DqExpired → DqAnswer → Owned → Type 0
-FillSays b tick row answer c =
+-- a row is filled from its front, and keeps the places past those that were filled
+abbrev pub FillSays : Owned → ℕ → List DqExpired → List DqExpired → DqAnswer → Owned → Type 0
+FillSays b tick before row answer c =
     SameQueue b c
-    × ((n : ℕ) × (m : Owned) × ComeOut b tick n row m × EndsAt m tick n row answer c)
+    × ((n : ℕ) × (m : Owned) × ComeOut b tick n row m × KeepsFrom n before row
+    × EndsAt m tick n row answer c)
 
 -- a poll that takes out many
 abbrev pub PollManySays :
     Option Queue → ℕ → List DqExpired → List DqExpired → DqAnswer → Option Queue → Type 0
 PollManySays (Some b) tick before row answer (Some c) =
-    FillSays b.core tick row answer c.core × (length row ≡ length before)
+    FillSays b.core tick before row answer c.core × (length row ≡ length before)
 PollManySays None tick before row answer None = (answer ≡ empty) × (row ≡ before)
 PollManySays b tick before row answer c = ⊥

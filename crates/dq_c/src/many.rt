@@ -12,7 +12,7 @@ use dq_words::Keeper;
 
 /// Fills the row from its front by one poll after another, until it is full or a poll takes nothing out.
 fn fill(core: &mut DelayCore<u64, Keeper>, tick: u64, outs: &mut [DqExpired]) -> DqAnswer
-    ensures fills { FillSays core.old tick outs.new result core.new }
+    ensures fills { FillSays core.old tick outs.old outs.new result core.new }
     ensures size { length outs.new ≡ length outs.old }
 {
     for taken in 0..outs.len() {

@@ -1,2 +1,3 @@
-pub mod QueueBox
-pub mod SeatBox
+pub mod Parts
+pub mod QueueAsPart
+pub mod SeatAsPart

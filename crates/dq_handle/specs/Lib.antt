@@ -1,5 +1,3 @@
 pub mod Owned
-pub mod OwnedQueue
-pub mod OwnedSeat
 pub mod QueueLoan
 pub mod SeatLoan

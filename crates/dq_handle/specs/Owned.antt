@@ -1,12 +1,13 @@
--- What a pointer owns that may be empty.
-use mir.Syntax.{Ty}
+-- What a pointer into the heap owns that may be empty.
 use base.Fml.{Fml, ftrue}
 use denote.RattleType.{RattleType}
 use denote.RawPtr.{Ptr}
 use Rattle.std.specs.Prelude.{Option, Some, None}
 use Rattle.std.specs.Box.Ownership.{box_owns}
+use Rattle.std.specs.Global.{Global}
+use Rattle.std_heap.specs.contracts.GlobalAllocator.TheImpl.{ghosts}
 
 -- nothing where there is no value, and else the value at p and the right to free its block
-abbrev pub owns_if : (Ty → Ptr → Fml) → (R : RattleType) → Ptr → Option R.Denot → Fml
-owns_if holds R p None = ftrue
-owns_if holds R p (Some x) = box_owns holds R p x
+abbrev pub heap_owns : (R : RattleType) → Global → Ptr → Option R.Denot → Fml
+heap_owns R alloc p None = ftrue
+heap_owns R alloc p (Some x) = box_owns (ghosts.dealloc_token alloc) R p x

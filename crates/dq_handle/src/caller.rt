@@ -1,6 +1,7 @@
 //! A seat on the heap, and the handle by which C holds it.
 ghost use Rattle.std.specs.Prelude.{◌≡◌, Option, Some, None, IsSome, MatchOption, is_some};
-ghost use Rattle.dq_handle.specs.OwnedSeat.{seat_owns};
+ghost use Rattle.dq_handle.specs.Owned.{heap_owns};
+ghost use Rattle.dq_handle.specs.contracts.caller.Seat.{the_row as seat_row};
 ghost use Rattle.dq_handle.specs.declared.caller.Seat.{Seat};
 
 use crate::heap_handle::HeapHandle;
@@ -25,7 +26,7 @@ pub struct CallerPart {
 }
 
 impl Model for CallerPart {
-    ghost also_owns = { λ p. seat_owns p.alloc p.ptr p.value };
+    ghost also_owns = { λ p. heap_owns seat_row p.alloc p.ptr p.value };
 }
 
 impl CallerPart {

@@ -1,6 +1,7 @@
 //! A queue on the heap, and the handle by which C holds it.
 ghost use Rattle.std.specs.Prelude.{◌≡◌, Option, Some, None, IsSome, MatchOption, is_some};
-ghost use Rattle.dq_handle.specs.OwnedQueue.{queue_owns};
+ghost use Rattle.dq_handle.specs.Owned.{heap_owns};
+ghost use Rattle.dq_handle.specs.contracts.queue.Queue.{the_row as queue_row};
 ghost use Rattle.dq_handle.specs.declared.queue.Queue.{Queue};
 
 use crate::heap_handle::HeapHandle;
@@ -26,7 +27,7 @@ pub struct QueuePart {
 }
 
 impl Model for QueuePart {
-    ghost also_owns = { λ p. queue_owns p.alloc p.ptr p.value };
+    ghost also_owns = { λ p. heap_owns queue_row p.alloc p.ptr p.value };
 }
 
 impl QueuePart {

@@ -2,28 +2,28 @@ use Rattle.std.proofs.Common.{◌≡◌, ◌<◌, true, length, Ok, refl, sym, a
 use Rattle.std.proofs.lemmas.List.{length-set}
 use Rattle.dq_core.specs.Calls.{Polls}
 use Rattle.dq_c.specs.Answers.{tells}
-use Rattle.dq_c.proofs.Rows.{none_out, one_more, same_on, rests, full}
+use Rattle.dq_c.proofs.Rows.{none_out, one_more, keeps_on, same_on, rests, full}
 use Rattle.dq_c.proofs.many.fill.Goals as goal
 
 pub loop-taken-init : goal.loop-taken-init
-loop-taken-init c = (refl, refl, ((refl, refl, refl), refl), none_out c.args.core.now c.args.tick c.args.outs.now)
+loop-taken-init c = (refl, refl, ((refl, refl, refl), refl), none_out c.args.core.now c.args.tick c.args.outs.now, λ i past. refl)
 
 pub returns-in-Ok-Waiting-clause-fills : goal.returns-in-Ok-Waiting-clause-fills
 returns-in-Ok-Waiting-clause-fills c =
     let l = c.loop-taken in
-    rests c.args.core.now c.args.tick l.taken l.outs l.core c.poll.new.self c.poll.result _ c.with_two.result l.invariant.2 l.invariant.3 (c.poll.ensures.same, c.poll.ensures.home) c.poll.ensures.polls
+    rests c.args.core.now c.args.tick l.taken c.args.outs.now l.outs l.core c.poll.new.self c.poll.result _ c.with_two.result l.invariant.2 l.invariant.3 l.invariant.4 (omega (arith, c.loop-taken-test.true, l.invariant.0, l.invariant.1)) (c.poll.ensures.same, c.poll.ensures.home) c.poll.ensures.polls
     (c.in-Ok-Waiting.is ∙ ap Ok c.in-Ok-Waiting.field-0-is) c.with_two.ensures
 
 pub returns-in-Ok-Idle-clause-fills : goal.returns-in-Ok-Idle-clause-fills
 returns-in-Ok-Idle-clause-fills c =
     let l = c.loop-taken in
-    rests c.args.core.now c.args.tick l.taken l.outs l.core c.poll.new.self c.poll.result _ c.with_one.result l.invariant.2 l.invariant.3 (c.poll.ensures.same, c.poll.ensures.home) c.poll.ensures.polls
+    rests c.args.core.now c.args.tick l.taken c.args.outs.now l.outs l.core c.poll.new.self c.poll.result _ c.with_one.result l.invariant.2 l.invariant.3 l.invariant.4 (omega (arith, c.loop-taken-test.true, l.invariant.0, l.invariant.1)) (c.poll.ensures.same, c.poll.ensures.home) c.poll.ensures.polls
     (c.in-Ok-Idle.is ∙ ap Ok c.in-Ok-Idle.field-0-is) c.with_one.ensures
 
 pub returns-in-Err-clause-fills : goal.returns-in-Err-clause-fills
 returns-in-Err-clause-fills c =
     let l = c.loop-taken in
-    rests c.args.core.now c.args.tick l.taken l.outs l.core c.poll.new.self c.poll.result _ c.of_core.result l.invariant.2 l.invariant.3 (c.poll.ensures.same, c.poll.ensures.home) c.poll.ensures.polls
+    rests c.args.core.now c.args.tick l.taken c.args.outs.now l.outs l.core c.poll.new.self c.poll.result _ c.of_core.result l.invariant.2 l.invariant.3 l.invariant.4 (omega (arith, c.loop-taken-test.true, l.invariant.0, l.invariant.1)) (c.poll.ensures.same, c.poll.ensures.home) c.poll.ensures.polls
     c.in-Err.is c.of_core.ensures
 
 pub loop-taken-preserved : goal.loop-taken-preserved
@@ -37,6 +37,7 @@ loop-taken-preserved c =
       end,
       same_on c.args.core.now l.core c.poll.new.self l.invariant.2 (c.poll.ensures.same, c.poll.ensures.home),
       one_more c.args.core.now c.args.tick l.taken l.outs c.of.result l.core c.poll.new.self inside l.invariant.3 (c.in-Ok-Out.entry, polled, c.of.ensures),
+      keeps_on l.taken c.args.outs.now l.outs c.of.result l.invariant.4,
     )
 
 pub returns-clause-fills : goal.returns-clause-fills
@@ -46,4 +47,4 @@ returns-clause-fills c =
     let past = c.loop-taken-test.false in
     let few = l.auto.taken-end in
     let all : l.taken ≡ length l.outs = omega (arith, past, few, size) in
-    full c.args.core.now c.args.tick l.taken l.outs l.core c.told.result l.invariant.2 l.invariant.3 all (c.told.ensures ∙ ap tells (sym all))
+    full c.args.core.now c.args.tick l.taken c.args.outs.now l.outs l.core c.told.result l.invariant.2 l.invariant.3 l.invariant.4 all (c.told.ensures ∙ ap tells (sym all))
