@@ -8,6 +8,7 @@ COLOURS = {
     "ours-owned": "#cc79a7",
     "ours": "#d55e00",
     "ours-shards": "#d55e00",
+    "binding": "#f4a582",
     "fetch-max": "#000000",
     "heap-note": "#56b4e9",
     "heap-note-locked": "#0072b2",

@@ -2,7 +2,7 @@
 
 use std::sync::atomic::{AtomicU64, Ordering};
 
-use crate::queue::{Queue, Shared};
+use crate::queue::{Extends, Parts, Polls, Queue, Shared};
 
 /// A live word of stamp 1: the stamp stands above 44 bits, the deadline in the lowest 42.
 const LIVE: u64 = 1 << 44;
@@ -21,8 +21,16 @@ impl Floor {
         Floor { words, linked: 0, next: 0 }
     }
 
-    fn field(&self, index: usize) -> u64 {
-        self.words[index].load(Ordering::SeqCst) & FIELD
+    fn raise(&self, key: u32, deadline: u64) -> u64 {
+        let word = LIVE | deadline;
+        let found = self.words[key as usize].fetch_max(word, Ordering::SeqCst);
+        found.max(word) & FIELD
+    }
+
+    /// The next entry, where it is due.
+    fn due(&self, tick: u64) -> Option<(u64, u64)> {
+        let deadline = self.words[self.next].load(Ordering::SeqCst) & FIELD;
+        (deadline <= tick).then_some((deadline, self.next as u64))
     }
 }
 
@@ -38,7 +46,7 @@ impl Queue for Floor {
     }
 
     fn extend(&mut self, key: u32, deadline: u64) -> u64 {
-        self.extend_shared(key, deadline)
+        self.raise(key, deadline)
     }
 
     fn reset(&mut self, _key: u32, _deadline: u64) -> u32 {
@@ -58,7 +66,7 @@ impl Queue for Floor {
             (self.linked, self.next) = (0, 0);
             return None;
         }
-        let out = self.poll_shared(tick)?;
+        let out = self.due(tick)?;
         self.next += 1;
         Some(out)
     }
@@ -73,14 +81,9 @@ impl Queue for Floor {
 }
 
 impl Shared for Floor {
-    fn extend_shared(&self, key: u32, deadline: u64) -> u64 {
-        let word = LIVE | deadline;
-        let found = self.words[key as usize].fetch_max(word, Ordering::SeqCst);
-        found.max(word) & FIELD
-    }
-
-    fn poll_shared(&self, tick: u64) -> Option<(u64, u64)> {
-        let deadline = self.field(self.next);
-        (deadline <= tick).then_some((deadline, self.next as u64))
+    fn share(&mut self, threads: usize) -> Parts<impl Extends<u32>, impl Polls<(u64, u64)>> {
+        let floor = &*self;
+        let extend = move |key, deadline| floor.raise(key, deadline);
+        Parts { extends: vec![extend; threads], poll: move |tick| floor.due(tick) }
     }
 }

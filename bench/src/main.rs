@@ -1,6 +1,8 @@
 //! `peers time ROW ENTRIES THREADS ROUNDS [PEER..]`: times what servers use now in place of the shared delay queue.
 //! One line for each peer and round; README.md says what stands in it.
 
+#[cfg(feature = "binding")]
+mod binding;
 mod floor;
 mod free;
 mod heap;
@@ -13,6 +15,8 @@ mod tokio_queue;
 
 use std::process::ExitCode;
 
+#[cfg(feature = "binding")]
+use binding::Binding;
 use floor::Floor;
 use heap::{Extending, HeapQueue};
 use plan::shard_room;
@@ -69,8 +73,9 @@ impl Asked {
         let entries = entries.parse().ok().filter(|entries| (1..=65_536).contains(entries))?;
         let threads = threads.parse().ok().filter(|threads| (1..=64).contains(threads))?;
         let rounds = rounds.parse().ok()?;
-        let known = peers.iter().all(|peer| peers_of(timed).contains(&peer.as_str()));
-        if time != "time" || !known || (threads != 1 && !timed.is_shared()) {
+        let known = peers_of(timed);
+        let all_known = peers.iter().all(|peer| known.contains(&peer.as_str()));
+        if time != "time" || !all_known || (threads != 1 && !timed.is_shared()) {
             return None;
         }
         Some(Asked { row_name: row_name.clone(), timed, entries, threads, rounds, peers: peers.to_vec() })
@@ -81,8 +86,18 @@ impl Asked {
     }
 }
 
-/// The peers of a row. The two heaps differ in an extend alone, and only what is locked can be shared.
-fn peers_of(timed: Timed) -> &'static [&'static str] {
+/// The peers of a row. The two heaps differ in an extend alone, and only what is locked can be shared. Our own queue is
+/// one of them in each row of one queue, where the program is built with its crate.
+fn peers_of(timed: Timed) -> Vec<&'static str> {
+    let mut peers = plain_peers_of(timed).to_vec();
+    if cfg!(feature = "binding") && matches!(timed, Timed::One(_)) {
+        peers.push("binding");
+    }
+    peers
+}
+
+/// The peers that are plain Rust.
+fn plain_peers_of(timed: Timed) -> &'static [&'static str] {
     match timed {
         Timed::One(Row::Extend) => &[
             "delay-queue",
@@ -165,6 +180,8 @@ fn rounds_of_one<'a>(asked: &'a Asked, row: Row, peer: &str, clock: &'a PausedCl
         "heap-note" => owned(asked, row, HeapQueue::new(Extending::Note, entries), &NoClock),
         "heap-note-locked" => shared(asked, row, Locked::new(HeapQueue::new(Extending::Note, entries)), &NoClock),
         "heap-tight" => owned(asked, row, TightHeap::new(entries), &NoClock),
+        #[cfg(feature = "binding")]
+        "binding" => shared(asked, row, Binding::new(entries), &NoClock),
         _ => shared(asked, row, Floor::new(entries), &NoClock),
     }
 }
@@ -198,7 +215,7 @@ fn print_sample(asked: &Asked, peer: &str, round: usize, sample: &Sample) {
 }
 
 fn time(asked: &Asked) {
-    let names: Vec<&str> = peers_of(asked.timed).iter().copied().filter(|peer| asked.wants(peer)).collect();
+    let names: Vec<&str> = peers_of(asked.timed).into_iter().filter(|peer| asked.wants(peer)).collect();
     let clocks: Vec<PausedClock> = names.iter().map(|_| PausedClock::new()).collect();
     let mut peers: Vec<(&str, Rounds)> =
         names.iter().zip(&clocks).map(|(name, clock)| (*name, rounds_of(asked, name, clock))).collect();
@@ -293,5 +310,7 @@ mod tests {
             keeps_deadlines(Locked::new(HeapQueue::new(extending, 4)), &NoClock);
         }
         keeps_deadlines(TightHeap::new(4), &NoClock);
+        #[cfg(feature = "binding")]
+        keeps_deadlines(Binding::new(4), &NoClock);
     }
 }

@@ -24,11 +24,27 @@ pub trait Queue {
     fn deadline(&self, out: &Self::Out) -> u64;
 }
 
-/// A queue that several threads extend.
-pub trait Shared: Queue + Sync {
-    fn extend_shared(&self, key: Self::Key, deadline: u64) -> u64;
-    fn poll_shared(&self, tick: u64) -> Option<Self::Out>;
+/// A queue that several threads extend while its owner polls.
+pub trait Shared: Queue {
+    /// The queue in parts for so many threads and the owner.
+    fn share(&mut self, threads: usize) -> Parts<impl Extends<Self::Key>, impl Polls<Self::Out>>;
 }
+
+/// What is used at the same time: an extend for each thread, and the owner's poll.
+pub struct Parts<E, P> {
+    pub extends: Vec<E>,
+    pub poll: P,
+}
+
+/// Raises the deadline of a key, and gives the one in force.
+pub trait Extends<K>: FnMut(K, u64) -> u64 + Send {}
+
+impl<K, E: FnMut(K, u64) -> u64 + Send> Extends<K> for E {}
+
+/// Gives an entry that is due at a tick.
+pub trait Polls<O>: FnMut(u64) -> Option<O> {}
+
+impl<O, P: FnMut(u64) -> Option<O>> Polls<O> for P {}
 
 /// A queue behind the standard lock, which each call takes once.
 pub struct Locked<Q>(pub Mutex<Q>);
@@ -81,11 +97,9 @@ impl<Q: Queue> Queue for Locked<Q> {
 }
 
 impl<Q: Queue + Send> Shared for Locked<Q> {
-    fn extend_shared(&self, key: Q::Key, deadline: u64) -> u64 {
-        self.with(|queue| queue.extend(key, deadline))
-    }
-
-    fn poll_shared(&self, tick: u64) -> Option<Q::Out> {
-        self.with(|queue| queue.poll(tick))
+    fn share(&mut self, threads: usize) -> Parts<impl Extends<Q::Key>, impl Polls<Q::Out>> {
+        let locked = &*self;
+        let extend = move |key, deadline| locked.with(|queue| queue.extend(key, deadline));
+        Parts { extends: vec![extend; threads], poll: move |tick| locked.with(|queue| queue.poll(tick)) }
     }
 }

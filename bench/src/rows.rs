@@ -5,7 +5,7 @@ use std::thread;
 use std::time::{Duration, Instant};
 
 use crate::plan::{passes, SplitMix64, BEAT, BEATS, HEARTBEATS, IDLE, KEPT, PASS, REST, SEED, STRIDE, TOUCHES, TURNS};
-use crate::queue::{Queue, Shared};
+use crate::queue::{Extends, Parts, Queue, Shared};
 
 /// Where a peer reads the time from. It is moved outside of what is timed.
 pub trait Clock: Sync {
@@ -413,12 +413,16 @@ impl<Q: Shared> Load<'_, Q> {
 
     /// The times of all callers together.
     fn beside_poller(&mut self, lists: &[Vec<Q::Key>], later: u64) -> Duration {
-        let (queue, clock, now) = (&self.queue, self.clock, self.now);
+        let (clock, now) = (self.clock, self.now);
+        let Parts { extends, mut poll } = self.queue.share(lists.len());
         let ended = AtomicBool::new(false);
         let mut outs = 0;
         let spent = thread::scope(|scope| {
-            let callers: Vec<_> =
-                lists.iter().map(|list| scope.spawn(move || extend_list(queue, list, later))).collect();
+            let callers: Vec<_> = extends
+                .into_iter()
+                .zip(lists)
+                .map(|(extend, list)| scope.spawn(move || extend_list(extend, list, later)))
+                .collect();
             let waits = scope.spawn(|| {
                 let spent = callers.into_iter().map(|caller| caller.join().expect("a caller ends")).sum();
                 ended.store(true, Ordering::SeqCst);
@@ -428,7 +432,7 @@ impl<Q: Shared> Load<'_, Q> {
             while !ended.load(Ordering::SeqCst) {
                 tick = (tick + STRIDE).min(now + IDLE);
                 clock.moment(tick);
-                while queue.poll_shared(tick).is_some() {
+                while poll(tick).is_some() {
                     outs += 1;
                 }
                 thread::sleep(Duration::from_millis(REST));
@@ -441,12 +445,12 @@ impl<Q: Shared> Load<'_, Q> {
 }
 
 /// Goes over a caller's list, each time to later deadlines.
-fn extend_list<Q: Shared>(queue: &Q, list: &[Q::Key], later: u64) -> Duration {
+fn extend_list<K: Copy>(mut extend: impl Extends<K>, list: &[K], later: u64) -> Duration {
     let mut when = later;
     let since = Instant::now();
     for _ in 0..TURNS {
         for key in list {
-            assert!(queue.extend_shared(*key, when) >= when, "an extend is never below what it asked");
+            assert!(extend(*key, when) >= when, "an extend is never below what it asked");
             when += 1;
         }
     }

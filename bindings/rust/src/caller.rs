@@ -16,13 +16,14 @@ impl Caller {
         Caller { handle, shard }
     }
 
-    /// The key, for the library, whose callers don't look at its shard: one of another shard becomes one that names
+    /// The key, for the library, whose callers don't look at its shard: in place of one of another shard one that names
     /// nothing.
-    fn named(&self, key: &Key) -> RawKey {
+    #[inline]
+    fn named<'a>(&self, key: &'a Key) -> &'a RawKey {
         if key.shard() == self.shard {
-            key.0
+            &key.0
         } else {
-            RawKey::default()
+            nothing()
         }
     }
 
@@ -31,9 +32,10 @@ impl Caller {
     ///
     /// # Errors
     /// `TooFar`, `Unknown`, `Stale`, `Ended`.
+    #[inline]
     pub fn extend(&mut self, key: &Key, when: u64) -> Result<u64, CallError> {
         let named = self.named(key);
-        let answer = self.handle.extend(&named, when);
+        let answer = self.handle.extend(named, when);
         if answer.code == ffi::OK {
             Ok(answer.first)
         } else {
@@ -46,9 +48,10 @@ impl Caller {
     ///
     /// # Errors
     /// `Unknown`, `Stale`, `Ended`.
+    #[inline]
     pub fn cancel(&mut self, key: &Key) -> Result<u64, CallError> {
         let named = self.named(key);
-        let answer = self.handle.cancel(&named);
+        let answer = self.handle.cancel(named);
         if answer.code == ffi::OK {
             Ok(answer.first)
         } else {
@@ -60,9 +63,10 @@ impl Caller {
     ///
     /// # Errors
     /// `Unknown`, `Stale`.
+    #[inline]
     pub fn look(&mut self, key: &Key) -> Result<Look, CallError> {
         let named = self.named(key);
-        let answer = self.handle.look(&named);
+        let answer = self.handle.look(named);
         if answer.code == ffi::OK {
             Ok(Look::of(answer))
         } else {
@@ -74,4 +78,11 @@ impl Caller {
     pub fn give_back(mut self) -> u64 {
         self.handle.give_back().first
     }
+}
+
+/// A key that names nothing: stamps begin at 1. Out of line, so that a caller's step waits for no choice between two keys.
+#[cold]
+#[inline(never)]
+fn nothing() -> &'static RawKey {
+    &RawKey { shard: 0, index: 0, born: 0, stamp: 0 }
 }

@@ -54,6 +54,25 @@ pub struct RawKey {
     pub stamp: u32,
 }
 
+impl RawKey {
+    /// The key that the library has just written here.
+    ///
+    /// It stores each number by itself. One load of several of them waits until these stores have reached the cache, so
+    /// each is loaded by itself: being volatile keeps the loads from being joined.
+    #[inline]
+    pub fn written(&self) -> RawKey {
+        // SAFETY: each number is alive behind the reference.
+        unsafe {
+            RawKey {
+                shard: ptr::read_volatile(&self.shard),
+                index: ptr::read_volatile(&self.index),
+                born: ptr::read_volatile(&self.born),
+                stamp: ptr::read_volatile(&self.stamp),
+            }
+        }
+    }
+}
+
 #[repr(C)]
 #[derive(Clone, Copy, Default)]
 pub struct RawExpired {
@@ -131,26 +150,32 @@ impl QueueHandle {
         }
     }
 
+    #[inline]
     pub fn insert(&mut self, value: u64, when: u64, key: &mut RawKey) -> Answer {
         unsafe { dq_insert(&mut self.0, value, when, key) }
     }
 
+    #[inline]
     pub fn reset(&mut self, key: &mut RawKey, when: u64) -> Answer {
         unsafe { dq_reset(&mut self.0, key, when) }
     }
 
+    #[inline]
     pub fn remove(&mut self, key: &RawKey, removed: &mut RawRemoved) -> Answer {
         unsafe { dq_remove(&mut self.0, key, removed) }
     }
 
+    #[inline]
     pub fn deadline(&mut self, key: &RawKey) -> Answer {
         unsafe { dq_deadline(&mut self.0, key) }
     }
 
+    #[inline]
     pub fn poll(&mut self, tick: u64, expired: &mut RawExpired) -> Answer {
         unsafe { dq_poll(&mut self.0, tick, expired) }
     }
 
+    #[inline]
     pub fn poll_many(&mut self, tick: u64, row: &mut [RawExpired]) -> Answer {
         unsafe { dq_poll_many(&mut self.0, tick, row.as_mut_ptr(), row.len()) }
     }
@@ -197,14 +222,17 @@ impl Drop for QueueHandle {
 }
 
 impl CallerHandle {
+    #[inline]
     pub fn extend(&mut self, key: &RawKey, when: u64) -> Answer {
         unsafe { dq_extend(&mut self.0, key, when) }
     }
 
+    #[inline]
     pub fn cancel(&mut self, key: &RawKey) -> Answer {
         unsafe { dq_cancel(&mut self.0, key) }
     }
 
+    #[inline]
     pub fn look(&mut self, key: &RawKey) -> Answer {
         unsafe { dq_look(&mut self.0, key) }
     }

@@ -4,6 +4,7 @@ use crate::ffi::{self, QueueHandle, RawExpired, RawKey, RawRemoved, RawTally};
 use crate::key::Key;
 use crate::LAST_STAMP;
 use std::fmt;
+use std::mem;
 
 /// How many entries a call of the library takes out at most.
 const ROW: usize = 64;
@@ -35,13 +36,19 @@ pub struct Config {
 pub struct DelayQueue<T> {
     handle: QueueHandle,
     shard: u32,
-    values: Vec<Option<Stored<T>>>,
+    slots: Vec<Slot<T>>,
+    /// Where the library writes what a call takes out; kept, since all of it has to be written before a call.
+    row: Vec<RawExpired>,
 }
 
-/// A value, with the key under which it was inserted.
-struct Stored<T> {
-    key: RawKey,
-    value: T,
+/// What is kept for a slot of the library's.
+enum Slot<T> {
+    Empty,
+    /// A value, with the stamp under which it was inserted: by it a sweep asks whether its entry is still linked.
+    Filled {
+        born: u32,
+        value: T,
+    },
 }
 
 /// An entry that came out.
@@ -99,10 +106,9 @@ impl<T> DelayQueue<T> {
     pub fn with_config(config: Config) -> Result<DelayQueue<T>, NewError> {
         let Config { shard, capacity, last_stamp } = config;
         let handle = QueueHandle::new(shard, capacity, last_stamp).map_err(NewError::of)?;
-        let mut values = Vec::new();
-        values.try_reserve_exact(capacity).map_err(|_| NewError::NoMemory)?;
-        values.resize_with(capacity, || None);
-        Ok(DelayQueue { handle, shard, values })
+        let slots = filled(capacity, || Slot::Empty)?;
+        let row = filled(ROW, RawExpired::default)?;
+        Ok(DelayQueue { handle, shard, slots, row })
     }
 
     /// Puts a value in that comes out at the tick `when`, or at the next poll where `when` is over. Constant time.
@@ -115,8 +121,8 @@ impl<T> DelayQueue<T> {
         if answer.code != ffi::OK {
             return Err(InsertError { error: QueueError::of(answer), value });
         }
-        let key = Key(key);
-        self.values[key.slot()] = Some(Stored { key: key.0, value });
+        let key = Key(key.written());
+        self.slots[key.slot()] = Slot::Filled { born: key.born(), value };
         Ok(key)
     }
 
@@ -128,7 +134,7 @@ impl<T> DelayQueue<T> {
         let mut out = RawExpired::default();
         let answer = self.handle.poll(now, &mut out);
         match answer.code {
-            ffi::OK => Ok(Turn::Out(self.taken(Key(out.key), out.deadline))),
+            ffi::OK => Ok(Turn::Out(taken_from(&mut self.slots, &out.key, out.deadline))),
             ffi::WAITING => Ok(Turn::Waiting { next: answer.first }),
             ffi::IDLE => Ok(Turn::Idle),
             _ => Err(QueueError::of(answer)),
@@ -141,16 +147,16 @@ impl<T> DelayQueue<T> {
     /// # Errors
     /// `TickTooLarge` beyond the last tick.
     pub fn poll_many(&mut self, now: u64, outs: &mut Vec<Expired<T>>) -> Result<Option<u64>, QueueError> {
-        let mut row = [RawExpired::default(); ROW];
         loop {
-            let answer = self.handle.poll_many(now, &mut row);
+            let answer = self.handle.poll_many(now, &mut self.row);
             let (taken, next) = match answer.code {
                 ffi::OK => (answer.first as usize, None),
                 ffi::WAITING => (answer.first as usize, Some(Some(answer.second))),
                 ffi::IDLE => (answer.first as usize, Some(None)),
                 _ => return Err(QueueError::of(answer)),
             };
-            outs.extend(row[..taken].iter().map(|out| self.taken(Key(out.key), out.deadline)));
+            let slots = &mut self.slots;
+            outs.extend(self.row[..taken].iter().map(|out| taken_from(slots, &out.key, out.deadline)));
             if let Some(next) = next {
                 return Ok(next);
             }
@@ -167,7 +173,7 @@ impl<T> DelayQueue<T> {
         if answer.code != ffi::OK {
             return Err(QueueError::of(answer));
         }
-        Ok(self.taken(Key(out.key), out.deadline))
+        Ok(taken_from(&mut self.slots, &out.key, out.deadline))
     }
 
     /// Gives a live entry another deadline, earlier or later, and answers its new key: callers refuse the old one.
@@ -181,7 +187,7 @@ impl<T> DelayQueue<T> {
         if answer.code != ffi::OK {
             return Err(QueueError::of(answer));
         }
-        Ok(Key(named))
+        Ok(Key(named.written()))
     }
 
     /// The deadline of a live entry, as its callers left it.
@@ -218,22 +224,23 @@ impl<T> DelayQueue<T> {
 
     /// The number of slots.
     pub fn capacity(&self) -> usize {
-        self.values.len()
+        self.slots.len()
     }
 
     /// Takes every entry out and drops its value. Goes over every slot.
     pub fn clear(&mut self) {
         self.handle.clear();
-        self.values.iter_mut().for_each(|stored| *stored = None);
+        self.slots.iter_mut().for_each(|slot| *slot = Slot::Empty);
     }
 
     /// Reaps the entries that were cancelled, drops their values, and answers how many it reaped. Goes over every slot.
     pub fn sweep(&mut self) -> usize {
         let reaped = self.handle.sweep().first as usize;
-        for stored in &mut self.values {
-            if let Some(Stored { key, .. }) = stored {
-                if self.handle.deadline(key).code == ffi::MISSING {
-                    *stored = None;
+        for (index, slot) in self.slots.iter_mut().enumerate() {
+            if let Slot::Filled { born, .. } = *slot {
+                let key = RawKey { shard: self.shard, index: index as u32, born, stamp: born };
+                if self.handle.deadline(&key).code == ffi::MISSING {
+                    *slot = Slot::Empty;
                 }
             }
         }
@@ -272,12 +279,22 @@ impl<T> DelayQueue<T> {
             code => unknown(code),
         }
     }
+}
 
-    /// The value of an entry that left its slot.
-    fn taken(&mut self, key: Key, deadline: u64) -> Expired<T> {
-        let stored = self.values[key.slot()].take();
-        let Stored { value, .. } = stored.expect("each linked entry's value is at its slot");
-        Expired { key, deadline, value }
+/// A row of so many, where there is memory for it.
+fn filled<U>(count: usize, each: impl FnMut() -> U) -> Result<Vec<U>, NewError> {
+    let mut row = Vec::new();
+    row.try_reserve_exact(count).map_err(|_| NewError::NoMemory)?;
+    row.resize_with(count, each);
+    Ok(row)
+}
+
+/// The entry that the library took out, with its value.
+fn taken_from<T>(slots: &mut [Slot<T>], key: &RawKey, deadline: u64) -> Expired<T> {
+    let key = Key(key.written());
+    match mem::replace(&mut slots[key.slot()], Slot::Empty) {
+        Slot::Filled { value, .. } => Expired { key, deadline, value },
+        Slot::Empty => unreachable!("each linked entry's value is at its slot"),
     }
 }
 
