@@ -9,9 +9,10 @@ import time
 
 # A processor runs at full speed where a fixed loop takes at most so many times the least that it ever took.
 NEAR = 1.2
-# How often a sample is taken anew, and how long one waits for a processor before it, in seconds.
+# How often a sample is taken anew, how long one waits for a processor before it, and for how long in all, in seconds.
 TRIES = 6
 WAIT = 4.0
+PATIENCE = 480.0
 
 
 def spin():
@@ -30,6 +31,7 @@ class Pace:
         self.processors = sorted(os.sched_getaffinity(0))
         self.least = float("inf")
         self.samples = self.anew = self.slow = 0
+        self.waited = 0.0
         until = time.monotonic() + 2
         while time.monotonic() < until:
             for processor in self.processors:
@@ -44,26 +46,32 @@ class Pace:
 
     def fast_processor(self):
         """A processor at full speed, or any where none is found in time."""
-        until = time.monotonic() + WAIT
-        while time.monotonic() < until:
+        since = time.monotonic()
+        while True:
             for processor in self.processors:
                 if self.is_fast(processor):
                     return processor
+            if time.monotonic() - since > WAIT or self.waited > PATIENCE:
+                return self.processors[0]
             time.sleep(0.05)
-        return self.processors[0]
 
     def sample(self, take):
         """Takes a sample on one processor, anew where that slowed down."""
         self.samples += 1
         for tried in range(TRIES):
+            since = time.monotonic()
             processor = self.fast_processor()
+            begun = time.monotonic()
             found = take({processor})
             if self.is_fast(processor):
+                self.waited += begun - since
                 return found
-            self.anew += tried + 1 < TRIES
-        self.slow += 1
-        return found
+            self.waited += time.monotonic() - since
+            if tried + 1 == TRIES or self.waited > PATIENCE:
+                self.slow += 1
+                return found
+            self.anew += 1
 
     def told(self):
-        return (f"Pace: {self.samples} runs of one thread, each on a processor at full speed before and after; {self.anew} were "
-                f"made anew, and {self.slow} stand though it had slowed down {TRIES} times")
+        return (f"Pace: of {self.samples} runs of one thread {self.samples - self.slow} were on a processor at full speed before and "
+                f"after, {self.anew} were made anew, and {self.slow} stand though the processor had slowed down")
