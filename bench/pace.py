@@ -12,7 +12,7 @@ NEAR = 1.2
 # How often a sample is taken anew, how long one waits for a processor before it, and for how long in all, in seconds.
 TRIES = 6
 WAIT = 4.0
-PATIENCE = 480.0
+PATIENCE = 240.0
 
 
 def spin():
