@@ -67,9 +67,13 @@ def lost(row, peer, ours, entries, threads=1):
 ONE_OWNER = ("insert", "extend", "reset", "remove", "cancel", "poll", "mixed")
 
 
-def lost_cells(peer, ours):
+# Rows in which a peer pays for all that its calls leave behind.
+WHOLE = ("cancel", "poll", "mixed", "insert+poll", "reset+poll", "remove+poll", "churn", "heartbeat")
+
+
+def lost_cells(peer, ours, rows=ONE_OWNER):
     """In how many cells of one thread a peer is the faster one."""
-    return sum(runs.times(row, peer, ours, size) < 1 for row in ONE_OWNER for size in SIZES)
+    return sum(runs.times(row, peer, ours, size) < 1 for row in rows for size in SIZES)
 
 
 # Figures of the tests, by the place in their code that has them.
@@ -90,6 +94,8 @@ FIGURES = {
     "most": runs.most,
     "lost": lost,
     "lost-cells": lost_cells,
+    "lost-whole-cells": lambda peer, ours: lost_cells(peer, ours, WHOLE),
+    "whole-cells": lambda: len(WHOLE) * len(SIZES),
     "cells": lambda: len(ONE_OWNER) * len(SIZES),
     "more": more,
     "behind": behind,
@@ -129,6 +135,23 @@ def ns_text(value):
     return f"{value:,.0f}" if value >= 10 else f"{value:.1f}"
 
 
+# The rows of the README's table, each with its words.
+SPEED = {
+    "insert": "insert",
+    "extend": "extend",
+    "poll": "poll",
+    "cancel": "cancel, and its reaping",
+    "insert+poll": "insert, and its poll",
+    "reset+poll": "reset, and its poll",
+    "remove+poll": "remove, and what it leaves to polls",
+    "mixed": "idle timeouts, 100 extends a session",
+    "heartbeat": "idle timeouts, 30 resets a session",
+    "churn": "requests that end before their time limit",
+    "reset": "reset alone (the heap pushes and leaves the rest to a poll)",
+    "remove": "remove alone (the heap marks and leaves the rest to a poll)",
+}
+
+
 def speed():
     """The README's table: medians at 10,000 entries."""
     peers = ("ours-owned", "ours", "heap-note", "delay-queue", "delay-queue-locked")
@@ -136,12 +159,27 @@ def speed():
         row("", "ours, one owner", "ours, shared words", "`BinaryHeap` that notes extends", "`DelayQueue`", "`Mutex<DelayQueue>`"),
         "|---|--:|--:|--:|--:|--:|",
     ]
-    names = {"remove": "remove (the heap marks alone)", "mixed": "idle timeouts (100 extends a session)"}
-    for name in ONE_OWNER:
-        lines.append(row(names.get(name, name), *(ns_text(runs.ns(name, it, 10000)) for it in peers)))
+    for name, words in SPEED.items():
+        lines.append(row(words, *(ns_text(runs.ns(name, it, 10000)) for it in peers)))
     shared = [runs.ns("callers", it, 10000, 4) for it in ("ours", "heap-note-locked", "delay-queue-locked")]
     told = [ns_text(it) for it in shared]
     lines.append(row("extend from 4 threads beside the owner's polls", "", told[0], f"{told[1]} (in a `Mutex`)", "", told[2]))
+    return "\n".join(lines)
+
+
+def shared_speed():
+    """The README's table of the shared queue: medians of one shard in one thread, and of four shards in four."""
+    peers = ("ours-shards", "heap-note-locked", "delay-queue-locked")
+    heads = ("shared queue", "a heap in a `Mutex`", "`Mutex<DelayQueue>`")
+    lines = [
+        row("", *(f"{it}, 1 shard, 1 thread" for it in heads), *(f"{it}, 4 shards, 4 threads" for it in heads)),
+        "|---" + "|--:" * 6 + "|",
+    ]
+    names = {"insert-burst": "insert, 64 under one lock", "poll-burst": "poll, 64 under one lock"}
+    for name in ("insert", "extend", "reset", "remove", "poll", "insert-burst", "poll-burst"):
+        one = [ns_text(runs.ns(f"{name}/1", it, 10000, 1)) for it in peers]
+        four = [ns_text(runs.ns(f"{name}/4", it, 10000, 4)) for it in peers]
+        lines.append(row(names.get(name, name), *one, *four))
     return "\n".join(lines)
 
 
@@ -250,6 +288,7 @@ def edit(name):
 TABLES = {
     "headline": headline,
     "speed": speed,
+    "shared-speed": shared_speed,
     "lost-to-the-heap": lost_to_the_heap,
     "gate": gate,
     "sizes": sizes,
