@@ -10,11 +10,11 @@ RESULTS = TOP / "bench" / "results"
 
 
 @functools.lru_cache(maxsize=None)
-def bench():
-    """The median of each cell of the bench: by peer, row, entries and callers."""
+def bench(figure=statistics.median):
+    """A number of each cell of the bench, its median or its best: by peer, row, entries and callers."""
     rows = (it.split("\t") for it in text_of(RESULTS / "latest.tsv").splitlines()[1:])
     return {
-        (peer, row, int(entries), int(threads)): statistics.median(float(it) for it in samples.split())
+        (peer, row, int(entries), int(threads)): figure([float(it) for it in samples.split()])
         for peer, row, entries, threads, samples in rows
     }
 
@@ -22,6 +22,11 @@ def bench():
 def ns(row, peer, entries, threads=1):
     """Nanoseconds an operation of a peer."""
     return bench()[peer, row, int(entries), int(threads)]
+
+
+def best(row, peer, entries, threads=1):
+    """The nanoseconds an operation of a peer's best sample."""
+    return bench(min)[peer, row, int(entries), int(threads)]
 
 
 def times(row, peer, ours, entries, threads=1):

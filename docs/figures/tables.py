@@ -98,11 +98,11 @@ FIGURES = {
     "whole-cells": lambda: len(WHOLE) * len(SIZES),
     "cells": lambda: len(ONE_OWNER) * len(SIZES),
     "more": more,
+    "best": runs.best,
+    "more-at-best": lambda row, peer, ours, size: runs.best(row, peer, size) - runs.best(row, ours, size),
     "behind": behind,
     "over": lambda row, peer, other, floor, size: runs.ns(row, peer, size) / runs.ns(other, floor, size),
     "with-later": with_later,
-    "instructions-ratio": lambda row, peer, ours: runs.stored("instructions", row, f"instructions {peer}")
-    / runs.stored("instructions", row, f"instructions {ours}"),
     "bytes": runs.entry_bytes,
     "script": runs.script,
     "script-tick": runs.script_tick,
@@ -170,9 +170,9 @@ def speed():
 def shared_speed():
     """The README's table of the shared queue: medians of one shard in one thread, and of four shards in four."""
     peers = ("ours-shards", "heap-note-locked", "delay-queue-locked")
-    heads = ("shared queue", "a heap in a `Mutex`", "`Mutex<DelayQueue>`")
     lines = [
-        row("", *(f"{it}, 1 shard, 1 thread" for it in heads), *(f"{it}, 4 shards, 4 threads" for it in heads)),
+        row("", "1 shard, 1 thread: ours", "a heap in a `Mutex`", "`Mutex<DelayQueue>`",
+            "4 shards, 4 threads: ours", "a heap in a `Mutex`", "`Mutex<DelayQueue>`"),
         "|---" + "|--:" * 6 + "|",
     ]
     names = {"insert-burst": "insert, 64 under one lock", "poll-burst": "poll, 64 under one lock"}
@@ -239,14 +239,12 @@ def instructions():
         row("Row", "Instructions: ours, one owner / shared / heap, noting", "Misses: ours, one owner / shared / heap, noting"),
         "|---|---|---|",
     ]
-    for name in ("insert", "extend", "reset", "remove", "poll", "mixed"):
+    for name in ("insert", "extend", "reset", "remove", "poll"):
         cells = []
         for what in ("instructions", "misses"):
             told = " / ".join(noted.get((name, f"{what} {it}"), "") for it in peers)
             later = noted.get((name, f"{what} heap-note later"))
-            locked = noted.get((name, f"{what} delay-queue-locked"))
             told += f", and {later} more at a later poll" if later else ""
-            told += f", and {locked} in `Mutex<DelayQueue>`" if locked else ""
             cells.append(told if told.strip(" /") else "not counted")
         lines.append(row(name, *cells))
     return "\n".join(lines)
