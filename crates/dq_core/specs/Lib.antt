@@ -6,6 +6,7 @@ pub mod FreeSlots
 pub mod KeyCalls
 pub mod Machine
 pub mod Plain
+pub mod Ranges
 pub mod Readers
 pub mod Rests
 pub mod Runs

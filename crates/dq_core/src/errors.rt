@@ -46,6 +46,17 @@ pub enum CoreError {
     NoMemory,
 }
 
+/// Which number of a configuration is out of its range.
+#[derive(Clone, Copy, Debug, PartialEq, Eq, Error)]
+pub enum BadNumber {
+    /// The capacity isn't 1 to [`CAPACITY_LIMIT`].
+    #[error("the capacity is {0}, and not 1 to {CAPACITY_LIMIT}")]
+    BadCapacity(usize),
+    /// The last stamp isn't 1 to [`LAST_STAMP`].
+    #[error("the last stamp is {0}, and not 1 to {LAST_STAMP}")]
+    BadLastStamp(u32),
+}
+
 impl From<AllocError> for CoreError {
     ghost from_gives = { λ _ e. e ≡ NoMemory };
 

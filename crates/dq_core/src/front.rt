@@ -1,10 +1,11 @@
 //! The front door: what most users of a queue of one owner write.
 
-ghost use Rattle.std.specs.Prelude.{◌≡◌, IfOk, IfErr, length};
+ghost use Rattle.std.specs.Prelude.{◌≡◌, IfOk, IfErr, MatchResult, length};
 ghost use Rattle.dq_ticks.specs.declared.TheConstants.{LAST_STAMP};
 ghost use Rattle.dq_core.specs.AtTheCall.{config_of, with_value_back};
+ghost use Rattle.dq_core.specs.Ranges.{IsInRange, IsBadNumber};
 
-use crate::errors::{CoreConfig, CoreError};
+use crate::errors::{BadNumber, CoreConfig, CoreError};
 use crate::queue::DelayCore;
 use crate::vec_words::VecWords;
 use crate::words::Words;
@@ -21,6 +22,24 @@ impl CoreConfig {
             capacity,
             last_stamp: LAST_STAMP,
         }
+    }
+
+    /// Whether a queue can be made by these numbers. A `BadConfig` tells no number, so ask here first where the numbers
+    /// come from outside.
+    ///
+    /// # Errors
+    /// The first number that is out of its range: the capacity, and then the last stamp.
+    pub fn check(&self) -> Result<(), BadNumber>
+        ensures { MatchResult result
+            (λ _. IsInRange self.now) (λ number. IsBadNumber self.now number) }
+    {
+        if self.capacity == 0 || self.capacity > CAPACITY_LIMIT {
+            return Err(BadNumber::BadCapacity(self.capacity));
+        }
+        if self.last_stamp == 0 || self.last_stamp > LAST_STAMP {
+            return Err(BadNumber::BadLastStamp(self.last_stamp));
+        }
+        Ok(())
     }
 }
 

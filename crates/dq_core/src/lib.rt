@@ -26,7 +26,7 @@ mod sweeps;
 mod vec_words;
 mod words;
 
-pub use errors::{CoreConfig, CoreError};
+pub use errors::{BadNumber, CoreConfig, CoreError};
 pub use outcomes::{Expired, Removed, Tally, Turn};
 pub use plain::{Pending, PlainQueue, PlainTurn};
 pub use queue::DelayCore;

@@ -1,6 +1,6 @@
 //! The front door: queues made by their capacity, and an insert that `?` takes.
 
-use dq_core::{CoreConfig, CoreError, DelayCore, Turn, VecWords};
+use dq_core::{BadNumber, CoreConfig, CoreError, DelayCore, Turn, VecWords};
 use dq_ticks::{LAST_STAMP, LAST_TICK};
 use dq_words::shared_queue;
 use std::alloc::Global;
@@ -62,6 +62,27 @@ fn capacities_out_of_range(rt: HostRuntime) -> Result<(), Fail> {
         );
         let shared = shared_queue::<char, Global>(rt.alloc(), capacity);
         assert_eq!(rt; shared.err(), Some(CoreError::BadConfig));
+    }
+    Ok(())
+}
+
+#[test]
+fn numbers_out_of_range_are_named(rt: HostRuntime) -> Result<(), Fail> {
+    let table: &[(usize, u32, Option<BadNumber>)] = &[
+        (1, 1, None),
+        (65536, 1048575, None),
+        (0, 0, Some(BadNumber::BadCapacity(0))),
+        (65537, 1, Some(BadNumber::BadCapacity(65537))),
+        (65536, 0, Some(BadNumber::BadLastStamp(0))),
+        (1, 1048576, Some(BadNumber::BadLastStamp(1048576))),
+    ];
+    for (capacity, last_stamp, bad) in table {
+        let config = CoreConfig {
+            shard: 0,
+            capacity: *capacity,
+            last_stamp: *last_stamp,
+        };
+        assert_eq!(rt; config.check().err(), *bad);
     }
     Ok(())
 }

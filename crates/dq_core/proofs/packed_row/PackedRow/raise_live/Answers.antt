@@ -1,4 +1,4 @@
-use Rattle.std.proofs.Common.{◌<◌, length, get_or, ◌≡◌, ◌∙◌, ap, sym, arith, refl}
+use Rattle.std.proofs.Common.{◌<◌, length, ◌≡◌, ◌∙◌, ap, sym, arith, refl}
 use Rattle.std.proofs.lemmas.List.{length-map}
 use Rattle.dq_ticks.specs.Word.{parts_of}
 use Rattle.dq_core.proofs.PackedWords.{raised_row}
