@@ -1,4 +1,4 @@
--- What a pointer into the heap owns that may be empty.
+-- What a pointer owns that is empty or leads into the heap.
 use base.Fml.{Fml, ftrue}
 use denote.RattleType.{RattleType}
 use denote.RawPtr.{Ptr}

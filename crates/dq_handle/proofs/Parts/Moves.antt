@@ -1,7 +1,8 @@
 -- The code that moves a pointer and an allocator from one struct into another, and casts the pointer. Assumes `Logic`.
---     code ν μ      the code, from a struct of the name μ to one of the name ν
---     moves         a box of these two fields comes out as it went in
---     Of, Into      `of` makes a part of a handle, and `into_handle` a handle of a part that holds a value
+--     two ν         a struct of that name, of a pointer and an allocator
+--     code to from  the code, from a struct of the one type to one of the other
+--     moves         what a box of these two fields owns goes with them
+--     of_meets, into_meets     `of` makes a part of a handle, and `into_handle` a handle of a part that holds a value
 use mathlib.Core.Path.{◌≡◌, refl, sym, subst, ap}
 use mathlib.Core.List.{List, [], ◌∷◌, ◌++◌}
 use seplogic.Ra.Ura.{Ura}
