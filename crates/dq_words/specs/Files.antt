@@ -1,4 +1,3 @@
--- No public clause cites this module.
 -- What the lists of all views say of one slot at one stamp.
 use Rattle.std.specs.Prelude.{◌≡◌, ◌⊎◌, ℕ, ◌+◌, ◌≤◌, ◌==◌, ◌&&◌, List, [], ◌∷◌, ◌++◌, Bool}
 use Rattle.std.specs.Prelude.{if◌then◌else◌}

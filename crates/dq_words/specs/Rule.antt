@@ -1,4 +1,3 @@
--- No public clause cites this module.
 -- The rule over the words of one table and the views of all seats.
 use Rattle.dq_ticks.specs.declared.TheConstants.{CAPACITY_LIMIT, LAST_TICK}
 use Rattle.dq_words.specs.declared.keeper.TheConstants.{HANDLE_LIMIT}

@@ -1,4 +1,3 @@
--- No public clause cites this module.
 -- How one word follows another.
 use Rattle.std.specs.Prelude.{◌≡◌, ◌⊎◌, ℕ, ◌+◌, ◌*◌, ◌<◌, ◌≤◌, List, map}
 use Rattle.dq_ticks.specs.declared.TheConstants.{LAST_TICK}
