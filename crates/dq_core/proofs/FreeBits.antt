@@ -37,6 +37,14 @@ set_summed bits summary i i_in w_in summed =
     (λ v d. bit_stays_set summary (i / 64) v w_in d)
     ((λ one. bit_in_word (get_or (with_bit bits i) (i / 64) 0) (i % 64) (bit_is_set bits i i_in)), (λ some. bit_is_set summary (i / 64) w_in))
 
+-- a bit is set in a word that has others
+pub added_summed : (bits summary : List ℕ) (i : ℕ) → i / 64 < length bits → 0 < get_or bits (i / 64) 0 → IsSummed bits summary → IsSummed (with_bit bits i) summary
+added_summed bits summary i i_in some summed =
+    summed_at bits summary (with_bit bits i) summary (i / 64) summed
+    (λ v d. get_or-set_other bits (i / 64) v _ 0 d)
+    (λ v d. refl)
+    ((λ one. bit_in_word (get_or (with_bit bits i) (i / 64) 0) (i % 64) (bit_is_set bits i i_in)), (λ full. (summed (i / 64)).1 some))
+
 -- the words without bit k of word w
 abbrev pub without : List ℕ → ℕ → ℕ → List ℕ
 without bits w k = set bits w (bit_and (get_or bits w 0) (18446744073709551615 - 1 * 2 ^ k % 18446744073709551616))

@@ -92,7 +92,7 @@ fn filled_word(bits: &[u64], summary: &Summary, last: usize) -> Option<usize>
     }
 }
 
-/// Sets the bit of an index, and that of its word in the summary.
+/// Sets the bit of an index, and its word's in the summary where it is the word's first.
 #[inline]
 fn set_bit(bits: &mut [u64], summary: &mut Summary, index: usize)
     requires room { index < 64 * length bits.old }
@@ -103,8 +103,11 @@ fn set_bit(bits: &mut [u64], summary: &mut Summary, index: usize)
     ensures summed { IsSummed bits.new summary.new }
 {
     let word = index / BITS;
-    bits[word] |= 1 << (index % BITS);
-    summary[word / BITS] |= 1 << (word % BITS);
+    let held = bits[word];
+    bits[word] = held | 1 << (index % BITS);
+    if held == 0 {
+        summary[word / BITS] |= 1 << (word % BITS);
+    }
 }
 
 /// Clears the lowest bit of a word that isn't 0, and the word's bit in the summary where it was its only one.

@@ -398,7 +398,7 @@ impl<T: Drop, W: Words, A: Allocator> DelayCore<T, W, A> {
 
     /// Takes a live entry out, with its key, its deadline in force and its value. Constant time. Refused as `deadline`
     /// is.
-    #[inline]
+    #[inline(always)]
     pub fn remove(&mut self, entry: &EntryId) -> Result<Removed<T>, CoreError>
         // What was held under that shard, index and birth stamp comes out, and nothing else.
         ensures out { IfOk result
