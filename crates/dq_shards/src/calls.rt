@@ -27,6 +27,19 @@ fn to_shard(key: Key, shard: u32) -> Key
     )
 }
 
+// The shard of a route. A route that names a shard is spared the division, which takes as long as the rest of an insert.
+#[inline]
+fn shard_of(route: u64, shards: u64) -> u64
+    requires { 0 < shards }
+    ensures { result ≡ route % shards }
+{
+    if route < shards {
+        route
+    } else {
+        route % shards
+    }
+}
+
 impl<T: Drop, A: Allocator> SharedDelayQueue<T, A> {
     /// Puts an entry into the shard `route` modulo the number of shards, live until `when`, a tick of one millisecond,
     /// as [`ShardState::insert`] does, and answers its key there. Constant time. Refused as TooFar beyond the last
@@ -48,7 +61,7 @@ impl<T: Drop, A: Allocator> SharedDelayQueue<T, A> {
         // All that it answers.
         ensures inserts { QueueInserts self.now route value when result }
     {
-        let shard = route % self.shards() as u64;
+        let shard = shard_of(route, self.shards() as u64);
         let mut state = self.lock(rt, shard as usize);
         let answer = state.insert(value, when);
         state.law();

@@ -55,6 +55,7 @@ impl<'q, T: Drop, A: Allocator> LockedShard<'q, T, A> {
     }
 
     /// As [`ShardState::insert`].
+    #[inline(always)]
     pub fn insert(&mut self, value: T, when: u64) -> Result<Key, (CoreError, T)>
         ensures { ShardInserts self.old value when result self.new }
     {
@@ -62,6 +63,7 @@ impl<'q, T: Drop, A: Allocator> LockedShard<'q, T, A> {
     }
 
     /// As [`ShardState::reset`].
+    #[inline(always)]
     pub fn reset(&mut self, entry: &EntryId, when: u64) -> Result<Key, CoreError>
         ensures { ShardResets self.old entry.now when result self.new }
     {
@@ -69,6 +71,7 @@ impl<'q, T: Drop, A: Allocator> LockedShard<'q, T, A> {
     }
 
     /// As [`ShardState::remove`].
+    #[inline(always)]
     pub fn remove(&mut self, entry: &EntryId) -> Result<Removed<T>, CoreError>
         ensures { ShardRemoves self.old entry.now result self.new }
     {
@@ -76,6 +79,7 @@ impl<'q, T: Drop, A: Allocator> LockedShard<'q, T, A> {
     }
 
     /// As [`ShardState::deadline`].
+    #[inline]
     pub fn deadline(&mut self, entry: &EntryId) -> Result<u64, CoreError>
         ensures { ShardDeadline self.old entry.now result self.new }
     {
@@ -83,6 +87,7 @@ impl<'q, T: Drop, A: Allocator> LockedShard<'q, T, A> {
     }
 
     /// As [`ShardState::poll`].
+    #[inline]
     pub fn poll(&mut self, tick: u64) -> Result<Turn<T>, CoreError>
         ensures { ShardPolls self.old tick result self.new }
     {

@@ -119,6 +119,7 @@ impl<T: Drop, A: Allocator> SharedDelayQueue<T, A> {
     /// The shard, with its lock held until the answer is dropped. Refused as Unknown exactly out of range.
     ///
     /// A thread that holds a shard and takes its lock once more, by any call that names the shard, waits for ever.
+    #[inline]
     pub fn enter<R: Wait>(&self, rt: &R, shard: usize) -> Result<LockedShard<'_, T, A>, QueueError>
         ensures entered { IfOk result (λ state. (shard < self.now) × IsShard state) }
         ensures refused { IfErr result (λ e. (self.now ≤ shard) × (e ≡ Unknown)) }
@@ -129,6 +130,7 @@ impl<T: Drop, A: Allocator> SharedDelayQueue<T, A> {
         Ok(self.lock(rt, shard))
     }
 
+    #[inline]
     pub(crate) fn lock<R: Wait>(&self, rt: &R, shard: usize) -> LockedShard<'_, T, A>
         requires { shard < self.now }
         ensures { IsShard result }

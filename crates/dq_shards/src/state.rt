@@ -70,6 +70,7 @@ impl<T: Drop, A: Allocator> ShardState<T, A> {
     /// Puts an entry in that is live until `when`, a tick of one millisecond, or until the wheel's tick where `when`
     /// lies before it, and answers its key. Constant time. Refused as TooFar beyond the last tick, and else as Full
     /// where no slot is free; the value comes back then.
+    #[inline(always)]
     pub fn insert(&mut self, value: T, when: u64) -> Result<Key, (CoreError, T)>
         // The entry is live from now on, and no other entry changes.
         ensures live { IfOk result
@@ -94,6 +95,7 @@ impl<T: Drop, A: Allocator> ShardState<T, A> {
     /// Gives a live entry another deadline, earlier or later, but not before the wheel's tick, and its slot's next
     /// stamp: the keys from before are stale for callers. Answers the new key. Constant time. Refused as TooFar
     /// beyond the last tick, then as Missing, as WasCancelled, and as Worn where the slot has no stamp left.
+    #[inline(always)]
     pub fn reset(&mut self, entry: &EntryId, when: u64) -> Result<Key, CoreError>
         // The same entry is live at its new base, and no other changes.
         ensures live { OnOk result
@@ -119,6 +121,7 @@ impl<T: Drop, A: Allocator> ShardState<T, A> {
     /// Takes a live entry out, with its key, its deadline in force and its value. Constant time. Refused as Missing
     /// where no entry is linked with that shard, index and birth stamp, and as WasCancelled where a caller cancelled
     /// it.
+    #[inline(always)]
     pub fn remove(&mut self, entry: &EntryId) -> Result<Removed<T>, CoreError>
         // What was held under that shard, index and birth stamp comes out, and nothing else.
         ensures out { IfOk result
@@ -144,6 +147,7 @@ impl<T: Drop, A: Allocator> ShardState<T, A> {
 
     /// The deadline in force of a live entry, a tick of one millisecond, by one look at its word. Refused as `remove`
     /// is. The poller stays.
+    #[inline]
     pub fn deadline(&mut self, entry: &EntryId) -> Result<u64, CoreError>
         // The entry is live until the deadline that is told, or known as cancelled, or missing.
         ensures live { IfOk result (λ d. IsLiveEntry (machine self.new.core) entry.now d) }
@@ -165,6 +169,7 @@ impl<T: Drop, A: Allocator> ShardState<T, A> {
     /// tick noted: call again until the answer is Waiting (nothing is due; `next` is the next tick at which there is
     /// something to do) or Idle (nothing is linked). Refused as TickTooLarge beyond the last tick, which is not noted
     /// then.
+    #[inline]
     pub fn poll(&mut self, tick: u64) -> Result<Turn<T>, CoreError>
         // The greater of the two ticks is noted. A tick is refused exactly beyond the last one.
         ensures noted { OnOk result (self.new.core.noted ≡ max self.old.core.noted tick) }
