@@ -1,7 +1,7 @@
-"""Whether a processor runs at full speed just now.
+"""Whether processors run at full speed just now.
 
 A machine that is shared with others has phases in which the same instructions take up to two and a half times as long. So a sample
-of one thread is taken on a processor that runs at full speed before and after it, and else it is taken anew.
+is taken on processors that run at full speed before and after it, and else it is taken anew.
 """
 
 import os
@@ -25,17 +25,21 @@ def spin():
 
 
 class Pace:
-    """Finds processors that run at full speed, and counts the samples that were taken anew."""
+    """Finds processors that run at full speed, and counts the samples that were taken anew.
 
-    def __init__(self):
+    A sample of one thread has one processor to itself, any; one of several threads has all of them.
+    """
+
+    def __init__(self, alone):
+        self.threads = "one thread" if alone else "several threads"
         self.processors = sorted(os.sched_getaffinity(0))
+        self.choices = [{processor} for processor in self.processors] if alone else [set(self.processors)]
         self.least = float("inf")
         self.samples = self.anew = self.slow = 0
         self.waited = 0.0
         until = time.monotonic() + 2
         while time.monotonic() < until:
-            for processor in self.processors:
-                self.is_fast(processor)
+            self.are_fast(self.processors)
 
     def is_fast(self, processor):
         os.sched_setaffinity(0, {processor})
@@ -44,26 +48,29 @@ class Pace:
         self.least = min(self.least, took)
         return took <= NEAR * self.least
 
-    def fast_processor(self):
-        """A processor at full speed, or any where none is found in time."""
+    def are_fast(self, processors):
+        return all([self.is_fast(processor) for processor in processors])
+
+    def fast_processors(self):
+        """Processors at full speed, or any where none are found in time."""
         since = time.monotonic()
         while True:
-            for processor in self.processors:
-                if self.is_fast(processor):
-                    return processor
+            for processors in self.choices:
+                if self.are_fast(processors):
+                    return processors
             if time.monotonic() - since > WAIT or self.waited > PATIENCE:
-                return self.processors[0]
+                return self.choices[0]
             time.sleep(0.05)
 
     def sample(self, take):
-        """Takes a sample on one processor, anew where that slowed down."""
+        """Takes a sample, anew where its processors slowed down."""
         self.samples += 1
         for tried in range(TRIES):
             since = time.monotonic()
-            processor = self.fast_processor()
+            processors = self.fast_processors()
             begun = time.monotonic()
-            found = take({processor})
-            if self.is_fast(processor):
+            found = take(processors)
+            if self.are_fast(processors):
                 self.waited += begun - since
                 return found
             self.waited += time.monotonic() - since
@@ -73,5 +80,5 @@ class Pace:
             self.anew += 1
 
     def told(self):
-        return (f"Pace: of {self.samples} runs of one thread {self.samples - self.slow} were on a processor at full speed before and "
-                f"after, {self.anew} were made anew, and {self.slow} stand though the processor had slowed down")
+        return (f"Pace: of {self.samples} runs of {self.threads} {self.samples - self.slow} were on processors at full speed before "
+                f"and after, {self.anew} were made anew, and {self.slow} stand though a processor had slowed down")

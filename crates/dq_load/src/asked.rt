@@ -32,6 +32,9 @@ pub const CALLS: [(&str, Call); 7] = [
     ("poll-burst", Call::PollBurst),
 ];
 
+/// The words of a command that names no peer.
+const COMMAND: usize = 5;
+
 /// What is timed: a row of one owner, the callers, or a row of the shared queue with its number of shards.
 #[derive(Clone, Copy, Debug, PartialEq, Eq)]
 pub enum Timed {
@@ -48,6 +51,8 @@ pub struct Asked<'a> {
     pub entries: usize,
     pub threads: u64,
     pub rounds: u64,
+    /// The one that is timed, where not all are.
+    pub peer: Option<&'a str>,
 }
 
 /// The row, the entries and the threads, as they stand in a line.
@@ -60,10 +65,19 @@ impl fmt::Display for Asked<'_> {
 impl<'a> Asked<'a> {
     /// The command that the words of a command line are, if they are one.
     pub fn read(words: &'a [String]) -> Option<Asked<'a>> {
-        let [time, row, entries, threads, rounds] = words else {
+        let (command, peer) = match words {
+            [command @ .., peer] if command.len() == COMMAND => (command, Some(peer.as_str())),
+            command => (command, None),
+        };
+        let [time, row, entries, threads, rounds] = command else {
             return None;
         };
         let timed = row_of(row.as_str())?;
+        if let Some(peer) = peer
+            && !timed.peers().contains(&peer)
+        {
+            return None;
+        }
         let entries = number(entries.as_str(), 65_536)?;
         let threads = number(threads.as_str(), timed.most_threads())?;
         let rounds = number(rounds.as_str(), 1_000)?;
@@ -76,7 +90,16 @@ impl<'a> Asked<'a> {
             entries: entries as usize,
             threads,
             rounds,
+            peer,
         })
+    }
+
+    /// Whether a queue is timed.
+    pub fn wants(&self, name: &str) -> bool {
+        match self.peer {
+            Some(peer) => peer == name,
+            None => true,
+        }
     }
 }
 
@@ -85,6 +108,15 @@ impl Timed {
         match self {
             Timed::Owned(_) => 1,
             Timed::Callers | Timed::Shards(..) => 64,
+        }
+    }
+
+    /// The queues that are timed here.
+    fn peers(self) -> &'static [&'static str] {
+        match self {
+            Timed::Owned(_) => &["ours-owned", "ours", "kit-wheel", "kit-delay-queue"],
+            Timed::Callers => &["ours"],
+            Timed::Shards(..) => &["ours-shards"],
         }
     }
 }

@@ -1,6 +1,6 @@
 //! The bench's own load: the queue under the plan of bench/README.md, timed by itself. `dq_load time ROW ENTRIES
-//! THREADS ROUNDS` prints a line for each queue and round. Without arguments it makes each row once, small, and prints
-//! the counts, which never change, and the bytes of an entry.
+//! THREADS ROUNDS [PEER]` prints a line for each round of each queue, or of the one that is named. Without arguments it
+//! makes each row once, small, and prints the counts, which never change, and the bytes of an entry.
 #![tactic(auto)]
 
 mod asked;
@@ -51,7 +51,7 @@ where
         return small(rt);
     }
     let Some(asked) = Asked::read(words) else {
-        bail!("usage: dq_load time ROW ENTRIES THREADS ROUNDS (bench/README.md has the rows)");
+        bail!("usage: dq_load time ROW ENTRIES THREADS ROUNDS [PEER] (bench/README.md has the rows)");
     };
     match asked.timed {
         Timed::Owned(row) => time_row(rt, &asked, row),
@@ -160,46 +160,37 @@ where
     Ok(load)
 }
 
-/// Times rounds of our queues in turns, and then of the two peers here.
+/// Times rounds of our queues and of the two peers here, of each that is wanted.
 fn time_row<R>(rt: &R, asked: &Asked, row: Row) -> Result<()>
 where
     R: Clock + Print + AllocGlobal + RandomSource,
 {
     let (alloc, entries) = (rt.alloc(), asked.entries);
-    let (owned, shared) = (Owned::new(alloc, entries)?, Shared::new(alloc, entries)?);
-    time_both(rt, asked, row, ("ours-owned", "ours"), owned, shared)?;
-    let (wheel, queue) = (KitWheel::new(alloc, entries)?, KitQueue::new(rt, entries)?);
-    time_both(
-        rt,
-        asked,
-        row,
-        ("kit-wheel", "kit-delay-queue"),
-        wheel,
-        queue,
-    )
+    if asked.wants("ours-owned") {
+        time_queue(rt, asked, row, "ours-owned", Owned::new(alloc, entries)?)?;
+    }
+    if asked.wants("ours") {
+        time_queue(rt, asked, row, "ours", Shared::new(alloc, entries)?)?;
+    }
+    if asked.wants("kit-wheel") {
+        time_queue(rt, asked, row, "kit-wheel", KitWheel::new(alloc, entries)?)?;
+    }
+    if asked.wants("kit-delay-queue") {
+        time_queue(rt, asked, row, "kit-delay-queue", KitQueue::new(rt, entries)?)?;
+    }
+    Ok(())
 }
 
-/// Times rounds of two queues in turns.
-fn time_both<R, P, Q>(
-    rt: &R,
-    asked: &Asked,
-    row: Row,
-    names: (&str, &str),
-    first: P,
-    second: Q,
-) -> Result<()>
+/// Times rounds of a queue.
+fn time_queue<R, Q>(rt: &R, asked: &Asked, row: Row, name: &str, queue: Q) -> Result<()>
 where
     R: Clock + Print + AllocGlobal,
-    P: Queue + Drop,
     Q: Queue + Drop,
 {
-    let mut first = warmed(rt, first, asked.entries, row)?;
-    let mut second = warmed(rt, second, asked.entries, row)?;
+    let mut load = warmed(rt, queue, asked.entries, row)?;
     for round in 1..=asked.rounds {
-        let sample = first.round(rt, row)?;
-        println!(rt; "{} {asked} {round} {sample}", names.0)?;
-        let sample = second.round(rt, row)?;
-        println!(rt; "{} {asked} {round} {sample}", names.1)?;
+        let sample = load.round(rt, row)?;
+        println!(rt; "{name} {asked} {round} {sample}")?;
     }
     Ok(())
 }
