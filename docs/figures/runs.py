@@ -81,10 +81,14 @@ def script_tick():
     return float(re.search(r"expires 60,000 names .*\((\S+) s\)", text_of(RESULTS / "script.md"))[1])
 
 
+def rows_of(name):
+    """The rows of a file of results/."""
+    return [it.split("\t") for it in text_of(RESULTS / f"{name}.tsv").splitlines() if it and not it.startswith("#")]
+
+
 def noted(name):
     """What a file of results/ notes: by key and by what it is."""
-    lines = (it.split("\t") for it in text_of(RESULTS / f"{name}.tsv").splitlines() if it and not it.startswith("#"))
-    return {(key, what): value for key, what, value in lines}
+    return {(key, what): value for key, what, value in rows_of(name)}
 
 
 def stored(name, key, *what):

@@ -250,6 +250,41 @@ def instructions():
     return "\n".join(lines)
 
 
+# Each change for speed, as results/gains.tsv names it, what it was, and the rows in which it tells.
+GAINS = (
+    ("level_2_by_second_digit", "a slot of level 2 by its second digit", ("poll",)),
+    ("list_off_its_head", "an opened list is taken off its head as a whole", ("poll",)),
+    ("free_slots", "free slots in rising order", ("insert", "reset", "remove", "poll")),
+    ("plain_words", "plain words in one number", ("insert", "extend", "reset", "remove", "poll")),
+    ("queue_inlining", "insert and reset always inlined", ("insert", "reset")),
+    ("load_closure", "the load's reset makes no error (no change of the queue)", ("reset",)),
+    ("all", "**all of these, and the load's new loops**", ("insert", "extend", "reset", "remove", "poll")),
+    ("subtraction", "an extend is a subtraction", ("extend",)),
+    ("summary_by_the_first", "a freed slot touches the summary only as its word's first", ("remove",)),
+    ("remove_inlined", "remove always inlined", ("remove",)),
+    ("layers_inlined", "by name: the layers inlined, and no division for a shard's own route", ("insert/1", "remove/1", "insert-burst/1")),
+)
+
+
+def gains():
+    """What each change for speed gained alone."""
+    found = {(change, call, what): (before, after) for change, call, what, before, after in runs.rows_of("gains")}
+    lines = [
+        row("Change", "Call", "Instructions before, after", "Misses before, after", "ns before, after"),
+        "|---|---|---|---|---|",
+    ]
+
+    def cell(change, call, what, decimals):
+        pair = found.get((change, call, what))
+        return ", ".join(f"{float(number):.{decimals}f}" for number in pair) if pair else "not taken"
+
+    for change, told, calls in GAINS:
+        for call in calls:
+            cells = [cell(change, call, what, decimals) for what, decimals in (("instructions", 0), ("misses", 1), ("ns_best_10000", 1))]
+            lines.append(row(told if call == calls[0] else "", f"`{call}`" if "/" in call else call, *cells))
+    return "\n".join(lines)
+
+
 def headline():
     """One row of numbers: an extend beside its floor and beside a locked queue."""
     peers = ("ours", "fetch-max", "heap-note-locked", "delay-queue-locked")
@@ -292,6 +327,7 @@ TABLES = {
     "sizes": sizes,
     "plant": plant,
     "instructions": instructions,
+    "gains": gains,
     "edit": edit,
 }
 
