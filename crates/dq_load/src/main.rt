@@ -51,7 +51,9 @@ where
         return small(rt);
     }
     let Some(asked) = Asked::read(words) else {
-        bail!("usage: dq_load time ROW ENTRIES THREADS ROUNDS [PEER] (bench/README.md has the rows)");
+        bail!(
+            "usage: dq_load time ROW ENTRIES THREADS ROUNDS [PEER] (bench/README.md has the rows)"
+        );
     };
     match asked.timed {
         Timed::Owned(row) => time_row(rt, &asked, row),
@@ -176,7 +178,13 @@ where
         time_queue(rt, asked, row, "kit-wheel", KitWheel::new(alloc, entries)?)?;
     }
     if asked.wants("kit-delay-queue") {
-        time_queue(rt, asked, row, "kit-delay-queue", KitQueue::new(rt, entries)?)?;
+        time_queue(
+            rt,
+            asked,
+            row,
+            "kit-delay-queue",
+            KitQueue::new(rt, entries)?,
+        )?;
     }
     Ok(())
 }
