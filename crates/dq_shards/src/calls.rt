@@ -29,7 +29,7 @@ fn to_shard(key: Key, shard: u32) -> Key
 
 // The shard of a route. A route that names a shard is spared the division, which takes as long as the rest of an insert.
 #[inline]
-fn shard_of(route: u64, shards: u64) -> u64
+fn routed_shard(route: u64, shards: u64) -> u64
     requires { 0 < shards }
     ensures { result ≡ route % shards }
 {
@@ -61,7 +61,7 @@ impl<T: Drop, A: Allocator> SharedDelayQueue<T, A> {
         // All that it answers.
         ensures inserts { QueueInserts self.now route value when result }
     {
-        let shard = shard_of(route, self.shards() as u64);
+        let shard = routed_shard(route, self.shards() as u64);
         let mut state = self.lock(rt, shard as usize);
         let answer = state.insert(value, when);
         state.law();
