@@ -27,7 +27,7 @@ fn to_shard(key: Key, shard: u32) -> Key
     )
 }
 
-// The shard of a route. A route that names a shard is spared the division, which takes as long as the rest of an insert.
+// The shard of a route. A route that is a shard's number is spared the division.
 #[inline]
 fn routed_shard(route: u64, shards: u64) -> u64
     requires { 0 < shards }
