@@ -1,126 +1,239 @@
-"""A bar chart of the medians, as SVG: a panel for each size, a group of bars for each row, on one logarithmic axis."""
+"""The bar charts of a run, as SVG of 900 pixels: panels of bars, each with its name and its number, on one logarithmic axis a chart."""
 
 import math
 from xml.sax.saxutils import escape
 
-# Colours that are told apart without red and green (Okabe and Ito).
+import stored
+
+# Colours that are told apart without red and green (Okabe and Ito): ours warm, heaps blue, wheels green, DelayQueue yellow.
 COLOURS = {
-    "ours-owned": "#cc79a7",
+    "ours-owned": "#cc5a00",
     "ours": "#d55e00",
     "ours-shards": "#d55e00",
     "binding": "#f4a582",
+    "adapter": "#f7c6ad",
+    "adapter-handle": "#e98a5f",
+    "binding-shards": "#f4a582",
     "fetch-max": "#000000",
     "heap-note": "#56b4e9",
-    "heap-note-locked": "#0072b2",
-    "heap-tight": "#8a6fd1",
-    "heap-tight-locked": "#5a3fa1",
-    "heap-push": "#9ad9c3",
-    "heap-push-locked": "#009e73",
+    "heap-note-locked": "#56b4e9",
+    "heap-best": "#0072b2",
+    "heap-best-locked": "#0072b2",
+    "heap-tight": "#0072b2",
+    "heap-tight-locked": "#0072b2",
+    "heap-indexed": "#7a9cc6",
+    "heap-push": "#9cc9e3",
+    "heap-push-locked": "#9cc9e3",
+    "hashed-wheel": "#009e73",
+    "hashed-wheel-locked": "#009e73",
+    "kit-wheel": "#7fc8ae",
     "delay-queue": "#f0c800",
     "delay-queue-locked": "#b08900",
-    "kit-delay-queue": "#c8b77a",
-    "kit-wheel": "#8c8c8c",
+    "kit-delay-queue": "#d8c98a",
+    "sleep": "#8c8c8c",
 }
-WIDTH = 1900
-LEFT, RIGHT = 56, 16
-PANEL, GAP, TOP = 190, 62, 96
-STEPS = [1, 2, 5, 10, 20, 50, 100, 200, 500, 1_000, 2_000, 5_000, 10_000, 20_000, 50_000]
-# Rows whose time has all that their calls leave behind.
-WHOLE = {"insert+poll", "reset+poll", "remove+poll", "mixed", "churn", "heartbeat"}
+WIDTH, MARGIN, HEAD = 900, 14, 66
+BAR, STEP, TITLE, GAP = 11, 15, 22, 12
+# Room for the names on the left of a panel, and for the number on the right of its longest bar.
+NAME, NUMBER = 120, 44
+# What the front chart shows of each row: ours, the best heap that several threads can call, and what servers use now.
+FRONT = [["ours"], ["heap-best-locked", "heap-tight-locked", "heap-note-locked"], ["delay-queue-locked"]]
 
 
-def place(case):
-    """Where a case stands: the order and the title of its panel, and its label there."""
-    entries = f"{case.entries:,} entries"
-    if case.shards:
-        shards = f"{case.shards} shards" if case.shards > 1 else "one shard"
-        label = f"{case.call}, {case.threads} threads" if case.threads > 1 else case.call
-        return (2, case.shards, case.entries), f"The shared queue, {shards} of {entries}", label
-    if case.row in WHOLE:
-        return (1, case.entries), f"{entries}, with all that the calls leave behind", case.row
-    label = f"callers {case.threads}" if case.row == "callers" else case.row
-    return (0, case.entries), entries, label
-
-
-def panels(cases):
-    """The panels from above: title, and its groups as (label, case)."""
-    found = {}
-    for case in cases:
-        order, title, label = place(case)
-        found.setdefault((order, title), []).append((label, case))
-    return [(title, groups) for (_, title), groups in sorted(found.items(), key=lambda it: it[0])]
-
-
-def shown_in_chart(case):
-    """Of one shard the chart shows one size; the table has all."""
-    return case.shards != 1 or case.entries == 10_000
-
-
-def text(x, y, words, size=12, anchor="start", weight="normal", fill="#222"):
+def text(x, y, words, size=11, anchor="start", weight="normal", fill="#222"):
     return (f'<text x="{x:.1f}" y="{y:.1f}" font-size="{size}" text-anchor="{anchor}" '
             f'font-weight="{weight}" fill="{fill}">{escape(words)}</text>')
 
 
-class Axis:
-    def __init__(self, cases):
-        medians = [case.median(peer) for case in cases for peer in case.samples]
-        self.low = max(step for step in [0.5, *STEPS] if step <= max(min(medians), 0.5))
-        self.high = min((step for step in STEPS if step >= max(medians)), default=max(medians))
-
-    def height(self, median):
-        share = math.log(max(median, self.low) / self.low) / math.log(self.high / self.low)
-        return max(share * PANEL, 1.0)
-
-    def lines(self, base):
-        for step in STEPS:
-            if self.low <= step <= self.high:
-                y = base - self.height(step)
-                yield f'<line x1="{LEFT}" x2="{WIDTH - RIGHT}" y1="{y:.1f}" y2="{y:.1f}" stroke="#ddd"/>'
-                yield text(LEFT - 6, y + 4, str(step), 11, "end", fill="#555")
+def rectangle(x, y, wide, tall, fill, told=""):
+    title = f"<title>{escape(told)}</title>" if told else ""
+    return f'<rect x="{x:.1f}" y="{y:.1f}" width="{wide:.1f}" height="{tall:.1f}" fill="{fill}">{title}</rect>'
 
 
-def bars(groups, axis, base, peers):
-    room = (WIDTH - LEFT - RIGHT) / len(groups)
-    for place, (label, case) in enumerate(groups):
-        shown = [peer for peer in peers if peer in case.samples]
-        wide = min((room - 14) / max(len(shown), 1), 26)
-        start = LEFT + place * room + (room - wide * len(shown)) / 2
-        for index, peer in enumerate(shown):
-            median = case.median(peer)
-            tall = axis.height(median)
-            x = start + index * wide
-            told = f"{case}: {peer} {median:.1f} ns, best {case.best(peer):.1f}"
-            yield (f'<rect x="{x:.1f}" y="{base - tall:.1f}" width="{wide - 1.5:.1f}" height="{tall:.1f}" '
-                   f'fill="{COLOURS[peer]}"><title>{escape(told)}</title></rect>')
-            number = f"{median:.0f}" if median >= 10 else f"{median:.1f}"
-            yield text(x + wide / 2 - 0.7, base - tall - 3, number, 9, "middle", fill="#444")
-        yield text(LEFT + (place + 0.5) * room, base + 17, label, 12, "middle")
+def number(value):
+    return f"{value:,.0f}" if value >= 10 else f"{value:.1f}"
 
 
-def draw(cases, names, about):
-    cases = [case for case in cases if shown_in_chart(case)] or cases
-    peers = [peer for peer in names if any(peer in case.samples for case in cases)]
-    shown = panels(cases)
-    axis = Axis(cases)
-    tall = TOP + len(shown) * (PANEL + GAP)
+def name_of(peer):
+    return stored.NAMES[peer].replace("`", "")
+
+
+class Bar:
+    """A bar: its name, its colour, its number, and the lighter ones behind it, if it has some."""
+
+    def __init__(self, name, colour, value, told, *, further=()):
+        self.name, self.colour, self.value, self.told, self.further = name, colour, value, told, further
+
+    def most(self):
+        return max([self.value, *self.further])
+
+
+class Panel:
+    """Bars under a title. A bar that is a text stands for a line of words between them."""
+
+    def __init__(self, title, bars):
+        self.title, self.bars = title, bars
+
+    def height(self):
+        return TITLE + STEP * len(self.bars) + GAP
+
+    def values(self):
+        return [value for bar in self.bars if isinstance(bar, Bar) for value in (bar.value, bar.most())]
+
+    def draw(self, x, y, wide, axis, name_room):
+        yield text(x, y + 14, self.title, 12, weight="bold")
+        room = wide - name_room - NUMBER
+        for place, bar in enumerate(self.bars):
+            top = y + TITLE + place * STEP
+            if isinstance(bar, str):
+                yield text(x, top + BAR, bar, 11, fill="#555")
+                continue
+            if bar.name:
+                yield text(x + name_room - 5, top + BAR - 1.5, bar.name, 10.5, "end")
+            further = sorted(bar.further, reverse=True)
+            for value, light in [*zip(further, ["33", "66"]), (bar.value, "")]:
+                yield rectangle(x + name_room, top, max(axis(value) * room, 1.5), BAR, bar.colour + light, bar.told)
+            yield text(x + name_room + max(axis(bar.most()) * room, 1.5) + 4, top + BAR - 1.5, number(bar.most()), 10.5, fill="#444")
+
+
+def axis_of(panels):
+    """Where a number stands on a logarithmic axis from below the least number to the greatest."""
+    values = [value for panel in panels for value in panel.values()]
+    low = 10 ** math.floor(math.log10(max(min(values), 0.1)) - 0.2)
+    span = math.log(max(values) / low)
+    return lambda value: math.log(max(value, low) / low) / span
+
+
+def drawn(title, lines, about, columns, legend=(), name_room=NAME):
+    """A chart of lines of panels."""
+    axis = axis_of([panel for line in lines for panel in line])
+    wide = (WIDTH - 2 * MARGIN - (columns - 1) * 18) / columns
+    heights = [max(panel.height() for panel in line) for line in lines]
+    tall = HEAD + sum(heights) + 26
     parts = [
         f'<svg xmlns="http://www.w3.org/2000/svg" width="{WIDTH}" height="{tall}" viewBox="0 0 {WIDTH} {tall}" '
         'font-family="Helvetica, Arial, sans-serif">',
-        f'<rect width="{WIDTH}" height="{tall}" fill="white"/>',
-        text(LEFT, 26, "Nanoseconds an operation, median (logarithmic axis; lower is faster)", 17, weight="bold"),
+        rectangle(0, 0, WIDTH, tall, "white"),
+        text(MARGIN, 24, title, 16, weight="bold"),
     ]
-    x = LEFT
-    for peer in peers:
-        name = names[peer].replace("`", "")
-        parts.append(f'<rect x="{x}" y="42" width="12" height="12" fill="{COLOURS[peer]}"/>')
-        parts.append(text(x + 17, 52, name, 12))
-        x += 30 + 6.2 * len(name)
-    for place, (title, groups) in enumerate(shown):
-        base = TOP + place * (PANEL + GAP) + PANEL
-        parts.append(text(LEFT, base - PANEL - 14, title, 14, weight="bold"))
-        parts.extend(axis.lines(base))
-        parts.extend(bars(groups, axis, base, peers))
-        parts.append(f'<line x1="{LEFT}" x2="{WIDTH - RIGHT}" y1="{base}" y2="{base}" stroke="#222"/>')
-    parts.append(text(LEFT, tall - 12, about[0].split(";")[0] + ". " + about[-1] + ".", 11, fill="#555"))
-    parts.append("</svg>")
-    return "\n".join(parts) + "\n"
+    x = MARGIN
+    for words, colour in legend:
+        if colour:
+            parts.append(rectangle(x, 38, 12, 12, colour))
+        parts.append(text(x + (17 if colour else 0), 48, words, 12))
+        x += 40 + 6.3 * len(words)
+    y = HEAD
+    for line, height in zip(lines, heights):
+        for column, panel in enumerate(line):
+            parts.extend(panel.draw(MARGIN + column * (wide + 18), y, wide, axis, name_room))
+        y += height
+    parts.append(text(MARGIN, tall - 9, f"{about[0].split(';')[0]}. One run: the ratios count. Logarithmic axis.", 10.5, fill="#555"))
+    return "\n".join([*parts, "</svg>"]) + "\n"
+
+
+def told(case, peer):
+    return f"{case}: {stored.NAMES[peer]} {case.median(peer):.1f} ns, best {case.best(peer):.1f}"
+
+
+def bars_of(case):
+    return [Bar(name_of(peer), COLOURS[peer], case.median(peer), told(case, peer)) for peer in stored.NAMES if peer in case.samples]
+
+
+def found(cases, row, entries, threads=1):
+    return next((case for case in cases if case.key == (row, entries, threads)), None)
+
+
+def grid(lines):
+    """Lines of panels, of those that have some bars."""
+    lines = [[Panel(title, bars_of(case)) for title, case in line if case] for line in lines]
+    return [line for line in lines if line]
+
+
+def rows_chart(cases, about, title, rows):
+    sizes = sorted({case.entries for case in cases if case.row in rows})
+    lines = grid([[(f"{row}, {size:,} entries", found(cases, row, size)) for size in sizes] for row in rows])
+    return lines and drawn(title, lines, about, 3, [("Nanoseconds an operation, medians: shorter is faster", "")])
+
+
+def threads_chart(cases, about):
+    shown = [case for case in cases if case.row == "callers"]
+    sizes, threads = sorted({case.entries for case in shown}), sorted({case.threads for case in shown})
+    lines = grid([[(f"{many} thread{'s' * (many > 1)}, {size:,} entries", found(cases, "callers", size, many)) for size in sizes]
+                  for many in threads])
+    title = "An extend in its thread, beside the owner's polls"
+    return lines and drawn(title, lines, about, 3, [("Nanoseconds, medians: shorter is faster", "")])
+
+
+def shards_chart(cases, about):
+    sizes = {case.entries for case in cases if case.shards and not case.is_full}
+    size = 10_000 if 10_000 in sizes else min(sizes, default=0)
+
+    def line(row):
+        yield f"{row}: 1 shard, 1 thread", found(cases, f"{row}/1", size, 1)
+        yield f"{row}: 4 shards, 4 threads", found(cases, f"{row}/4", size, 4)
+        yield f"{row}: a shard for each of 4", found(cases, f"{stored.OWN}{row}/4", size, 4)
+
+    lines = grid([list(line(row)) for row in stored.SHARD_ROWS])
+    title = f"The shared queue, {size:,} entries a shard"
+    return lines and drawn(title, lines, about, 3, [("Nanoseconds a call, medians: shorter is faster", "")])
+
+
+def full_chart(cases, about):
+    full = [(f"{case.call}, {case.threads} thread{'s' * (case.threads > 1)}", case) for case in cases if case.is_full]
+    lines = grid([full[at:at + 3] for at in range(0, len(full), 3)])
+    return lines and drawn("64 full shards, 4.2 million entries", lines, about, 3, [("Nanoseconds a call: shorter is faster", "")])
+
+
+def longest_chart(cases, about):
+    """The polls of the rows of the longest call: a half of them, 99.9 of 100, and the most."""
+    def panel(case):
+        bars = []
+        for peer in stored.NAMES:
+            if (peer, "poll") in case.spreads:
+                calls, half, _, three_nines, _, most = case.spreads[peer, "poll"]
+                words = f"{case}: {stored.NAMES[peer]}, {calls} polls: half {half}, 99.9% {three_nines}, all {most} ns"
+                bars.append(Bar(name_of(peer), COLOURS[peer], half, words, further=(three_nines, most)))
+        return Panel(f"{case.row.removeprefix('longest-')}, {case.entries:,} entries", bars)
+
+    shown = [[case for case in cases if case.row == row and case.spreads] for row in stored.LONGEST_ROWS]
+    lines = [[panel(case) for case in line] for line in shown if line]
+    return lines and drawn("The longest poll, after sessions were touched or cancelled", lines, about, 3,
+                           [("Nanoseconds: half of the polls (dark), 99.9% (lighter), and the longest of all (number)", "")])
+
+
+def front_chart(cases, about):
+    """A few groups that tell the most: for the first page."""
+    groups = [
+        ("An extend, beside the owner's polls",
+         [(f"{many} thread{'s' * (many > 1)}", found(cases, "callers", 10_000, many)) for many in (1, 2, 4)]),
+        ("Idle timeouts, a call", [("touched 100 times by extends", found(cases, "mixed", 10_000)),
+                                   ("touched 30 times by resets", found(cases, "heartbeat", 10_000))]),
+        ("A poll of what is due", [(f"{size:,} entries", found(cases, "poll", size)) for size in (1_000, 10_000, 65_536)]),
+    ]
+    panels, legend = [], {}
+    for title, rows in groups:
+        bars = []
+        for words, case in rows:
+            series = [next((it for it in choices if case and it in case.samples), None) for choices in FRONT]
+            if None in series:
+                return None
+            bars.append(words)
+            bars += [Bar("", COLOURS[peer], case.median(peer), told(case, peer)) for peer in series]
+            legend.update((("ours, words that threads share" if peer == "ours" else name_of(peer)), COLOURS[peer]) for peer in series)
+        panels.append(Panel(title, bars))
+    return drawn("Nanoseconds, medians at 10,000 entries: shorter is faster", [panels], about, 3, legend.items(), name_room=8)
+
+
+def charts(cases, about):
+    """The charts that a run has: the part that stands in the file's name, and the text."""
+    for part, text_of in (
+        ("", front_chart(cases, about)),
+        ("calls", rows_chart(cases, about, "One call", stored.SINGLE_ROWS)),
+        ("whole", rows_chart(cases, about, "With all that the calls leave behind", stored.WHOLE_ROWS)),
+        ("threads", threads_chart(cases, about)),
+        ("shards", shards_chart(cases, about)),
+        ("full", full_chart(cases, about)),
+        ("longest", longest_chart(cases, about)),
+    ):
+        if text_of:
+            yield part, text_of

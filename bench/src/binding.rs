@@ -27,7 +27,7 @@ fn extended(caller: &mut Caller, key: Key, deadline: u64) -> u64 {
 fn polled(queue: &mut DelayQueue<u64>, tick: u64) -> Option<Expired<u64>> {
     match queue.poll_expired(tick).expect("the tick is in range") {
         Turn::Out(out) => Some(out),
-        Turn::Waiting { .. } | Turn::Idle => None,
+        _ => None,
     }
 }
 

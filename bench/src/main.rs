@@ -2,58 +2,95 @@
 //! One line for each peer and round; README.md says what stands in it.
 
 #[cfg(feature = "binding")]
+mod adapter;
+mod best;
+#[cfg(feature = "binding")]
 mod binding;
+#[cfg(feature = "binding")]
+mod binding_shards;
 mod floor;
 mod free;
+mod hashed;
+#[cfg(not(feature = "other-order"))]
 mod heap;
+mod indexed;
+mod longest;
 mod plan;
 mod queue;
 mod rows;
 mod shards;
-mod tight;
+mod sleep;
 mod tokio_queue;
+// The same code in another order: what a call takes hangs on where its build lays it too.
+#[cfg(feature = "other-order")]
+mod heap;
 
 use std::process::ExitCode;
 
 #[cfg(feature = "binding")]
+use adapter::{Adapter, Touching};
+use best::BestHeap;
+#[cfg(feature = "binding")]
 use binding::Binding;
+#[cfg(feature = "binding")]
+use binding_shards::BindingShards;
 use floor::Floor;
+use hashed::HashedWheel;
 use heap::{Extending, HeapQueue};
+use indexed::IndexedHeap;
+use longest::Touched;
 use plan::shard_room;
-use queue::{Locked, Queue, Shared};
+use queue::{Locked, Queue, Sharded, Shared};
 use rows::{Clock, Counts, Load, NoClock, Row, Sample};
-use shards::{Call, ShardLoad};
-use tight::TightHeap;
-use tokio_queue::{PausedClock, TokioQueue};
+use shards::{Call, Route, ShardLoad, Shards};
+use sleep::SleepQueue;
+use tokio_queue::{PausedClock, TokioQueue, TurnedWithin};
 
 const USAGE: &str = "usage: peers time ROW ENTRIES THREADS ROUNDS [PEER..]
 rows: insert extend reset remove cancel poll insert+poll reset+poll remove+poll mixed churn heartbeat callers,
-and over 1 to 64 shards insert/SHARDS extend/SHARDS reset/SHARDS remove/SHARDS poll/SHARDS insert-burst/SHARDS poll-burst/SHARDS
+longest-extend longest-reset longest-cancel,
+and over 1 to 64 shards insert/SHARDS extend/SHARDS reset/SHARDS remove/SHARDS poll/SHARDS insert-burst/SHARDS poll-burst/SHARDS;
+with own- before the first five, each of as many threads has a shard of its own
 entries: 1 to 65536, of each shard; threads: 1, and 1 to 64 for callers and over shards";
 
-/// What is timed: a row of one queue, or a row of shards and their number.
+/// What is timed: a row of one queue, the calls of a row one by one, or a row of shards and their number.
 #[derive(Clone, Copy, Debug, PartialEq, Eq)]
 enum Timed {
     One(Row),
-    Shards(Call, usize),
+    Longest(Touched),
+    Shards(Call, Route, usize),
 }
 
 impl Timed {
     fn read(name: &str) -> Option<Timed> {
         let Some((name, shards)) = name.split_once('/') else {
-            return Row::ALL.into_iter().find(|(known, _)| *known == name).map(|(_, row)| Timed::One(row));
+            let one = || Row::ALL.into_iter().find(|(known, _)| *known == name).map(|(_, row)| Timed::One(row));
+            let touched = || Touched::ALL.into_iter().find(|(known, _)| *known == name);
+            return one().or_else(|| touched().map(|(_, touched)| Timed::Longest(touched)));
+        };
+        let (name, route) = match name.strip_prefix("own-") {
+            Some(name) => (name, Route::Own),
+            None => (name, Route::Drawn),
         };
         let (_, call) = Call::ALL.into_iter().find(|(known, _)| *known == name)?;
         let shards = shards.parse().ok().filter(|shards| (1..=64).contains(shards))?;
-        Some(Timed::Shards(call, shards))
+        (route == Route::Drawn || !call.is_burst()).then_some(Timed::Shards(call, route, shards))
     }
 
-    /// Whether several threads may call.
-    fn is_shared(self) -> bool {
-        matches!(self, Timed::One(Row::Callers) | Timed::Shards(..))
+    /// Whether so many threads may call.
+    fn takes(self, threads: usize) -> bool {
+        match self {
+            Timed::One(Row::Callers) | Timed::Shards(_, Route::Drawn, _) => (1..=64).contains(&threads),
+            Timed::Shards(_, Route::Own, shards) => threads == shards,
+            Timed::One(_) | Timed::Longest(_) => threads == 1,
+        }
+    }
+
+    /// Whether it is a row of one queue, which our own queue can be.
+    fn is_of_one(self) -> bool {
+        !matches!(self, Timed::Shards(..))
     }
 }
-
 /// What one call of the program times.
 struct Asked {
     row_name: String,
@@ -71,11 +108,11 @@ impl Asked {
         };
         let timed = Timed::read(row_name)?;
         let entries = entries.parse().ok().filter(|entries| (1..=65_536).contains(entries))?;
-        let threads = threads.parse().ok().filter(|threads| (1..=64).contains(threads))?;
+        let threads = threads.parse().ok().filter(|threads| timed.takes(*threads))?;
         let rounds = rounds.parse().ok()?;
         let known = peers_of(timed);
         let all_known = peers.iter().all(|peer| known.contains(&peer.as_str()));
-        if time != "time" || !all_known || (threads != 1 && !timed.is_shared()) {
+        if time != "time" || !all_known {
             return None;
         }
         Some(Asked { row_name: row_name.clone(), timed, entries, threads, rounds, peers: peers.to_vec() })
@@ -86,50 +123,63 @@ impl Asked {
     }
 }
 
-/// The peers of a row. The two heaps differ in an extend alone, and only what is locked can be shared. Our own queue is
-/// one of them in each row of one queue, where the program is built with its crate.
+/// The peers of a row. What differs in an extend alone is timed where there are extends, and only what is locked can be
+/// shared. Our own queue is one of them by both of its crates, where the program is built with them.
 fn peers_of(timed: Timed) -> Vec<&'static str> {
     let mut peers = plain_peers_of(timed).to_vec();
-    if cfg!(feature = "binding") && matches!(timed, Timed::One(_)) {
-        peers.push("binding");
+    if cfg!(feature = "binding") {
+        peers.extend(mine_of(timed));
     }
     peers
 }
 
-/// The peers that are plain Rust.
-fn plain_peers_of(timed: Timed) -> &'static [&'static str] {
+/// Our own queue as plain Rust has it. Only a handle is shared by callers.
+fn mine_of(timed: Timed) -> &'static [&'static str] {
     match timed {
-        Timed::One(Row::Extend) => &[
-            "delay-queue",
-            "delay-queue-locked",
-            "heap-push",
-            "heap-push-locked",
-            "heap-note",
-            "heap-note-locked",
-            "heap-tight",
-            "fetch-max",
-        ],
-        Timed::One(Row::Mixed) => &[
-            "delay-queue",
-            "delay-queue-locked",
-            "heap-push",
-            "heap-push-locked",
-            "heap-note",
-            "heap-note-locked",
-            "heap-tight",
-        ],
-        Timed::One(Row::Callers) => &["fetch-max", "heap-push-locked", "heap-note-locked", "delay-queue-locked"],
-        Timed::Shards(..) => &["heap-note-locked", "heap-tight-locked", "delay-queue-locked"],
-        Timed::One(_) => &["delay-queue", "delay-queue-locked", "heap-note", "heap-note-locked", "heap-tight"],
+        Timed::One(Row::Callers) => &["binding", "adapter-handle"],
+        Timed::Shards(..) => &["binding-shards"],
+        Timed::One(_) | Timed::Longest(_) => &["binding", "adapter", "adapter-handle"],
     }
+}
+
+const OWNED: [&str; 7] =
+    ["delay-queue", "delay-queue-locked", "heap-note", "heap-best", "heap-best-locked", "heap-indexed", "hashed-wheel"];
+
+/// The peers that are plain Rust.
+fn plain_peers_of(timed: Timed) -> Vec<&'static str> {
+    let beside: &[&str] = match timed {
+        Timed::One(Row::Extend) => &["heap-push", "heap-push-locked", "fetch-max"],
+        Timed::One(Row::Mixed) => &["heap-push", "heap-push-locked"],
+        Timed::One(Row::Insert | Row::Reset | Row::Remove | Row::Poll) => &["sleep"],
+        Timed::One(Row::Callers) => {
+            return vec!["fetch-max", "heap-push-locked", "heap-note-locked", "heap-best-locked", "delay-queue-locked"]
+        }
+        Timed::Longest(_) => return vec!["delay-queue", "heap-note", "heap-best", "heap-indexed", "hashed-wheel"],
+        Timed::Shards(..) => {
+            return vec!["heap-note-locked", "heap-best-locked", "hashed-wheel-locked", "delay-queue-locked"]
+        }
+        Timed::One(_) => &[],
+    };
+    [&OWNED[..], beside].concat()
 }
 
 /// A peer's rounds, one call for each.
 type Rounds<'a> = Box<dyn FnMut() -> Sample + 'a>;
 
-/// The rounds of one owner. One pass warms up.
-fn owned<'a, Q: Queue + 'a>(asked: &'a Asked, row: Row, queue: Q, clock: &'a dyn Clock) -> Rounds<'a> {
+/// The rounds of one owner. One pass warms up, but where each call is timed by itself: there the least counts.
+fn owned<'a, Q: Queue + 'a>(asked: &'a Asked, queue: Q, clock: &'a dyn Clock) -> Rounds<'a> {
     let mut load = Load::new(queue, clock, asked.entries);
+    let row = match asked.timed {
+        Timed::One(row) => row,
+        Timed::Longest(touched) => {
+            return Box::new(move || {
+                let mut sample = Sample::default();
+                clock.within(&mut || sample = load.longest(touched));
+                sample
+            })
+        }
+        Timed::Shards(..) => panic!("a row of shards wants shards"),
+    };
     clock.within(&mut || load.pass(row));
     Box::new(move || {
         let mut sample = Sample::default();
@@ -139,9 +189,9 @@ fn owned<'a, Q: Queue + 'a>(asked: &'a Asked, row: Row, queue: Q, clock: &'a dyn
 }
 
 /// The rounds of a queue behind a lock, or of one that needs none.
-fn shared<'a, Q: Shared + 'a>(asked: &'a Asked, row: Row, queue: Q, clock: &'a dyn Clock) -> Rounds<'a> {
-    if row != Row::Callers {
-        return owned(asked, row, queue, clock);
+fn shared<'a, Q: Shared + 'a>(asked: &'a Asked, queue: Q, clock: &'a dyn Clock) -> Rounds<'a> {
+    if asked.timed != Timed::One(Row::Callers) {
+        return owned(asked, queue, clock);
     }
     let mut load = Load::new(queue, clock, asked.entries);
     clock.within(&mut || load.pass(Row::Insert));
@@ -152,9 +202,17 @@ fn shared<'a, Q: Shared + 'a>(asked: &'a Asked, row: Row, queue: Q, clock: &'a d
     })
 }
 
-/// The rounds of queues in shards.
-fn sharded<'a, Q: Queue + Send + 'a>(asked: &'a Asked, call: Call, shards: Vec<Q>, clock: &'a dyn Clock) -> Rounds<'a> {
-    let mut load = ShardLoad::new(shards, clock, asked.entries, asked.threads);
+/// The rounds of queues each of which is a shard.
+fn locked_shards<'a, Q: Queue + Send + 'a>(asked: &'a Asked, one: impl Fn() -> Q, clock: &'a dyn Clock) -> Rounds<'a> {
+    sharded(asked, |shards| Shards::new((0..shards).map(|_| one())), clock)
+}
+
+/// The rounds of a queue of so many shards.
+fn sharded<'a, S: Sharded + 'a>(asked: &'a Asked, queue: impl Fn(usize) -> S, clock: &'a dyn Clock) -> Rounds<'a> {
+    let Timed::Shards(call, route, shards) = asked.timed else {
+        panic!("shards are of a row of shards");
+    };
+    let mut load = ShardLoad::new(queue(shards), clock, asked.entries, asked.threads, route);
     clock.within(&mut || load.pass(call));
     Box::new(move || {
         let mut sample = Sample::default();
@@ -163,43 +221,60 @@ fn sharded<'a, Q: Queue + Send + 'a>(asked: &'a Asked, call: Call, shards: Vec<Q
     })
 }
 
-fn rounds_of<'a>(asked: &'a Asked, peer: &str, clock: &'a PausedClock) -> Rounds<'a> {
-    match asked.timed {
-        Timed::One(row) => rounds_of_one(asked, row, peer, clock),
-        Timed::Shards(call, shards) => rounds_of_shards(asked, call, shards, peer, clock),
+/// A peer's clocks: one that is moved outside of what is timed, and one that its queue moves by itself.
+struct Clocks<'a> {
+    paused: &'a PausedClock,
+    within: TurnedWithin<'a>,
+}
+
+fn rounds_of<'a>(asked: &'a Asked, peer: &str, clocks: &'a Clocks<'a>) -> Rounds<'a> {
+    if asked.timed.is_of_one() {
+        rounds_of_one(asked, peer, clocks)
+    } else {
+        rounds_of_shards(asked, peer, clocks.paused)
     }
 }
 
-fn rounds_of_one<'a>(asked: &'a Asked, row: Row, peer: &str, clock: &'a PausedClock) -> Rounds<'a> {
-    let entries = asked.entries;
+fn rounds_of_one<'a>(asked: &'a Asked, peer: &str, clocks: &'a Clocks<'a>) -> Rounds<'a> {
+    let (entries, clock) = (asked.entries, clocks.paused);
+    let locked = |extending| shared(asked, Locked::new(HeapQueue::new(extending, entries)), &NoClock);
     match peer {
-        "delay-queue" => owned(asked, row, TokioQueue::new(clock, entries), clock),
-        "delay-queue-locked" => shared(asked, row, Locked::new(TokioQueue::new(clock, entries)), clock),
-        "heap-push" => owned(asked, row, HeapQueue::new(Extending::Push, entries), &NoClock),
-        "heap-push-locked" => shared(asked, row, Locked::new(HeapQueue::new(Extending::Push, entries)), &NoClock),
-        "heap-note" => owned(asked, row, HeapQueue::new(Extending::Note, entries), &NoClock),
-        "heap-note-locked" => shared(asked, row, Locked::new(HeapQueue::new(Extending::Note, entries)), &NoClock),
-        "heap-tight" => owned(asked, row, TightHeap::new(entries), &NoClock),
+        "delay-queue" => owned(asked, TokioQueue::new(clock, entries), clock),
+        "delay-queue-locked" => shared(asked, Locked::new(TokioQueue::new(clock, entries)), clock),
+        "sleep" => owned(asked, SleepQueue::new(clock, entries), &clocks.within),
+        "heap-push" => owned(asked, HeapQueue::new(Extending::Push, entries), &NoClock),
+        "heap-push-locked" => locked(Extending::Push),
+        "heap-note" => owned(asked, HeapQueue::new(Extending::Note, entries), &NoClock),
+        "heap-note-locked" => locked(Extending::Note),
+        "heap-best" => owned(asked, BestHeap::new(entries), &NoClock),
+        "heap-best-locked" => shared(asked, Locked::new(BestHeap::new(entries)), &NoClock),
+        "heap-indexed" => owned(asked, IndexedHeap::new(entries), &NoClock),
+        "hashed-wheel" => owned(asked, HashedWheel::new(entries), &NoClock),
         #[cfg(feature = "binding")]
-        "binding" => shared(asked, row, Binding::new(entries), &NoClock),
-        _ => shared(asked, row, Floor::new(entries), &NoClock),
+        "binding" => shared(asked, Binding::new(entries), &NoClock),
+        #[cfg(feature = "binding")]
+        "adapter" => owned(asked, Adapter::new(clock, entries, Touching::Owner), clock),
+        #[cfg(feature = "binding")]
+        "adapter-handle" => shared(asked, Adapter::new(clock, entries, Touching::Handle), clock),
+        _ => shared(asked, Floor::new(entries), &NoClock),
     }
 }
 
-fn rounds_of_shards<'a>(asked: &'a Asked, call: Call, shards: usize, peer: &str, clock: &'a PausedClock) -> Rounds<'a> {
+fn rounds_of_shards<'a>(asked: &'a Asked, peer: &str, clock: &'a PausedClock) -> Rounds<'a> {
     let room = shard_room(asked.entries);
     match peer {
-        "delay-queue-locked" => {
-            sharded(asked, call, (0..shards).map(|_| TokioQueue::new(clock, room)).collect(), clock)
-        }
-        "heap-tight-locked" => sharded(asked, call, (0..shards).map(|_| TightHeap::new(room)).collect(), &NoClock),
-        _ => sharded(asked, call, (0..shards).map(|_| HeapQueue::new(Extending::Note, room)).collect(), &NoClock),
+        "delay-queue-locked" => locked_shards(asked, || TokioQueue::new(clock, room), clock),
+        "heap-best-locked" => locked_shards(asked, || BestHeap::new(room), &NoClock),
+        "hashed-wheel-locked" => locked_shards(asked, || HashedWheel::new(room), &NoClock),
+        #[cfg(feature = "binding")]
+        "binding-shards" => sharded(asked, |shards| BindingShards::new(shards, room), &NoClock),
+        _ => locked_shards(asked, || HeapQueue::new(Extending::Note, room), &NoClock),
     }
 }
 
 /// Whether a peer's last deadlines are the schedule's: `DelayQueue` has no call that only raises a deadline.
 fn is_by_schedule(asked: &Asked, peer: &str) -> bool {
-    let extends = matches!(asked.timed, Timed::One(Row::Callers) | Timed::Shards(Call::Extend, _));
+    let extends = matches!(asked.timed, Timed::One(Row::Callers) | Timed::Shards(Call::Extend, ..));
     extends && asked.threads > 1 && peer.starts_with("delay-queue")
 }
 
@@ -207,16 +282,19 @@ fn print_sample(asked: &Asked, peer: &str, round: usize, sample: &Sample) {
     let Asked { row_name, entries, threads, .. } = asked;
     let Counts { inserts, extends, resets, removes, cancels, outs, values, deadlines } = sample.counts;
     let deadlines = if is_by_schedule(asked, peer) { "-".to_string() } else { deadlines.to_string() };
-    println!(
+    print!(
         "{peer} {row_name} {entries} {threads} {round} {} {} {inserts} {extends} {resets} {removes} {cancels} {outs} {values} {deadlines}",
         sample.spent.as_nanos(),
         sample.operations
     );
+    sample.spreads.iter().flatten().for_each(|spread| print!(" {spread}"));
+    println!();
 }
 
 fn time(asked: &Asked) {
     let names: Vec<&str> = peers_of(asked.timed).into_iter().filter(|peer| asked.wants(peer)).collect();
-    let clocks: Vec<PausedClock> = names.iter().map(|_| PausedClock::new()).collect();
+    let paused: Vec<PausedClock> = names.iter().map(|_| PausedClock::new()).collect();
+    let clocks: Vec<Clocks> = paused.iter().map(|paused| Clocks { paused, within: TurnedWithin(paused) }).collect();
     let mut peers: Vec<(&str, Rounds)> =
         names.iter().zip(&clocks).map(|(name, clock)| (*name, rounds_of(asked, name, clock))).collect();
     for round in 1..=asked.rounds {
@@ -225,11 +303,17 @@ fn time(asked: &Asked) {
             let sample = next_round();
             print_sample(asked, name, round, &sample);
             let mut counts = sample.counts;
-            let expected = *expected.get_or_insert(counts);
-            if is_by_schedule(asked, name) {
-                counts.deadlines = expected.deadlines;
+            match &mut expected {
+                // The first whose deadlines aren't the schedule's is who the others are compared with.
+                None if is_by_schedule(asked, name) => continue,
+                None => expected = Some(counts),
+                Some(expected) => {
+                    if is_by_schedule(asked, name) {
+                        counts.deadlines = expected.deadlines;
+                    }
+                    assert_eq!(counts, *expected, "{name} did what the peers before it did");
+                }
             }
-            assert_eq!(counts, expected, "{name} did what the peers before it did");
         }
     }
 }
@@ -269,8 +353,19 @@ mod tests {
     fn peers_agree_over_shards() {
         for (_, call) in Call::ALL {
             for (shards, threads) in [(1, 1), (3, 1), (1, 4), (4, 2)] {
-                time(&asked(Timed::Shards(call, shards), 5_000, threads));
+                time(&asked(Timed::Shards(call, Route::Drawn, shards), 5_000, threads));
             }
+            if !call.is_burst() {
+                time(&asked(Timed::Shards(call, Route::Own, 4), 2_000, 4));
+            }
+        }
+    }
+
+    /// The same where each call is timed by itself.
+    #[test]
+    fn peers_agree_call_by_call() {
+        for (_, touched) in Touched::ALL {
+            time(&asked(Timed::Longest(touched), 500, 1));
         }
     }
 
@@ -302,15 +397,24 @@ mod tests {
 
     #[test]
     fn each_peer_keeps_deadlines() {
-        let clocks = [PausedClock::new(), PausedClock::new()];
+        let clocks = [PausedClock::new(), PausedClock::new(), PausedClock::new()];
         keeps_deadlines(TokioQueue::new(&clocks[0], 4), &clocks[0]);
         keeps_deadlines(Locked::new(TokioQueue::new(&clocks[1], 4)), &clocks[1]);
         for extending in [Extending::Push, Extending::Note] {
             keeps_deadlines(HeapQueue::new(extending, 4), &NoClock);
             keeps_deadlines(Locked::new(HeapQueue::new(extending, 4)), &NoClock);
         }
-        keeps_deadlines(TightHeap::new(4), &NoClock);
+        keeps_deadlines(BestHeap::new(4), &NoClock);
+        keeps_deadlines(IndexedHeap::new(4), &NoClock);
+        keeps_deadlines(HashedWheel::new(4), &NoClock);
+        keeps_deadlines(SleepQueue::new(&clocks[2], 4), &TurnedWithin(&clocks[2]));
         #[cfg(feature = "binding")]
-        keeps_deadlines(Binding::new(4), &NoClock);
+        {
+            keeps_deadlines(Binding::new(4), &NoClock);
+            for touching in [Touching::Owner, Touching::Handle] {
+                let clock = PausedClock::new();
+                keeps_deadlines(Adapter::new(&clock, 4, touching), &clock);
+            }
+        }
     }
 }

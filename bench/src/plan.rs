@@ -23,6 +23,13 @@ pub const KEPT: usize = 10;
 /// The ticks from the start of one pass to the start of the next.
 pub const PASS: u64 = 1_300_021;
 
+/// The beats of the rows of the longest call, in which each session is touched, and their runs: the least of each call counts.
+pub const LONG_BEATS: u64 = 5;
+pub const RUNS: usize = 5;
+
+/// The ticks from the start of one of these runs to the start of the next: a power of two, so that all meet the same slots.
+pub const LONG_PASS: u64 = 1 << 24;
+
 /// The touches that each caller has in its list, and how often it goes over the list.
 pub const TOUCHES: usize = 131_072;
 pub const TURNS: u64 = 4;

@@ -2,6 +2,8 @@
 
 use std::sync::Mutex;
 
+use crate::shards::{Begun, Gone};
+
 /// A queue of values with deadlines. Ticks are of one millisecond.
 pub trait Queue {
     type Key: Copy + Send + Sync;
@@ -30,6 +32,31 @@ pub trait Shared: Queue {
     fn share(&mut self, threads: usize) -> Parts<impl Extends<Self::Key>, impl Polls<Self::Out>>;
 }
 
+/// A queue in shards, which several threads call by name.
+pub trait Sharded: Sync {
+    type Key: Copy + Send + Sync;
+    /// By what a thread extends.
+    type Toucher: Send;
+
+    fn shards(&self) -> usize;
+    fn toucher(&self) -> Self::Toucher;
+    fn insert(&self, begun: &Begun) -> Self::Key;
+    /// Inserts entries of one shard under one lock.
+    fn insert_burst(&self, shard: usize, burst: &[Begun], keys: &mut Vec<Self::Key>);
+    /// Raises a deadline, and gives the one in force.
+    fn extend(&self, toucher: &mut Self::Toucher, key: Self::Key, deadline: u64) -> u64;
+    /// Sets a deadline, also to an earlier one.
+    fn reset(&self, key: Self::Key, deadline: u64) -> Self::Key;
+    /// Ends an entry and gives its value.
+    fn remove(&self, key: Self::Key) -> u64;
+    /// Polls a shard by name until nothing is given.
+    fn poll_all(&self, shard: usize, tick: u64, gone: &mut Gone);
+    /// Polls a shard, so many times under one lock, until nothing is given.
+    fn poll_bursts(&self, shard: usize, tick: u64, gone: &mut Gone);
+    /// The value and the deadline of an entry that is due, for one who has the queue alone.
+    fn poll_alone(&mut self, shard: usize, tick: u64) -> Option<(u64, u64)>;
+}
+
 /// What is used at the same time: an extend for each thread, and the owner's poll.
 pub struct Parts<E, P> {
     pub extends: Vec<E>,
@@ -46,15 +73,23 @@ pub trait Polls<O>: FnMut(u64) -> Option<O> {}
 
 impl<O, P: FnMut(u64) -> Option<O>> Polls<O> for P {}
 
-/// A queue behind the standard lock, which each call takes once.
-pub struct Locked<Q>(pub Mutex<Q>);
+/// A queue behind the standard lock, which each call takes once. It begins at a pair of lines of its own, so that no lock
+/// shares a line with another, nor with the one that a processor fetches beside it.
+#[repr(align(128))]
+pub struct Locked<Q>(Mutex<Q>);
 
 impl<Q> Locked<Q> {
     pub fn new(queue: Q) -> Locked<Q> {
         Locked(Mutex::new(queue))
     }
 
-    fn with<R>(&self, call: impl FnOnce(&mut Q) -> R) -> R {
+    /// The queue of one who has it alone.
+    pub fn alone(&mut self) -> &mut Q {
+        self.0.get_mut().expect("no call panics under the lock")
+    }
+
+    /// Makes a call, or a burst of them, under the lock.
+    pub fn with<R>(&self, call: impl FnOnce(&mut Q) -> R) -> R {
         call(&mut self.0.lock().expect("no call panics under the lock"))
     }
 }

@@ -4,6 +4,7 @@ use std::sync::atomic::{AtomicBool, Ordering};
 use std::thread;
 use std::time::{Duration, Instant};
 
+use crate::longest::Spread;
 use crate::plan::{passes, SplitMix64, BEAT, BEATS, HEARTBEATS, IDLE, KEPT, PASS, REST, SEED, STRIDE, TOUCHES, TURNS};
 use crate::queue::{Extends, Parts, Queue, Shared};
 
@@ -93,16 +94,18 @@ pub struct Sample {
     pub spent: Duration,
     pub operations: u64,
     pub counts: Counts,
+    /// Of a row of the longest call: how long its calls took, by their kinds.
+    pub spreads: Option<[Spread; 3]>,
 }
 
 /// A queue under load, with its own copy of the plan.
 pub struct Load<'a, Q: Queue> {
-    queue: Q,
-    clock: &'a dyn Clock,
-    draws: SplitMix64,
-    now: u64,
-    entries: usize,
-    sample: Sample,
+    pub queue: Q,
+    pub clock: &'a dyn Clock,
+    pub draws: SplitMix64,
+    pub now: u64,
+    pub entries: usize,
+    pub sample: Sample,
 }
 
 impl<'a, Q: Queue> Load<'a, Q> {
@@ -175,7 +178,7 @@ impl<'a, Q: Queue> Load<'a, Q> {
     }
 
     /// Takes out what is left, and goes to the start of the next pass.
-    fn end_pass(&mut self) {
+    pub fn end_pass(&mut self) {
         let tick = self.now + PASS;
         self.clock.moment(tick);
         while let Some(out) = self.queue.poll(tick) {
@@ -277,7 +280,7 @@ impl<'a, Q: Queue> Load<'a, Q> {
     }
 
     /// For each place in a beat, the ticks from the start of the beat.
-    fn steps(&self) -> Vec<u64> {
+    pub fn steps(&self) -> Vec<u64> {
         (0..self.entries as u64).map(|place| place * BEAT / self.entries as u64).collect()
     }
 

@@ -2,12 +2,11 @@
 //! lock: what is timed, and what is counted. README.md describes each in words.
 
 use std::sync::atomic::{AtomicUsize, Ordering};
-use std::sync::Mutex;
 use std::thread;
 use std::time::{Duration, Instant};
 
 use crate::plan::{part, shard_pass, shard_passes, SplitMix64, BURST, IDLE, SEED};
-use crate::queue::Queue;
+use crate::queue::{Locked, Queue, Sharded};
 use crate::rows::{Clock, Sample};
 
 /// What is timed of a queue in shards.
@@ -32,32 +31,46 @@ impl Call {
         ("insert-burst", Call::InsertBurst),
         ("poll-burst", Call::PollBurst),
     ];
+
+    /// Whether so many calls are made under one lock.
+    pub fn is_burst(self) -> bool {
+        matches!(self, Call::InsertBurst | Call::PollBurst)
+    }
+}
+
+/// Where a thread's entries are.
+#[derive(Clone, Copy, Debug, PartialEq, Eq)]
+pub enum Route {
+    /// In any shard.
+    Drawn,
+    /// In a shard of the thread's own, which no other calls: there are as many shards as threads.
+    Own,
 }
 
 /// An entry that is to be inserted.
 #[derive(Clone, Copy)]
-struct Begun {
-    shard: usize,
-    value: u64,
-    deadline: u64,
+pub struct Begun {
+    pub shard: usize,
+    pub value: u64,
+    pub deadline: u64,
 }
 
 /// What came out of the queue in one thread.
 #[derive(Default)]
-struct Gone {
+pub struct Gone {
     outs: u64,
     values: u64,
 }
 
 impl Gone {
-    fn count(&mut self, value: u64) {
+    pub fn count(&mut self, value: u64) {
         self.outs += 1;
         self.values = self.values.wrapping_add(value);
     }
 }
 
 /// A key, and the shard that it is of.
-struct Placed<Q: Queue> {
+pub struct Placed<Q: Queue> {
     shard: usize,
     key: Q::Key,
 }
@@ -71,20 +84,35 @@ impl<Q: Queue> Clone for Placed<Q> {
 impl<Q: Queue> Copy for Placed<Q> {}
 
 /// A queue behind the standard lock for each shard.
-struct Shards<Q>(Vec<Mutex<Q>>);
+pub struct Shards<Q>(Vec<Locked<Q>>);
 
-impl<Q: Queue> Shards<Q> {
+impl<Q> Shards<Q> {
+    pub fn new(shards: impl Iterator<Item = Q>) -> Shards<Q> {
+        Shards(shards.map(Locked::new).collect())
+    }
+
     /// Makes a call, or a burst of them, under a shard's lock.
     fn lend<R>(&self, shard: usize, call: impl FnOnce(&mut Q) -> R) -> R {
-        call(&mut self.0[shard].lock().expect("no call panics under the lock"))
+        self.0[shard].with(call)
     }
+}
+
+impl<Q: Queue + Send> Sharded for Shards<Q> {
+    type Key = Placed<Q>;
+    /// An extend takes the lock as every call does.
+    type Toucher = ();
+
+    fn shards(&self) -> usize {
+        self.0.len()
+    }
+
+    fn toucher(&self) {}
 
     fn insert(&self, begun: &Begun) -> Placed<Q> {
         let key = self.lend(begun.shard, |queue| queue.insert(begun.value, begun.deadline));
         Placed { shard: begun.shard, key }
     }
 
-    /// Inserts entries of one shard under one lock.
     fn insert_burst(&self, shard: usize, burst: &[Begun], keys: &mut Vec<Placed<Q>>) {
         self.lend(shard, |queue| {
             for Begun { value, deadline, .. } in burst {
@@ -93,14 +121,24 @@ impl<Q: Queue> Shards<Q> {
         });
     }
 
-    /// Polls a shard by name until nothing is given.
+    fn extend(&self, (): &mut (), Placed { shard, key }: Placed<Q>, deadline: u64) -> u64 {
+        self.lend(shard, |queue| queue.extend(key, deadline))
+    }
+
+    fn reset(&self, Placed { shard, key }: Placed<Q>, deadline: u64) -> Placed<Q> {
+        Placed { shard, key: self.lend(shard, |queue| queue.reset(key, deadline)) }
+    }
+
+    fn remove(&self, Placed { shard, key }: Placed<Q>) -> u64 {
+        self.lend(shard, |queue| queue.remove(key))
+    }
+
     fn poll_all(&self, shard: usize, tick: u64, gone: &mut Gone) {
         while let Some(out) = self.lend(shard, |queue| queue.poll(tick)) {
             gone.count(Q::value(&out));
         }
     }
 
-    /// Polls a shard in bursts until one is not full.
     fn poll_bursts(&self, shard: usize, tick: u64, gone: &mut Gone) {
         let burst = |queue: &mut Q, gone: &mut Gone| {
             for _ in 0..BURST {
@@ -113,29 +151,37 @@ impl<Q: Queue> Shards<Q> {
         };
         while self.lend(shard, |queue| burst(queue, gone)) {}
     }
+
+    fn poll_alone(&mut self, shard: usize, tick: u64) -> Option<(u64, u64)> {
+        let queue = self.0[shard].alone();
+        let out = queue.poll(tick)?;
+        Some((Q::value(&out), queue.deadline(&out)))
+    }
 }
 
 /// A queue in shards under load, with its own copy of the plan.
-pub struct ShardLoad<'a, Q: Queue> {
-    queue: Shards<Q>,
+pub struct ShardLoad<'a, S: Sharded> {
+    queue: S,
     clock: &'a dyn Clock,
     draws: SplitMix64,
     now: u64,
     /// The entries of each shard.
     entries: usize,
     threads: usize,
+    route: Route,
     sample: Sample,
 }
 
-impl<'a, Q: Queue + Send> ShardLoad<'a, Q> {
-    pub fn new(shards: Vec<Q>, clock: &'a dyn Clock, entries: usize, threads: usize) -> ShardLoad<'a, Q> {
-        let queue = Shards(shards.into_iter().map(Mutex::new).collect());
-        ShardLoad { queue, clock, draws: SplitMix64::new(SEED), now: 0, entries, threads, sample: Sample::default() }
+impl<'a, S: Sharded> ShardLoad<'a, S> {
+    pub fn new(queue: S, clock: &'a dyn Clock, entries: usize, threads: usize, route: Route) -> ShardLoad<'a, S> {
+        assert!(route == Route::Drawn || queue.shards() == threads, "each thread has a shard of its own");
+        let (draws, sample) = (SplitMix64::new(SEED), Sample::default());
+        ShardLoad { queue, clock, draws, now: 0, entries, threads, route, sample }
     }
 
     /// The entries of all shards.
     fn total(&self) -> usize {
-        self.entries * self.queue.0.len()
+        self.entries * self.queue.shards()
     }
 
     /// One round of a row.
@@ -154,9 +200,9 @@ impl<'a, Q: Queue + Send> ShardLoad<'a, Q> {
             Call::Extend => self.extend(),
             Call::Reset => self.reset(),
             Call::Remove => self.remove(),
-            Call::Poll => self.poll(Shards::poll_all),
+            Call::Poll => self.poll(S::poll_all),
             Call::InsertBurst => self.insert_bursts(),
-            Call::PollBurst => self.poll(Shards::poll_bursts),
+            Call::PollBurst => self.poll(S::poll_bursts),
         }
         self.end_pass();
     }
@@ -165,41 +211,72 @@ impl<'a, Q: Queue + Send> ShardLoad<'a, Q> {
     fn end_pass(&mut self) {
         let tick = self.now + shard_pass(self.total());
         self.clock.moment(tick);
-        for shard in &mut self.queue.0 {
-            let queue = shard.get_mut().expect("no call panics under the lock");
-            while let Some(out) = queue.poll(tick) {
+        for shard in 0..self.queue.shards() {
+            while let Some((value, deadline)) = self.queue.poll_alone(shard, tick) {
                 let counts = &mut self.sample.counts;
                 counts.outs += 1;
-                counts.values = counts.values.wrapping_add(Q::value(&out));
-                counts.deadlines = counts.deadlines.wrapping_add(queue.deadline(&out) - self.now);
+                counts.values = counts.values.wrapping_add(value);
+                counts.deadlines = counts.deadlines.wrapping_add(deadline - self.now);
             }
         }
         self.now = tick;
     }
 
-    /// The entries of a fill, of which so many at a time go to one shard.
+    /// A shuffled order of all entries; where each thread has a shard of its own, of each thread's entries in turn.
+    fn order(&mut self) -> Vec<usize> {
+        match self.route {
+            Route::Drawn => self.draws.shuffled(self.total()),
+            Route::Own => (0..self.threads)
+                .flat_map(|thread| {
+                    let first = thread * self.entries;
+                    self.draws.shuffled(self.entries).into_iter().map(move |index| first + index)
+                })
+                .collect(),
+        }
+    }
+
+    /// So many entries that a thread calls, one as likely as another.
+    fn picks(&mut self, thread: usize, count: usize) -> Vec<usize> {
+        match self.route {
+            Route::Drawn => self.draws.picks(count, self.total()),
+            Route::Own => {
+                let first = thread * self.entries;
+                self.draws.picks(count, self.entries).into_iter().map(|index| first + index).collect()
+            }
+        }
+    }
+
+    /// The entries of a fill, of which so many at a time go to one shard; where each thread has a shard of its own, those
+    /// in its places go there.
     fn drawn(&mut self, burst: usize) -> Vec<Begun> {
+        if self.route == Route::Own {
+            let deadlines = self.draws.deadlines(self.now, self.total()).into_iter().enumerate();
+            let shard = |place| place / self.entries;
+            return deadlines
+                .map(|(place, deadline)| Begun { shard: shard(place), value: place as u64, deadline })
+                .collect();
+        }
         let order = self.draws.shuffled(self.total().div_ceil(burst));
         let deadlines = self.draws.deadlines(self.now, self.total());
-        let shards = self.queue.0.len();
+        let shards = self.queue.shards();
         let places = deadlines.into_iter().enumerate();
         places
             .map(|(place, deadline)| Begun { shard: order[place / burst] % shards, value: place as u64, deadline })
             .collect()
     }
 
-    fn fill(&mut self) -> Vec<Placed<Q>> {
+    fn fill(&mut self) -> Vec<S::Key> {
         let begun = self.drawn(1);
         self.sample.counts.inserts += begun.len() as u64;
         begun.iter().map(|begun| self.queue.insert(begun)).collect()
     }
 
     /// Each thread's part of some work is done in it, all at once, and timed by it.
-    fn timed<W: Sync, R: Send>(
+    fn timed<W: Send, R: Send>(
         &mut self,
-        work: &[W],
+        work: &mut [W],
         operations: usize,
-        call: impl Fn(&Shards<Q>, &W) -> R + Sync,
+        call: impl Fn(&S, &mut W) -> R + Sync,
     ) -> Vec<R> {
         let queue = &self.queue;
         let (spent, done) = match work {
@@ -222,7 +299,7 @@ impl<'a, Q: Queue + Send> ShardLoad<'a, Q> {
 
     fn insert(&mut self) {
         let begun = self.drawn(1);
-        self.timed(&self.parts(&begun), begun.len(), |queue, part| {
+        self.timed(&mut self.parts(&begun), begun.len(), |queue, part| {
             let mut keys = Vec::with_capacity(part.len());
             for begun in *part {
                 keys.push(queue.insert(begun));
@@ -235,7 +312,7 @@ impl<'a, Q: Queue + Send> ShardLoad<'a, Q> {
     fn insert_bursts(&mut self) {
         let begun = self.drawn(BURST);
         let bursts: Vec<&[Begun]> = begun.chunks(BURST).collect();
-        self.timed(&self.parts(&bursts), begun.len(), |queue, part| {
+        self.timed(&mut self.parts(&bursts), begun.len(), |queue, part| {
             let mut keys = Vec::with_capacity(part.len() * BURST);
             for burst in *part {
                 queue.insert_burst(burst[0].shard, burst, &mut keys);
@@ -249,33 +326,31 @@ impl<'a, Q: Queue + Send> ShardLoad<'a, Q> {
         let keys = self.fill();
         let each = keys.len() / self.threads;
         let mut lists = Vec::with_capacity(self.threads);
-        for _ in 0..self.threads {
-            let picks = self.draws.picks(each, keys.len());
-            lists.push(picks.iter().map(|pick| keys[*pick]).collect::<Vec<_>>());
+        for thread in 0..self.threads {
+            let picks = self.picks(thread, each);
+            lists.push((self.queue.toucher(), picks.iter().map(|pick| keys[*pick]).collect::<Vec<_>>()));
         }
         let later = self.now + IDLE + 1;
-        self.timed(&lists, each * lists.len(), |queue, list| {
+        let extends = each * lists.len();
+        self.timed(&mut lists, extends, |queue, (toucher, list)| {
             let mut when = later;
-            for Placed { shard, key } in list {
-                queue.lend(*shard, |queue| {
-                    assert!(queue.extend(*key, when) >= when, "an extend is never below what it asked")
-                });
+            for key in list {
+                assert!(queue.extend(toucher, *key, when) >= when, "an extend is never below what it asked");
                 when += 1;
             }
         });
-        self.sample.counts.extends += (each * lists.len()) as u64;
+        self.sample.counts.extends += extends as u64;
     }
 
     fn reset(&mut self) {
         let keys = self.fill();
-        let order = self.draws.shuffled(keys.len());
+        let order = self.order();
         let deadlines = self.draws.deadlines(self.now, keys.len());
-        let moved: Vec<(Placed<Q>, u64)> =
-            order.iter().zip(deadlines).map(|(index, when)| (keys[*index], when)).collect();
-        self.timed(&self.parts(&moved), moved.len(), |queue, part| {
+        let moved: Vec<(S::Key, u64)> = order.iter().zip(deadlines).map(|(index, when)| (keys[*index], when)).collect();
+        self.timed(&mut self.parts(&moved), moved.len(), |queue, part| {
             let mut keys = Vec::with_capacity(part.len());
-            for (Placed { shard, key }, when) in *part {
-                keys.push(queue.lend(*shard, |queue| queue.reset(*key, *when)));
+            for (key, when) in *part {
+                keys.push(queue.reset(*key, *when));
             }
             keys
         });
@@ -284,12 +359,12 @@ impl<'a, Q: Queue + Send> ShardLoad<'a, Q> {
 
     fn remove(&mut self) {
         let keys = self.fill();
-        let order = self.draws.shuffled(keys.len());
-        let ended: Vec<Placed<Q>> = order.iter().map(|index| keys[*index]).collect();
-        let values = self.timed(&self.parts(&ended), ended.len(), |queue, part| {
+        let order = self.order();
+        let ended: Vec<S::Key> = order.iter().map(|index| keys[*index]).collect();
+        let values = self.timed(&mut self.parts(&ended), ended.len(), |queue, part| {
             let mut values = 0u64;
-            for Placed { shard, key } in *part {
-                values = values.wrapping_add(queue.lend(*shard, |queue| queue.remove(*key)));
+            for key in *part {
+                values = values.wrapping_add(queue.remove(*key));
             }
             values
         });
@@ -298,17 +373,18 @@ impl<'a, Q: Queue + Send> ShardLoad<'a, Q> {
         counts.values = values.into_iter().fold(counts.values, u64::wrapping_add);
     }
 
-    /// Each thread goes over all shards once, and each begins elsewhere.
-    fn poll(&mut self, poll: impl Fn(&Shards<Q>, usize, u64, &mut Gone) + Sync) {
+    /// Each thread goes over all shards once, and each begins elsewhere. One with a shard of its own polls that alone.
+    fn poll(&mut self, poll: impl Fn(&S, usize, u64, &mut Gone) + Sync) {
         let keys = self.fill();
-        let shards = self.queue.0.len();
+        let shards = self.queue.shards();
         let tick = self.now + IDLE;
         self.clock.moment(tick);
-        let firsts: Vec<usize> = (0..self.threads).map(|thread| thread * shards / self.threads).collect();
-        let all_gone = self.timed(&firsts, keys.len(), |queue, first| {
+        let mut firsts: Vec<usize> = (0..self.threads).map(|thread| thread * shards / self.threads).collect();
+        let steps = if self.route == Route::Own { 1 } else { shards };
+        let all_gone = self.timed(&mut firsts, keys.len(), |queue, first| {
             let mut gone = Gone::default();
-            for step in 0..shards {
-                poll(queue, (first + step) % shards, tick, &mut gone);
+            for step in 0..steps {
+                poll(queue, (*first + step) % shards, tick, &mut gone);
             }
             gone
         });
@@ -321,13 +397,17 @@ impl<'a, Q: Queue + Send> ShardLoad<'a, Q> {
 }
 
 /// Does each part in a thread of its own, which begins once all of them are there. Gives the sum of their times.
-fn at_once<W: Sync, R: Send>(clock: &dyn Clock, parts: &[W], call: &(impl Fn(&W) -> R + Sync)) -> (Duration, Vec<R>) {
-    let ready = AtomicUsize::new(0);
-    let run = |part: &W| {
+fn at_once<W: Send, R: Send>(
+    clock: &dyn Clock,
+    parts: &mut [W],
+    call: &(impl Fn(&mut W) -> R + Sync),
+) -> (Duration, Vec<R>) {
+    let (ready, threads) = (AtomicUsize::new(0), parts.len());
+    let run = |part: &mut W| {
         let mut done = None;
         clock.within(&mut || {
             ready.fetch_add(1, Ordering::SeqCst);
-            while ready.load(Ordering::SeqCst) < parts.len() {
+            while ready.load(Ordering::SeqCst) < threads {
                 thread::yield_now();
             }
             let since = Instant::now();
@@ -338,7 +418,7 @@ fn at_once<W: Sync, R: Send>(clock: &dyn Clock, parts: &[W], call: &(impl Fn(&W)
     };
     let run = &run;
     let done: Vec<(Duration, R)> = thread::scope(|scope| {
-        let running: Vec<_> = parts.iter().map(|part| scope.spawn(move || run(part))).collect();
+        let running: Vec<_> = parts.iter_mut().map(|part| scope.spawn(move || run(part))).collect();
         running.into_iter().map(|thread| thread.join().expect("a thread ends")).collect()
     });
     (done.iter().map(|(spent, _)| *spent).sum(), done.into_iter().map(|(_, result)| result).collect())

@@ -27,6 +27,18 @@ impl PausedClock {
         };
         PausedClock { runtime, start }
     }
+
+    /// The moment of tick 0.
+    pub fn start(&self) -> Instant {
+        self.start
+    }
+
+    /// Makes what reads this clock.
+    #[cfg(feature = "binding")]
+    pub fn enter<R>(&self, make: impl FnOnce() -> R) -> R {
+        let _context = self.runtime.enter();
+        make()
+    }
 }
 
 impl Clock for PausedClock {
@@ -40,6 +52,17 @@ impl Clock for PausedClock {
         let ahead = Duration::from_millis(tick).saturating_sub(passed);
         self.runtime.block_on(tokio::time::advance(ahead));
     }
+}
+
+/// A clock that its queue moves by itself, within what is timed.
+pub struct TurnedWithin<'a>(pub &'a PausedClock);
+
+impl Clock for TurnedWithin<'_> {
+    fn within(&self, round: &mut dyn FnMut()) {
+        self.0.within(round);
+    }
+
+    fn moment(&self, _tick: u64) {}
 }
 
 /// `DelayQueue` has no call that only raises a deadline: an extend is a `reset_at`.

@@ -8,8 +8,10 @@
  * What each call does is proved, for any arguments that keep these rules, which C must keep and nothing checks:
  *
  *  - A handle begins as {0}. After that only the calls below write it, and it isn't copied: there is one of each.
- *  - One call at a time uses a handle. Whoever hands it to another thread orders that by a lock, a thread's start or join,
- *    or a sequentially consistent atomic. An owner and callers, with handles of their own, need no such order.
+ *  - One call at a time uses a handle. Whoever hands it to another thread orders that: all that was done to the handle
+ *    happens before what is done next. What is proved takes a lock, a thread's start or join, or a sequentially consistent
+ *    atomic for it. By C11's rules any hand-over suffices that releases and acquires, as a channel's. An owner and callers,
+ *    with handles of their own, need no such order.
  *  - Each pointer that is passed points to a struct that is alive and written, and no two of a call's pointers overlap.
  *  - malloc, realloc and free come from one allocator. No call is made from a signal handler, or in the child of a process
  *    with threads that forked.
@@ -32,6 +34,8 @@ extern "C" {
 #define DQ_LAST_STAMP 1048575
 #define DQ_LAST_TICK 4398046511103
 #define DQ_CALLER_LIMIT 1024
+/* The form of the library that this header is written for: dq_form tells that of the one that is linked. */
+#define DQ_FORM 3
 
 /* What a call answers. `first` and `second` are 0 where a code carries no number. */
 enum {
@@ -52,7 +56,10 @@ enum {
     DQ_STALE = 14,            /* the slot has a later stamp, `first` */
     DQ_ENDED = 15,            /* the entry has ended: `first` says how, `second` at which deadline */
     DQ_TOO_MANY_CALLERS = 16, /* the queue has issued `first` callers, as many as it may */
-    DQ_CALLERS_OUT = 17       /* `first` callers are out */
+    DQ_CALLERS_OUT = 17,      /* `first` callers are out */
+    DQ_NO_PLACE = 18,         /* the row has no place to write to */
+    DQ_STILL_LINKED = 19,     /* `first` entries are linked */
+    DQ_USED_NUMBER = 20       /* the number isn't higher than the queue's, `first` */
 };
 
 /* How an entry stands, where an answer says it in `first`. */
@@ -81,8 +88,9 @@ typedef struct {
     bool held;
 } dq_caller;
 
-/* An entry, and the stamp at which it is meant. Any key may be passed: a forged or an old one is refused. A caller doesn't
- * look at the shard: pass it keys of its own queue. */
+/* An entry, and the stamp at which it is meant. Any key may be passed: a forged or an old one is refused. `shard` is the
+ * number that the queue had at the insert, and a caller takes keys of the number alone that its queue had at the issue: give
+ * each queue a number of its own. */
 typedef struct {
     uint32_t shard;
     uint32_t index;
@@ -112,6 +120,9 @@ typedef struct {
     uint64_t moves;
 } dq_tally_t;
 
+/* Tells the form of the library, DQ_FORM where it is the one that belongs to this header. */
+uint32_t dq_form(void);
+
 /* Makes a queue into an empty handle: 1 to DQ_CAPACITY_LIMIT slots, and a last stamp from 1 to DQ_LAST_STAMP, after which
  * a slot is worn. DQ_OK, DQ_HELD, DQ_BAD_CONFIG, DQ_NO_MEMORY. */
 dq_answer dq_new(dq_queue *queue, uint32_t shard, size_t capacity, uint32_t last_stamp);
@@ -138,11 +149,16 @@ dq_answer dq_poll(dq_queue *queue, uint64_t tick, dq_expired *expired);
 
 /* The same for a row of `places`: takes out as many as are due and have a place, and writes them from its front; the places
  * behind them stay. DQ_OK with how many where the row is full: call again. Else DQ_WAITING with how many and, in `second`,
- * the tick to come again, or DQ_IDLE with how many. DQ_EMPTY, DQ_TICK_TOO_LARGE. */
+ * the tick to come again, or DQ_IDLE with how many. DQ_EMPTY, DQ_NO_PLACE for a row of 0 places, DQ_TICK_TOO_LARGE; no
+ * tick is noted then. */
 dq_answer dq_poll_many(dq_queue *queue, uint64_t tick, dq_expired *expired, size_t places);
 
 /* DQ_WAITING with the next tick with something to do, DQ_IDLE, DQ_EMPTY. */
 dq_answer dq_next_wake(dq_queue *queue);
+
+/* Writes the key of a linked entry that the wheels have first, as of its present stamp; a caller may have extended or
+ * cancelled it. DQ_OK, DQ_IDLE where nothing is linked, DQ_EMPTY. */
+dq_answer dq_peek(dq_queue *queue, dq_key *key);
 
 /* DQ_OK with the number of linked entries, DQ_EMPTY. */
 dq_answer dq_len(dq_queue *queue);
@@ -155,6 +171,12 @@ dq_answer dq_clear(dq_queue *queue);
 
 /* How many entries came and went. DQ_OK, DQ_EMPTY. */
 dq_answer dq_tally(dq_queue *queue, dq_tally_t *tally);
+
+/* An empty queue goes on under the higher number `shard`, with all its stamps: no slot is worn then, and its tally begins
+ * anew but for the moves. Its ticks go on. Each key from before is refused for good. Callers that were issued before refuse
+ * the keys from now on: give them back, and issue new ones. It takes memory for the words. DQ_OK, DQ_EMPTY, DQ_STILL_LINKED,
+ * DQ_USED_NUMBER, DQ_NO_MEMORY. */
+dq_answer dq_renew(dq_queue *queue, uint32_t shard);
 
 /* Issues a caller into an empty handle. DQ_OK, DQ_EMPTY, DQ_HELD, DQ_NO_MEMORY, DQ_TOO_MANY_CALLERS. */
 dq_answer dq_issue(dq_queue *queue, dq_caller *caller);

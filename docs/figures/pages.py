@@ -5,11 +5,11 @@ A mark is a comment that a reader of the page does not see:
     24<!--=ns insert ours 10000-->      the number before it is that figure, told to as many places as it has
     <!-- table NAME --> .. <!-- end --> all between is made by the script
     <!-- from FILE: NAME -->            the fenced block below is that definition (`NAME CLAUSE`: one clause of it;
-                                        `fn NAME`: a function); with `FILE` alone it stands in the file as it is
+                                        `fn NAME..`: functions); with `FILE` alone it stands in the file as it is
     <!-- carried by FILE: FUNCTION -->  the contract of that function cites the statement above, or leads to it
     <!-- as in PATH: 14 15 -->          these numbers of the page are constants that stand in files at that path
     <!-- no figures: 1987 0.7.3 -->     these are years, versions and the like
-    <!-- names of others: Stream -->    these names in code font are no names of this repository
+    <!-- names of others: Stream -->    these names in code font, and files, are none of this repository
 """
 
 import functools
@@ -68,7 +68,9 @@ PATH = re.compile(r"`([\w./-]+/[\w.-]+\.(?:rt|antt|md|rs|tsv|py|txt))`")
 def bad_paths(page):
     """The files that a page names and that stand nowhere: below the top, docs/, bench/, crates/ or a crate."""
     roots = [TOP, TOP / "docs", TOP / "bench", tree.CRATES, *(it for it in tree.CRATES.iterdir() if it.is_dir())]
-    return [it for it in PATH.findall(text_of(page)) if not any((root / it).exists() for root in roots)]
+    text = text_of(page)
+    others = {it for listed in OTHERS.findall(text) for it in listed.split()}
+    return [it for it in PATH.findall(text) if it not in others and not any((root / it).exists() for root in roots)]
 
 
 IDENTIFIER = re.compile(r"`([A-Za-z_]\w*(?:(?:::|\.)[A-Za-z_]\w*)*)`")

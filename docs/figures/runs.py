@@ -12,11 +12,22 @@ RESULTS = TOP / "bench" / "results"
 @functools.lru_cache(maxsize=None)
 def bench(figure=statistics.median):
     """A number of each cell of the bench, its median or its best: by peer, row, entries and callers."""
-    rows = (it.split("\t") for it in text_of(RESULTS / "latest.tsv").splitlines()[1:])
+    rows = rows_of("latest")[1:]
     return {
         (peer, row, int(entries), int(threads)): figure([float(it) for it in samples.split()])
         for peer, row, entries, threads, samples in rows
     }
+
+
+SHARES = ("half", "99", "99.9", "99.99", "all")
+
+
+def longest(row, call, peer, entries, share="all"):
+    """The nanoseconds that a share of a peer's calls of one kind take at most, in a row of the longest call."""
+    for its_peer, its_row, its_entries, its_call, _, taken in rows_of("latest.longest")[1:]:
+        if (its_peer, its_row, its_entries, its_call) == (peer, row, entries, call):
+            return float(taken.split()[SHARES.index(share)])
+    raise LookupError(f"the stored run has no {call} of {peer} in {row} at {entries}")
 
 
 def ns(row, peer, entries, threads=1):
@@ -56,6 +67,32 @@ def least(*which):
 
 def most(*which):
     return max(ratios(*which))
+
+
+def shard_cells(peer, call=""):
+    """The cells of a peer of the shared queue: those of one call, or of all."""
+    return [it for it in bench() if it[0] == peer and "/" in it[1] and it[1].startswith(call)]
+
+
+def lost_shard_cells(peer, call=""):
+    """In how many cells of the shared queue a peer is the faster one."""
+    return sum(bench()[it] < bench()[("ours-shards", *it[1:])] for it in shard_cells(peer, call))
+
+
+def peer_cells(*peers):
+    """How many cells the stored run has of some peers."""
+    return sum(it[0] in peers for it in bench())
+
+
+PACES = {"runs": 0, "fast": 1, "anew": 2, "stand": 3}
+
+
+def pace(kind, what):
+    """Of the runs of one thread or of several: how many there were, and how many stand though a processor had slowed down."""
+    line = re.search(rf"- Pace: of .* runs of {kind} threads?\b.*", text_of(RESULTS / "latest.md"))
+    if not line:
+        raise LookupError(f"results/latest.md tells no pace of {kind}")
+    return [int(it) for it in re.findall(r"\d+", line[0])][PACES[what]]
 
 
 def entry_bytes(name):

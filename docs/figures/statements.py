@@ -65,10 +65,12 @@ def contract(path, name):
 
 
 def quoted(words):
-    """The text that a quote's words name: FILE: NAME [CLAUSE], or FILE: fn NAME."""
+    """The text that a quote's words name: FILE: NAME [CLAUSE], or FILE: fn NAME.. (one function behind the other)."""
     path, _, what = words.partition(": ")
     parts = what.split()
-    return function(path, parts[1]) if parts[0] == "fn" else definition(path, *parts)
+    if parts[0] == "fn":
+        return "\n\n".join(function(path, name) for name in parts[1:])
+    return definition(path, *parts)
 
 
 def stands_in(path, quote):

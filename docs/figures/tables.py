@@ -3,6 +3,7 @@
 import re
 import textwrap
 
+import lasting
 import runs
 import tree
 
@@ -92,6 +93,7 @@ FIGURES = {
     "times": runs.times,
     "least": runs.least,
     "most": runs.most,
+    "longest": runs.longest,
     "lost": lost,
     "lost-cells": lost_cells,
     "lost-whole-cells": lambda peer, ours: lost_cells(peer, ours, WHOLE),
@@ -104,6 +106,12 @@ FIGURES = {
     "over": lambda row, peer, other, floor, size: runs.ns(row, peer, size) / runs.ns(other, floor, size),
     "with-later": with_later,
     "bytes": runs.entry_bytes,
+    "shard-cells": lambda *which: len(runs.shard_cells(*which)),
+    "lost-shard-cells": runs.lost_shard_cells,
+    "peer-cells": runs.peer_cells,
+    "pace": runs.pace,
+    "lasts": lasting.lasts,
+    "by-hand": lambda value, *_: float(value),
     "script": runs.script,
     "script-tick": runs.script_tick,
     "stored": runs.stored,
@@ -329,6 +337,7 @@ TABLES = {
     "instructions": instructions,
     "gains": gains,
     "edit": edit,
+    "lasts": lasting.table,
 }
 
 

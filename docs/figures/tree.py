@@ -12,6 +12,7 @@ CRATES = TOP / "crates"
 ROLES = {"dq_load": "bench", "refusing_heap": "tests"}
 CLAUSE = re.compile(r"(requires|ensures|ghost)\b")
 FUNCTION = re.compile(r"^\s*(pub(?:\([a-z]+\))? )?(?:const |unsafe )*fn (\w+)", re.M)
+TEST = re.compile(r"#\[test\]\s*(?:(?:#\[.*\]|//.*)\s*)*(?:pub )?fn (\w+)")
 DEFINITION = re.compile(r"^(?:pub (?:record|data) |(?:abbrev|unfoldable) pub )(\S+)", re.M)
 CONSTANT = re.compile(r"^\s*(?:pub(?:\([a-z]+\))? )?const (\w+): \w+ = ([0-9_]+);", re.M)
 
@@ -135,6 +136,10 @@ class Crate:
 
     def test_count(self):
         return sum(len(re.findall(r"#\[test\]", text_of(it))) for it in self.sources)
+
+    def test_names(self):
+        """The names of its test functions."""
+        return [name for it in self.sources for name in TEST.findall(text_of(it))]
 
     def edits(self):
         return [it.stem for it in files(self.folder / "must-fail", ".edit")]

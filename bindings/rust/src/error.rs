@@ -6,15 +6,40 @@ use std::fmt;
 
 /// Why no queue is made.
 #[derive(Clone, Copy, Debug, PartialEq, Eq)]
+#[non_exhaustive]
 pub enum NewError {
     /// The capacity isn't 1 to 65,536, or the last stamp isn't 1 to 1,048,575.
     BadConfig,
+    /// Memory was refused.
+    NoMemory,
+    /// The library that is linked is of another form than the crate was written for.
+    OtherLibrary {
+        /// The number of its form.
+        form: u32,
+    },
+}
+
+/// Why a queue isn't renewed.
+#[derive(Clone, Copy, Debug, PartialEq, Eq)]
+#[non_exhaustive]
+pub enum RenewError {
+    /// Entries are linked, live or cancelled and not yet reaped.
+    StillLinked {
+        /// How many.
+        linked: usize,
+    },
+    /// The new number isn't higher than the queue's, so a key may carry it.
+    UsedNumber {
+        /// The queue's number.
+        number: u32,
+    },
     /// Memory was refused.
     NoMemory,
 }
 
 /// Why a call of the queue is refused.
 #[derive(Clone, Copy, Debug, PartialEq, Eq)]
+#[non_exhaustive]
 pub enum QueueError {
     /// The deadline is beyond the last tick.
     TooFar {
@@ -42,7 +67,16 @@ pub enum QueueError {
 }
 
 /// An insert that was refused, with the value that wasn't put in.
-#[derive(Clone, Copy, Debug, PartialEq, Eq)]
+///
+/// ```
+/// let mut queue = hontkhale::DelayQueue::with_capacity(1).unwrap();
+/// queue.insert_at("first", 10).unwrap();
+/// let refused = queue.insert_at("second", 10).unwrap_err();
+/// assert_eq!(refused.value, "second");
+/// assert_eq!(refused.error, hontkhale::QueueError::Full { linked: 1, worn: 0 });
+/// ```
+#[derive(Clone, Copy, PartialEq, Eq)]
+#[non_exhaustive]
 pub struct InsertError<T> {
     /// `TooFar` or `Full`.
     pub error: QueueError,
@@ -52,10 +86,11 @@ pub struct InsertError<T> {
 
 /// Why no caller is issued.
 #[derive(Clone, Copy, Debug, PartialEq, Eq)]
+#[non_exhaustive]
 pub enum IssueError {
     /// Memory was refused.
     NoMemory,
-    /// The queue has issued as many callers as it may, given back or not.
+    /// As many callers of the queue are out as may be.
     TooManyCallers {
         /// How many that is.
         limit: u64,
@@ -64,6 +99,7 @@ pub enum IssueError {
 
 /// How an entry stands. Deadlines are ticks of one millisecond.
 #[derive(Clone, Copy, Debug, PartialEq, Eq)]
+#[non_exhaustive]
 pub enum Look {
     /// It is live, with this deadline in force.
     Live(u64),
@@ -77,6 +113,7 @@ pub enum Look {
 
 /// Why a caller's call is refused.
 #[derive(Clone, Copy, Debug, PartialEq, Eq)]
+#[non_exhaustive]
 pub enum CallError {
     /// The deadline is beyond the last tick.
     TooFar {
@@ -102,6 +139,18 @@ impl NewError {
         match answer.code {
             ffi::BAD_CONFIG => NewError::BadConfig,
             ffi::NO_MEMORY => NewError::NoMemory,
+            code => unknown(code),
+        }
+    }
+}
+
+impl RenewError {
+    pub(crate) fn of(answer: Answer) -> RenewError {
+        match answer.code {
+            ffi::STILL_LINKED => RenewError::StillLinked { linked: answer.first as usize },
+            // A number was a `u32` when it was handed in, so nothing is cut off.
+            ffi::USED_NUMBER => RenewError::UsedNumber { number: answer.first as u32 },
+            ffi::NO_MEMORY => RenewError::NoMemory,
             code => unknown(code),
         }
     }
@@ -166,6 +215,7 @@ impl fmt::Display for NewError {
         match self {
             NewError::BadConfig => write!(f, "the capacity or the last stamp is out of its range"),
             NewError::NoMemory => write!(f, "out of memory"),
+            NewError::OtherLibrary { form } => write!(f, "another form of the library is linked, {}", form),
         }
     }
 }
@@ -185,6 +235,24 @@ impl fmt::Display for QueueError {
     }
 }
 
+impl fmt::Display for RenewError {
+    fn fmt(&self, f: &mut fmt::Formatter<'_>) -> fmt::Result {
+        match self {
+            RenewError::StillLinked { linked } => write!(f, "{} entries are still linked", linked),
+            RenewError::UsedNumber { number } => {
+                write!(f, "the queue had the number {}, and the new one isn't higher", number)
+            }
+            RenewError::NoMemory => write!(f, "out of memory"),
+        }
+    }
+}
+
+impl<T> fmt::Debug for InsertError<T> {
+    fn fmt(&self, f: &mut fmt::Formatter<'_>) -> fmt::Result {
+        f.debug_struct("InsertError").field("error", &self.error).finish_non_exhaustive()
+    }
+}
+
 impl<T> fmt::Display for InsertError<T> {
     fn fmt(&self, f: &mut fmt::Formatter<'_>) -> fmt::Result {
         self.error.fmt(f)
@@ -195,7 +263,7 @@ impl fmt::Display for IssueError {
     fn fmt(&self, f: &mut fmt::Formatter<'_>) -> fmt::Result {
         match self {
             IssueError::NoMemory => write!(f, "out of memory"),
-            IssueError::TooManyCallers { limit } => write!(f, "no more than {} callers are issued", limit),
+            IssueError::TooManyCallers { limit } => write!(f, "{} callers are out, and no more may be", limit),
         }
     }
 }
@@ -224,6 +292,7 @@ impl fmt::Display for CallError {
 
 impl Error for NewError {}
 impl Error for QueueError {}
-impl<T: fmt::Debug> Error for InsertError<T> {}
+impl<T> Error for InsertError<T> {}
+impl Error for RenewError {}
 impl Error for IssueError {}
 impl Error for CallError {}

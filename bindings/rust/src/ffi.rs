@@ -1,7 +1,12 @@
-//! The library's calls, as `include/hontkhale.h` declares them. This is the only module with `unsafe`.
+//! The library's calls, as `c/hontkhale.h` declares them. This is the only module with `unsafe`.
+//!
+//! In the C file that the crate compiles each has the project's own prefix; the Rattle kit's archive has the header's names.
 
 use std::ffi::c_void;
 use std::ptr;
+
+/// The form of the library that this module is written for.
+pub const FORM: u32 = 3;
 
 pub const OK: u32 = 0;
 pub const TOO_FAR: u32 = 3;
@@ -18,7 +23,8 @@ pub const UNKNOWN: u32 = 13;
 pub const STALE: u32 = 14;
 pub const ENDED: u32 = 15;
 pub const TOO_MANY_CALLERS: u32 = 16;
-pub const CALLERS_OUT: u32 = 17;
+pub const STILL_LINKED: u32 = 19;
+pub const USED_NUMBER: u32 = 20;
 
 pub const LIVE: u64 = 0;
 pub const CANCELLED: u64 = 1;
@@ -102,25 +108,48 @@ pub struct RawTally {
 }
 
 extern "C" {
+    #[cfg_attr(not(hontkhale_archive), link_name = "hontkhale_form")]
+    fn dq_form() -> u32;
+    #[cfg_attr(not(hontkhale_archive), link_name = "hontkhale_new")]
     fn dq_new(queue: &mut RawHandle, shard: u32, capacity: usize, last_stamp: u32) -> Answer;
+    #[cfg_attr(not(hontkhale_archive), link_name = "hontkhale_free")]
     fn dq_free(queue: &mut RawHandle) -> Answer;
+    #[cfg_attr(not(hontkhale_archive), link_name = "hontkhale_insert")]
     fn dq_insert(queue: &mut RawHandle, value: u64, when: u64, key: &mut RawKey) -> Answer;
+    #[cfg_attr(not(hontkhale_archive), link_name = "hontkhale_reset")]
     fn dq_reset(queue: &mut RawHandle, key: &mut RawKey, when: u64) -> Answer;
+    #[cfg_attr(not(hontkhale_archive), link_name = "hontkhale_remove")]
     fn dq_remove(queue: &mut RawHandle, key: &RawKey, removed: &mut RawRemoved) -> Answer;
+    #[cfg_attr(not(hontkhale_archive), link_name = "hontkhale_deadline")]
     fn dq_deadline(queue: &mut RawHandle, key: &RawKey) -> Answer;
+    #[cfg_attr(not(hontkhale_archive), link_name = "hontkhale_poll")]
     fn dq_poll(queue: &mut RawHandle, tick: u64, expired: &mut RawExpired) -> Answer;
+    #[cfg_attr(not(hontkhale_archive), link_name = "hontkhale_poll_many")]
     fn dq_poll_many(queue: &mut RawHandle, tick: u64, expired: *mut RawExpired, places: usize) -> Answer;
+    #[cfg_attr(not(hontkhale_archive), link_name = "hontkhale_next_wake")]
     fn dq_next_wake(queue: &mut RawHandle) -> Answer;
+    #[cfg_attr(not(hontkhale_archive), link_name = "hontkhale_peek")]
+    fn dq_peek(queue: &mut RawHandle, key: &mut RawKey) -> Answer;
+    #[cfg_attr(not(hontkhale_archive), link_name = "hontkhale_len")]
     fn dq_len(queue: &mut RawHandle) -> Answer;
+    #[cfg_attr(not(hontkhale_archive), link_name = "hontkhale_sweep")]
     fn dq_sweep(queue: &mut RawHandle) -> Answer;
+    #[cfg_attr(not(hontkhale_archive), link_name = "hontkhale_clear")]
     fn dq_clear(queue: &mut RawHandle) -> Answer;
+    #[cfg_attr(not(hontkhale_archive), link_name = "hontkhale_tally")]
     fn dq_tally(queue: &mut RawHandle, tally: &mut RawTally) -> Answer;
+    #[cfg_attr(not(hontkhale_archive), link_name = "hontkhale_renew")]
+    fn dq_renew(queue: &mut RawHandle, shard: u32) -> Answer;
+    #[cfg_attr(not(hontkhale_archive), link_name = "hontkhale_issue")]
     fn dq_issue(queue: &mut RawHandle, caller: &mut RawHandle) -> Answer;
+    #[cfg_attr(not(hontkhale_archive), link_name = "hontkhale_extend")]
     fn dq_extend(caller: &mut RawHandle, key: &RawKey, when: u64) -> Answer;
+    #[cfg_attr(not(hontkhale_archive), link_name = "hontkhale_cancel")]
     fn dq_cancel(caller: &mut RawHandle, key: &RawKey) -> Answer;
+    #[cfg_attr(not(hontkhale_archive), link_name = "hontkhale_look")]
     fn dq_look(caller: &mut RawHandle, key: &RawKey) -> Answer;
+    #[cfg_attr(not(hontkhale_archive), link_name = "hontkhale_give_back")]
     fn dq_give_back(caller: &mut RawHandle) -> Answer;
-    fn dq_returned(queue: &mut RawHandle) -> Answer;
 }
 
 /// A queue's handle, freed when it is dropped.
@@ -132,9 +161,18 @@ unsafe impl Send for QueueHandle {}
 /// A caller's handle, given back when it is dropped.
 pub struct CallerHandle(RawHandle);
 
+/// The number of the form of the library that is linked.
+pub fn form() -> u32 {
+    // SAFETY: it reads nothing.
+    unsafe { dq_form() }
+}
+
 // SAFETY: the library's handle is proved to be `Send`, and what it shares with its queue are words that are changed by
 // atomic steps alone.
 unsafe impl Send for CallerHandle {}
+
+// SAFETY: every call takes the handle by `&mut`, so a shared one can't be used at all.
+unsafe impl Sync for CallerHandle {}
 
 // SAFETY, of each call below: a handle is made here as empty and is written by the library alone; `&mut self` and Rust's
 // rules of borrowing keep it to one call at a time, and keep what is passed beside it alive, written and apart. Whoever
@@ -188,6 +226,10 @@ impl QueueHandle {
         unsafe { dq_len(&mut self.0) }
     }
 
+    pub fn peek(&mut self, key: &mut RawKey) -> Answer {
+        unsafe { dq_peek(&mut self.0, key) }
+    }
+
     pub fn sweep(&mut self) -> Answer {
         unsafe { dq_sweep(&mut self.0) }
     }
@@ -200,18 +242,18 @@ impl QueueHandle {
         unsafe { dq_tally(&mut self.0, tally) }
     }
 
+    pub fn renew(&mut self, shard: u32) -> Answer {
+        unsafe { dq_renew(&mut self.0, shard) }
+    }
+
     pub fn issue(&mut self) -> Result<CallerHandle, Answer> {
-        let mut caller = CallerHandle(RawHandle::empty());
+        let mut caller = CallerHandle::empty();
         let answer = unsafe { dq_issue(&mut self.0, &mut caller.0) };
         if answer.code == OK {
             Ok(caller)
         } else {
             Err(answer)
         }
-    }
-
-    pub fn returned(&mut self) -> Answer {
-        unsafe { dq_returned(&mut self.0) }
     }
 }
 
@@ -222,6 +264,11 @@ impl Drop for QueueHandle {
 }
 
 impl CallerHandle {
+    /// A handle that holds nothing, as every handle begins.
+    pub fn empty() -> CallerHandle {
+        CallerHandle(RawHandle::empty())
+    }
+
     #[inline]
     pub fn extend(&mut self, key: &RawKey, when: u64) -> Answer {
         unsafe { dq_extend(&mut self.0, key, when) }

@@ -92,7 +92,7 @@ fn cancelled_is_reaped() {
 
 #[test]
 fn worn_slot() {
-    let config = Config { shard: 0, capacity: 1, last_stamp: 2 };
+    let config = Config::with_capacity(1).last_stamp(2);
     let mut queue = DelayQueue::with_config(config).unwrap();
     assert_eq!(queue.insert_at("a", 1).unwrap().stamp(), 1);
     assert_eq!(out(queue.poll_expired(1)), ("a", 1));
@@ -123,14 +123,15 @@ fn forged_keys() {
     let mut queue = queue();
     let mut caller = queue.caller().unwrap();
     let key = queue.insert_at("v", 10).unwrap();
-    let index_9 = Key::from_parts(0, 9, 1, 1);
-    let stamp_0 = Key::from_parts(0, key.index(), 1, 0);
-    let shard_5 = Key::from_parts(5, key.index(), 1, 1);
+    let shard = queue.shard();
+    let index_9 = Key::from_parts(shard, 9, 1, 1);
+    let stamp_0 = Key::from_parts(shard, key.index(), 1, 0);
+    let shard_5 = Key::from_parts(shard ^ 5, key.index(), 1, 1);
     assert_eq!(caller.extend(&index_9, 50), Err(CallError::Unknown));
     assert_eq!(caller.extend(&stamp_0, 50), Err(CallError::Unknown));
     assert_eq!(caller.extend(&shard_5, 50), Err(CallError::Unknown));
     assert_eq!(caller.extend(&index_9, LAST_TICK + 1), Err(CallError::TooFar { limit: LAST_TICK }));
-    for forged in [index_9, shard_5, Key::from_parts(0, key.index(), 7, 1)] {
+    for forged in [index_9, shard_5, Key::from_parts(shard, key.index(), 7, 1)] {
         assert_eq!(queue.deadline(&forged), Err(QueueError::Missing));
         assert_eq!(queue.remove(&forged).unwrap_err(), QueueError::Missing);
         assert_eq!(queue.reset_at(&forged, 50), Err(QueueError::Missing));
@@ -141,22 +142,11 @@ fn forged_keys() {
 #[test]
 fn bad_configs() {
     let made =
-        |capacity, last_stamp| DelayQueue::<()>::with_config(Config { shard: 0, capacity, last_stamp }).map(drop);
+        |capacity, last| DelayQueue::<()>::with_config(Config::with_capacity(capacity).last_stamp(last)).map(drop);
     for (capacity, last_stamp) in [(0, 1), (65_537, 1), (1, 0), (1, LAST_STAMP + 1)] {
         assert_eq!(made(capacity, last_stamp), Err(NewError::BadConfig));
     }
     assert_eq!(made(65_536, LAST_STAMP), Ok(()));
-}
-
-#[test]
-fn handle_limit() {
-    let mut queue = queue();
-    for _ in 0..1024 {
-        drop(queue.caller().unwrap());
-    }
-    let refused = queue.caller().map(drop).unwrap_err();
-    assert_eq!(refused, hontkhale::IssueError::TooManyCallers { limit: 1024 });
-    assert_eq!(queue.returned(), Ok(0));
 }
 
 #[test]

@@ -1,6 +1,6 @@
 //! Callers in threads of their own beside an owner that polls.
 
-use hontkhale::{CallError, DelayQueue, Key, Turn};
+use hontkhale::{CallError, DelayQueue, Key, Look, Turn};
 use std::sync::mpsc;
 use std::sync::{Arc, Barrier, Mutex};
 use std::thread;
@@ -98,14 +98,15 @@ fn cancels_and_outs_add_up() {
 }
 
 #[test]
-fn a_caller_outlives_its_queue() {
+fn a_dropped_queue_is_closed_for_its_callers() {
     let mut queue = DelayQueue::with_capacity(2).unwrap();
     let key = queue.insert_at("v", 10).unwrap();
     let mut caller = queue.caller().unwrap();
     drop(queue);
-    assert_eq!(caller.extend(&key, 20), Ok(20));
-    assert_eq!(caller.cancel(&key), Ok(20));
-    assert_eq!(caller.give_back(), 1);
+    let ended = CallError::Ended { how: Look::Removed(10) };
+    assert_eq!(caller.extend(&key, 20), Err(ended));
+    assert_eq!(caller.cancel(&key), Err(ended));
+    assert_eq!(caller.give_back(), 0);
 }
 
 #[test]

@@ -2,13 +2,12 @@
 
 use dq_apps::TtlCache;
 use dq_core::CoreError;
-use dq_ticks::LAST_STAMP;
 use std::alloc::Global;
 
-/// How many addresses are remembered at once.
+// How many addresses are remembered at once.
 const HOSTS: usize = 2;
 
-/// Stands for the slow lookup: a question to a name server.
+// Stands for the slow lookup: a question to a name server.
 fn ask(host: &str) -> &'static str {
     match host {
         "db" => "10.0.0.7",
@@ -33,7 +32,7 @@ impl Addresses {
     /// No address yet.
     pub fn new(alloc: Global, time_to_live: u64) -> Result<Addresses, CoreError> {
         Ok(Addresses {
-            known: TtlCache::new(alloc, HOSTS, LAST_STAMP)?,
+            known: TtlCache::with_capacity(alloc, HOSTS)?,
             time_to_live,
             hits: 0,
             misses: 0,
@@ -48,7 +47,7 @@ impl Addresses {
         }
         self.misses = self.misses.saturating_add(1);
         let address = ask(host.as_str());
-        match self.known.put(host, address, self.time_to_live, now) {
+        match self.known.set(host, address, self.time_to_live, now) {
             Ok(_) | Err((CoreError::Full { .. }, _, _)) => Ok(address),
             Err((error, _, _)) => Err(error),
         }

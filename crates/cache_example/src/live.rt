@@ -7,7 +7,7 @@ use std::rt::Clock;
 use std::thread;
 use std::time::Duration;
 
-/// How long an address is remembered, in ticks of one millisecond.
+// How long an address is remembered, in ticks of one millisecond.
 const TIME_TO_LIVE: u64 = 3_000;
 
 /// Looks up the host that each line of standard input names. At the end of input it waits until each address is forgotten.
@@ -27,7 +27,7 @@ where
     forget_all(rt, &mut ticks, &mut addresses)
 }
 
-/// Sleeps until the next address is to be forgotten, and forgets it, until none is left.
+// Sleeps until the next address is to be forgotten, and forgets it, until none is left.
 fn forget_all<R>(rt: &R, ticks: &mut impl TickSource, addresses: &mut Addresses) -> Result<()>
 where
     R: Clock + Print,

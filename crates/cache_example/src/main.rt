@@ -12,7 +12,7 @@ use anyhow::Result;
 use example_mode::{Mode, asked};
 use std::process::ExitCode;
 
-/// What the command line may say.
+// What the command line may say.
 const USAGE: &str =
     "usage: cache_example [live] (live: by the real clock, hosts on standard input)";
 

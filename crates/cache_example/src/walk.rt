@@ -3,7 +3,7 @@
 use crate::addresses::Addresses;
 use anyhow::Result;
 
-/// How long an address is remembered, in ticks of one millisecond.
+// How long an address is remembered, in ticks of one millisecond.
 const TIME_TO_LIVE: u64 = 30_000;
 
 /// Looks three hosts up, of which two are remembered at once.

@@ -8,7 +8,7 @@ use std::convert::AsStr;
 use std::rt::Env;
 use std::{env, io};
 
-/// The capacity where none is given.
+// The capacity where none is given.
 const DEFAULT_CAPACITY: usize = 1024;
 
 /// Why no script is replayed.

@@ -21,7 +21,7 @@ fn main(rt: HostRuntime) -> ExitCode {
     ExitCode::from(status)
 }
 
-/// Replays standard input. What was answered is handed on before this returns.
+// Replays standard input. What was answered is handed on before this returns.
 fn replay<R: Input + Print + AllocGlobal>(rt: &R, capacity: usize) -> Result<(), ReplayFault>
 where
     R::Reader: Drop,
@@ -36,7 +36,7 @@ where
     run(alloc, &mut reader, &mut writer, capacity)
 }
 
-/// Tells why there is no replay, and gives the status: 0 for the help that was asked for.
+// Tells why there is no replay, and gives the status: 0 for the help that was asked for.
 fn refuse<R: Print + Eprint, W: Write>(rt: &R, refusal: &Refusal, errors: &mut W) -> u8 {
     match refusal {
         Refusal::NoMemory => report(&ReplayFault::NoMemory, errors),

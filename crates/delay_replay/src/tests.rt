@@ -6,7 +6,7 @@ use std::cell::RefCell;
 use std::fmt::Display;
 use std::process::Abort;
 
-/// A terminal that keeps what is printed on it, or one whose standard output is closed.
+// A terminal that keeps what is printed on it, or one whose standard output is closed.
 #[derive(Drop)]
 struct Terminal {
     output: RefCell<String>,
@@ -81,7 +81,7 @@ Usage: delay-replay [OPTIONS]
 For more information, try '--help'.
 ";
 
-/// What is told of a command line of one word, on standard output and on standard error, and the status.
+// What is told of a command line of one word, on standard output and on standard error, and the status.
 fn refuses<R: Abort + AllocGlobal>(rt: &R, word: &str, is_closed: bool, wanted: (&str, &str, u8)) {
     let terminal = Terminal {
         output: RefCell::new(String::new(rt.alloc())),

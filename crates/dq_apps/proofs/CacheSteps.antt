@@ -1,5 +1,5 @@
 -- What each step leaves of a cache, and what it shows then.
-use Rattle.std.proofs.Common.{◌≡◌, ℕ, ◌+◌, ◌<◌, ◌≤◌, zero, suc, Bool, true, false, List, [], ◌∷◌, length, set, replicate, Option, Some, None, Ok, refl, sym, ap, ◌∙◌, subst, arith}
+use Rattle.std.proofs.Common.{◌≡◌, ℕ, ◌+◌, ◌<◌, ◌≤◌, zero, suc, Bool, true, List, [], ◌∷◌, length, set, replicate, Option, Some, None, Ok, refl, sym, ap, ◌∙◌, subst, arith}
 use Rattle.std.specs.Cmp.{IsEquivalence}
 use Rattle.std.specs.List.{IsDistinct}
 use Rattle.std.specs.Map.{lookup, keys_of}
@@ -9,11 +9,10 @@ use Rattle.dq_ticks.specs.Keys.{KeyName}
 use Rattle.dq_ticks.specs.declared.TheConstants.{LAST_TICK}
 use Rattle.dq_core.specs.Machine.{Entry}
 use Rattle.dq_apps.specs.declared.kept.Kept.{Kept}
-use Rattle.dq_apps.specs.Cache.{Cache, bare, slot_at, moment_at}
-use Rattle.dq_apps.specs.Calls.{IsAbsent, IsSeenWorn, IsKeptWorn, InRange, emptied, renewed, Takes, Renews, Replaces, Adds, fresh_cache}
+use Rattle.dq_apps.specs.Cache.{Item, Cache, bare, slot_at, moment_at}
+use Rattle.dq_apps.specs.Calls.{IsAbsent, IsSeenWorn, IsKeptWorn, InRange, emptied, renewed, Takes, TakesDue, Renews, Replaces, Adds, fresh_cache}
 use Rattle.dq_apps.specs.TimerTable.{TimerTable, timer_at, unset, stopped, set_at, with_slots, next_key, StopsDue, Starts, Restarts, fresh_timers}
 use Rattle.dq_apps.specs.Tied.{item_at, shown, shown_slots, cache_of, IsStock, IsWritten, HadValue}
-use Rattle.dq_apps.specs.Steps.{DropsOne}
 use Rattle.dq_apps.proofs.TimerRows.{none_new}
 use Rattle.dq_apps.proofs.Ties.{shown_at, found, kept_in, at_slot}
 use Rattle.dq_apps.proofs.TiedChanges.{same_shown, same_tied, shown_put, tied_emptied, tied_written, shown_written}
@@ -67,8 +66,21 @@ module _ {K V : Type 0} {eq : K → K → Bool} (laws : IsEquivalence eq) (es : 
     pub dropped_stock : IsStock eq fs u m
     dropped_stock = left_stock fs u stops.0 m key written stops.6 stops.3 due_only due_mine (omega arith)
 
-    pub drops_one : DropsOne c true (cache_of eq fs u m)
-    drops_one =
+    -- its slot shows its key
+    timer_key : (x : Item K V) → (slot_at c.slots stops.0).item ≡ Some x → key ≡ x.key
+    timer_key x at =
+        let k = kept_in laws es t.slots stock.tied stops.0 x at in
+        let r : Entry K = record { born = k.0.key.entry.born; value = x.key; due = Some k.0.deadline } in
+        let one : ◌≡◌ {A = Option (Entry K)} (Some timer) (Some r) = sym stops.4 ∙ ap (λ z. z.entry) k.3 in
+        let same : timer ≡ r = cc in
+        ap (λ z. z.value) same
+
+    -- what the map had of it
+    pub due_lookup : (s : Kept V) × (lookup (eq key) es ≡ Some s)
+    due_lookup = let b = stock.tied.back stops.0 timer stops.4 in (b.0, b.1)
+
+    pub takes_due : (kept : Kept V) → Some kept ≡ lookup (eq key) es → TakesDue c (Some (key, kept.value)) (cache_of eq fs u m)
+    takes_due kept told =
         let a = at_slot laws es t.slots stock.tied stops.0 timer stops.4 in
         let k = kept_at laws es t m stock key a.0 a.1 in
         let P : ℕ → Type 0 = λ i. (slot_at c.slots i).item ≡ Some k.0 in
@@ -79,15 +91,19 @@ module _ {K V : Type 0} {eq : K → K → Bool} (laws : IsEquivalence eq) (es : 
         let deadline : stops.2 ≡ a.0.deadline = cc in
         let shown_due = k.3 in
         let reached = stops.5 in
-        (stops.0, k.0, subst P a.2 k.1.item, omega (arith, shown_due, deadline, reached), left_cache fs u stops.0 m key written stops.6 stops.3 due_only due_mine)
+        let one_kept : ◌≡◌ {A = Option (Kept V)} (Some kept) (Some a.0) = told ∙ a.1 in
+        let same_kept : kept ≡ a.0 = cc in
+        let value : kept.value ≡ k.0.value = ap (λ z. z.value) same_kept ∙ sym k.2 in
+        let shown_key : key ≡ k.0.key = timer_key k.0 (subst P a.2 k.1.item) in
+        (stops.0, k.0, subst P a.2 k.1.item, omega (arith, shown_due, deadline, reached), (λ j. (shown_key j, value j)), left_cache fs u stops.0 m key written stops.6 stops.3 due_only due_mine)
 
   -- none is due at the moment
   module _ (u : TimerTable K) (stops : StopsDue t m None u) where
     pub rest_stock : IsStock eq es u m
     rest_stock = let P : TimerTable K → Type 0 = λ x. IsStock eq es x m in subst P (sym stops.0) (record { tied = stock.tied; noted = omega arith; bound = stock.bound })
 
-    pub rest_drops : DropsOne c false (cache_of eq es u m)
-    rest_drops = (
+    pub rest_takes : TakesDue c None (cache_of eq es u m)
+    rest_takes = (
       ap (λ x. cache_of eq es x m) stops.0,
       λ i x is.
           let k = kept_in laws es t.slots stock.tied i x is in

@@ -1,9 +1,12 @@
 pub mod CacheReads
 pub mod CacheSteps
 pub mod Firsts
+pub mod Fronts
 pub mod Leasts
 pub mod Logins
+pub mod MovedTimers
 pub mod PutSteps
+pub mod Refreshed
 pub mod SeenCounts
 pub mod SeenPairs
 pub mod SeenSlots

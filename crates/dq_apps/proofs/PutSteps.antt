@@ -1,10 +1,23 @@
 -- What a put comes to, from what its steps do.
-use Rattle.std.proofs.Common.{◌≡◌, ℕ, ◌+◌, Bool, Some, None, Ok, Err, refl, ap, ◌∙◌, subst}
+use Rattle.std.proofs.Common.{◌≡◌, ℕ, ◌+◌, ◌≤◌, Bool, Option, Some, None, Ok, Err, refl, ap, ◌∙◌, subst}
+use Rattle.dq_ticks.specs.declared.TheConstants.{LAST_TICK}
 use Rattle.dq_core.specs.declared.errors.CoreError.{CoreError}
 use Rattle.dq_core.specs.declared.errors.CoreError.TheVariants.{TooFar, Full, Missing, WasCancelled, Worn, TickTooLarge, BadConfig, NoMemory}
 use Rattle.dq_apps.specs.Cache.{Cache, moment_at}
-use Rattle.dq_apps.specs.Calls.{purged, InRange, IsAbsent, IsKeptWorn, Replaces, Adds, AddRefused, PutRefused, Puts}
-use Rattle.dq_apps.specs.Steps.{at_moment}
+use Rattle.dq_apps.specs.Calls.{due_count, at_moment, purged, Purges, TakesDue, TakesExpired, InRange, IsAbsent, IsKeptWorn, Replaces, Adds, AddRefused, PutRefused, Puts}
+
+module _ {K V : Type 0} (b p d : Cache K V) (now m : ℕ) (small : now ≤ LAST_TICK) (em : m ≡ moment_at b now) (ep : p ≡ at_moment b m) where
+  -- the moment was set, and all that is due dropped
+  pub purge_steps : (n : ℕ) → n ≡ due_count p.moment p.slots → d ≡ purged p p.moment → Purges b now (Ok n) d
+  purge_steps n en ed = (
+    small,
+    en ∙ ((λ i. due_count (ep i).moment (ep i).slots) ∙ ap (λ k. due_count k b.slots) em),
+    ed ∙ ((λ i. purged (ep i) (ep i).moment) ∙ ap (purged b) em),
+  )
+
+  -- the moment was set, and one that is due taken
+  pub expired_steps : (out : Option (K × V)) → TakesDue p out d → TakesExpired b now (Ok out) d
+  expired_steps out t = (small, subst (λ (x : Cache K V). TakesDue x out d) (ep ∙ ap (at_moment b) em) t)
 
 module _ {K V : Type 0} (eq : K → K → Bool) (b d : Cache K V) (key : K) (value : V) (ttl now : ℕ) where
   -- the moment was set, and what was due dropped

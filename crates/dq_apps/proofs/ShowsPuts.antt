@@ -1,15 +1,15 @@
 -- What a purge, a renewal and a put leave of what is seen.
-use Rattle.std.proofs.Common.{◌≡◌, ℕ, ◌+◌, Bool, true, cond, nat_lt, Option, Some, None, Result, Ok, Err, refl, sym, ap, ◌∙◌, subst, arith}
+use Rattle.std.proofs.Common.{◌≡◌, ℕ, ◌+◌, Bool, true, cond, nat_lt, Option, Some, None, Result, Ok, Err, refl, sym, ap, ◌∙◌, subst, arith, max}
 use Rattle.std.specs.Prelude.{IfOk, IfErr, OnOk, OnErr, IsSomeAnd}
 use Rattle.std.specs.Cmp.{IsEquivalence}
 use Rattle.std.proofs.lemmas.Bool.{lt-ltb, true≢false}
 use Rattle.dq_core.specs.declared.errors.CoreError.{CoreError}
 use Rattle.dq_core.specs.declared.errors.CoreError.TheVariants.{TooFar, Full, Missing, WasCancelled, Worn, TickTooLarge, BadConfig, NoMemory}
 use Rattle.dq_apps.specs.Cache.{Item, Cache, slot_at, moment_at, value_seen, AreDistinct}
-use Rattle.dq_apps.specs.Calls.{purged, IsAbsent, Renews, Replaces, Adds, PutRefused, Puts, Purges}
+use Rattle.dq_apps.specs.Calls.{at_moment, TakesDue, TakesExpired, purged, IsAbsent, Renews, Replaces, Adds, PutRefused, Puts, Purges}
 use Rattle.dq_apps.specs.AtTheCall.{IsSeenUntil, KeepsSeen, KeepsOthers, kept_count, NoneDueNow}
 use Rattle.dq_apps.proofs.SeenSlots.{part, part_hidden}
-use Rattle.dq_apps.proofs.Sweeps.{left_in, distinct_swept, kept_counts}
+use Rattle.dq_apps.proofs.Sweeps.{step_moment, step_purged, left_in, distinct_swept, kept_counts}
 use Rattle.dq_apps.proofs.Shows.{seen_kept, absent_none, purge_keeps, others_hidden, renewed_seen, renewed_others, kept_hidden}
 
 module _ {K V : Type 0} {eq : K → K → Bool} (laws : IsEquivalence eq) (b c : Cache K V) where
@@ -40,6 +40,35 @@ module _ {K V : Type 0} {eq : K → K → Bool} (laws : IsEquivalence eq) (b c :
     pub purges_refused : (r : Result ℕ CoreError) → Purges b now r c → OnErr r (c ≡ b)
     purges_refused (Ok n) p = tt
     purges_refused (Err e) p = p.2
+
+  -- take_expired
+  module _ (now : ℕ) where
+    -- what a purge leaves is the same before and after
+    expired_purged : (out : Option (K × V)) → TakesDue (at_moment b (moment_at b now)) out c → purged c (moment_at c now) ≡ purged b (moment_at b now)
+    expired_purged None t =
+        let twice : max now (moment_at b now) ≡ moment_at b now = omega arith in
+        (λ i. purged (t.0 i) (moment_at (t.0 i) now)) ∙ ap (purged b) twice
+    expired_purged (Some out) t =
+        let moment = step_moment (at_moment b (moment_at b now)) c out t in
+        let at : moment_at c now ≡ moment_at b now = omega (arith, moment) in
+        ap (purged c) at ∙ step_purged (at_moment b (moment_at b now)) c out t
+
+    pub expired_keeps : (r : Result (Option (K × V)) CoreError) → TakesExpired b now r c → KeepsSeen eq b c now
+    expired_keeps (Ok out) t q n later =
+        sym (purge_keeps laws c now q n later)
+        ∙ (ap (λ (x : Cache K V). value_seen eq x q n) (expired_purged out t.1) ∙ purge_keeps laws b now q n later)
+    expired_keeps (Err e) t q n later = same_seen t.2 q n
+
+    pub expired_rest : (r : Result (Option (K × V)) CoreError) → TakesExpired b now r c → IfOk r (λ out. out ≡ None → NoneDueNow c)
+    expired_rest (Ok None) t =
+        let P : Cache K V → Type 0 = λ x. NoneDueNow x in
+        λ none. subst P (sym t.1.0) t.1.1
+    expired_rest (Ok (Some out)) t = λ none. absurd (cc)
+    expired_rest (Err e) t = tt
+
+    pub expired_refused : (r : Result (Option (K × V)) CoreError) → TakesExpired b now r c → OnErr r (c ≡ b)
+    expired_refused (Ok out) t = tt
+    expired_refused (Err e) t = t.2
 
   -- renew
   module _ (key : K) (ttl now : ℕ) where

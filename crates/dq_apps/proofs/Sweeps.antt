@@ -5,8 +5,7 @@ use Rattle.std.proofs.lemmas.List.{get_or_past}
 use Rattle.std.proofs.lemmas.List.Sums.{sum_by-set, count_by-le-length}
 use Rattle.std.proofs.lemmas.Bool.{cases_lt, le-ltb, lt-ltb, le-leb, lt-leb, ltb-true}
 use Rattle.dq_apps.specs.Cache.{Item, CacheSlot, Cache, bare, slot_at, is_kept, AreDistinct}
-use Rattle.dq_apps.specs.Calls.{left_at, swept, is_due, due_count, purged, emptied_slots}
-use Rattle.dq_apps.specs.Steps.{DropsOne}
+use Rattle.dq_apps.specs.Calls.{TakesDue, left_at, swept, is_due, due_count, purged, emptied_slots}
 use Rattle.dq_apps.proofs.TimerRows.{count-cons}
 
 abbrev one_if : Bool → ℕ
@@ -62,12 +61,12 @@ module _ {K V : Type 0} where
   map_set_same f (s ∷ ss) (suc i) x e = ap (λ ys. f s ∷ ys) (map_set_same f ss i x e)
 
   -- one that is due is dropped
-  module _ (b c : Cache K V) (d : DropsOne b true c) where
+  module _ (b c : Cache K V) (out : K × V) (d : TakesDue b (Some out) c) where
     pub step_moment : c.moment ≡ b.moment
-    step_moment = ap (λ x. x.moment) d.4
+    step_moment = ap (λ x. x.moment) d.5
 
     slots_are : c.slots ≡ emptied_slots b.slots d.0
-    slots_are = ap (λ x. x.slots) d.4
+    slots_are = ap (λ x. x.slots) d.5
 
     pub step_purged : purged c b.moment ≡ purged b b.moment
     step_purged =
@@ -75,7 +74,7 @@ module _ {K V : Type 0} where
         let none = (left_due b.moment s.item d.1 d.2 d.3).0 in
         let at : swept b.moment (record { stamp = s.stamp; item = None }) ≡ swept b.moment s = λ i. record { stamp = s.stamp; item = sym none i } in
         let slots : map (swept b.moment) c.slots ≡ map (swept b.moment) b.slots = ap (map (swept b.moment)) slots_are ∙ map_set_same (swept b.moment) b.slots d.0 (record { stamp = s.stamp; item = None }) at in
-        λ i. record { last_stamp = (d.4 i).last_stamp; moment = b.moment; slots = slots i }
+        λ i. record { last_stamp = (d.5 i).last_stamp; moment = b.moment; slots = slots i }
 
     pub step_count : due_count b.moment c.slots + 1 ≡ due_count b.moment b.slots
     step_count =
@@ -102,21 +101,21 @@ module _ {K V : Type 0} where
       let others = rest.1 in
       ((λ i. record { stamp = s.stamp; item = first.0 i } ∷ rest.0 i), omega (arith, count, none, others))
 
-  pub rest_purged : (b c : Cache K V) → DropsOne b false c → c ≡ purged b b.moment
+  pub rest_purged : (b c : Cache K V) → TakesDue b None c → c ≡ purged b b.moment
   rest_purged b c d = d.0 ∙ (λ i. record { last_stamp = b.last_stamp; moment = b.moment; slots = sym ((kept_all b.moment b.slots d.1).0) i })
 
-  pub rest_count : (b c : Cache K V) → DropsOne b false c → due_count b.moment b.slots ≡ 0
+  pub rest_count : (b c : Cache K V) → TakesDue b None c → due_count b.moment b.slots ≡ 0
   rest_count b c d = (kept_all b.moment b.slots d.1).1
 
   -- one turn of dropping what is due, and the last one
-  pub dropped_more : (a b c : Cache K V) (n : ℕ) → DropsOne b true c → b.moment ≡ a.moment → purged b b.moment ≡ purged a a.moment → n + due_count b.moment b.slots ≡ due_count a.moment a.slots → (c.moment ≡ a.moment) × (purged c c.moment ≡ purged a a.moment) × (n + 1 + due_count c.moment c.slots ≡ due_count a.moment a.slots)
-  dropped_more a b c n d moment all count =
-      let same = step_moment b c d in
-      let one = step_count b c d in
+  pub dropped_more : (a b c : Cache K V) (n : ℕ) (out : K × V) → TakesDue b (Some out) c → b.moment ≡ a.moment → purged b b.moment ≡ purged a a.moment → n + due_count b.moment b.slots ≡ due_count a.moment a.slots → (c.moment ≡ a.moment) × (purged c c.moment ≡ purged a a.moment) × (n + 1 + due_count c.moment c.slots ≡ due_count a.moment a.slots)
+  dropped_more a b c n out d moment all count =
+      let same = step_moment b c out d in
+      let one = step_count b c out d in
       let here = ap (λ k. due_count k c.slots) same in
-      (same ∙ moment, ap (purged c) same ∙ (step_purged b c d ∙ all), omega (arith, count, one, here))
+      (same ∙ moment, ap (purged c) same ∙ (step_purged b c out d ∙ all), omega (arith, count, one, here))
 
-  pub dropped_all : (a b c : Cache K V) (n : ℕ) → DropsOne b false c → purged b b.moment ≡ purged a a.moment → n + due_count b.moment b.slots ≡ due_count a.moment a.slots → (n ≡ due_count a.moment a.slots) × (c ≡ purged a a.moment)
+  pub dropped_all : (a b c : Cache K V) (n : ℕ) → TakesDue b None c → purged b b.moment ≡ purged a a.moment → n + due_count b.moment b.slots ≡ due_count a.moment a.slots → (n ≡ due_count a.moment a.slots) × (c ≡ purged a a.moment)
   dropped_all a b c n d all count =
       let none = rest_count b c d in
       (omega (arith, count, none), rest_purged b c d ∙ all)

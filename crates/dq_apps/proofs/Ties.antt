@@ -98,7 +98,7 @@ module _ {K V : Type 0} {eq : K → K → Bool} (laws : IsEquivalence eq) where
           ap (λ (s : TableRow K). item_at eq es s.entry) a.3 ∙ ap (λ o. item_of e.value (Some a.0.deadline) o) a.1,
         )
 
-    kept_as_set : (i : ℕ) → is_some (timer_at slots i).entry ≡ is_some (shown eq es (timer_at slots i)).item
+    pub kept_as_set : (i : ℕ) → is_some (timer_at slots i).entry ≡ is_some (shown eq es (timer_at slots i)).item
     kept_as_set i = by (timer_at slots i).entry refl
       where
         by : (o : Option (Entry K)) → (timer_at slots i).entry ≡ o → is_some (timer_at slots i).entry ≡ is_some (shown eq es (timer_at slots i)).item

@@ -3,6 +3,7 @@ use Rattle.std.proofs.Common.{◌≡◌, ℕ, ◌<◌, ◌≤◌, zero, suc, Boo
 use Rattle.std.specs.List.{AllByRecursion}
 use Rattle.std.proofs.lemmas.Bool.{false≢true, leb-false}
 use Rattle.dq_core.specs.declared.outcomes.Expired.{Expired}
+use Rattle.dq_core.specs.declared.outcomes.Turn.{Turn}
 use Rattle.dq_core.specs.declared.outcomes.Turn.TheVariants.{Out, Waiting, Idle}
 use Rattle.dq_core.specs.Machine.{Entry, TableRow, Machine, Event, Note, Pass, Insert, Reset, Extend, Cancel, Remove, Reap, Expire, Step, Run, RunOf, IsOnTheWay, is_due_entry, due}
 use Rattle.dq_core.specs.Core.{Core, machine}
@@ -117,3 +118,8 @@ module _ {K W : Type 0} (b c : Core K W) (now : ℕ) (same : SameCore b c) (t : 
 
   pub idle_stops : IsPolled false b now Idle c → StopsDue (timers_of b) now None (timers_of c) × AreTimers c
   idle_stops p = rests p.2.run.0 (way_slots b.slots.last_stamp (machine (noting b now)) p.2.run.0 t.1 p.2.run.1) p.2.run.2.0 p.2.run.2.2 p.3
+
+  pub turn_timers : (turn : Turn K) → IsPolled false b now turn c → AreTimers c
+  turn_timers (Out x) p = out_timers x p
+  turn_timers (Waiting next) p = (waiting_stops next p).1
+  turn_timers Idle p = (idle_stops p).1

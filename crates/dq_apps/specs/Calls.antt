@@ -105,6 +105,28 @@ module _ {K V : Type 0} where
       (i : ℕ) × (x : Item K V) × IsKeptAt eq b key i x × (m < x.deadline) × (v ≡ x.value)
       × (c ≡ emptied b i)
 
+  -- take_expired
+
+  -- the cache at a moment
+  abbrev pub at_moment : Cache K V → ℕ → Cache K V
+  at_moment c m = record { last_stamp = c.last_stamp; moment = m; slots = c.slots }
+
+  -- one that is due at the moment leaves with its key, or none is due
+  abbrev pub TakesDue : Cache K V → Option (K × V) → Cache K V → Type 0
+  TakesDue b (Some out) c =
+      (i : ℕ) × (x : Item K V) × ((slot_at b.slots i).item ≡ Some x) × (x.deadline ≤ b.moment)
+      × (out ≡ (x.key, x.value)) × (c ≡ emptied b i)
+  TakesDue b None c =
+      (c ≡ b)
+      × ((i : ℕ) (x : Item K V) → (slot_at b.slots i).item ≡ Some x → b.moment < x.deadline)
+
+  -- the moment is set, and one that is due then leaves; or it is refused, and nothing changes
+  abbrev pub TakesExpired : Cache K V → ℕ → Result (Option (K × V)) CoreError → Cache K V
+      → Type 0
+  TakesExpired b now (Ok out) c =
+      (now ≤ LAST_TICK) × TakesDue (at_moment b (moment_at b now)) out c
+  TakesExpired b now (Err e) c = (e ≡ TickTooLarge LAST_TICK) × (LAST_TICK < now) × (c ≡ b)
+
   -- renew
 
   -- the slots with an item at slot i, under the slot's next stamp

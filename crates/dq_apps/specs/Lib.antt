@@ -1,6 +1,8 @@
 pub mod AtTheCall
 pub mod Cache
 pub mod Calls
+pub mod Moves
+pub mod Refreshes
 pub mod Sessions
 pub mod Setting
 pub mod Steps

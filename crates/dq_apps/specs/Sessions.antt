@@ -50,7 +50,9 @@ IfComesOut (Out x) P = P x
 IfComesOut (Waiting next) P = ⊤
 IfComesOut Idle P = ⊤
 
--- A session that came out was idle for long enough: its deadline in force, the greatest of its
--- login's and of all touches that were accepted, is not after the shard's noted tick.
-abbrev pub WasIdle : Expired Text → Type 0
-WasIdle x = (s : ShardView Text) × IsShard s × IsOutInForce s x
+-- A session that came out of the shard of that number was idle for long enough: its deadline in
+-- force, the greatest of its login's and of all touches that were accepted, is not after the
+-- shard's noted tick.
+abbrev pub WasIdle : ℕ → Expired Text → Type 0
+WasIdle number x =
+    (s : ShardView Text) × (s.core.shard ≡ number) × IsShard s × IsOutInForce s x

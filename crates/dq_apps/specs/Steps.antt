@@ -1,24 +1,11 @@
 -- No public clause cites this module.
 -- What the steps of the calls do.
-use Rattle.std.specs.Prelude.{◌≡◌, ℕ, ◌<◌, ◌≤◌, Bool, true, false, Some, Result, Ok, Err}
+use Rattle.std.specs.Prelude.{◌≡◌, ℕ, Bool, Result, Ok, Err}
 use Rattle.dq_core.specs.declared.errors.CoreError.{CoreError}
-use Rattle.dq_apps.specs.Cache.{Item, Cache, slot_at, IsKeptAt}
-use Rattle.dq_apps.specs.Calls.{emptied, IsKeptWorn, Replaces, Adds, AddRefused}
+use Rattle.dq_apps.specs.Cache.{Item, Cache, IsKeptAt}
+use Rattle.dq_apps.specs.Calls.{IsKeptWorn, Replaces, Adds, AddRefused}
 
 module _ {K V : Type 0} where
-  -- the cache at a moment
-  abbrev pub at_moment : Cache K V → ℕ → Cache K V
-  at_moment c m = record { last_stamp = c.last_stamp; moment = m; slots = c.slots }
-
-  -- one that is due at the moment is dropped, or none is due
-  abbrev pub DropsOne : Cache K V → Bool → Cache K V → Type 0
-  DropsOne b true c =
-      (i : ℕ) × (x : Item K V) × ((slot_at b.slots i).item ≡ Some x) × (x.deadline ≤ b.moment)
-      × (c ≡ emptied b i)
-  DropsOne b false c =
-      (c ≡ b)
-      × ((i : ℕ) (x : Item K V) → (slot_at b.slots i).item ≡ Some x → b.moment < x.deadline)
-
   -- the key is kept, at some slot
   abbrev pub IsKept : (K → K → Bool) → Cache K V → K → Type 0
   IsKept eq c key = (i : ℕ) × (x : Item K V) × IsKeptAt eq c key i x

@@ -3,7 +3,8 @@ ghost use Rattle.std.specs.Prelude.{◌≡◌, ◌≤◌, ◌↔◌, IsTrue, IfO
 ghost use Rattle.std.specs.Option.{option_copied};
 ghost use Rattle.std.specs.List.{count_by};
 ghost use Rattle.dq_apps.specs.Cache.{is_kept, value_seen, IsCache};
-ghost use Rattle.dq_apps.specs.Calls.{MakesCache, IsAllSeen, TellsNextDeadline};
+ghost use Rattle.dq_ticks.specs.declared.TheConstants.{LAST_STAMP};
+ghost use Rattle.dq_apps.specs.Calls.{MakesCache, IsAllSeen, TellsNextDeadline, is_used_up};
 ghost use Rattle.dq_apps.specs.AtTheCall.{ShowsNothing, kept_count};
 
 use crate::kept::Kept;
@@ -11,24 +12,33 @@ use crate::seen::Seen;
 use crate::stock::{Stock, least_deadline};
 use crate::timers::{Timers, is_setting};
 use dq_core::CoreError;
-use dq_ticks::{CAPACITY_LIMIT, LAST_TICK};
+use dq_ticks::{CAPACITY_LIMIT, LAST_STAMP, LAST_TICK};
 use std::alloc::{Allocator, Global};
 use std::collections::HashMap;
-use std::hash::Hash;
+use std::hash::{BuildHasher, BuildHasherDefault, FoldHasher, Hash};
 use std::marker::Model;
 
 /// Values by keys, each seen until its deadline. Ticks are of one millisecond and are handed in: no clock is read.
 ///
 /// The cache keeps a moment, at first 0; a call at `now` is made at the greater of `now` and the moment. What is due stays
-/// until a put or a purge drops it, but isn't seen. Only `new` and `put` take memory.
+/// until a put or a purge drops it, but isn't seen.
+///
+/// A slot has a stamp for each put and each renewal, and is worn at its last one. [`TtlCache::set`] and [`TtlCache::touch`]
+/// begin the stamps again where they are at their end, so a cache that is only changed by them runs for years. They take
+/// memory then; else only `new` and a put do.
 #[derive(Drop)]
-pub struct TtlCache<K: Eq + Hash, V, A: Allocator = Global> {
-    pub(crate) stock: Stock<K, V, A>,
+pub struct TtlCache<
+    K: Eq + Hash,
+    V,
+    A: Allocator = Global,
+    S: BuildHasher = BuildHasherDefault<FoldHasher>,
+> {
+    pub(crate) stock: Stock<K, V, A, S>,
     pub(crate) timers: Timers<K, A>,
     pub(crate) moment: u64,
 }
 
-impl<K: Eq + Hash, V, A: Allocator> Model for TtlCache<K, V, A> {
+impl<K: Eq + Hash, V, A: Allocator, S: BuildHasher> Model for TtlCache<K, V, A, S> {
     ghost use Rattle.dq_apps.specs.Cache.{Cache};
     ghost use Rattle.dq_apps.specs.Tied.{cache_of, IsStock};
 
@@ -40,10 +50,62 @@ impl<K: Eq + Hash, V, A: Allocator> Model for TtlCache<K, V, A> {
 }
 
 impl<K: Eq + Hash + Drop, V: Drop, A: Allocator + Clone> TtlCache<K, V, A> {
-    /// A cache for so many keys where nothing is kept, at moment 0. Refused as BadConfig where the capacity isn't 1 to 65536
-    /// or the last stamp isn't 1 to 1048575, and else as NoMemory. Time and memory as the capacity; the map takes its own
+    /// A cache for so many keys where nothing is kept, at moment 0. Time and memory as the capacity; the map takes its own
     /// later, as puts fill it.
+    ///
+    /// The map's hasher has no seed, so whoever picks the keys can make a call take as long as there are keys. Where a
+    /// stranger picks them, [`TtlCache::with_hasher`] takes a seeded one.
+    ///
+    /// # Errors
+    /// BadConfig where the capacity isn't 1 to 65536 or the last stamp isn't 1 to 1048575, and else NoMemory.
     pub fn new(alloc: A, capacity: usize, last_stamp: u32) -> Result<TtlCache<K, V, A>, CoreError>
+        ensures makes { MakesCache capacity last_stamp result }
+        ensures empty { IfOk result (ShowsNothing K.eq) }
+    {
+        TtlCache::made(alloc, capacity, last_stamp, BuildHasherDefault::new())
+    }
+
+    /// As [`TtlCache::new`], with as many stamps a slot as there are.
+    ///
+    /// # Errors
+    /// BadConfig where the capacity isn't 1 to 65536, and else NoMemory.
+    pub fn with_capacity(alloc: A, capacity: usize) -> Result<TtlCache<K, V, A>, CoreError>
+        ensures makes { MakesCache capacity LAST_STAMP result }
+        ensures empty { IfOk result (ShowsNothing K.eq) }
+    {
+        TtlCache::made(alloc, capacity, LAST_STAMP, BuildHasherDefault::new())
+    }
+}
+
+impl<K, V, A, S> TtlCache<K, V, A, S>
+where
+    K: Eq + Hash + Drop,
+    V: Drop,
+    A: Allocator + Clone,
+    S: BuildHasher + Drop,
+{
+    /// As [`TtlCache::with_capacity`], with a hasher of the caller's: by `RandomState::new(rt)?` nobody who picks the keys
+    /// can tell which of them share a place of the map.
+    ///
+    /// # Errors
+    /// BadConfig where the capacity isn't 1 to 65536, and else NoMemory.
+    pub fn with_hasher(
+        alloc: A,
+        capacity: usize,
+        hasher: S,
+    ) -> Result<TtlCache<K, V, A, S>, CoreError>
+        ensures makes { MakesCache capacity LAST_STAMP result }
+        ensures empty { IfOk result (ShowsNothing K.eq) }
+    {
+        TtlCache::made(alloc, capacity, LAST_STAMP, hasher)
+    }
+
+    fn made(
+        alloc: A,
+        capacity: usize,
+        last_stamp: u32,
+        hasher: S,
+    ) -> Result<TtlCache<K, V, A, S>, CoreError>
         ensures makes { MakesCache capacity last_stamp result }
         ensures empty { IfOk result (ShowsNothing K.eq) }
     {
@@ -52,14 +114,14 @@ impl<K: Eq + Hash + Drop, V: Drop, A: Allocator + Clone> TtlCache<K, V, A> {
         }
         let timers = Timers::new(alloc.clone()?, capacity, last_stamp)?;
         Ok(TtlCache {
-            stock: HashMap::new(alloc),
+            stock: HashMap::with_hasher(alloc, hasher),
             timers,
             moment: 0,
         })
     }
 }
 
-impl<K: Eq + Hash + Drop, V: Drop, A: Allocator> TtlCache<K, V, A> {
+impl<K: Eq + Hash + Drop, V: Drop, A: Allocator, S: BuildHasher> TtlCache<K, V, A, S> {
     /// What every cache keeps.
     pub fn law(&self)
         ensures { IsCache K.eq self.now }
@@ -98,6 +160,14 @@ impl<K: Eq + Hash + Drop, V: Drop, A: Allocator> TtlCache<K, V, A> {
     {
         let _ = &self.moment;
         self.timers.capacity()
+    }
+
+    /// How many slots hold no key and have no stamp left: so many keys fewer may be kept at once, until a refresh.
+    pub fn worn(&self) -> usize
+        ensures { result ≡ count_by (is_used_up self.now.last_stamp) self.now.slots }
+    {
+        let _ = &self.moment;
+        self.timers.worn()
     }
 
     /// The value at a key, where its deadline is later than `now` and than the moment. Constant time.

@@ -1,16 +1,18 @@
 //! The calls that change a cache. The first clause of each is exact; those behind it say what is seen then.
 ghost use Rattle.std.specs.Prelude.{◌≡◌, ℕ, ◌+◌, true, None, IfOk, IfErr, OnOk, OnErr, IsSomeAnd};
 ghost use Rattle.dq_apps.specs.Cache.{moment_at, value_seen};
-ghost use Rattle.dq_apps.specs.Calls.{Takes, Renews, Puts, Purges};
+ghost use Rattle.dq_apps.specs.Calls.{Takes, Renews, Puts, Purges, TakesExpired};
 ghost use Rattle.dq_apps.specs.AtTheCall.{IsSeenUntil, IsGone, KeepsSeen, KeepsOthers};
 ghost use Rattle.dq_apps.specs.AtTheCall.{NoneDueNow, kept_count};
 
 use crate::cache::TtlCache;
+use crate::stock::{renew_at, timer_of};
 use dq_core::CoreError;
+use dq_ticks::LAST_TICK;
 use std::alloc::Allocator;
-use std::hash::Hash;
+use std::hash::{BuildHasher, Hash};
 
-impl<K: Eq + Hash + Drop, V: Drop, A: Allocator> TtlCache<K, V, A> {
+impl<K: Eq + Hash + Drop, V: Drop, A: Allocator, S: BuildHasher> TtlCache<K, V, A, S> {
     /// Puts a value at a key until `now + ttl`, or the moment's where that is later: the moment is set, and what is due then
     /// is dropped. A key that is kept keeps its slot, and its old value is handed back. Constant time, but for what is
     /// dropped and for a growth of the map.
@@ -42,7 +44,25 @@ impl<K: Eq + Hash + Drop, V: Drop, A: Allocator> TtlCache<K, V, A> {
             (λ e. (e.1 ≡ key) × (e.2 ≡ value) × KeepsSeen K.eq self.old self.new now) }
     {
         self.law();
-        self.put_at(key, value, ttl, now)
+        if now > LAST_TICK {
+            return Err((CoreError::TickTooLarge { limit: LAST_TICK }, key, value));
+        }
+        let moment = now.max(self.moment());
+        if LAST_TICK - moment < ttl {
+            return Err((CoreError::TooFar { limit: LAST_TICK }, key, value));
+        }
+        self.pass(moment);
+        self.drop_due();
+        let when = moment + ttl;
+        if self.holds(&key) {
+            match self.replace(&key, value, when) {
+                Ok(old) => Ok(Some(old)),
+                Err(value) => Err((CoreError::Worn, key, value)),
+            }
+        } else {
+            self.add(key, value, when)?;
+            Ok(None)
+        }
     }
 
     /// Takes out the value at a key that is seen at `now`. The moment stays. Constant time.
@@ -58,7 +78,17 @@ impl<K: Eq + Hash + Drop, V: Drop, A: Allocator> TtlCache<K, V, A> {
         ensures moment { self.new.moment ≡ self.old.moment }
     {
         self.law();
-        self.take_seen(key, now)
+        let Some(timer) = timer_of(&self.stock, key) else {
+            return None;
+        };
+        if timer.deadline <= now.max(self.moment) {
+            return None;
+        }
+        let Some(kept) = self.stock.remove(key) else {
+            unreachable!();
+        };
+        self.timers.stop(&timer.key);
+        Some(kept.value)
     }
 
     /// Gives a key that is seen at `now` the deadline `now + ttl`, or the moment's where that is later, and answers it; the
@@ -79,7 +109,26 @@ impl<K: Eq + Hash + Drop, V: Drop, A: Allocator> TtlCache<K, V, A> {
         ensures refused { OnErr result (self.new ≡ self.old) }
     {
         self.law();
-        self.renew_seen(key, ttl, now)
+        if now > LAST_TICK {
+            return Err(CoreError::TickTooLarge { limit: LAST_TICK });
+        }
+        let moment = now.max(self.moment);
+        if LAST_TICK - moment < ttl {
+            return Err(CoreError::TooFar { limit: LAST_TICK });
+        }
+        let Some(timer) = timer_of(&self.stock, key) else {
+            return Err(CoreError::Missing);
+        };
+        if timer.deadline <= moment {
+            return Err(CoreError::Missing);
+        }
+        let when = moment + ttl;
+        let Some(next) = self.timers.restart(&timer.key, when) else {
+            return Err(CoreError::Worn);
+        };
+        renew_at(&mut self.stock, key, when, next);
+        self.moment = moment;
+        Ok(when)
     }
 
     /// Sets the moment, drops all that is due then, and answers how much. Time as what is dropped. Refused as TickTooLarge
@@ -93,6 +142,32 @@ impl<K: Eq + Hash + Drop, V: Drop, A: Allocator> TtlCache<K, V, A> {
         ensures seen { KeepsSeen K.eq self.old self.new now }
         ensures refused { OnErr result (self.new ≡ self.old) }
     {
-        self.purge_at(now)
+        if now > LAST_TICK {
+            return Err(CoreError::TickTooLarge { limit: LAST_TICK });
+        }
+        let moment = now.max(self.moment());
+        self.pass(moment);
+        Ok(self.drop_due())
+    }
+
+    /// Sets the moment and takes out one key with its value that is due then, and none where nothing is due. So whoever
+    /// calls it until none comes gets each pair that a purge would drop. Time as a poll of the queue of deadlines.
+    ///
+    /// # Errors
+    /// TickTooLarge beyond the last tick, and then nothing changes.
+    pub fn take_expired(&mut self, now: u64) -> Result<Option<(K, V)>, CoreError>
+        ensures takes { TakesExpired self.old now result self.new }
+
+        // Where none is answered nothing is due. From then on the same is seen.
+        ensures rest { IfOk result (λ out. out ≡ None → NoneDueNow self.new) }
+        ensures seen { KeepsSeen K.eq self.old self.new now }
+        ensures refused { OnErr result (self.new ≡ self.old) }
+    {
+        if now > LAST_TICK {
+            return Err(CoreError::TickTooLarge { limit: LAST_TICK });
+        }
+        let moment = now.max(self.moment());
+        self.pass(moment);
+        Ok(self.take_due())
     }
 }

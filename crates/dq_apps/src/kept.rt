@@ -2,7 +2,7 @@
 
 use dq_ticks::Key;
 
-/// A value, until when it is seen, and the key of its timer.
+// A value, until when it is seen, and the key of its timer.
 #[derive(Drop)]
 pub(crate) struct Kept<V> {
     pub(crate) value: V,
@@ -10,7 +10,7 @@ pub(crate) struct Kept<V> {
     pub(crate) key: Key,
 }
 
-/// The timer of a key: until when it runs, and its key in the queue.
+// The timer of a key: until when it runs, and its key in the queue.
 #[derive(Clone, Copy)]
 pub(crate) struct Timer {
     pub(crate) deadline: u64,

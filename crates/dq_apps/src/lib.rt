@@ -4,7 +4,9 @@
 mod cache;
 mod calls;
 mod kept;
+mod moves;
 mod name;
+mod refresh;
 mod seen;
 mod sessions;
 mod steps;

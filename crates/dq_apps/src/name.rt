@@ -20,7 +20,7 @@ impl<A: Allocator> Model for Name<A> {
 }
 
 impl<A: Allocator> Name<A> {
-    /// A name of this text, of which it takes a copy.
+    // A name of this text, of which it takes a copy.
     pub(crate) fn of(alloc: A, text: &str) -> Result<Name<A>, AllocError>
         ensures { IfOk result (λ name. name ≡ text.now) }
     {

@@ -80,10 +80,7 @@ impl<A: Allocator + Clone + Drop> IdleSessions<A> {
         let Ok(name) = self.name_of(name) else {
             return Err(QueueError::Core(CoreError::NoMemory));
         };
-        match self.queue.insert(rt, route, name, deadline) {
-            Ok(key) => Ok(key),
-            Err((e, _name)) => Err(e),
-        }
+        self.queue.insert_or_drop(rt, route, name, deadline)
     }
 
     /// As [`SharedDelayQueue::handle`].
@@ -165,7 +162,7 @@ impl<A: Allocator + Drop> IdleSessions<A> {
         ensures unknown { IsErrOf result Unknown ↔ (self.now.shards ≤ shard) }
 
         // What comes out expired at its deadline in force, which was reached.
-        ensures idle { IfOk result (λ turn. IfComesOut turn WasIdle) }
+        ensures idle { IfOk result (λ turn. IfComesOut turn (WasIdle shard)) }
 
         // All that it answers.
         ensures polls { OnShardOr {T = Text} self.now.shards shard

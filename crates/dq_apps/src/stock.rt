@@ -8,15 +8,15 @@ use crate::kept::{Kept, Timer};
 use dq_ticks::Key;
 use std::alloc::Allocator;
 use std::collections::HashMap;
-use std::hash::{BuildHasherDefault, FoldHasher, Hash};
+use std::hash::{BuildHasher, Hash};
 use std::mem;
 
-/// Keys with what is kept under them. The hasher has no seed, so that making the map can't fail.
-pub(crate) type Stock<K, V, A> = HashMap<K, Kept<V>, BuildHasherDefault<FoldHasher>, A>;
+// Keys with what is kept under them.
+pub(crate) type Stock<K, V, A, S> = HashMap<K, Kept<V>, S, A>;
 
-/// The timer of a key that is there.
-pub(crate) fn timer_of<K: Eq + Hash, V, A: Allocator>(
-    stock: &Stock<K, V, A>,
+// The timer of a key that is there.
+pub(crate) fn timer_of<K: Eq + Hash, V, A: Allocator, S: BuildHasher>(
+    stock: &Stock<K, V, A, S>,
     key: &K,
 ) -> Option<Timer>
     ensures { TellsTimer (lookup (K.eq key.now) stock.now.entries) result }
@@ -30,9 +30,9 @@ pub(crate) fn timer_of<K: Eq + Hash, V, A: Allocator>(
     }
 }
 
-/// Gives a key that is there another deadline and another key of its timer.
-pub(crate) fn renew_at<K: Eq + Hash, V, A: Allocator>(
-    stock: &mut Stock<K, V, A>,
+// Gives a key that is there another deadline and another key of its timer.
+pub(crate) fn renew_at<K: Eq + Hash, V, A: Allocator, S: BuildHasher>(
+    stock: &mut Stock<K, V, A, S>,
     key: &K,
     deadline: u64,
     next: Key,
@@ -46,9 +46,9 @@ pub(crate) fn renew_at<K: Eq + Hash, V, A: Allocator>(
     }
 }
 
-/// Gives a key that is there another value, deadline and key of its timer, and hands the old value back.
-pub(crate) fn replace_at<K: Eq + Hash, V, A: Allocator>(
-    stock: &mut Stock<K, V, A>,
+// Gives a key that is there another value, deadline and key of its timer, and hands the old value back.
+pub(crate) fn replace_at<K: Eq + Hash, V, A: Allocator, S: BuildHasher>(
+    stock: &mut Stock<K, V, A, S>,
     key: &K,
     value: V,
     deadline: u64,
@@ -69,7 +69,7 @@ pub(crate) fn replace_at<K: Eq + Hash, V, A: Allocator>(
     }
 }
 
-/// The lesser of a deadline and another, if there is one.
+// The lesser of a deadline and another, if there is one.
 fn lesser(other: Option<u64>, deadline: u64) -> u64
     ensures { result ≡ lesser_of other deadline }
 {
@@ -79,8 +79,10 @@ fn lesser(other: Option<u64>, deadline: u64) -> u64
     }
 }
 
-/// The least deadline of what is there; none where nothing is.
-pub(crate) fn least_deadline<K: Eq + Hash, V, A: Allocator>(stock: &Stock<K, V, A>) -> Option<u64>
+// The least deadline of what is there; none where nothing is.
+pub(crate) fn least_deadline<K: Eq + Hash, V, A: Allocator, S: BuildHasher>(
+    stock: &Stock<K, V, A, S>,
+) -> Option<u64>
     ensures { TellsFirstDeadline stock.now.entries result }
 {
     let mut least = None;

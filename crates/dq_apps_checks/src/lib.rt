@@ -3,9 +3,15 @@
 #![tactic(auto)]
 
 #[cfg(test)]
+mod many;
+#[cfg(test)]
 mod memory;
 #[cfg(test)]
 mod model;
+#[cfg(test)]
+mod once;
+#[cfg(test)]
+mod refresh;
 #[cfg(test)]
 mod rows;
 #[cfg(test)]

@@ -160,6 +160,16 @@ impl SlowCache {
         Ok(self.pass(moment))
     }
 
+    /// What a refresh does: each entry has the first stamp of its slot, and each free slot none.
+    pub fn refresh(&mut self) {
+        for entry in self.entries.iter_mut() {
+            entry.stamp = 1;
+        }
+        for stamp in self.free.iter_mut() {
+            *stamp = 0;
+        }
+    }
+
     // The greatest stamp that a free slot has, where one is left behind it; it isn't free then.
     fn take_stamp(&mut self) -> Option<u32> {
         let last = self.last_stamp;

@@ -106,8 +106,18 @@ impl Both {
             0..45 => self.put(key, turn, ttl, now),
             45..65 => self.cache.renew(&key, ttl, now) == self.slow.renew(key, ttl, now),
             65..85 => self.cache.take(&key, now) == self.slow.take(key, now),
-            _ => self.cache.purge(now) == self.slow.purge(now),
+            85..98 => self.cache.purge(now) == self.slow.purge(now),
+            _ => self.refresh(),
         }
+    }
+
+    // A refresh where no slot is free, so that the free slots are alike after it.
+    fn refresh(&mut self) -> bool {
+        if self.cache.len() < self.cache.capacity() {
+            return true;
+        }
+        self.slow.refresh();
+        self.cache.refresh() == Ok(())
     }
 
     // Fills every slot, so that no slot is left that was never used.

@@ -114,7 +114,7 @@ fn each_allocation_of_sessions_is_refused(rt: HostRuntime) -> Result<(), Fail> {
             Refused::Handle => handed = handed.saturating_add(1),
             Refused::Nowhere => {
                 // The row of shards, and the words, wheel and slots of both; a name; the row of callers.
-                assert_eq!(rt; (made, copied, handed), (21, 1, 1));
+                assert_eq!(rt; (made, copied, handed), (17, 1, 1));
                 return Ok(());
             }
         }

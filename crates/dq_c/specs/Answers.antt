@@ -20,7 +20,7 @@ use Rattle.dq_c.specs.declared.answers.TheConstants.{DQ_MISSING, DQ_WAS_CANCELLE
 use Rattle.dq_c.specs.declared.answers.TheConstants.{DQ_TICK_TOO_LARGE, DQ_BAD_CONFIG, DQ_NO_MEMORY}
 use Rattle.dq_c.specs.declared.answers.TheConstants.{DQ_UNKNOWN, DQ_STALE, DQ_ENDED}
 use Rattle.dq_c.specs.declared.answers.TheConstants.{DQ_TOO_MANY_CALLERS, DQ_LIVE, DQ_CANCELLED}
-use Rattle.dq_c.specs.declared.answers.TheConstants.{DQ_EXPIRED, DQ_REMOVED}
+use Rattle.dq_c.specs.declared.answers.TheConstants.{DQ_EXPIRED, DQ_REMOVED, DQ_NO_PLACE}
 
 -- a code with its two numbers
 abbrev pub two_numbers : ℕ → ℕ → ℕ → DqAnswer
@@ -49,6 +49,10 @@ empty = no_numbers DQ_EMPTY
 -- the handle holds something already
 abbrev pub held : DqAnswer
 held = no_numbers DQ_HELD
+
+-- the row has no place to write to
+abbrev pub no_place : DqAnswer
+no_place = no_numbers DQ_NO_PLACE
 
 -- why the owner's call is refused
 abbrev pub core_answer : CoreError → DqAnswer

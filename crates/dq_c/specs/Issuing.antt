@@ -7,21 +7,23 @@ use Rattle.dq_words.specs.declared.keeper.WordsError.{WordsError}
 use Rattle.dq_handle.specs.declared.caller.Seat.{Seat}
 use Rattle.dq_handle.specs.declared.queue.Queue.{Queue}
 use Rattle.dq_c.specs.Answers.{no_numbers, with_number, done, tells, empty, held, words_answer}
-use Rattle.dq_c.specs.Callers.{caller_in}
+use Rattle.dq_c.specs.Callers.{caller_in, number_in}
 use Rattle.dq_c.specs.Owner.{Owned}
 use Rattle.dq_c.specs.declared.answers.DqAnswer.{DqAnswer}
 use Rattle.dq_c.specs.declared.answers.TheConstants.{DQ_NO_MEMORY, DQ_CALLERS_OUT}
 
--- the caller that was issued is in the handle, or the refusal is told and the handle is empty
-abbrev pub SeatSays : Result Sat WordsError → DqAnswer → Option Seat → Type 0
-SeatSays (Ok c) answer seat = (answer ≡ done) × (caller_in seat ≡ Some c)
-SeatSays (Err e) answer seat = (answer ≡ words_answer e) × (seat ≡ None)
+-- the caller that was issued is in the handle, with the queue's number, or the refusal is told and
+-- the handle is empty
+abbrev pub SeatSays : ℕ → Result Sat WordsError → DqAnswer → Option Seat → Type 0
+SeatSays number (Ok c) answer seat =
+    (answer ≡ done) × (caller_in seat ≡ Some c) × (number_in seat ≡ number)
+SeatSays number (Err e) answer seat = (answer ≡ words_answer e) × (seat ≡ None)
 
 -- the queue issued a caller or refused to, by its words alone
 abbrev pub QueueIssues : Owned → DqAnswer → Owned → Option Seat → Type 0
 QueueIssues b answer c seat =
     (c ≡ with_words b c.words)
-    × ((r : Result Sat WordsError) × Issues b.words r c.words × SeatSays r answer seat)
+    × ((r : Result Sat WordsError) × Issues b.words r c.words × SeatSays b.shard r answer seat)
 
 -- an issue into an empty handle, from the queue that the other holds; nothing changes where the
 -- handles are refused, or memory for the caller's place

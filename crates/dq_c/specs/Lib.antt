@@ -6,3 +6,4 @@ pub mod Making
 pub mod Many
 pub mod Owner
 pub mod Readers
+pub mod Renewing

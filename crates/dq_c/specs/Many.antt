@@ -7,7 +7,7 @@ use Rattle.dq_core.specs.declared.outcomes.Expired.{Expired}
 use Rattle.dq_core.specs.declared.outcomes.Turn.{Turn}
 use Rattle.dq_core.specs.declared.outcomes.Turn.TheVariants.{Out, Waiting, Idle}
 use Rattle.dq_handle.specs.declared.queue.Queue.{Queue}
-use Rattle.dq_c.specs.Answers.{with_number, two_numbers, tells, empty, core_answer}
+use Rattle.dq_c.specs.Answers.{with_number, two_numbers, tells, empty, no_place, core_answer}
 use Rattle.dq_c.specs.Keys.{IsOutOf}
 use Rattle.dq_c.specs.Owner.{Owned, SameQueue}
 use Rattle.dq_c.specs.declared.answers.DqAnswer.{DqAnswer}
@@ -63,10 +63,16 @@ FillSays b tick before row answer c =
     × ((n : ℕ) × (m : Owned) × ComeOut b tick n row m × KeepsFrom n before row
     × EndsAt m tick n row answer c)
 
+-- a row without a place is refused, and no tick is noted; any other is filled
+abbrev pub RowSays : Queue → ℕ → List DqExpired → List DqExpired → DqAnswer → Queue → Type 0
+RowSays b tick before row answer c =
+    ((length before ≡ 0) × (answer ≡ no_place) × (row ≡ before) × (c ≡ b))
+    ⊎ ((0 < length before) × FillSays b.core tick before row answer c.core
+    × (length row ≡ length before))
+
 -- a poll that takes out many
 abbrev pub PollManySays :
     Option Queue → ℕ → List DqExpired → List DqExpired → DqAnswer → Option Queue → Type 0
-PollManySays (Some b) tick before row answer (Some c) =
-    FillSays b.core tick before row answer c.core × (length row ≡ length before)
+PollManySays (Some b) tick before row answer (Some c) = RowSays b tick before row answer c
 PollManySays None tick before row answer None = (answer ≡ empty) × (row ≡ before)
 PollManySays b tick before row answer c = ⊥

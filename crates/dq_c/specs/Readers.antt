@@ -2,10 +2,11 @@
 use Rattle.std.specs.Prelude.{◌≡◌, ℕ, Option, Some, None, Result, Ok, Err, true}
 use Rattle.dq_core.specs.AtTheCall.{linked_in}
 use Rattle.dq_core.specs.Calls.{TellsDeadline, TellsWake, WakesAhead}
-use Rattle.dq_core.specs.Readers.{IsTally}
+use Rattle.dq_core.specs.Readers.{IsTally, TellsLeast}
 use Rattle.dq_core.specs.declared.errors.CoreError.{CoreError}
 use Rattle.dq_core.specs.declared.outcomes.Tally.{Tally}
 use Rattle.dq_handle.specs.declared.queue.Queue.{Queue}
+use Rattle.dq_ticks.specs.Keys.{KeyName}
 use Rattle.dq_c.specs.Answers.{no_numbers, with_number, done, tells, empty, core_answer}
 use Rattle.dq_c.specs.Keys.{named, IsTallyOf}
 use Rattle.dq_c.specs.Owner.{SameQueue}
@@ -39,6 +40,18 @@ WakeSays (Some b) answer c =
     (c ≡ Some b)
     × ((wake : Option ℕ) × TellsWake b.core wake × WakesAhead b.core wake × NextSays wake answer)
 WakeSays None answer c = (answer ≡ empty) × (c ≡ None)
+
+-- the least key is written and done is told, or nothing is linked and the key stays
+abbrev pub LeastSays : Option KeyName → DqAnswer → DqKey → DqKey → Type 0
+LeastSays (Some least) answer before key = (answer ≡ done) × (named key ≡ least)
+LeastSays None answer before key = (answer ≡ no_numbers DQ_IDLE) × (key ≡ before)
+
+-- an entry that is filed least, and the queue is as it was
+abbrev pub PeekSays : Option Queue → DqAnswer → DqKey → DqKey → Option Queue → Type 0
+PeekSays (Some b) answer before key c =
+    (c ≡ Some b)
+    × ((least : Option KeyName) × TellsLeast b.core least × LeastSays least answer before key)
+PeekSays None answer before key c = (answer ≡ empty) × (key ≡ before) × (c ≡ None)
 
 -- the number of linked entries, and the queue is as it was
 abbrev pub LenSays : Option Queue → DqAnswer → Option Queue → Type 0

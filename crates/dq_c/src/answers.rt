@@ -43,6 +43,12 @@ pub const DQ_ENDED: u32 = 15;
 pub const DQ_TOO_MANY_CALLERS: u32 = 16;
 /// Callers are out: so many is the first number.
 pub const DQ_CALLERS_OUT: u32 = 17;
+/// The row has no place to write to.
+pub const DQ_NO_PLACE: u32 = 18;
+/// Entries are linked: so many is the first number.
+pub const DQ_STILL_LINKED: u32 = 19;
+/// The number isn't higher than the queue's, which is the first number.
+pub const DQ_USED_NUMBER: u32 = 20;
 
 /// The entry is live, and the number beside this is its deadline in force.
 pub const DQ_LIVE: u64 = 0;
@@ -52,6 +58,9 @@ pub const DQ_CANCELLED: u64 = 1;
 pub const DQ_EXPIRED: u64 = 2;
 /// The entry was removed while the deadline beside this was in force.
 pub const DQ_REMOVED: u64 = 3;
+
+/// The number of the library's form, which changes with the arguments, the answers or the meaning of any call.
+pub const DQ_FORM: u32 = 3;
 
 /// What a call answers.
 #[repr(C)]
@@ -65,7 +74,7 @@ pub struct DqAnswer {
     pub second: u64,
 }
 
-/// The answer of a code with its two numbers.
+// The answer of a code with its two numbers.
 pub(crate) fn with_two(code: u32, first: u64, second: u64) -> DqAnswer
     ensures { result ≡ two_numbers code first second }
 {
@@ -76,28 +85,28 @@ pub(crate) fn with_two(code: u32, first: u64, second: u64) -> DqAnswer
     }
 }
 
-/// The answer of a code with one number.
+// The answer of a code with one number.
 pub(crate) fn with_one(code: u32, first: u64) -> DqAnswer
     ensures { result ≡ with_number code first }
 {
     with_two(code, first, 0)
 }
 
-/// The answer of a code that carries no number.
+// The answer of a code that carries no number.
 pub(crate) fn only(code: u32) -> DqAnswer
     ensures { result ≡ no_numbers code }
 {
     with_two(code, 0, 0)
 }
 
-/// Done, with a number to tell.
+// Done, with a number to tell.
 pub(crate) fn told(number: u64) -> DqAnswer
     ensures { result ≡ tells number }
 {
     with_one(DQ_OK, number)
 }
 
-/// Why the owner's call is refused.
+// Why the owner's call is refused.
 pub(crate) fn of_core(error: CoreError) -> DqAnswer
     ensures { result ≡ core_answer error }
 {
@@ -113,7 +122,7 @@ pub(crate) fn of_core(error: CoreError) -> DqAnswer
     }
 }
 
-/// Why no caller is issued.
+// Why no caller is issued.
 pub(crate) fn of_words(error: WordsError) -> DqAnswer
     ensures { result ≡ words_answer error }
 {
@@ -124,7 +133,7 @@ pub(crate) fn of_words(error: WordsError) -> DqAnswer
     }
 }
 
-/// How an entry stands.
+// How an entry stands.
 pub(crate) fn of_look(code: u32, look: Look) -> DqAnswer
     ensures { result ≡ look_answer code look }
 {
@@ -136,7 +145,7 @@ pub(crate) fn of_look(code: u32, look: Look) -> DqAnswer
     }
 }
 
-/// Why a call by key is refused.
+// Why a call by key is refused.
 pub(crate) fn of_call(error: CallError) -> DqAnswer
     ensures { result ≡ call_answer error }
 {

@@ -1,11 +1,27 @@
 //! The calls of a caller: from any thread, without a lock.
-ghost use Rattle.dq_c.specs.Callers.{ExtendSays, CancelSays, LookSays, GiveBackSays};
+//!
+//! A key of another number than that of the queue which issued the caller, as it was then, names no entry of its words. It
+//! is refused as a key that no slot has.
+ghost use Rattle.dq_c.specs.Callers.{ExtendSays, CancelSays, LookSays, GiveBackSays, OtherExtend};
 
-use crate::answers::{DQ_EMPTY, DQ_OK, DqAnswer, of_call, of_look, only, told};
+use crate::answers::{
+    DQ_EMPTY, DQ_OK, DQ_TOO_FAR, DQ_UNKNOWN, DqAnswer, of_call, of_look, only, told, with_one,
+};
 use crate::keys::DqKey;
 use dq_handle::{CallerHandle, Seat};
+use dq_ticks::LAST_TICK;
 use std::alloc::Global;
 use std::mem;
+
+// An extend by a key of another number.
+fn extend_of_other(when: u64) -> DqAnswer
+    ensures { OtherExtend when result }
+{
+    if when > LAST_TICK {
+        return with_one(DQ_TOO_FAR, LAST_TICK);
+    }
+    only(DQ_UNKNOWN)
+}
 
 /// Raises the deadline of a live entry to `when`, a tick of one millisecond, and tells the deadline that is then in force:
 /// `when`, or a later one that it had. One load and at most one atomic step.
@@ -19,9 +35,14 @@ pub extern "C" fn dq_extend(caller: &mut CallerHandle, key: &DqKey, when: u64) -
     if !caller.is_held() {
         return only(DQ_EMPTY);
     }
-    let Some(seated) = &mut caller.part.get_mut().caller else {
+    let seat = caller.part.get_mut();
+    let number = seat.shard;
+    let Some(seated) = &mut seat.caller else {
         return only(DQ_EMPTY);
     };
+    if key.shard != number {
+        return extend_of_other(when);
+    }
     match seated.extend(&key.key(), when) {
         Ok(deadline) => told(deadline),
         Err(error) => of_call(error),
@@ -40,9 +61,14 @@ pub extern "C" fn dq_cancel(caller: &mut CallerHandle, key: &DqKey) -> DqAnswer
     if !caller.is_held() {
         return only(DQ_EMPTY);
     }
-    let Some(seated) = &mut caller.part.get_mut().caller else {
+    let seat = caller.part.get_mut();
+    let number = seat.shard;
+    let Some(seated) = &mut seat.caller else {
         return only(DQ_EMPTY);
     };
+    if key.shard != number {
+        return only(DQ_UNKNOWN);
+    }
     match seated.cancel(&key.key()) {
         Ok(deadline) => told(deadline),
         Err(error) => of_call(error),
@@ -60,9 +86,14 @@ pub extern "C" fn dq_look(caller: &mut CallerHandle, key: &DqKey) -> DqAnswer
     if !caller.is_held() {
         return only(DQ_EMPTY);
     }
-    let Some(seated) = &mut caller.part.get_mut().caller else {
+    let seat = caller.part.get_mut();
+    let number = seat.shard;
+    let Some(seated) = &mut seat.caller else {
         return only(DQ_EMPTY);
     };
+    if key.shard != number {
+        return only(DQ_UNKNOWN);
+    }
     match seated.look(&key.key()) {
         Ok(how) => of_look(DQ_OK, how),
         Err(error) => of_call(error),
@@ -81,7 +112,10 @@ pub extern "C" fn dq_give_back(alloc: Global, caller: &mut CallerHandle) -> DqAn
     let Some(boxed) = taken.into_box() else {
         return only(DQ_EMPTY);
     };
-    let Seat { caller: seated } = Box::into_inner(boxed);
+    let Seat {
+        shard: _,
+        caller: seated,
+    } = Box::into_inner(boxed);
     match seated {
         Some(seated) => told(seated.give_back()),
         None => only(DQ_EMPTY),

@@ -8,7 +8,8 @@ use crate::answers::{
 use dq_handle::{CallerHandle, QueueHandle, Seat};
 use std::alloc::Global;
 
-/// Issues a caller into an empty handle. It may go to another thread, and outlive the queue.
+/// Issues a caller into an empty handle, which takes keys of the queue's number alone. It may go to another thread, and
+/// outlive the queue.
 ///
 /// # Errors
 /// DQ_EMPTY for the queue's handle, DQ_HELD for the caller's, DQ_NO_MEMORY, DQ_TOO_MANY_CALLERS with how many a queue
@@ -29,11 +30,18 @@ pub extern "C" fn dq_issue(
         return only(DQ_HELD);
     }
     // The seat comes first: a caller that found no room would count as out for good.
-    let Ok(mut boxed) = Box::new(alloc, Seat { caller: None }) else {
+    let seat = Seat {
+        shard: 0,
+        caller: None,
+    };
+    let Ok(mut boxed) = Box::new(alloc, seat) else {
         return only(DQ_NO_MEMORY);
     };
-    match queue.part.get_mut().core.issue() {
+    let core = &mut queue.part.get_mut().core;
+    let shard = core.shard();
+    match core.issue() {
         Ok(issued) => {
+            boxed.shard = shard;
             boxed.caller = Some(issued);
             *caller = CallerHandle::of(boxed);
             only(DQ_OK)

@@ -20,7 +20,7 @@ pub struct DqKey {
 }
 
 impl DqKey {
-    /// The key, for C.
+    // The key, for C.
     pub(crate) fn of(key: Key) -> DqKey
         ensures { named result ≡ key }
     {
@@ -33,14 +33,14 @@ impl DqKey {
         }
     }
 
-    /// The entry that is meant.
+    // The entry that is meant.
     pub(crate) fn entry(&self) -> EntryId
         ensures { result ≡ (named self.now).entry }
     {
         EntryId::new(self.shard, self.index, self.born)
     }
 
-    /// The key, from C.
+    // The key, from C.
     pub(crate) fn key(&self) -> Key
         ensures { result ≡ named self.now }
     {
@@ -63,7 +63,7 @@ pub struct DqExpired {
 }
 
 impl DqExpired {
-    /// The entry, for C.
+    // The entry, for C.
     pub(crate) fn of(expired: Expired<u64>) -> DqExpired
         ensures { IsOutOf result expired }
     {
@@ -89,7 +89,7 @@ pub struct DqRemoved {
 }
 
 impl DqRemoved {
-    /// The entry, for C.
+    // The entry, for C.
     pub(crate) fn of(removed: Removed<u64>) -> DqRemoved
         ensures { IsRemovedOf result removed }
     {
@@ -115,7 +115,7 @@ pub struct DqTally {
 }
 
 impl DqTally {
-    /// The tally, for C.
+    // The tally, for C.
     pub(crate) fn of(tally: Tally) -> DqTally
         ensures { IsTallyOf result tally }
     {

@@ -12,3 +12,4 @@ pub mod making;
 pub mod many;
 pub mod owner;
 pub mod readers;
+pub mod renewing;

@@ -1,16 +1,27 @@
 //! A queue is made and freed.
-ghost use Rattle.std.specs.Prelude.{◌↔◌, IsTrue};
+ghost use Rattle.std.specs.Prelude.{◌≡◌, ◌↔◌, IsTrue};
+ghost use Rattle.dq_c.specs.declared.answers.TheConstants.{DQ_FORM};
 ghost use Rattle.dq_core.specs.Calls.{IsConfig};
 ghost use Rattle.dq_c.specs.Making.{NewSays, FreeSays};
 
-use crate::answers::{DQ_BAD_CONFIG, DQ_EMPTY, DQ_HELD, DQ_NO_MEMORY, DQ_OK, DqAnswer, only};
+use crate::answers::{
+    DQ_BAD_CONFIG, DQ_EMPTY, DQ_FORM, DQ_HELD, DQ_NO_MEMORY, DQ_OK, DqAnswer, only,
+};
 use dq_core::{CoreConfig, DelayCore};
 use dq_handle::{Queue, QueueHandle};
 use dq_ticks::{CAPACITY_LIMIT, LAST_STAMP};
 use dq_words::Keeper;
 use std::alloc::Global;
 
-/// Whether the numbers are in their ranges.
+/// Tells the number of the library's form, which a program compares with the one that it was written for.
+#[unsafe(no_mangle)]
+pub extern "C" fn dq_form() -> u32
+    ensures { result ≡ DQ_FORM }
+{
+    DQ_FORM
+}
+
+// Whether the numbers are in their ranges.
 fn is_config(capacity: usize, last_stamp: u32) -> bool
     ensures { IsTrue result ↔ IsConfig capacity last_stamp capacity }
 {

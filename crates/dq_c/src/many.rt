@@ -3,14 +3,14 @@ ghost use Rattle.std.specs.Prelude.{◌≡◌, length};
 ghost use Rattle.dq_c.specs.Many.{FillSays, PollManySays};
 
 use crate::answers::{
-    DQ_EMPTY, DQ_IDLE, DQ_WAITING, DqAnswer, of_core, only, told, with_one, with_two,
+    DQ_EMPTY, DQ_IDLE, DQ_NO_PLACE, DQ_WAITING, DqAnswer, of_core, only, told, with_one, with_two,
 };
 use crate::keys::DqExpired;
 use dq_core::{DelayCore, Turn};
 use dq_handle::QueueHandle;
 use dq_words::Keeper;
 
-/// Fills the row from its front by one poll after another, until it is full or a poll takes nothing out.
+// Fills the row from its front by one poll after another, until it is full or a poll takes nothing out.
 fn fill(core: &mut DelayCore<u64, Keeper>, tick: u64, outs: &mut [DqExpired]) -> DqAnswer
     ensures fills { FillSays core.old tick outs.old outs.new result core.new }
     ensures size { length outs.new ≡ length outs.old }
@@ -32,7 +32,7 @@ fn fill(core: &mut DelayCore<u64, Keeper>, tick: u64, outs: &mut [DqExpired]) ->
 /// where nothing is linked.
 ///
 /// # Errors
-/// DQ_EMPTY, DQ_TICK_TOO_LARGE with the last tick, which is not noted then.
+/// DQ_EMPTY, DQ_NO_PLACE for a row of no place, DQ_TICK_TOO_LARGE with the last tick; no tick is noted then.
 #[unsafe(no_mangle)]
 pub extern "C" fn dq_poll_many(
     queue: &mut QueueHandle,
@@ -43,6 +43,9 @@ pub extern "C" fn dq_poll_many(
 {
     if !queue.is_held() {
         return only(DQ_EMPTY);
+    }
+    if outs.is_empty() {
+        return only(DQ_NO_PLACE);
     }
     fill(&mut queue.part.get_mut().core, tick, outs)
 }

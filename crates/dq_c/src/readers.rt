@@ -1,5 +1,5 @@
 //! What a queue tells its owner.
-ghost use Rattle.dq_c.specs.Readers.{DeadlineSays, WakeSays, LenSays, TallySays};
+ghost use Rattle.dq_c.specs.Readers.{DeadlineSays, WakeSays, PeekSays, LenSays, TallySays};
 
 use crate::answers::{
     DQ_EMPTY, DQ_IDLE, DQ_OK, DQ_WAITING, DqAnswer, of_core, only, told, with_one,
@@ -37,6 +37,27 @@ pub extern "C" fn dq_next_wake(queue: &mut QueueHandle) -> DqAnswer
     }
     match queue.part.get_mut().core.next_wake() {
         Some(next) => with_one(DQ_WAITING, next),
+        None => only(DQ_IDLE),
+    }
+}
+
+/// Writes the key of a linked entry that the wheel files least, as of its present stamp: DQ_OK, or DQ_IDLE where nothing
+/// is linked. A caller may have extended or cancelled it meanwhile.
+///
+/// # Errors
+/// DQ_EMPTY; the key stays then, as it does where nothing is linked.
+#[unsafe(no_mangle)]
+pub extern "C" fn dq_peek(queue: &mut QueueHandle, key: &mut DqKey) -> DqAnswer
+    ensures { PeekSays queue.old.part.value result key.old key.new queue.new.part.value }
+{
+    if !queue.is_held() {
+        return only(DQ_EMPTY);
+    }
+    match queue.part.get_mut().core.peek() {
+        Some(least) => {
+            *key = DqKey::of(least);
+            only(DQ_OK)
+        }
         None => only(DQ_IDLE),
     }
 }

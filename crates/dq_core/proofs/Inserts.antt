@@ -125,6 +125,11 @@ inserts b c i stamp tick base f when v id k l small fill es et eb ef ew ek ec ei
 pub full : {T : Type 0} (last : ℕ) (rows : List (Row T)) (held worn : ℕ) → held ≡ count_by is_held rows → worn ≡ count_by (is_worn last) rows → count_by (is_free last) rows ≡ 0 → held + worn ≡ length rows
 full last rows held worn eh ew none = omega (arith, parted last rows)
 
+-- where a slot is free, not all are held or worn
+pub room : {T : Type 0} (last : ℕ) (rows : List (Row T)) (i : ℕ) (v : T) → i < length rows → is_free last (row_at rows i) ≡ true → count_by is_held rows + count_by (is_worn last) rows < length rows
+room last rows i v inside free =
+    omega (arith, parted last rows, ap one free, count_set (is_free last) rows i (filled_row (row_at rows i) v) inside)
+
 -- a queue whose slots are as they were
 pub same_slots : {T W : Type 0} (b : Core T W) (slots : SlotRows T) → slots ≡ b.slots → ◌≡◌ {A = Core T W} (record { shard = b.shard; noted = b.noted; wheel = b.wheel; slots = slots; known = b.known; counts = b.counts; words = b.words }) b
 same_slots {T} {W} b slots e = ap (λ s. let c : Core T W = record { shard = b.shard; noted = b.noted; wheel = b.wheel; slots = s; known = b.known; counts = b.counts; words = b.words } in c) e

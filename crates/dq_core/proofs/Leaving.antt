@@ -1,8 +1,9 @@
 -- Entries that leave the queue where all slots are gone over: one slot at a time, and one after the other.
-use Rattle.std.proofs.Common.{◌≡◌, ◌≢◌, ℕ, ◌+◌, ◌<◌, ◌≤◌, Bool, true, false, cond, List, [], ◌∷◌, ◌++◌, length, set, Option, Some, None, is_some, refl, sym, ap, ◌∙◌, subst, inl, inr, arith}
+use Rattle.std.proofs.Common.{◌≡◌, ◌≢◌, ℕ, ◌+◌, ◌<◌, ◌≤◌, Bool, true, false, cond, List, [], ◌∷◌, ◌++◌, length, set, Option, Some, None, is_some, refl, sym, ap, ◌∙◌, subst, ◌⊎◌, inl, inr, min, ◌-◌, nat_lt, if◌then◌else◌, arith}
 use Rattle.std.specs.List.{count_by}
 use Rattle.std.proofs.lemmas.List.{length-set, length-append, get_or-set_same, get_or-set_other, get_or_past, set-set}
 use Rattle.std.proofs.lemmas.Bool.{cases_eq, cases_lt, false≢true}
+use Rattle.std.proofs.lemmas.Bool.Decides.{nat_tests}
 use Rattle.dq_ticks.specs.declared.words.Parts.{Parts}
 use Rattle.dq_ticks.specs.declared.words.Mark.TheVariants.{LiveMark, CancelledMark}
 use Rattle.dq_wheel.specs.State.{Filing, filed_at, unlinked}
@@ -13,7 +14,7 @@ use Rattle.dq_core.specs.Machine.{Entry, TableRow, Machine, Reap, RunOf, Callers
 use Rattle.dq_core.specs.Core.{Core, machine, table_of, entry_of, due_by, IsLawful, IsLawfulCore}
 use Rattle.dq_core.specs.TableRows.{machine_of, table_row_of}
 use Rattle.dq_core.specs.Calls.{LooksOver, SameCore}
-use Rattle.dq_core.specs.Sweeps.{all_unlinked, all_vacated, AreOut, NotCancelled, AreReaped, only_if, IsSwept, Sweeps}
+use Rattle.dq_core.specs.Sweeps.{all_unlinked, all_vacated, AreOut, NotCancelled, AreReaped, only_if, IsSwept, Sweeps, SweepsSome}
 use Rattle.dq_core.proofs.Slotwise.{held_is, held_inside, count_set, one, one_held}
 use Rattle.dq_core.proofs.Law.{Filed, held_filed, law_vacated, force_learned, force_stamp, force_low}
 use Rattle.dq_core.proofs.Ways.{run_of_more, run_of_into, run_of_none, run_of_one, callers_reaping, Learning, learning, machine_is, vacated_of, table_row_is, table-le-rows}
@@ -251,15 +252,16 @@ reaped_more shared a b c is js same x y =
 pub same_more : {T W : Type 0} (a b c : Core T W) → SameCore a b → SameCore b c → SameCore a c
 same_more a b c x y = (y.0 ∙ x.0, y.1 ∙ x.1, y.2 ∙ x.2)
 
--- a sweep that has come to slot i, and has reaped n entries
-pub record IsSweeping {T W : Type 0} (shared : Bool) (b : Core T W) (i n : ℕ) (c : Core T W) : Type 0 where
+-- a sweep that has come from one slot to slot i, and has reaped n entries
+pub record IsSweeping {T W : Type 0} (shared : Bool) (b : Core T W) (from i n : ℕ) (c : Core T W) : Type 0 where
   pub same : SameCore b c
-  pub few : n ≤ i
+  pub few : n + from ≤ i
   pub reaped : (is : List ℕ) × (length is ≡ n) × AreReaped shared b is c
-  pub none : (j : ℕ) → j < i → NotCancelled (machine c) j
+  pub none : (j : ℕ) → from ≤ j → j < i → NotCancelled (machine c) j
+  pub other : (j : ℕ) → (j < from) ⊎ (i ≤ j) → table_at (machine c) j ≡ table_at (machine b) j
 
-pub sweeping_from : {T W : Type 0} (shared : Bool) (b : Core T W) → IsSweeping shared b 0 0 b
-sweeping_from shared b =
+pub sweeping_from : {T W : Type 0} (shared : Bool) (b : Core T W) (from : ℕ) → IsSweeping shared b from from 0 b
+sweeping_from shared b from =
     record {
       same = (refl, refl, refl);
       few = omega arith;
@@ -273,15 +275,17 @@ sweeping_from shared b =
           counts = refl;
         },
       );
-      none = λ j less. absurd (omega arith);
+      none = λ j past less. absurd (omega arith);
+      other = λ j out. refl;
     }
 
 length_only : (r : Bool) (i : ℕ) → length (only_if r i) ≡ cond r 1 0
 length_only true i = refl
 length_only false i = refl
 
-pub sweeping_on : {T W : Type 0} (shared : Bool) (b cur c : Core T W) (i n m : ℕ) (r : Bool) → IsSweeping shared b i n cur → SameCore cur c → IsSwept shared cur i r c → m ≡ n + cond r 1 0 → m ≤ i + 1 → IsSweeping shared b (i + 1) m c
-sweeping_on {T} shared b cur c i n m r to same swept em few =
+pub sweeping_on : {T W : Type 0} (shared : Bool) (b cur c : Core T W) (from i n m : ℕ) (r : Bool) → IsSweeping shared b from i n cur → SameCore cur c → IsSwept shared cur i r c → m ≡ n + cond r 1 0 → m + from ≤ i + 1 → IsSweeping shared b from (i + 1) m c
+sweeping_on {T} shared b cur c from i n m r to same swept em few =
+    let was_few : n + from ≤ i = to.few in
     let is = to.reaped.0 in
     let js = only_if r i in
     let size : length (is ++ js) ≡ length is + length js = length-append is js in
@@ -291,12 +295,17 @@ sweeping_on {T} shared b cur c i n m r to same swept em few =
       same = same_more b cur c to.same same;
       few = few;
       reaped = (is ++ js, omega (arith, size, size', was, em), reaped_more shared b cur c is js to.same to.reaped.2 swept.reaped);
-      none = λ j less.
+      none = λ j past less.
           elim (cases_eq j i) [
             | inl eq ↦ let P : ℕ → Type 0 = λ k. NotCancelled (machine c) k in subst P (sym eq) swept.here
             | inr ne ↦
                 let P : TableRow T → Type 0 = λ s. (e : Entry T) → s.entry ≡ Some e → e.due ≢ None in
-                subst P (sym (swept.other j ne)) (to.none j (omega arith))
+                subst P (sym (swept.other j ne)) (to.none j past (omega arith))
+          ];
+      other = λ j out.
+          elim out [
+            | inl low ↦ swept.other j (λ e. omega arith) ∙ to.other j (inl low)
+            | inr high ↦ swept.other j (λ e. omega arith) ∙ to.other j (inr (omega arith))
           ];
     }
 
@@ -305,15 +314,45 @@ past_table c j past =
     let short = table-le-rows c.slots.rows c.known in
     ap (λ s. s.entry) (get_or_past (table_of c.slots.rows c.known) j (record { stamp = 0; entry = None }) (omega (arith, short)))
 
-pub sweeping_ends : {T W : Type 0} (shared : Bool) (b c : Core T W) (i n : ℕ) → IsSweeping shared b i n c → length b.slots.rows ≤ i → Sweeps shared b n c
+pub sweeping_ends : {T W : Type 0} (shared : Bool) (b c : Core T W) (i n : ℕ) → IsSweeping shared b 0 i n c → length b.slots.rows ≤ i → Sweeps shared b n c
 sweeping_ends shared b c i n to past =
     record {
       reaped = to.reaped;
       none = λ j e is.
           elim (cases_lt j i) [
-            | inl less ↦ to.none j less e is
+            | inl less ↦ to.none j (omega arith) less e is
             | inr more ↦
                 let size = to.same.2 in
                 absurd (not_none e (sym (past_table c j (omega arith)) ∙ is))
           ];
     }
+
+-- a sweep of some slots, at its end
+pub some_swept : {T W : Type 0} (shared : Bool) (b c : Core T W) (from count first upto i n : ℕ) → IsSweeping shared b first i n c →
+    first ≡ min from (length b.slots.rows) → upto ≡ first + min count (length b.slots.rows - first) → upto ≤ i → i ≤ upto →
+    SweepsSome shared b from (from + count) n c
+some_swept shared b c from count first upto i n to first_is upto_is past within =
+    record {
+      reaped = to.reaped;
+      none = λ j from_in below.
+          elim (cases_lt j i) [
+            | inl less ↦ to.none j (omega arith) less
+            | inr more ↦ λ e is.
+                let size = to.same.2 in
+                absurd (not_none e (sym (past_table c j (omega arith)) ∙ is))
+          ];
+      other = λ j out.
+          elim (cases_lt j first) [
+            | inl low ↦ to.other j (inl low)
+            | inr high ↦ to.other j (inr (elim out [ inl under ↦ omega arith | inr over ↦ omega arith ]))
+          ];
+    }
+
+-- where a sweep of some slots goes on
+pub next_is : (from count cap first upto : ℕ) → first ≡ min from cap → upto ≡ first + min count (cap - first) →
+    (if nat_lt upto cap then Some upto else None) ≡ (if nat_lt (from + count) cap then Some (from + count) else None)
+next_is from count cap first upto first_is upto_is =
+    elim (cases_lt upto cap) [
+      | inl less ↦ let same : upto ≡ from + count = omega arith in rw same refl
+      | inr more ↦ let past : cap ≤ from + count = omega arith in grind (arith, nat_tests)
+    ]

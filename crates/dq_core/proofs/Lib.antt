@@ -8,9 +8,12 @@ pub mod FreeBits
 pub mod Inserts
 pub mod Law
 pub mod Leaving
+pub mod Listings
 pub mod Looks
 pub mod Rests
 pub mod PackedWords
+pub mod PieceSteps
+pub mod Renewing
 pub mod RunsEnding
 pub mod RunsKept
 pub mod RunsMoves

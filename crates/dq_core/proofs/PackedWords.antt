@@ -7,7 +7,6 @@ use Rattle.dq_ticks.specs.declared.words.Mark.TheVariants.{LiveMark, CancelledMa
 use Rattle.dq_ticks.specs.declared.TheConstants.{LAST_TICK, LAST_STAMP}
 use Rattle.dq_ticks.specs.Word.{parts_of, packed, mark_by, mark_number, mark_of, stamp_of, field_of, word}
 use Rattle.dq_core.specs.Words.{never, live}
-use Rattle.dq_core.specs.WordRows.{IsRaised}
 
 marks_come_back : (m : Mark) → mark_by (mark_number m) ≡ m
 marks_come_back LiveMark = refl
@@ -42,28 +41,3 @@ row_with words i p s_in f_in = map-set parts_of words i (packed p) ∙ ap (set (
 pub zeros_are_unused : (n : ℕ) → map parts_of (replicate n 0) ≡ replicate n never
 zeros_are_unused zero = refl
 zeros_are_unused (suc n) = ap (λ ws. never ∷ ws) (zeros_are_unused n)
-
--- a word whose mark and stamp are those of a live word at s is that word, of its own field
-pub live_word_has_parts : (n s : ℕ) → n < 18446744073709551616 → n / 4398046511104 ≡ s * 4 → parts_of n ≡ live s (n % 4398046511104)
-live_word_has_parts n s fits at =
-    let a : stamp_of n ≡ s = omega arith in
-    let b : mark_of n ≡ 0 = omega arith in
-    rw (a, b) refl
-
--- the numbers of the words that are live at s, each as far from the first as its deadline
-live_from_first : (n s d : ℕ) → n < 18446744073709551616 → s ≤ LAST_STAMP → d ≡ (n + (18446744073709551616 - s * 17592186044416)) % 18446744073709551616 → d ≤ LAST_TICK → parts_of n ≡ live s d
-live_from_first n s d fits s_in far d_in =
-    let at : n / 4398046511104 ≡ s * 4 = omega arith in
-    let field : n % 4398046511104 ≡ d = omega arith in
-    live_word_has_parts n s fits at ∙ ap (live s) field
-
--- one live word's deadline is raised, unless it is later
-pub raised_row : (words : List ℕ) (i s when n e d m : ℕ) → i < length words → n ≡ get_or words i e → n < 18446744073709551616 → s ≤ LAST_STAMP → when ≤ LAST_TICK → d ≡ (n + (18446744073709551616 - s * 17592186044416)) % 18446744073709551616 → d ≤ LAST_TICK → m ≡ max when d → IsRaised (map parts_of words) i s when m (map parts_of (set words i (s * 17592186044416 + m)))
-raised_row words i s when n e d m inside is fits s_in when_in far d_in later =
-    let here : get_or (map parts_of words) i never ≡ parts_of n = get_or-map parts_of words i e never inside ∙ ap parts_of (sym is) in
-    let parts : get_or (map parts_of words) i never ≡ live s d = here ∙ live_from_first n s d fits s_in far d_in in
-    let field : (get_or (map parts_of words) i never).field ≡ d = ap (λ w. w.field) parts in
-    let later_in : m ≤ LAST_TICK = omega arith in
-    let number : s * 17592186044416 + m ≡ packed (live s m) = omega arith in
-    let row = ap (λ x. map parts_of (set words i x)) number ∙ row_with words i (live s m) s_in later_in in
-    (rw field parts, rw field later, row, s_in, later_in)

@@ -11,6 +11,9 @@ use Rattle.dq_core.specs.declared.errors.CoreError.TheVariants.{TooFar, Missing,
 use Rattle.dq_core.specs.declared.outcomes.Removed.{Removed}
 use Rattle.dq_core.specs.declared.outcomes.Turn.{Turn}
 use Rattle.dq_core.specs.declared.outcomes.Turn.TheVariants.{Out, Waiting, Idle}
+use Rattle.dq_core.specs.declared.outcomes.Piece.{Piece}
+use Rattle.dq_core.specs.declared.outcomes.Piece.TheVariants.{Answer, Working}
+use Rattle.dq_core.specs.Pieces.{PollsSome}
 use Rattle.dq_wheel.specs.State.{Filing}
 use Rattle.dq_core.specs.Machine.{Entry, Machine, Event, Note, Insert, Reset, Extend, Cancel, Remove, Expire, Step, Run, RunOf, Callers, IsCallers, IsOnTheWay, IsReaping, IsClearing}
 use Rattle.dq_core.specs.Core.{Core, machine, entry_of, IsPlaced}
@@ -18,11 +21,13 @@ use Rattle.dq_core.specs.Words.{word_at}
 use Rattle.dq_core.specs.Slots.{unused}
 use Rattle.dq_core.specs.declared.slots.Held.{Held}
 use Rattle.dq_core.specs.Calls.{IsLookedAt, IsTurn, FindRefused, ResetRefused, Inserts, Removes, Resets, TellsDeadline, Polls, noting}
-use Rattle.dq_core.specs.Sweeps.{Clears}
+use Rattle.dq_core.specs.declared.errors.ReapError.{ReapError}
+use Rattle.dq_core.specs.declared.errors.ReapError.TheVariants.{Live}
+use Rattle.dq_core.specs.Sweeps.{AreReaped, Reaps, Clears}
 use Rattle.dq_core.specs.Runs.{outs}
 use Rattle.std.specs.List.{AllByRecursion}
 use Rattle.dq_core.specs.KeyCalls.{Extends, Cancels}
-use Rattle.dq_core.specs.RunsOfCalls.{GoesByRun, given, CallsAreRuns, NoBirthIsAhead}
+use Rattle.dq_core.specs.RunsOfCalls.{GoesByRun, given, given_by_piece, CallsAreRuns, NoBirthIsAhead}
 use Rattle.dq_core.proofs.RunsKept.{some_same}
 use Rattle.dq_core.proofs.Ways.{table_row_is}
 use Rattle.dq_core.proofs.RunsOrdered.{runs_join}
@@ -113,6 +118,30 @@ module _ {T W : Type 0} (shared : Bool) (b c : Core T W) where
       then last (machine b) k (machine c) _ noted_first (then last k m (machine c) _ way end)
   polling tick (Err e) h = same h.2
 
+  reaped : (is : List ℕ) → AreReaped shared b is c → GoesByRun b [] c
+  reaped is h = of_kind (IsReaping shared) (λ i b' at x. x) _ _ _ h.run
+
+  reaping : (id : EntryId) (r : Result (Unit {0}) ReapError) → Reaps shared b id r c → GoesByRun b [] c
+  reaping id (Ok done) h = reaped _ h.1.reaped
+  reaping id (Err Live) h = reaped _ h.1.reaped
+  reaping id (Err e) h = same h.1
+
+  polling_some : (tick most : ℕ) (r : Result (Piece T) CoreError) → PollsSome shared b tick most r c → GoesByRun b (given_by_piece r) c
+  polling_some tick most (Ok (Answer turn)) (accepted, note, answered, noted) =
+      let last = b.slots.last_stamp in
+      let k = machine (noting b tick) in
+      let m = answered.run.0 in
+      let noted_first = one last (machine b) k (Note tick) note in
+      let way = of_kind (IsOnTheWay shared) (λ i b' at h. h) last k m answered.run.1 in
+      let end = turned b.shard last m (machine c) turn c.wheel.filing answered.run.2 in
+      then last (machine b) k (machine c) _ noted_first (then last k m (machine c) _ way end)
+  polling_some tick most (Ok Working) (accepted, note, came, noted) =
+      let last = b.slots.last_stamp in
+      let k = machine (noting b tick) in
+      let noted_first = one last (machine b) k (Note tick) note in
+      then last (machine b) k (machine c) _ noted_first (of_kind (IsOnTheWay shared) (λ i b' at h. h) last k (machine c) came.0.way)
+  polling_some tick most (Err e) h = same h.2
+
   clearing : (removed : ℕ) → Clears shared b removed c → GoesByRun b [] c
   clearing removed h =
       let run = h.ended.1.run in
@@ -133,7 +162,10 @@ calls_are_runs T W shared b c = record {
   reset = resetting shared b c;
   deadline = telling shared b c;
   poll = polling shared b c;
-  sweep = λ n h. of_kind (IsReaping shared) (λ i b' at x. x) _ _ _ h.reaped.2.run;
+  poll_some = polling_some shared b c;
+  sweep = λ n h. reaped shared b c _ h.reaped.2;
+  sweep_some = λ from upto n h. reaped shared b c _ h.reaped.2;
+  reap = reaping shared b c;
   clear = clearing shared b c;
   extend = extending shared b c;
   cancel = cancelling shared b c;

@@ -48,10 +48,10 @@ pub taken_is : {T : Type 0} {last : ℕ} {rows : List (Row T)} {free : FreeIndex
 taken_is {last = last} {rows = rows} s rest i g =
     open_parts last rows i (free_times rest i) (is_open last rows i) refl (sym g.one_more ∙ s.freed i)
 
-open_other : {T : Type 0} (last : ℕ) (rows : List (Row T)) (i : ℕ) (r : Row T) (j : ℕ) → j ≢ i → is_open last (set rows i r) j ≡ is_open last rows j
+pub open_other : {T : Type 0} (last : ℕ) (rows : List (Row T)) (i : ℕ) (r : Row T) (j : ℕ) → j ≢ i → is_open last (set rows i r) j ≡ is_open last rows j
 open_other last rows i r j ne = rw (length-set rows i r, get_or-set_other rows i j r unused ne)
 
-open_same : {T : Type 0} (last : ℕ) (rows : List (Row T)) (i : ℕ) (r : Row T) → i < length rows → is_open last (set rows i r) i ≡ is_free last r
+pub open_same : {T : Type 0} (last : ℕ) (rows : List (Row T)) (i : ℕ) (r : Row T) → i < length rows → is_open last (set rows i r) i ≡ is_free last r
 open_same last rows i r inside =
     rw (length-set rows i r, get_or-set_same rows i r unused inside, lt-ltb i (length rows) inside)
 
@@ -92,7 +92,7 @@ pub row_is : {T : Type 0} {s : SlotRows T} → IsSlotRows s → (i : ℕ) → i 
 row_is {s = s} g i inside = All-get_or (IsRow s.last_stamp) s.rows i unused inside g.each
 
 -- a row stays in good order where one slot changes to one in good order
-slot_rows_set : {T : Type 0} {last : ℕ} {rows : List (Row T)} → IsSlotRows (record { last_stamp = last; rows = rows }) → (i : ℕ) (r : Row T) → IsRow last r → IsSlotRows (record { last_stamp = last; rows = set rows i r })
+pub slot_rows_set : {T : Type 0} {last : ℕ} {rows : List (Row T)} → IsSlotRows (record { last_stamp = last; rows = rows }) → (i : ℕ) (r : Row T) → IsRow last r → IsSlotRows (record { last_stamp = last; rows = set rows i r })
 slot_rows_set {last = last} {rows = rows} g i r good =
     record { used = g.used; bound = g.bound; size = rw (length-set rows i r) g.size; each = All-set (IsRow last) rows i r good g.each }
 

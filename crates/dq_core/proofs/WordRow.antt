@@ -7,7 +7,7 @@ use Rattle.dq_ticks.specs.declared.words.Parts.{Parts}
 use Rattle.dq_ticks.specs.declared.TheConstants.{CAPACITY_LIMIT, LAST_STAMP, LAST_TICK}
 use Rattle.dq_ticks.specs.declared.keys.Key.{Key}
 use Rattle.dq_core.specs.Words.{Counts, never, live, word_at}
-use Rattle.dq_core.specs.WordRows.{WordRow, IsWordRow, IsCallable, IsRaised, IsExtend}
+use Rattle.dq_core.specs.WordRows.{IsWordRow, IsCallable}
 
 -- a row of words has begun too few to overflow
 pub few_begun : (known : List Parts) (counts : Counts) → IsWordRow known counts → counts.begins ≤ CAPACITY_LIMIT * LAST_STAMP
@@ -20,21 +20,11 @@ few_begun known counts h =
 
 -- the word that a key names is found live or not at its stamp: so is the key's call
 pub live_by_key : (ws : List Parts) (k : Key) (i s : ℕ) (o : Option ℕ) → i ≡ k.entry.index → s ≡ k.stamp → i < length ws → 0 < s →
-    MatchOption o ((d : ℕ) → word_at ws i ≢ live s d) (λ d. (word_at ws i ≡ live s d) × (s ≤ LAST_STAMP) × (d ≤ LAST_TICK)) →
+    s ≤ LAST_STAMP → MatchOption o ((d : ℕ) → word_at ws i ≢ live s d) (λ d. (word_at ws i ≡ live s d) × (d ≤ LAST_TICK)) →
     MatchOption o (¬ IsCallable ws k) (λ d. IsCallable ws k × (d ≡ (word_at ws k.entry.index).field) × (k.stamp ≤ LAST_STAMP) × (d ≤ LAST_TICK))
-live_by_key ws k i s None at stamp inside used none =
+live_by_key ws k i s None at stamp inside used last none =
     λ callable. none (word_at ws k.entry.index).field (rw (at, stamp) callable.2)
-live_by_key ws k i s (Some d) at stamp inside used found =
+live_by_key ws k i s (Some d) at stamp inside used last found =
     let is : word_at ws k.entry.index ≡ live k.stamp d = rw (at, stamp) at found.0 in
     let field : (word_at ws k.entry.index).field ≡ d = ap (λ w. w.field) is in
-    ((rw at at inside, rw stamp at used, is ∙ sym (ap (live k.stamp) field)), sym field, rw stamp at found.1, found.2)
-
--- the word that a key names is raised, or isn't live at its stamp: so is the key's
-pub raised_by_key : (ws : List Parts) (n : Counts) (k : Key) (i s when : ℕ) (o : Option ℕ) (vs : List Parts) → i ≡ k.entry.index → s ≡ k.stamp → i < length ws → 0 < s → when ≤ LAST_TICK →
-    MatchOption o (((d : ℕ) → word_at ws i ≢ live s d) × (vs ≡ ws)) (λ d. IsRaised ws i s when d vs) →
-    MatchOption o ((¬ IsCallable ws k) × (Path WordRow (record { known = vs; counts = n }) (record { known = ws; counts = n })))
-    (λ d. IsExtend (record { known = ws; counts = n }) k when (Ok d) (record { known = vs; counts = n }))
-raised_by_key ws n k i s when None vs at stamp inside used small none =
-    (λ callable. none.0 (word_at ws k.entry.index).field (rw (at, stamp) callable.2), ap {B = WordRow} (λ r. record { known = r; counts = n }) none.1)
-raised_by_key ws n k i s when (Some d) vs at stamp inside used small found =
-    (small, (rw at at inside, rw stamp at used, rw (at, stamp) at found.0), rw at at found.1, rw (at, stamp) at (ap {B = WordRow} (λ r. record { known = r; counts = n }) found.2))
+    ((rw at at inside, rw stamp at used, is ∙ sym (ap (live k.stamp) field)), sym field, rw stamp at last, found.1)

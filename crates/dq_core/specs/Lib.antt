@@ -2,12 +2,15 @@ pub mod AtTheCall
 pub mod Calls
 pub mod Cells
 pub mod Core
+pub mod Entries
 pub mod FreeSlots
 pub mod KeyCalls
 pub mod Machine
+pub mod Pieces
 pub mod Plain
 pub mod Ranges
 pub mod Readers
+pub mod Renewals
 pub mod Rests
 pub mod Runs
 pub mod RunsOfCalls

@@ -6,12 +6,16 @@ use Rattle.dq_core.specs.declared.errors.CoreError.{CoreError}
 use Rattle.dq_core.specs.declared.outcomes.Removed.{Removed}
 use Rattle.dq_core.specs.declared.outcomes.Turn.{Turn}
 use Rattle.dq_core.specs.declared.outcomes.Turn.TheVariants.{Out}
+use Rattle.dq_core.specs.declared.outcomes.Piece.{Piece}
+use Rattle.dq_core.specs.declared.outcomes.Piece.TheVariants.{Answer}
 use Rattle.dq_core.specs.declared.words.CallError.{CallError}
 use Rattle.dq_core.specs.Machine.{Entry, Event, table_at, Run}
 use Rattle.dq_core.specs.Core.{Core, machine, IsLawfulCore}
 use Rattle.dq_core.specs.Calls.{Inserts, Removes, Resets, TellsDeadline, Polls}
+use Rattle.dq_core.specs.Pieces.{PollsSome}
 use Rattle.dq_core.specs.Runs.{outs}
-use Rattle.dq_core.specs.Sweeps.{Sweeps, Clears}
+use Rattle.dq_core.specs.declared.errors.ReapError.{ReapError}
+use Rattle.dq_core.specs.Sweeps.{Sweeps, SweepsSome, Reaps, Clears}
 use Rattle.dq_core.specs.KeyCalls.{Extends, Cancels}
 
 -- a run leads from one queue's machine to the other's, where entries of those deadlines expire
@@ -23,6 +27,11 @@ GoesByRun {T} b ds c =
 abbrev pub given : {T : Type 0} → Result (Turn T) CoreError → List ℕ
 given (Ok (Out x)) = x.deadline ∷ []
 given r = []
+
+-- that of what a poll in pieces gave
+abbrev pub given_by_piece : {T : Type 0} → Result (Piece T) CoreError → List ℕ
+given_by_piece (Ok (Answer turn)) = given (Ok turn)
+given_by_piece r = []
 
 -- if a call with some answer led from queue b to queue c, then a run leads there, on which a
 -- poll's entry expires and no other
@@ -42,7 +51,14 @@ pub record CallsGoByRuns {T W : Type 0} (shared : Bool) (b c : Core T W) : Type 
   pub poll :
       (tick : ℕ) (r : Result (Turn T) CoreError)
       → Polls shared b tick r c → GoesByRun b (given r) c
+  pub poll_some :
+      (tick most : ℕ) (r : Result (Piece T) CoreError)
+      → PollsSome shared b tick most r c → GoesByRun b (given_by_piece r) c
   pub sweep : (reaped : ℕ) → Sweeps shared b reaped c → GoesByRun b [] c
+  pub sweep_some :
+      (from upto reaped : ℕ) → SweepsSome shared b from upto reaped c → GoesByRun b [] c
+  pub reap :
+      (id : EntryId) (r : Result (Unit {0}) ReapError) → Reaps shared b id r c → GoesByRun b [] c
   pub clear : (removed : ℕ) → Clears shared b removed c → GoesByRun b [] c
   pub extend :
       (k : Key) (when : ℕ) (r : Result ℕ CallError) → Extends b k when r c → GoesByRun b [] c

@@ -1,6 +1,6 @@
 -- Entries that leave a queue together: a sweep of those that were cancelled, and a clear of all.
 use Rattle.std.specs.Prelude.{cond, ◌≡◌, ◌≢◌, ℕ, ◌+◌, ◌≤◌, Bool, true, false, List, [], ◌∷◌, Option}
-use Rattle.std.specs.Prelude.{Some, None, length}
+use Rattle.std.specs.Prelude.{Some, None, length, Result, Ok, Err, ◌⊎◌, ◌<◌}
 use Rattle.std.specs.List.{count_by, AllByRecursion}
 use Rattle.dq_ticks.specs.declared.words.Parts.{Parts}
 use Rattle.dq_wheel.specs.State.{Filing, unlinked}
@@ -9,7 +9,10 @@ use Rattle.dq_core.specs.Slots.{Row, SlotRows, is_held, row_at, vacated}
 use Rattle.dq_core.specs.Machine.{Entry, Machine, Event, Run, RunOf, table_at, IsReaping}
 use Rattle.dq_core.specs.Machine.{IsClearing, removes, NoneLinked}
 use Rattle.dq_core.specs.Core.{Core, machine}
-use Rattle.dq_core.specs.Calls.{LooksOver}
+use Rattle.dq_core.specs.Calls.{LooksOver, IsFound, IsMissing}
+use Rattle.dq_core.specs.declared.errors.ReapError.{ReapError}
+use Rattle.dq_core.specs.declared.errors.ReapError.TheVariants.{Missing, Live}
+use Rattle.dq_ticks.specs.declared.keys.EntryId.{EntryId}
 
 -- a wheel where each of those indexes is unlinked, in turn
 abbrev pub all_unlinked : Filing → List ℕ → Filing
@@ -62,6 +65,23 @@ pub record Sweeps {T W : Type 0} (shared : Bool) (b : Core T W) (n : ℕ) (c : C
     : Type 0 where
   pub reaped : (is : List ℕ) × (length is ≡ n) × AreReaped shared b is c
   pub none : NoneCancelled (machine c)
+
+-- the slots from one on and before another were swept: n entries were reaped, none is left there
+-- that is known as cancelled, and the other slots are as they were
+pub record SweepsSome {T W : Type 0} (shared : Bool) (b : Core T W) (from upto n : ℕ) (c : Core T W)
+    : Type 0 where
+  pub reaped : (is : List ℕ) × (length is ≡ n) × AreReaped shared b is c
+  pub none : (i : ℕ) → from ≤ i → i < upto → NotCancelled (machine c) i
+  pub other :
+      (i : ℕ) → (i < from) ⊎ (upto ≤ i) → table_at (machine c) i ≡ table_at (machine b) i
+
+-- the one entry of that name was found cancelled and was reaped, or was found live and stays; or
+-- none has that name
+abbrev pub Reaps : {T W : Type 0} → Bool → Core T W → EntryId → Result (Unit {0}) ReapError →
+    Core T W → Type 0
+Reaps shared b id (Ok done) c = IsFound b id id.index × IsSwept shared b id.index true c
+Reaps shared b id (Err Live) c = IsFound b id id.index × IsSwept shared b id.index false c
+Reaps shared b id (Err Missing) c = IsMissing b id × (c ≡ b)
 
 -- where n entries are removed
 abbrev pub removed_counts : Counts → ℕ → Counts

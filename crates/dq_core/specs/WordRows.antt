@@ -106,12 +106,6 @@ IsExtend b k when (Ok d) c =
     × (c ≡ record { known = extended b.known k d; counts = b.counts })
 IsExtend b k when (Err e) c = ExtendRefused b.known k when e × (c ≡ b)
 
--- the word at i, live at s, is live until d: until `when`, or until the later deadline that it had
-abbrev pub IsRaised : List Parts → ℕ → ℕ → ℕ → ℕ → List Parts → Type 0
-IsRaised ws i s when d vs =
-    (word_at ws i ≡ live s (word_at ws i).field) × (d ≡ max when (word_at ws i).field)
-    × (vs ≡ slice_set ws i (live s d)) × (s ≤ LAST_STAMP) × (d ≤ LAST_TICK)
-
 -- a cancel of a live word answers the deadline that is given up
 abbrev pub IsCancel : WordRow → Key → Result ℕ CallError → WordRow → Type 0
 IsCancel b k (Ok d) c =

@@ -87,6 +87,10 @@ abbrev pub finished_counts : Counts → Option ℕ → Counts
 finished_counts c (Some d) = record c { removals = c.removals + 1 }
 finished_counts c None = c
 
+-- what was begun is still said to be begun
+abbrev pub StillBegun : {W : Type 0} → (W → ℕ → ℕ → ℕ → Type 0) → W → W → Type 0
+StillBegun begun old new = (i s d : ℕ) → begun old i s d → begun new i s d
+
 -- words that nobody has used
 abbrev pub AreFresh : List Parts → Counts → Type 0
 AreFresh known counts =

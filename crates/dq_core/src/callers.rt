@@ -1,6 +1,7 @@
 //! The callers of a queue's words.
 
 ghost use Rattle.std.specs.Prelude.{◌≡◌, ◌+◌, ◌≤◌, IfOk};
+ghost use Rattle.dq_core.specs.Words.{StillBegun};
 
 use crate::queue::DelayCore;
 use crate::words::SharedWords;
@@ -13,7 +14,8 @@ impl<T: Drop, W: SharedWords, A: Allocator> DelayCore<T, W, A> {
     pub fn issue(&mut self) -> Result<W::Caller, W::Fault>
         ensures issued { W.issues self.old.words result self.new.words }
         ensures same { self.new ≡ with_words self.old self.new.words }
-        ensures home { W.home self.new.words ≡ W.home self.old.words }
+        ensures origin { W.origin self.new.words ≡ W.origin self.old.words }
+        ensures begun { StillBegun W.begun self.old.words self.new.words }
     {
         self.words.issue()
     }
@@ -22,7 +24,8 @@ impl<T: Drop, W: SharedWords, A: Allocator> DelayCore<T, W, A> {
     pub fn out(&mut self) -> u64
         ensures told { W.tells self.old.words result self.new.words }
         ensures same { self.new ≡ with_words self.old self.new.words }
-        ensures home { W.home self.new.words ≡ W.home self.old.words }
+        ensures origin { W.origin self.new.words ≡ W.origin self.old.words }
+        ensures begun { StillBegun W.begun self.old.words self.new.words }
     {
         self.words.out()
     }
@@ -31,7 +34,8 @@ impl<T: Drop, W: SharedWords, A: Allocator> DelayCore<T, W, A> {
     pub fn returned(&mut self) -> Result<u64, u64>
         ensures returned { W.returns self.old.words result self.new.words }
         ensures same { self.new ≡ with_words self.old self.new.words }
-        ensures home { W.home self.new.words ≡ W.home self.old.words }
+        ensures origin { W.origin self.new.words ≡ W.origin self.old.words }
+        ensures begun { StillBegun W.begun self.old.words self.new.words }
         ensures counts { self.new.counts ≡ W.counts self.new.words }
         ensures audit { IfOk result (λ c. W.audited self.new.words c
             × (self.new.counts.expiries + self.new.counts.removals + c ≤ self.new.counts.begins)) }

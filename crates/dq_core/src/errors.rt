@@ -46,6 +46,17 @@ pub enum CoreError {
     NoMemory,
 }
 
+/// Why no entry is reaped.
+#[derive(Clone, Copy, Debug, PartialEq, Eq, Error)]
+pub enum ReapError {
+    /// No entry is linked with that shard, index and birth stamp.
+    #[error("no such entry is linked")]
+    Missing,
+    /// The entry is live, and stays.
+    #[error("the entry is live")]
+    Live,
+}
+
 /// Which number of a configuration is out of its range.
 #[derive(Clone, Copy, Debug, PartialEq, Eq, Error)]
 pub enum BadNumber {

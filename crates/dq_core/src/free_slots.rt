@@ -12,13 +12,13 @@ ghost use Rattle.dq_core.specs.FreeSlots.{FreeIndexes, free_times, room_of, Give
 use std::alloc::{AllocError, Allocator, Global};
 use std::marker::Model;
 
-/// How many of the indexes that were freed last stand on the stack.
+// How many of the indexes that were freed last stand on the stack.
 const RECENT: usize = 64;
 
-/// The bits of a word.
+// The bits of a word.
 const BITS: usize = 64;
 
-/// A bit for each of 1,024 words.
+// A bit for each of 1,024 words.
 type Summary = [u64; 16];
 
 /// Which indexes are free.
@@ -28,7 +28,7 @@ pub struct FreeSlots<A: Allocator = Global> {
     bits: Vec<u64, A>,
     summary: Summary,
     /// The word that gave the last index.
-    last: usize,
+    current: usize,
 }
 
 impl<A: Allocator> Model for FreeSlots<A> {
@@ -39,10 +39,10 @@ impl<A: Allocator> Model for FreeSlots<A> {
 
     ghost view = { λ a. record { recent = a.recent.items; bits = a.bits.items } };
 
-    ghost invariant = { λ a. IsFreeKept a.bits.items a.summary a.last (vec_capacity a.recent) };
+    ghost invariant = { λ a. IsFreeKept a.bits.items a.summary a.current (vec_capacity a.recent) };
 }
 
-/// The place of the lowest bit of a word that is 1.
+// The place of the lowest bit of a word that is 1.
 fn lowest_bit(word: u64) -> Option<usize>
     ensures { MatchOption result (word ≡ 0) (λ k. (k < 64) × (bit_at word k ≡ 1)) }
 {
@@ -75,7 +75,7 @@ fn next_word(summary: &Summary, from: usize) -> Option<usize>
     None
 }
 
-/// A word of bits that isn't 0: the one that gave the last index, or the next that the summary knows.
+// A word of bits that isn't 0: the one that gave the last index, or the next that the summary knows.
 #[inline]
 fn filled_word(bits: &[u64], summary: &Summary, last: usize) -> Option<usize>
     requires last { last < length bits.now }
@@ -92,7 +92,7 @@ fn filled_word(bits: &[u64], summary: &Summary, last: usize) -> Option<usize>
     }
 }
 
-/// Sets the bit of an index, and its word's in the summary where it is the word's first.
+// Sets the bit of an index, and its word's in the summary where it is the word's first.
 #[inline]
 fn set_bit(bits: &mut [u64], summary: &mut Summary, index: usize)
     requires room { index < 64 * length bits.old }
@@ -110,7 +110,7 @@ fn set_bit(bits: &mut [u64], summary: &mut Summary, index: usize)
     }
 }
 
-/// Clears the lowest bit of a word that isn't 0, and the word's bit in the summary where it was its only one.
+// Clears the lowest bit of a word that isn't 0, and the word's bit in the summary where it was its only one.
 #[inline]
 fn take_bit(bits: &mut [u64], summary: &mut Summary, word: usize) -> usize
     requires word_in { word < length bits.old }
@@ -148,7 +148,7 @@ impl<A: Allocator + Clone> FreeSlots<A> {
             recent,
             bits,
             summary: [0; 16],
-            last: 0,
+            current: 0,
         })
     }
 }
@@ -185,10 +185,10 @@ impl<A: Allocator> FreeSlots<A> {
         if let Some(top) = self.recent.pop() {
             return Some(top as usize);
         }
-        let Some(word) = filled_word(&self.bits, &self.summary, self.last) else {
+        let Some(word) = filled_word(&self.bits, &self.summary, self.current) else {
             return None;
         };
-        self.last = word;
+        self.current = word;
         Some(take_bit(self.bits.as_mut_slice(), &mut self.summary, word))
     }
 }

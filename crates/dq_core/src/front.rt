@@ -78,6 +78,7 @@ impl<T: Drop, A: Allocator + Clone + Drop> DelayCore<T, VecWords<A>, A> {
 
 impl<T: Drop, W: Words, A: Allocator> DelayCore<T, W, A> {
     ghost use Rattle.dq_core.specs.Calls.{Inserts};
+    ghost use Rattle.dq_core.specs.Words.{StillBegun};
 
     /// As [`DelayCore::insert`], for callers that answer a refusal with `?`: the value is dropped then.
     ///
@@ -86,7 +87,8 @@ impl<T: Drop, W: Words, A: Allocator> DelayCore<T, W, A> {
     #[inline]
     pub fn insert_or_drop(&mut self, value: T, when: u64) -> Result<Key, CoreError>
         ensures inserts { Inserts self.old value when (with_value_back value result) self.new }
-        ensures home { W.home self.new.words ≡ W.home self.old.words }
+        ensures origin { W.origin self.new.words ≡ W.origin self.old.words }
+        ensures begun { StillBegun W.begun self.old.words self.new.words }
     {
         match self.insert(value, when) {
             Ok(key) => Ok(key),

@@ -24,7 +24,7 @@ impl<T: Drop, A: Allocator> DelayCore<T, VecWords<A>, A> {
         ensures { OwnEventsAlone ⟦<VecWords<A> as crate::words::Words>⟧.shared T }
     {}
 
-    /// Whether a key is of this queue's shard.
+    // Whether a key is of this queue's shard.
     fn is_mine(&self, key: &Key) -> bool
         ensures { IsTrue result ↔ (key.now.entry.shard ≡ self.now.shard) }
     {

@@ -10,6 +10,7 @@
 #![tactic(auto)]
 
 mod callers;
+mod entries;
 mod errors;
 mod free_slots;
 mod front;
@@ -17,19 +18,23 @@ mod key_calls;
 pub mod laws;
 mod outcomes;
 mod packed_row;
+mod pieces;
 mod plain;
 mod queue;
 mod readers;
+mod renew;
 pub mod runs;
 mod slots;
 mod sweeps;
 mod vec_words;
 mod words;
 
-pub use errors::{BadNumber, CoreConfig, CoreError};
-pub use outcomes::{Expired, Removed, Tally, Turn};
+pub use entries::{Entries, LiveEntry};
+pub use errors::{BadNumber, CoreConfig, CoreError, ReapError};
+pub use outcomes::{Expired, Piece, Removed, Swept, Tally, Turn};
 pub use plain::{Pending, PlainQueue, PlainTurn};
 pub use queue::DelayCore;
+pub use renew::RenewError;
 pub use slots::{Held, Slots};
-pub use vec_words::{VecWords, shown};
-pub use words::{CallError, Look, Settled, SharedWords, Words};
+pub use vec_words::VecWords;
+pub use words::{CallError, Look, Settled, SharedWords, Words, shown};

@@ -18,6 +18,15 @@ pub struct Expired<T> {
     pub ghost reached: { deadline ≤ noted },
 }
 
+/// What a sweep of some slots answers.
+#[derive(Clone, Copy, Debug, PartialEq, Eq)]
+pub struct Swept {
+    /// How many cancelled entries it reaped.
+    pub reaped: usize,
+    /// The slot to go on from, none behind the last.
+    pub next: Option<usize>,
+}
+
 /// An entry that was removed.
 #[derive(Debug, Drop)]
 pub struct Removed<T> {
@@ -41,6 +50,15 @@ pub enum Turn<T> {
     },
     /// Nothing is linked.
     Idle,
+}
+
+/// What a poll in pieces answers.
+#[derive(Debug, Drop)]
+pub enum Piece<T> {
+    /// The answer of the poll.
+    Answer(Turn<T>),
+    /// The call made all of its steps, and more may be left.
+    Working,
 }
 
 /// What a step of a poll came to.

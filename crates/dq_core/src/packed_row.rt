@@ -2,17 +2,10 @@
 ghost use Rattle.std.specs.Prelude.{◌≡◌, ◌≢◌, ℕ, ◌<◌, ◌≤◌, length, slice_set, replicate, IfOk, MatchOption};
 ghost use Rattle.dq_ticks.specs.declared.TheConstants.{LAST_TICK, LAST_STAMP};
 ghost use Rattle.dq_core.specs.Words.{live, never, word_at};
-ghost use Rattle.dq_core.specs.WordRows.{IsRaised};
 
-use dq_ticks::{LAST_TICK, Parts, pack, unpack};
+use dq_ticks::{Parts, live_at, pack, unpack};
 use std::alloc::{AllocError, Allocator, Global};
 use std::marker::Model;
-
-/// What one mark adds to a word: there are four marks to a stamp.
-const MARK_UNIT: u64 = LAST_TICK + 1;
-
-/// What one stamp adds to a word.
-const STAMP_UNIT: u64 = 4 * MARK_UNIT;
 
 /// A row of words.
 #[derive(Drop)]
@@ -69,41 +62,15 @@ impl<A: Allocator> PackedRow<A> {
         self.words[index] = pack(parts);
     }
 
-    /// Raises the deadline of a word that is live at a stamp to `when`, unless it is later, and answers the deadline that is
-    /// then in force. The words that are live at a stamp are one run of numbers, in the order of their deadlines.
-    #[inline]
-    pub fn raise_live(&mut self, index: usize, stamp: u32, when: u64) -> Option<u64>
-        requires in_range { index < length self.old }
-        requires stamp { stamp ≤ LAST_STAMP }
-        requires when { when ≤ LAST_TICK }
-        ensures { MatchOption result
-            (((d : ℕ) → word_at self.old index ≢ live stamp d) × (self.new ≡ self.old))
-            (λ d. IsRaised self.old index stamp when d self.new) }
-    {
-        let first = u64::from(stamp) * STAMP_UNIT;
-        let deadline = self.words[index].wrapping_sub(first);
-        if deadline > LAST_TICK {
-            return None;
-        }
-        let later = when.max(deadline);
-        self.words[index] = first + later;
-        Some(later)
-    }
-
-    /// The deadline of a word that is live at a stamp: one comparison, since a live mark is 0.
+    /// The deadline of a word that is live at a stamp.
     #[inline]
     pub fn live_at(&self, index: usize, stamp: u32) -> Option<u64>
-        requires { index < length self.now }
+        requires in_range { index < length self.now }
+        requires stamp { stamp ≤ LAST_STAMP }
         ensures { MatchOption result
             ((d : ℕ) → word_at self.now index ≢ live stamp d)
-            (λ d. (word_at self.now index ≡ live stamp d) × (stamp ≤ LAST_STAMP)
-            × (d ≤ LAST_TICK)) }
+            (λ d. (word_at self.now index ≡ live stamp d) × (d ≤ LAST_TICK)) }
     {
-        let word = self.words[index];
-        if word / MARK_UNIT == u64::from(stamp) * 4 {
-            Some(word % MARK_UNIT)
-        } else {
-            None
-        }
+        live_at(self.words[index], stamp)
     }
 }

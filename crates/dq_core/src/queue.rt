@@ -8,9 +8,9 @@ ghost use Rattle.std.specs.Prelude.{◌≡◌, ◌≢◌, ℕ, ◌+◌, ◌<◌,
 ghost use Rattle.std.specs.List.{count_by};
 ghost use Rattle.dq_core.specs.Core.{filing_for};
 ghost use Rattle.dq_core.specs.Slots.{unused, is_held, is_worn, row_at};
-ghost use Rattle.dq_core.specs.Words.{AreFresh};
+ghost use Rattle.dq_core.specs.Words.{AreFresh, StillBegun};
 ghost use Rattle.dq_core.specs.Calls.{IsConfig};
-ghost use Rattle.dq_wheel.specs.State.{fresh_filing};
+ghost use Rattle.dq_wheel.specs.State.{filed_at, fresh_filing};
 
 use crate::errors::{CoreConfig, CoreError};
 use crate::outcomes::{Expired, Progress, Removed, Tally, Turn};
@@ -58,7 +58,7 @@ impl<T, W: Words, A: Allocator> Model for DelayCore<T, W, A> {
         ≡ record { begins = a.inserted; expiries = a.expired; removals = a.removed }) };
 }
 
-/// Whether the numbers of a configuration are in their ranges, and the words are as many as its slots.
+// Whether the numbers of a configuration are in their ranges, and the words are as many as its slots.
 fn is_config(config: &CoreConfig, rows: usize) -> bool
     ensures { IsTrue result ↔ IsConfig config.now.capacity config.now.last_stamp rows }
 {
@@ -69,8 +69,8 @@ fn is_config(config: &CoreConfig, rows: usize) -> bool
         && rows == config.capacity
 }
 
-/// The rows that a queue takes memory for: its wheel and its slots.
-fn rows<T: Drop, A: Allocator + Clone>(
+// The rows that a queue takes memory for: its wheel and its slots.
+fn wheel_and_slots<T: Drop, A: Allocator + Clone>(
     alloc: A,
     capacity: usize,
     last: u32,
@@ -90,14 +90,29 @@ fn rows<T: Drop, A: Allocator + Clone>(
     }
 }
 
-/// Where a deadline is filed at a tick.
+// Where a deadline is filed at a tick.
 #[inline]
-fn filing_tick(tick: u64, deadline: u64) -> u64
+pub(crate) fn filing_tick(tick: u64, deadline: u64) -> u64
     requires tick { tick ≤ LAST_TICK }
     requires deadline { deadline ≤ LAST_TICK }
     ensures { result ≡ filing_for tick deadline }
 {
     deadline.min(tick + REACH)
+}
+
+// The stamp itself, once the wheel read what it will write where it unlinks the index. The word's step takes this stamp, so
+// where it is a fence it waits for these reads together with its own, and not for each behind it.
+#[inline(always)]
+fn once_near<W: Words, A: Allocator>(wheel: &Wheel<A>, index: usize, stamp: u32) -> u32
+    requires index_in { index < length wheel.now.filing.filed }
+    requires linked { filed_at wheel.now.filing.filed index ≢ None }
+    ensures { result ≡ stamp }
+{
+    if W::FENCED {
+        wheel.once_near(index, stamp)
+    } else {
+        stamp
+    }
 }
 
 impl<T: Drop, W: Words + Drop, A: Allocator + Clone> DelayCore<T, W, A> {
@@ -128,7 +143,7 @@ impl<T: Drop, W: Words + Drop, A: Allocator + Clone> DelayCore<T, W, A> {
         if !is_config(&config, words.rows()) {
             return Err((CoreError::BadConfig, words));
         }
-        match rows(alloc, config.capacity, config.last_stamp) {
+        match wheel_and_slots(alloc, config.capacity, config.last_stamp) {
             Ok((wheel, slots)) => Ok(DelayCore {
                 shard: config.shard,
                 noted: 0,
@@ -189,14 +204,22 @@ impl<T: Drop, W: Words, A: Allocator> DelayCore<T, W, A> {
         ensures others { IfOk result (λ k. OthersStay self.old self.new k.entry.index) }
         ensures one_more { OnOk result (linked_in self.new ≡ linked_in self.old + 1) }
 
+        // A slot was free: so Full comes exactly where each is held or worn.
+        ensures room { OnOk result (linked_in self.old
+            + count_by (is_worn self.old.slots.last_stamp) self.old.slots.rows
+            < length self.old.slots.rows) }
+
         // Refused, the value comes back and nothing changes; first, and exactly, beyond the last tick.
         ensures refused { IfErr result (λ e. (e.1 ≡ value) × (self.new ≡ self.old)) }
         ensures too_far { IsErrAnd result (λ e. e.0 ≡ TooFar LAST_TICK) ↔ (LAST_TICK < when) }
 
         // Exactly: a step of the queue machine, and what it leaves of the wheel, the slots and the words.
         ensures inserts { Inserts self.old value when result self.new }
+        ensures begins { IfOk result
+            (λ k. W.begun self.new.words k.entry.index k.stamp (base_for self.old when)) }
         ensures same { SameCore self.old self.new }
-        ensures home { W.home self.new.words ≡ W.home self.old.words }
+        ensures origin { W.origin self.new.words ≡ W.origin self.old.words }
+        ensures begun { StillBegun W.begun self.old.words self.new.words }
     {
         if when > LAST_TICK {
             return Err((CoreError::TooFar { limit: LAST_TICK }, value));
@@ -222,11 +245,12 @@ impl<T: Drop, W: Words, A: Allocator> DelayCore<T, W, A> {
         }
     }
 
-    /// One step of a poll: settles an index that is due, or goes on to a later tick.
+    // One step of a poll: settles an index that is due, or goes on to a later tick.
     #[inline]
     fn step(&mut self) -> Progress<T>
         ensures same { SameCore self.old self.new }
-        ensures home { W.home self.new.words ≡ W.home self.old.words }
+        ensures origin { W.origin self.new.words ≡ W.origin self.old.words }
+        ensures begun { StillBegun W.begun self.old.words self.new.words }
         ensures noted { self.new.noted ≡ self.old.noted }
         ensures progress { IsProgress W.shared self.old result self.new }
     {
@@ -275,8 +299,8 @@ impl<T: Drop, W: Words, A: Allocator> DelayCore<T, W, A> {
         self.wheel.next_wake()
     }
 
-    /// Notes a tick.
-    fn note(&mut self, tick: u64)
+    // Notes a tick.
+    pub(crate) fn note(&mut self, tick: u64)
         requires { tick ≤ LAST_TICK }
         ensures { self.new ≡ noting self.old tick }
     {
@@ -307,7 +331,8 @@ impl<T: Drop, W: Words, A: Allocator> DelayCore<T, W, A> {
         // Exactly: a run of the queue machine, and the way of the wheel and of the words.
         ensures polls { Polls W.shared self.old tick result self.new }
         ensures same { SameCore self.old self.new }
-        ensures home { W.home self.new.words ≡ W.home self.old.words }
+        ensures origin { W.origin self.new.words ≡ W.origin self.old.words }
+        ensures begun { StillBegun W.begun self.old.words self.new.words }
     {
         if tick > LAST_TICK {
             return Err(CoreError::TickTooLarge { limit: LAST_TICK });
@@ -347,7 +372,7 @@ impl<T: Drop, W: Words, A: Allocator> DelayCore<T, W, A> {
         self.slots.capacity()
     }
 
-    /// Where an entry is held, none where it is missing.
+    // Where an entry is held, none where it is missing.
     #[inline]
     pub(crate) fn find(&self, entry: &EntryId) -> Option<usize>
         ensures { IsFind self.now entry.now result }
@@ -384,7 +409,8 @@ impl<T: Drop, W: Words, A: Allocator> DelayCore<T, W, A> {
         // Exactly: what is known after it, and all else as it was.
         ensures tells { TellsDeadline W.shared self.old entry.now result self.new }
         ensures same { SameCore self.old self.new }
-        ensures home { W.home self.new.words ≡ W.home self.old.words }
+        ensures origin { W.origin self.new.words ≡ W.origin self.old.words }
+        ensures begun { StillBegun W.begun self.old.words self.new.words }
     {
         let Some(index) = self.find(entry) else {
             return Err(CoreError::Missing);
@@ -413,12 +439,13 @@ impl<T: Drop, W: Words, A: Allocator> DelayCore<T, W, A> {
         // Exactly: a step of the queue machine, and what it leaves of the wheel, the slots and the words.
         ensures removes { Removes W.shared self.old entry.now result self.new }
         ensures same { SameCore self.old self.new }
-        ensures home { W.home self.new.words ≡ W.home self.old.words }
+        ensures origin { W.origin self.new.words ≡ W.origin self.old.words }
+        ensures begun { StillBegun W.begun self.old.words self.new.words }
     {
         let Some(index) = self.find(entry) else {
             return Err(CoreError::Missing);
         };
-        let stamp = self.slots.stamp(index);
+        let stamp = once_near::<W, A>(&self.wheel, index, self.slots.stamp(index));
         let Some(deadline) = self.words.finish(index, stamp) else {
             return Err(CoreError::WasCancelled);
         };
@@ -451,7 +478,8 @@ impl<T: Drop, W: Words, A: Allocator> DelayCore<T, W, A> {
         // Exactly: a step of the queue machine, and what it leaves of the wheel, the slots and the words.
         ensures resets { Resets W.shared self.old entry.now when result self.new }
         ensures same { SameCore self.old self.new }
-        ensures home { W.home self.new.words ≡ W.home self.old.words }
+        ensures origin { W.origin self.new.words ≡ W.origin self.old.words }
+        ensures begun { StillBegun W.begun self.old.words self.new.words }
     {
         if when > LAST_TICK {
             return Err(CoreError::TooFar { limit: LAST_TICK });
@@ -459,7 +487,7 @@ impl<T: Drop, W: Words, A: Allocator> DelayCore<T, W, A> {
         let Some(index) = self.find(entry) else {
             return Err(CoreError::Missing);
         };
-        let stamp = self.slots.stamp(index);
+        let stamp = once_near::<W, A>(&self.wheel, index, self.slots.stamp(index));
         if stamp == self.slots.last() {
             self.deadline(entry)?;
             return Err(CoreError::Worn);

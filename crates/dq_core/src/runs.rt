@@ -11,7 +11,8 @@ ghost use Rattle.dq_core.specs.Runs.{StampsNeverFall, ValuesStay};
 ghost use Rattle.dq_core.specs.RunsOfCalls.{CallsAreRuns, NoBirthIsAhead};
 
 /// Each call that changes a queue is a run from the machine before it to the machine after it, also where the call is
-/// refused. On a poll's run the entry that it gives expires, and no other. On any other call's run none does.
+/// refused. On the run of a poll, or of a piece of one, the entry that it gives expires, and no other. On any other call's
+/// run none does.
 pub fn calls_are_runs<T, W>()
     ensures { CallsAreRuns T W }
 {}

@@ -2,8 +2,8 @@
 //!
 //! A slot has a stamp, at first 0, which rises by one with each value that is put there and with each reset of what is
 //! held there. A slot that holds nothing at the last stamp is worn: it is never used again. All the memory is taken by
-//! `new`, and every other call is of constant time.
-ghost use Rattle.std.specs.Prelude.{◌≡◌, ℕ, ◌+◌, ◌<◌, ◌≤◌, ◌^◌, length, replicate, IfOk, Some, true};
+//! `new`. Every other call is of constant time but `forget`, which goes over every slot.
+ghost use Rattle.std.specs.Prelude.{◌≡◌, ℕ, ◌+◌, ◌<◌, ◌≤◌, ◌^◌, length, replicate, IfOk, MatchOption, Some, None, true, false};
 ghost use Rattle.std.specs.List.{count_by};
 
 use crate::free_slots::FreeSlots;
@@ -75,6 +75,17 @@ impl<T: Drop> Cell<T> {
     }
 
     #[inline]
+    fn held(&self) -> Option<(u32, &T)>
+        ensures { MatchOption result (self.now.held ≡ None)
+            (λ h. self.now.held ≡ Some (record { born = h.0; value = h.1.now })) }
+    {
+        match &self.value {
+            Some(value) => Some((self.born, value)),
+            None => None,
+        }
+    }
+
+    #[inline]
     fn fill(&mut self, value: T)
         requires { self.old.stamp + 1 < 2 ^ 32 }
         ensures { self.new ≡ filled_row self.old value }
@@ -110,9 +121,9 @@ impl<T: Drop> Cell<T> {
 #[derive(Drop)]
 pub struct Slots<T, A: Allocator = Global> {
     last: u32,
-    taken: usize,
+    held_count: usize,
     /// How many slots are free.
-    spare: usize,
+    free_count: usize,
     cells: Vec<Cell<T>, A>,
     free: FreeSlots<A>,
 }
@@ -125,7 +136,7 @@ impl<T, A: Allocator> Model for Slots<T, A> {
 
     ghost view = { λ a. record { last_stamp = a.last; rows = a.cells.items } };
 
-    ghost invariant = { λ a. IsSlotRowsKept a.last a.cells.items a.free a.taken a.spare };
+    ghost invariant = { λ a. IsSlotRowsKept a.last a.cells.items a.free a.held_count a.free_count };
 }
 
 impl<T: Drop, A: Allocator + Clone> Slots<T, A> {
@@ -148,8 +159,8 @@ impl<T: Drop, A: Allocator + Clone> Slots<T, A> {
         }
         Ok(Slots {
             last,
-            taken: 0,
-            spare: capacity,
+            held_count: 0,
+            free_count: capacity,
             cells,
             free,
         })
@@ -158,6 +169,7 @@ impl<T: Drop, A: Allocator + Clone> Slots<T, A> {
 
 impl<T: Drop, A: Allocator> Slots<T, A> {
     ghost use Rattle.dq_core.specs.Slots.{SlotRows, row_at, is_free, is_held, is_worn, vacated, raised, unused, IsBorn, IsFilled, IsSlotRows};
+    ghost use Rattle.dq_core.specs.Renewals.{forgotten, never_used};
 
     /// The row is in good order.
     pub fn law(&self)
@@ -179,7 +191,7 @@ impl<T: Drop, A: Allocator> Slots<T, A> {
     pub fn linked(&self) -> usize
         ensures { result ≡ count_by is_held self.now.rows }
     {
-        self.taken
+        self.held_count
     }
 
     /// How many slots are worn: they hold nothing and have no stamp left.
@@ -187,7 +199,7 @@ impl<T: Drop, A: Allocator> Slots<T, A> {
     pub fn worn(&self) -> usize
         ensures { result ≡ count_by (is_worn self.now.last_stamp) self.now.rows }
     {
-        self.cells.len() - self.taken - self.spare
+        self.cells.len() - self.held_count - self.free_count
     }
 
     /// The last stamp.
@@ -228,6 +240,18 @@ impl<T: Drop, A: Allocator> Slots<T, A> {
         cell.born()
     }
 
+    /// What a slot holds: its birth stamp, and a reference to the value.
+    #[inline]
+    pub fn held(&self, index: usize) -> Option<(u32, &T)>
+        requires { index < length self.now.rows }
+        ensures { MatchOption result ((row_at self.now.rows index).held ≡ None)
+            (λ h. (row_at self.now.rows index).held
+            ≡ Some (record { born = h.0; value = h.1.now })) }
+    {
+        let cell = &self.cells[index];
+        cell.held()
+    }
+
     /// Puts a value into a free slot, under that slot's next stamp, and answers its index; hands the value back where no
     /// slot is free.
     #[inline]
@@ -239,8 +263,8 @@ impl<T: Drop, A: Allocator> Slots<T, A> {
         };
         let cell = &mut self.cells[index];
         cell.fill(value);
-        self.taken += 1;
-        self.spare -= 1;
+        self.held_count += 1;
+        self.free_count -= 1;
         Ok(index)
     }
 
@@ -255,9 +279,9 @@ impl<T: Drop, A: Allocator> Slots<T, A> {
         let held = cell.vacate();
         if cell.stamp() < self.last {
             self.free.give(index);
-            self.spare += 1;
+            self.free_count += 1;
         }
-        self.taken -= 1;
+        self.held_count -= 1;
         held
     }
 
@@ -270,5 +294,30 @@ impl<T: Drop, A: Allocator> Slots<T, A> {
     {
         let cell = &mut self.cells[index];
         cell.raise();
+    }
+
+    // Makes a slot that holds nothing as if it had never been used.
+    fn forget_at(&mut self, index: usize)
+        requires in_range { index < length self.old.rows }
+        requires empty { is_held (row_at self.old.rows index) ≡ false }
+        ensures { self.new ≡ forgotten self.old index }
+    {
+        let cell = &mut self.cells[index];
+        let was_worn = cell.stamp() >= self.last;
+        *cell = Cell::unused();
+        if was_worn {
+            self.free.set(index);
+            self.free_count += 1;
+        }
+    }
+
+    /// Makes each slot of a row that holds nothing as if it had never been used. It goes over every slot.
+    pub fn forget(&mut self)
+        requires { count_by is_held self.old.rows ≡ 0 }
+        ensures { self.new ≡ never_used self.old }
+    {
+        for index in 0..self.cells.len() {
+            self.forget_at(index);
+        }
     }
 }

@@ -1,13 +1,13 @@
 //! A plain row of words, for a queue that nobody shares.
 
 ghost use Rattle.std.specs.Prelude.{◌≡◌, ℕ, ◌+◌, ◌<◌, ◌≤◌, length, slice_set, replicate, false, max, MatchOption, MatchResult, Ok};
-ghost use Rattle.dq_core.specs.Words.{Counts, word_at, look_by};
+ghost use Rattle.dq_core.specs.Words.{Counts, word_at};
 ghost use Rattle.dq_core.specs.WordRows.{IsMadeRow, IsWordRow, IsNamed, IsCallable, CallRefused, IsExtend, IsCancel, IsLook};
 ghost use Rattle.dq_ticks.specs.declared.TheConstants.{LAST_STAMP, LAST_TICK};
 
 use crate::errors::CoreError;
 use crate::packed_row::PackedRow;
-use crate::words::{CallError, Look, Settled, Words};
+use crate::words::{CallError, Look, Settled, Words, shown};
 use dq_ticks::{CAPACITY_LIMIT, Key, LAST_STAMP, LAST_TICK, Mark, Parts};
 use std::alloc::{Allocator, Global};
 use std::marker::Model;
@@ -52,7 +52,16 @@ impl<A: Allocator> VecWords<A> {
         })
     }
 
-    /// The word that a key names, where the key's stamp is its stamp.
+    // A word.
+    #[inline]
+    pub(crate) fn word(&self, index: usize) -> Parts
+        requires { index < length self.now.known }
+        ensures { result ≡ word_at self.now.known index }
+    {
+        self.row.get(index)
+    }
+
+    // The word that a key names, where the key's stamp is its stamp.
     #[inline]
     fn named(&self, key: &Key) -> Result<Parts, CallError>
         ensures { IsNamed self.now.known key.now result }
@@ -71,7 +80,7 @@ impl<A: Allocator> VecWords<A> {
         Ok(word)
     }
 
-    /// The deadline of the word that a key names, where it is live at the key's stamp.
+    // The deadline of the word that a key names, where it is live at the key's stamp.
     #[inline]
     fn live_by(&self, key: &Key) -> Option<u64>
         ensures { MatchOption result
@@ -81,29 +90,14 @@ impl<A: Allocator> VecWords<A> {
             × (key.now.stamp ≤ LAST_STAMP) × (d ≤ LAST_TICK)) }
     {
         let index = key.entry().index() as usize;
-        if index >= self.row.len() || key.stamp() == 0 {
-            return None;
-        }
-        self.row.live_at(index, key.stamp())
-    }
-
-    /// Raises the deadline of the word that a key names, where it is live at the key's stamp.
-    #[inline]
-    fn raised(&mut self, key: &Key, when: u64) -> Option<u64>
-        requires { when ≤ LAST_TICK }
-        ensures { MatchOption result
-            ((¬ IsCallable self.old.known key.now) × (self.new ≡ self.old))
-            (λ d. IsExtend self.old key.now when (Ok d) self.new) }
-    {
-        let index = key.entry().index() as usize;
         let stamp = key.stamp();
         if index >= self.row.len() || stamp == 0 || stamp > LAST_STAMP {
             return None;
         }
-        self.row.raise_live(index, stamp, when)
+        self.row.live_at(index, stamp)
     }
 
-    /// Why a call by a key is refused.
+    // Why a call by a key is refused.
     fn refusal(&self, key: &Key) -> CallError
         requires { ¬ IsCallable self.now.known key.now }
         ensures { CallRefused self.now.known key.now result }
@@ -124,10 +118,19 @@ impl<A: Allocator> VecWords<A> {
         if when > LAST_TICK {
             return Err(CallError::TooFar { limit: LAST_TICK });
         }
-        match self.raised(key, when) {
-            Some(deadline) => Ok(deadline),
-            None => Err(self.refusal(key)),
-        }
+        let Some(deadline) = self.live_by(key) else {
+            return Err(self.refusal(key));
+        };
+        let later = when.max(deadline);
+        self.row.set(
+            key.entry().index() as usize,
+            Parts {
+                stamp: key.stamp(),
+                mark: Mark::LiveMark,
+                field: later,
+            },
+        );
+        Ok(later)
     }
 
     /// Cancels a live word, and answers the deadline that is given up.
@@ -158,18 +161,6 @@ impl<A: Allocator> VecWords<A> {
     }
 }
 
-/// What a mark and a field show.
-pub fn shown(mark: Mark, field: u64) -> Look
-    ensures { result ≡ look_by mark field }
-{
-    match mark {
-        Mark::LiveMark => Look::StillLive(field),
-        Mark::CancelledMark => Look::LookCancelled,
-        Mark::ExpiredMark => Look::LookExpired(field),
-        Mark::RemovedMark => Look::LookRemoved(field),
-    }
-}
-
 impl<A: Allocator> Words for VecWords<A> {
     ghost known = { λ w. w.known };
 
@@ -179,9 +170,13 @@ impl<A: Allocator> Words for VecWords<A> {
 
     ghost keeps = { λ w. IsWordRow w.known w.counts };
 
-    ghost Home = { Unit {0} };
+    ghost Origin = { Unit {0} };
 
-    ghost home = { λ w. tt };
+    ghost origin = { λ w. tt };
+
+    ghost begun = { λ w i s d. Unit {0} };
+
+    const FENCED: bool = false;
 
     fn law(&self) {
         let _ = &self.row;

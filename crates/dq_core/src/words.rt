@@ -6,9 +6,9 @@
 
 ghost use Rattle.std.specs.Prelude.{◌≡◌, ℕ, ◌+◌, ◌<◌, ◌≤◌, length, slice_set, List, Bool, Result, IfOk};
 ghost use Rattle.dq_ticks.specs.declared.words.Parts.{Parts};
-ghost use Rattle.dq_core.specs.Words.{Counts, live, removed, word_at, IsOver, IsInForce, Learned, IsSettled, IsChanged, begun_counts, settled_counts, finished_counts};
+ghost use Rattle.dq_core.specs.Words.{Counts, live, removed, word_at, IsOver, IsInForce, Learned, IsSettled, IsChanged, begun_counts, settled_counts, finished_counts, StillBegun, look_by};
 
-use dq_ticks::{LAST_STAMP, LAST_TICK, Parts};
+use dq_ticks::{LAST_STAMP, LAST_TICK, Mark, Parts};
 use std::fmt;
 use thiserror::Error;
 
@@ -34,6 +34,18 @@ pub enum Look {
     LookExpired(u64),
     /// The entry was removed while this deadline was in force.
     LookRemoved(u64),
+}
+
+/// What a mark and a field show.
+pub fn shown(mark: Mark, field: u64) -> Look
+    ensures { result ≡ look_by mark field }
+{
+    match mark {
+        Mark::LiveMark => Look::StillLive(field),
+        Mark::CancelledMark => Look::LookCancelled,
+        Mark::ExpiredMark => Look::LookExpired(field),
+        Mark::RemovedMark => Look::LookRemoved(field),
+    }
 }
 
 impl fmt::Display for Look {
@@ -82,10 +94,16 @@ pub trait Words {
     ghost keeps: { Self → Type 0 };
 
     /// What tells one row of words from another.
-    ghost Home: { Type 0 };
+    ghost Origin: { Type 0 };
 
     /// Which row of words it is: no call changes that.
-    ghost home: { Self → Home };
+    ghost origin: { Self → Origin };
+
+    /// What its keeper has begun: a slot, a stamp and a deadline. No call takes that back.
+    ghost begun: { Self → ℕ → ℕ → ℕ → Type 0 };
+
+    /// Whether a step of a word is a fence, behind which every later read waits: so it is where others may change the words.
+    const FENCED: bool = true;
 
     /// What its keeper keeps.
     fn law(&self)
@@ -104,7 +122,9 @@ pub trait Words {
         requires tick { when ≤ LAST_TICK }
         ensures known { known self.new ≡ slice_set (known self.old) index (live stamp when) }
         ensures counts { counts self.new ≡ begun_counts (counts self.old) }
-        ensures home { home self.new ≡ home self.old };
+        ensures begins { begun self.new index stamp when }
+        ensures origin { origin self.new ≡ origin self.old }
+        ensures begun { StillBegun begun self.old self.new };
 
     /// Looks at a word.
     fn look(&mut self, index: usize) -> Parts
@@ -112,7 +132,8 @@ pub trait Words {
         ensures learned { Learned shared (word_at (known self.old) index) result }
         ensures known { known self.new ≡ slice_set (known self.old) index result }
         ensures counts { counts self.new ≡ counts self.old }
-        ensures home { home self.new ≡ home self.old };
+        ensures origin { origin self.new ≡ origin self.old }
+        ensures begun { StillBegun begun self.old self.new };
 
     /// Ends a word that is live at exactly `at` as expired, or tells the later deadline or the cancellation that it found.
     fn settle(&mut self, index: usize, stamp: u32, at: u64) -> Settled
@@ -125,7 +146,8 @@ pub trait Words {
         ensures known { known self.new
             ≡ slice_set (known self.old) index (word_at (known self.new) index) }
         ensures counts { counts self.new ≡ settled_counts (counts self.old) result }
-        ensures home { home self.new ≡ home self.old };
+        ensures origin { origin self.new ≡ origin self.old }
+        ensures begun { StillBegun begun self.old self.new };
 
     /// Makes a live word live at the next stamp and at a deadline, and answers the deadline that was in force;
     /// None for a word that was cancelled, which stays.
@@ -139,7 +161,8 @@ pub trait Words {
         ensures known { known self.new
             ≡ slice_set (known self.old) index (word_at (known self.new) index) }
         ensures counts { counts self.new ≡ counts self.old }
-        ensures home { home self.new ≡ home self.old };
+        ensures origin { origin self.new ≡ origin self.old }
+        ensures begun { StillBegun begun self.old self.new };
 
     /// Makes a live word removed, and answers the deadline that was in force; None for a word that was cancelled,
     /// which stays.
@@ -152,7 +175,8 @@ pub trait Words {
         ensures known { known self.new
             ≡ slice_set (known self.old) index (word_at (known self.new) index) }
         ensures counts { counts self.new ≡ finished_counts (counts self.old) result }
-        ensures home { home self.new ≡ home self.old };
+        ensures origin { origin self.new ≡ origin self.old }
+        ensures begun { StillBegun begun self.old self.new };
 }
 
 /// Words whose callers are issued and given back.
@@ -180,21 +204,24 @@ pub trait SharedWords: Words {
         ensures issued { issues self.old result self.new }
         ensures same { (Self.known self.new ≡ Self.known self.old)
             × (Self.counts self.new ≡ Self.counts self.old) }
-        ensures home { Self.home self.new ≡ Self.home self.old };
+        ensures origin { Self.origin self.new ≡ Self.origin self.old }
+        ensures begun { StillBegun Self.begun self.old self.new };
 
     /// The issued callers that are not given back.
     fn out(&mut self) -> u64
         ensures told { tells self.old result self.new }
         ensures same { (Self.known self.new ≡ Self.known self.old)
             × (Self.counts self.new ≡ Self.counts self.old) }
-        ensures home { Self.home self.new ≡ Self.home self.old };
+        ensures origin { Self.origin self.new ≡ Self.origin self.old }
+        ensures begun { StillBegun Self.begun self.old self.new };
 
     /// The accepted cancels of all callers, where none is out; else the number of callers that are out.
     fn returned(&mut self) -> Result<u64, u64>
         ensures returned { returns self.old result self.new }
         ensures same { (Self.known self.new ≡ Self.known self.old)
             × (Self.counts self.new ≡ Self.counts self.old) }
-        ensures home { Self.home self.new ≡ Self.home self.old }
+        ensures origin { Self.origin self.new ≡ Self.origin self.old }
+        ensures begun { StillBegun Self.begun self.old self.new }
         ensures audit { IfOk result (λ c. audited self.new c
             × ((Self.counts self.new).expiries + (Self.counts self.new).removals + c
             ≤ (Self.counts self.new).begins)) };

@@ -12,6 +12,8 @@ use std::marker::Model;
 /// The place of a caller. It is made before its caller is issued, so that an issue needs no memory.
 #[derive(Drop)]
 pub struct Seat {
+    /// The number of the queue that issued it, which the keys carry that it is to be handed.
+    pub shard: u32,
     /// The caller, once it is issued.
     pub caller: Option<Caller>,
 }
@@ -40,7 +42,7 @@ impl CallerPart {
         }
     }
 
-    /// What the handle owns.
+    // What the handle owns.
     pub(crate) fn of(handle: HeapHandle<Seat, Global>) -> CallerPart
         ensures { result.value ≡ Some handle.value }
     {
@@ -51,7 +53,7 @@ impl CallerPart {
         }
     }
 
-    /// What it owns.
+    // What it owns.
     pub(crate) fn into_handle(self) -> HeapHandle<Seat, Global>
         requires { IsSome self.value }
         ensures { Some result.value ≡ self.value }

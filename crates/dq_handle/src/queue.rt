@@ -41,7 +41,7 @@ impl QueuePart {
         }
     }
 
-    /// What the handle owns.
+    // What the handle owns.
     pub(crate) fn of(handle: HeapHandle<Queue, Global>) -> QueuePart
         ensures { result.value ≡ Some handle.value }
     {
@@ -52,7 +52,7 @@ impl QueuePart {
         }
     }
 
-    /// What it owns.
+    // What it owns.
     pub(crate) fn into_handle(self) -> HeapHandle<Queue, Global>
         requires { IsSome self.value }
         ensures { Some result.value ≡ self.value }

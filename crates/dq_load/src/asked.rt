@@ -1,7 +1,8 @@
 //! What the command line asks for.
 
 use crate::load::Row;
-use crate::shards::Call;
+use crate::longest::Touched;
+use crate::shards::{Call, Route};
 use dq_shards::SHARD_LIMIT;
 use std::fmt;
 
@@ -32,15 +33,24 @@ pub const CALLS: [(&str, Call); 7] = [
     ("poll-burst", Call::PollBurst),
 ];
 
-/// The words of a command that names no peer.
+/// The rows of the longest call.
+pub const LONGEST: [(&str, Touched); 3] = [
+    ("longest-extend", Touched::Extend),
+    ("longest-reset", Touched::Reset),
+    ("longest-cancel", Touched::Cancel),
+];
+
+// The words of a command that names no peer.
 const COMMAND: usize = 5;
 
-/// What is timed: a row of one owner, the callers, or a row of the shared queue with its number of shards.
+/// What is timed: a row of one owner, the calls of a row one by one, the callers, or a row of the shared queue with its
+/// number of shards.
 #[derive(Clone, Copy, Debug, PartialEq, Eq)]
 pub enum Timed {
     Owned(Row),
+    Longest(Touched),
     Callers,
-    Shards(Call, usize),
+    Shards(Call, Route, usize),
 }
 
 /// One command.
@@ -79,9 +89,9 @@ impl<'a> Asked<'a> {
             return None;
         }
         let entries = number(entries.as_str(), 65_536)?;
-        let threads = number(threads.as_str(), timed.most_threads())?;
+        let threads = number(threads.as_str(), 64)?;
         let rounds = number(rounds.as_str(), 1_000)?;
-        if time.as_str() != "time" {
+        if time.as_str() != "time" || !timed.takes(threads) {
             return None;
         }
         Some(Asked {
@@ -104,24 +114,27 @@ impl<'a> Asked<'a> {
 }
 
 impl Timed {
-    fn most_threads(self) -> u64 {
+    // Whether so many threads may call.
+    fn takes(self, threads: u64) -> bool {
         match self {
-            Timed::Owned(_) => 1,
-            Timed::Callers | Timed::Shards(..) => 64,
+            Timed::Owned(_) | Timed::Longest(_) => threads == 1,
+            Timed::Callers | Timed::Shards(_, Route::Drawn, _) => true,
+            Timed::Shards(_, Route::Own, shards) => threads == shards as u64,
         }
     }
 
-    /// The queues that are timed here.
+    // The queues that are timed here.
     fn peers(self) -> &'static [&'static str] {
         match self {
             Timed::Owned(_) => &["ours-owned", "ours", "kit-wheel", "kit-delay-queue"],
+            Timed::Longest(_) => &["ours-owned", "ours", "ours-shards"],
             Timed::Callers => &["ours"],
             Timed::Shards(..) => &["ours-shards"],
         }
     }
 }
 
-/// A number from 1 to `most`.
+// A number from 1 to `most`.
 fn number(text: &str, most: u64) -> Option<u64> {
     match text.parse::<u64>() {
         Ok(number) if 0 < number && number <= most => Some(number),
@@ -134,8 +147,16 @@ fn row_of(name: &str) -> Option<Timed> {
         return Some(Timed::Callers);
     }
     if let Some((call, shards)) = name.split_once('/') {
-        let shards = number(shards, SHARD_LIMIT as u64)?;
-        return Some(Timed::Shards(call_of(call)?, shards as usize));
+        let shards = number(shards, SHARD_LIMIT as u64)? as usize;
+        return match call.strip_prefix("own-") {
+            Some(call) => owned_call_of(call, shards),
+            None => Some(Timed::Shards(call_of(call)?, Route::Drawn, shards)),
+        };
+    }
+    for (known, touched) in LONGEST {
+        if known == name {
+            return Some(Timed::Longest(touched));
+        }
     }
     for (known, row) in ROWS {
         if known == name {
@@ -152,4 +173,13 @@ fn call_of(name: &str) -> Option<Call> {
         }
     }
     None
+}
+
+// A row in which each thread has a shard of its own.
+fn owned_call_of(name: &str, shards: usize) -> Option<Timed> {
+    let call = call_of(name)?;
+    if !call.is_by_name() {
+        return None;
+    }
+    Some(Timed::Shards(call, Route::Own, shards))
 }

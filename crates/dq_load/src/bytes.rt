@@ -8,15 +8,15 @@ use linked_list_allocator::LocalHeap;
 use std::alloc::Global;
 use std::mem::size_of;
 
-/// Two numbers of slots, far enough apart that what does not grow with them is lost in the division.
+// Two numbers of slots, far enough apart that what does not grow with them is lost in the division.
 const FEW: usize = 1_024;
 
 const MANY: usize = 17_408;
 
-/// Room for the greater queue.
+// Room for the greater queue.
 const ROOM: usize = 4 << 20;
 
-/// What the value of a slot takes: a number, or none.
+// What the value of a slot takes: a number, or none.
 const VALUE: usize = size_of::<Option<u64>>();
 
 /// The bytes that each slot of the queue with shared words takes beside its value.

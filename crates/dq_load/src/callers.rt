@@ -41,7 +41,7 @@ impl<Q: Issues> Load<Q> {
         Ok(self.sample)
     }
 
-    /// The times of all callers together, in nanoseconds.
+    // The times of all callers together, in nanoseconds.
     fn beside_keeper<R>(&mut self, rt: &R, lists: Vec<Vec<Key>>, later: u64) -> Result<u64>
     where
         R: Clock + Threads + Wait + Clone + Drop + Send + 'static,
@@ -80,7 +80,7 @@ impl<Q: Issues> Load<Q> {
     }
 }
 
-/// Goes over a caller's list, each time to later deadlines, and gives the nanoseconds that it took.
+// Goes over a caller's list, each time to later deadlines, and gives the nanoseconds that it took.
 fn extend_list(rt: &impl Clock, caller: Caller, list: &[Key], later: u64) -> Result<u64> {
     let mut caller = caller;
     let mut when = later;

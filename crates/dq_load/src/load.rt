@@ -27,12 +27,12 @@ pub enum Row {
 }
 
 impl Row {
-    /// Whether a round is one pass, which is long.
+    // Whether a round is one pass, which is long.
     fn is_long(self) -> bool {
         matches!(self, Row::Mixed | Row::Churn | Row::Heartbeat)
     }
 
-    /// Whether what the calls leave behind is polled for within the time.
+    // Whether what the calls leave behind is polled for within the time.
     fn polls_after(self) -> bool {
         matches!(self, Row::InsertPoll | Row::ResetPoll | Row::RemovePoll)
     }
@@ -125,14 +125,14 @@ impl<Q: Queue> Load<Q> {
         Ok(chosen)
     }
 
-    /// Fills the queue, and gives the keys in a shuffled order.
+    // Fills the queue, and gives the keys in a shuffled order.
     fn fill_shuffled(&mut self) -> Result<Vec<Key>> {
         let keys = self.fill()?;
         let order = self.draws.shuffled(self.alloc, self.entries)?;
         self.keys_at(keys.as_slice(), order.as_slice())
     }
 
-    /// Polls at a tick until nothing is given.
+    // Polls at a tick until nothing is given.
     fn poll_all(&mut self, tick: u64) -> Result<()> {
         let (mut outs, mut values) = (0u64, 0u64);
         for _ in 0..=self.entries {
@@ -148,14 +148,14 @@ impl<Q: Queue> Load<Q> {
         Ok(())
     }
 
-    /// Polls at a tick until nothing is given, and adds the time to that of the calls before.
+    // Polls at a tick until nothing is given, and adds the time to that of the calls before.
     fn poll_within(&mut self, rt: &impl Clock, tick: u64) -> Result<()> {
         let since = Instant::now(rt)?;
         self.poll_all(tick)?;
         self.spend(rt, since, 0)
     }
 
-    /// Resets the entry of a key, and keeps the new key. An error of its own keeps the timed loops short.
+    // Resets the entry of a key, and keeps the new key. An error of its own keeps the timed loops short.
     #[inline(always)]
     fn reset_at(&mut self, keys: &mut [Key], index: usize, deadline: u64) -> Result<(), Refusal> {
         let key = keys.get_mut(index).ok_or(Refusal::NoEntry)?;
@@ -163,7 +163,7 @@ impl<Q: Queue> Load<Q> {
         Ok(())
     }
 
-    /// Removes the entry of a key, inserts another in its place, and gives the value that was removed.
+    // Removes the entry of a key, inserts another in its place, and gives the value that was removed.
     #[inline(always)]
     fn replace_at(
         &mut self,
@@ -217,7 +217,7 @@ impl<Q: Queue> Load<Q> {
         Ok(())
     }
 
-    /// Counts extends and the deadlines that they answered, from the start of the pass.
+    // Counts extends and the deadlines that they answered, from the start of the pass.
     fn count_extends(&mut self, extends: usize, deadlines: u64) {
         let extends = extends as u64;
         let counts = &mut self.sample.counts;
@@ -263,7 +263,7 @@ impl<Q: Queue> Load<Q> {
         Ok(())
     }
 
-    /// Cancels every entry, and polls once past all deadlines, which reaps what is still filed.
+    // Cancels every entry, and polls once past all deadlines, which reaps what is still filed.
     fn cancel(&mut self, rt: &impl Clock) -> Result<()> {
         let ended = self.fill_shuffled()?;
         let tick = self.now.wrapping_add(IDLE);
@@ -281,7 +281,7 @@ impl<Q: Queue> Load<Q> {
         self.spend(rt, since, keys.len())
     }
 
-    /// For each place in a beat, the ticks from the start of the beat.
+    // For each place in a beat, the ticks from the start of the beat.
     fn steps(&self) -> Result<Vec<u64>> {
         let mut steps = Vec::with_capacity(self.alloc, self.entries)?;
         for place in 0..self.entries {
@@ -291,8 +291,8 @@ impl<Q: Queue> Load<Q> {
         Ok(steps)
     }
 
-    /// Idle timeouts: the sessions begin in one beat, each is touched once in each of the beats after it, and then most
-    /// are cancelled and the others expire.
+    // Idle timeouts: the sessions begin in one beat, each is touched once in each of the beats after it, and then most
+    // are cancelled and the others expire.
     fn mixed(&mut self, rt: &impl Clock) -> Result<()> {
         let steps = self.steps()?;
         let keys = self.begin(rt, steps.as_slice())?;
@@ -310,7 +310,7 @@ impl<Q: Queue> Load<Q> {
         self.spend(rt, since, self.entries)
     }
 
-    /// Begins a session at each step, to expire by the idle limit.
+    // Begins a session at each step, to expire by the idle limit.
     fn begin(&mut self, rt: &impl Clock, steps: &[u64]) -> Result<Vec<Key>> {
         let mut begun = Vec::with_capacity(self.alloc, steps.len())?;
         for step in steps {
@@ -322,8 +322,8 @@ impl<Q: Queue> Load<Q> {
         Ok(keys)
     }
 
-    /// Requests with a time limit: in each beat each ends in a fresh order, and another begins at once in its place. The
-    /// limits that are drawn lie past the next beat, so none expires before it ends. At last all expire.
+    // Requests with a time limit: in each beat each ends in a fresh order, and another begins at once in its place. The
+    // limits that are drawn lie past the next beat, so none expires before it ends. At last all expire.
     fn churn(&mut self, rt: &impl Clock) -> Result<()> {
         let steps = self.steps()?;
         let mut keys = self.begin(rt, steps.as_slice())?;
@@ -333,7 +333,7 @@ impl<Q: Queue> Load<Q> {
         self.poll_within(rt, self.now.wrapping_add(HEARTBEATS * BEAT + 2 * IDLE))
     }
 
-    /// Every request ends, another begins in its place, and then the queue is polled.
+    // Every request ends, another begins in its place, and then the queue is polled.
     fn churn_beat(
         &mut self,
         rt: &impl Clock,
@@ -362,7 +362,7 @@ impl<Q: Queue> Load<Q> {
         Ok(())
     }
 
-    /// Heartbeats: each session is touched in each beat by a reset, in a fresh order. At last all expire.
+    // Heartbeats: each session is touched in each beat by a reset, in a fresh order. At last all expire.
     fn heartbeat(&mut self, rt: &impl Clock) -> Result<()> {
         let steps = self.steps()?;
         let mut keys = self.begin(rt, steps.as_slice())?;
@@ -372,7 +372,7 @@ impl<Q: Queue> Load<Q> {
         self.poll_within(rt, self.now.wrapping_add(HEARTBEATS * BEAT + 2 * IDLE))
     }
 
-    /// Every session is reset once, and then the queue is polled.
+    // Every session is reset once, and then the queue is polled.
     fn heart_beat(
         &mut self,
         rt: &impl Clock,
@@ -394,7 +394,7 @@ impl<Q: Queue> Load<Q> {
         Ok(())
     }
 
-    /// Every session is touched once, in a fresh order, and then the queue is polled.
+    // Every session is touched once, in a fresh order, and then the queue is polled.
     fn beat(&mut self, rt: &impl Clock, keys: &[Key], steps: &[u64], begin: u64) -> Result<()> {
         let order = self.draws.shuffled(self.alloc, self.entries)?;
         let touched = self.keys_at(keys, order.as_slice())?;

@@ -8,6 +8,7 @@ mod bytes;
 mod callers;
 mod kit;
 mod load;
+mod longest;
 mod plan;
 mod queues;
 mod sample;
@@ -15,25 +16,26 @@ mod shards;
 mod work;
 
 use anyhow::{Result, bail};
-use asked::{Asked, CALLS, ROWS, Timed};
+use asked::{Asked, CALLS, LONGEST, ROWS, Timed};
 use kit::{KitQueue, KitWheel};
 use load::{Load, Row};
+use longest::Touched;
 use plan::SplitMix64;
-use queues::{Issues, Owned, Queue, Shared};
+use queues::{Issues, OneShard, Owned, Queue, Shared};
 use sample::Sample;
-use shards::{Call, ShardLoad};
+use shards::{Call, Route, ShardLoad};
 use std::env;
 use std::random::RandomSource;
 use std::rt::Clock;
 use std::sync::Wait;
 use std::thread::Threads;
 
-/// The entries and the callers of the small run.
+// The entries and the callers of the small run.
 const SMALL: usize = 100;
 
 const SMALL_CALLERS: u64 = 2;
 
-/// The shards of the small run, and the entries of each where several threads call.
+// The shards of the small run, and the entries of each where several threads call.
 const SMALL_SHARDS: usize = 2;
 
 const SMALL_SHARED: usize = 4_000;
@@ -57,12 +59,13 @@ where
     };
     match asked.timed {
         Timed::Owned(row) => time_row(rt, &asked, row),
+        Timed::Longest(touched) => time_longest(rt, &asked, touched),
         Timed::Callers => time_callers(rt, &asked, Shared::new(rt.alloc(), asked.entries)?),
-        Timed::Shards(call, shards) => time_shards(rt, &asked, call, shards),
+        Timed::Shards(call, route, shards) => time_shards(rt, &asked, call, route, shards),
     }
 }
 
-/// Makes each row once, and prints what was done.
+// Makes each row once, and prints what was done.
 fn small<R>(rt: &R) -> Result<()>
 where
     R: Clock + Print + AllocGlobal + RandomSource + Threads + Wait + Clone + Drop + Send + 'static,
@@ -81,25 +84,76 @@ where
         small_row(rt, "kit-delay-queue", name, row, KitQueue::new(rt, SMALL)?)?;
     }
     small_callers(rt, Shared::new(rt.alloc(), SMALL)?)?;
+    for (name, touched) in LONGEST {
+        small_longest(
+            rt,
+            "ours-owned",
+            name,
+            touched,
+            Owned::new(rt.alloc(), SMALL)?,
+        )?;
+        small_longest(rt, "ours", name, touched, Shared::new(rt.alloc(), SMALL)?)?;
+        let shard = OneShard::new(rt.clone()?, rt.alloc(), SMALL)?;
+        small_longest(rt, "ours-shards", name, touched, shard)?;
+    }
     for (name, call) in CALLS {
-        small_shards(rt, name, call, SMALL, 1)?;
-        small_shards(rt, name, call, SMALL_SHARED, SMALL_CALLERS as usize)?;
+        small_shards(rt, name, call, Route::Drawn, SMALL, 1)?;
+        small_shards(
+            rt,
+            name,
+            call,
+            Route::Drawn,
+            SMALL_SHARED,
+            SMALL_CALLERS as usize,
+        )?;
+        if call.is_by_name() {
+            small_shards(rt, name, call, Route::Own, SMALL_SHARED, SMALL_SHARDS)?;
+        }
     }
     print_bytes(rt)
 }
 
-fn small_shards<R>(rt: &R, name: &str, call: Call, entries: usize, threads: usize) -> Result<()>
+fn small_longest<R, Q>(rt: &R, named: &str, name: &str, touched: Touched, queue: Q) -> Result<()>
+where
+    R: Clock + Print + AllocGlobal,
+    Q: Queue + Drop,
+{
+    let mut load = Load::new(rt.alloc(), queue, SMALL);
+    let (sample, _spreads) = load.longest(rt, touched)?;
+    let Sample {
+        operations,
+        counts,
+        ..
+    } = sample;
+    println!(rt; "{named} {name} {SMALL} 1 {operations} {counts}")?;
+    Ok(())
+}
+
+fn small_shards<R>(
+    rt: &R,
+    name: &str,
+    call: Call,
+    route: Route,
+    entries: usize,
+    threads: usize,
+) -> Result<()>
 where
     R: Clock + Print + AllocGlobal + Threads + Wait + Clone + Drop + Send + 'static,
 {
-    let mut load = ShardLoad::new(rt, rt.alloc(), SMALL_SHARDS, entries, threads)?;
+    let mut load = ShardLoad::new(rt, rt.alloc(), SMALL_SHARDS, entries, threads, route)?;
     load.pass(rt, call)?;
     let Sample {
         operations,
         counts,
         ..
     } = load.round(rt, call)?;
-    println!(rt; "ours-shards {name}/{SMALL_SHARDS} {entries} {threads} {operations} {counts}")?;
+    let own = match route {
+        Route::Drawn => "",
+        Route::Own => "own-",
+    };
+    println!(rt;
+        "ours-shards {own}{name}/{SMALL_SHARDS} {entries} {threads} {operations} {counts}"
+    )?;
     Ok(())
 }
 
@@ -119,7 +173,7 @@ where
     Ok(())
 }
 
-/// The first numbers of the generator from 1234567, to be compared with those that its authors' C code prints.
+// The first numbers of the generator from 1234567, to be compared with those that its authors' C code prints.
 fn print_draws<R: Print + AllocGlobal>(rt: &R) -> Result<()> {
     let mut draws = SplitMix64::new(1_234_567);
     for _ in 0..5 {
@@ -151,7 +205,7 @@ where
     Ok(())
 }
 
-/// A queue under load that has made one pass to warm up.
+// A queue under load that has made one pass to warm up.
 fn warmed<R, Q>(rt: &R, queue: Q, entries: usize, row: Row) -> Result<Load<Q>>
 where
     R: Clock + AllocGlobal,
@@ -162,7 +216,7 @@ where
     Ok(load)
 }
 
-/// Times rounds of our queues and of the two peers here, of each that is wanted.
+// Times rounds of our queues and of the two peers here, of each that is wanted.
 fn time_row<R>(rt: &R, asked: &Asked, row: Row) -> Result<()>
 where
     R: Clock + Print + AllocGlobal + RandomSource,
@@ -189,7 +243,7 @@ where
     Ok(())
 }
 
-/// Times rounds of a queue.
+// Times rounds of a queue.
 fn time_queue<R, Q>(rt: &R, asked: &Asked, row: Row, name: &str, queue: Q) -> Result<()>
 where
     R: Clock + Print + AllocGlobal,
@@ -199,6 +253,44 @@ where
     for round in 1..=asked.rounds {
         let sample = load.round(rt, row)?;
         println!(rt; "{name} {asked} {round} {sample}")?;
+    }
+    Ok(())
+}
+
+// Times the calls of our queues one by one.
+fn time_longest<R>(rt: &R, asked: &Asked, touched: Touched) -> Result<()>
+where
+    R: Clock + Print + AllocGlobal + Wait + Clone + Drop,
+{
+    let (alloc, entries) = (rt.alloc(), asked.entries);
+    if asked.wants("ours-owned") {
+        time_calls(
+            rt,
+            asked,
+            touched,
+            "ours-owned",
+            Owned::new(alloc, entries)?,
+        )?;
+    }
+    if asked.wants("ours") {
+        time_calls(rt, asked, touched, "ours", Shared::new(alloc, entries)?)?;
+    }
+    if asked.wants("ours-shards") {
+        let shard = OneShard::new(rt.clone()?, alloc, entries)?;
+        time_calls(rt, asked, touched, "ours-shards", shard)?;
+    }
+    Ok(())
+}
+
+fn time_calls<R, Q>(rt: &R, asked: &Asked, touched: Touched, name: &str, queue: Q) -> Result<()>
+where
+    R: Clock + Print + AllocGlobal,
+    Q: Queue + Drop,
+{
+    let mut load = Load::new(rt.alloc(), queue, asked.entries);
+    for round in 1..=asked.rounds {
+        let (sample, (insert, touch, poll)) = load.longest(rt, touched)?;
+        println!(rt; "{name} {asked} {round} {sample} {insert} {touch} {poll}")?;
     }
     Ok(())
 }
@@ -216,13 +308,13 @@ where
     Ok(())
 }
 
-/// Times rounds of the shared queue.
-fn time_shards<R>(rt: &R, asked: &Asked, call: Call, shards: usize) -> Result<()>
+// Times rounds of the shared queue.
+fn time_shards<R>(rt: &R, asked: &Asked, call: Call, route: Route, shards: usize) -> Result<()>
 where
     R: Clock + Print + AllocGlobal + Threads + Wait + Clone + Drop + Send + 'static,
 {
     let threads = asked.threads as usize;
-    let mut load = ShardLoad::new(rt, rt.alloc(), shards, asked.entries, threads)?;
+    let mut load = ShardLoad::new(rt, rt.alloc(), shards, asked.entries, threads, route)?;
     load.pass(rt, call)?;
     for round in 1..=asked.rounds {
         let sample = load.round(rt, call)?;

@@ -25,6 +25,15 @@ pub const KEPT: usize = 10;
 /// The ticks from the start of one pass to the start of the next.
 pub const PASS: u64 = 1_300_021;
 
+/// The beats of the rows of the longest call, in which each session is touched.
+pub const LONG_BEATS: u64 = 5;
+
+/// The runs of the rows of the longest call: the least of each call counts.
+pub const RUNS: usize = 5;
+
+/// The ticks from the start of one of these runs to the start of the next: a power of two, so that all meet the same slots.
+pub const LONG_PASS: u64 = 1 << 24;
+
 /// The touches that each caller has in its list.
 pub const TOUCHES: usize = 131_072;
 
@@ -40,10 +49,10 @@ pub const REST: u64 = 1;
 /// The calls that a thread makes in a burst under one lock.
 pub const BURST: usize = 64;
 
-/// The calls that a round of a short row makes at least, but for what a whole pass leaves over.
+// The calls that a round of a short row makes at least, but for what a whole pass leaves over.
 const ROUND: usize = 65_536;
 
-/// The most passes of a round of a row of shards.
+// The most passes of a round of a row of shards.
 const MOST_PASSES: usize = 1_024;
 
 /// The passes of a round of a short row.
@@ -73,6 +82,12 @@ pub fn part(length: usize, thread: usize, threads: usize) -> (usize, usize) {
         .checked_div(threads)
         .unwrap_or(0);
     (place(thread), place(thread.saturating_add(1)))
+}
+
+/// The places whose sessions are called so many ticks after the start of a beat, from the first up to an end.
+pub fn places_at(entries: usize, offset: u64) -> (usize, usize) {
+    let first = |ticks: u64| ticks.saturating_mul(entries as u64).div_ceil(BEAT) as usize;
+    (first(offset), first(offset.saturating_add(1)))
 }
 
 /// The generator of Steele, Lea and Flood, "Fast splittable pseudorandom number generators" (2014).

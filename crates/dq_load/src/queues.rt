@@ -2,10 +2,11 @@
 
 use anyhow::Result;
 use dq_core::{CallError, CoreConfig, CoreError, DelayCore, Turn, VecWords, Words};
-use dq_shards::QueueError;
+use dq_shards::{Handle, QueueConfig, QueueError, SharedDelayQueue};
 use dq_ticks::{Key, LAST_STAMP};
 use dq_words::{Caller, Keeper};
 use std::alloc::{AllocError, Global};
+use std::sync::Wait;
 use thiserror::Error;
 
 /// Why a call was refused, or what it was asked of isn't there. No row wants a refusal.
@@ -176,5 +177,59 @@ impl Queue for Shared {
 
     fn poll(&mut self, tick: u64) -> Result<Option<(u64, u64)>, Refusal> {
         polled(&mut self.core, tick)
+    }
+}
+
+/// The shared queue of one shard, each call by name, and a handle by which its one thread extends and cancels.
+#[derive(Drop)]
+pub struct OneShard<R> {
+    rt: R,
+    queue: SharedDelayQueue<u64>,
+    handle: Handle,
+}
+
+impl<R: Wait + Drop> OneShard<R> {
+    pub fn new(rt: R, alloc: Global, capacity: usize) -> Result<OneShard<R>> {
+        let queue = SharedDelayQueue::new(alloc, QueueConfig::of(1, capacity))?;
+        let handle = queue.handle(&rt)?;
+        Ok(OneShard { rt, queue, handle })
+    }
+}
+
+impl<R: Wait + Drop> Queue for OneShard<R> {
+    fn insert(&mut self, value: u64, when: u64) -> Result<Key, Refusal> {
+        match self.queue.insert(&self.rt, 0, value, when) {
+            Ok(key) => Ok(key),
+            Err((refused, _)) => Err(Refusal::Queue(refused)),
+        }
+    }
+
+    fn extend(&mut self, key: &Key, when: u64) -> Result<u64, Refusal> {
+        self.handle.extend(key, when).map_err(Refusal::Call)
+    }
+
+    fn reset(&mut self, key: &Key, when: u64) -> Result<Key, Refusal> {
+        self.queue
+            .reset(&self.rt, &key.entry(), when)
+            .map_err(Refusal::Queue)
+    }
+
+    fn remove(&mut self, key: &Key) -> Result<u64, Refusal> {
+        match self.queue.remove(&self.rt, &key.entry()) {
+            Ok(removed) => Ok(removed.value),
+            Err(refused) => Err(Refusal::Queue(refused)),
+        }
+    }
+
+    fn cancel(&mut self, key: &Key) -> Result<u64, Refusal> {
+        self.handle.cancel(key).map_err(Refusal::Call)
+    }
+
+    fn poll(&mut self, tick: u64) -> Result<Option<(u64, u64)>, Refusal> {
+        match self.queue.poll(&self.rt, 0, tick) {
+            Ok(Turn::Out(out)) => Ok(Some((out.value, out.deadline))),
+            Ok(_) => Ok(None),
+            Err(refused) => Err(Refusal::Queue(refused)),
+        }
     }
 }

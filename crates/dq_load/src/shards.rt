@@ -30,6 +30,22 @@ pub enum Call {
     PollBurst,
 }
 
+impl Call {
+    /// Whether each call is made by name, and not some under one lock.
+    pub fn is_by_name(self) -> bool {
+        !matches!(self, Call::InsertBurst | Call::PollBurst)
+    }
+}
+
+/// Where a thread's entries are.
+#[derive(Clone, Copy, Debug, PartialEq, Eq)]
+pub enum Route {
+    /// In any shard.
+    Drawn,
+    /// In a shard of the thread's own, which no other calls: there are as many shards as threads.
+    Own,
+}
+
 /// The shared queue under load, with its own copy of the plan.
 #[derive(Drop)]
 pub struct ShardLoad {
@@ -41,7 +57,10 @@ pub struct ShardLoad {
     now: u64,
     /// The entries of all shards.
     entries: usize,
+    /// The entries of each shard.
+    each: usize,
     threads: usize,
+    route: Route,
     sample: Sample,
 }
 
@@ -53,6 +72,7 @@ impl ShardLoad {
         shards: usize,
         entries: usize,
         threads: usize,
+        route: Route,
     ) -> Result<ShardLoad> {
         let queue = Shards::new(alloc, QueueConfig::of(shards, shard_room(entries)))?;
         let mut handles = Vec::new(alloc);
@@ -66,7 +86,9 @@ impl ShardLoad {
             draws: SplitMix64::new(SEED),
             now: 0,
             entries: entries.saturating_mul(shards),
+            each: entries,
             threads,
+            route,
             sample: Sample::default(),
         })
     }
@@ -100,7 +122,7 @@ impl ShardLoad {
         self.end_pass(rt)
     }
 
-    /// Takes out what is left, and goes to the start of the next pass.
+    // Takes out what is left, and goes to the start of the next pass.
     fn end_pass<R: Wait>(&mut self, rt: &R) -> Result<()> {
         let tick = self.now.wrapping_add(shard_pass(self.entries));
         for shard in 0..self.shards.shards() {
@@ -119,20 +141,54 @@ impl ShardLoad {
         Ok(())
     }
 
-    /// The entries of a fill, of which so many at a time go to one shard.
+    // A shuffled order of all entries; where each thread has a shard of its own, of each thread's entries in turn.
+    fn order(&mut self) -> Result<Vec<usize>> {
+        if self.route == Route::Drawn {
+            return Ok(self.draws.shuffled(self.alloc, self.entries)?);
+        }
+        let mut order = Vec::with_capacity(self.alloc, self.entries)?;
+        for thread in 0..self.threads {
+            let first = thread.saturating_mul(self.each);
+            for index in self.draws.shuffled(self.alloc, self.each)? {
+                order.push(first.saturating_add(index))?;
+            }
+        }
+        Ok(order)
+    }
+
+    // So many entries that a thread calls, one as likely as another.
+    fn picks(&mut self, thread: usize, count: usize) -> Result<Vec<usize>> {
+        if self.route == Route::Drawn {
+            return Ok(self.draws.picks(self.alloc, count, self.entries)?);
+        }
+        let first = thread.saturating_mul(self.each);
+        let mut picks = self.draws.picks(self.alloc, count, self.each)?;
+        for pick in picks.iter_mut() {
+            *pick = pick.saturating_add(first);
+        }
+        Ok(picks)
+    }
+
+    // The entries of a fill, of which so many at a time go to one shard; where each thread has a shard of its own, those in
+    // its places go there.
     fn drawn(&mut self, burst: usize) -> Result<Vec<Begun>>
         requires { 0 < burst }
     {
-        let order = self
-            .draws
-            .shuffled(self.alloc, self.entries.div_ceil(burst))?;
+        let bursts = self.entries.div_ceil(burst);
+        let order = match self.route {
+            Route::Drawn => self.draws.shuffled(self.alloc, bursts)?,
+            Route::Own => Vec::new(self.alloc),
+        };
         let deadlines = self.draws.deadlines(self.alloc, self.now, self.entries)?;
         let shards = self.shards.shards();
         let mut begun = Vec::with_capacity(self.alloc, self.entries)?;
         for (place, deadline) in deadlines.iter().enumerate() {
-            let index = order.get(place / burst).ok_or(Refusal::NoEntry)?;
+            let index = match self.route {
+                Route::Drawn => *order.get(place / burst).ok_or(Refusal::NoEntry)?,
+                Route::Own => place.checked_div(self.each).unwrap_or(0),
+            };
             begun.push(Begun {
-                shard: *index % shards,
+                shard: index % shards,
                 value: place as u64,
                 deadline: *deadline,
             })?;
@@ -153,7 +209,7 @@ impl ShardLoad {
         counts.inserts = counts.inserts.wrapping_add(inserts as u64);
     }
 
-    /// What is at those indexes of a list, in their order.
+    // What is at those indexes of a list, in their order.
     fn chosen<T: Copy + Drop>(&self, list: &[T], indexes: &[usize]) -> Result<Vec<T>> {
         let mut chosen = Vec::with_capacity(self.alloc, indexes.len())?;
         for index in indexes {
@@ -162,7 +218,7 @@ impl ShardLoad {
         Ok(chosen)
     }
 
-    /// A list dealt out to the threads, so many places at a time.
+    // A list dealt out to the threads, so many places at a time.
     fn dealt<T: Copy + Drop>(&self, list: &[T], burst: usize) -> Result<Vec<Vec<T>>>
         requires { 0 < burst }
     {
@@ -216,8 +272,8 @@ impl ShardLoad {
         let each = keys.len().checked_div(self.threads).unwrap_or(0);
         let later = self.now.wrapping_add(IDLE + 1);
         let mut works = Vec::new(self.alloc);
-        for _ in 0..self.threads {
-            let picks = self.draws.picks(self.alloc, each, keys.len())?;
+        for thread in 0..self.threads {
+            let picks = self.picks(thread, each)?;
             let keys = self.chosen(keys.as_slice(), picks.as_slice())?;
             let handle = self.handles.pop().ok_or(Refusal::NoEntry)?;
             works.push(Work::Extend {
@@ -238,7 +294,7 @@ impl ShardLoad {
         R: Clock + Threads + Wait + Clone + Drop + Send + 'static,
     {
         let keys = self.fill(rt)?;
-        let order = self.draws.shuffled(self.alloc, keys.len())?;
+        let order = self.order()?;
         let deadlines = self.draws.deadlines(self.alloc, self.now, keys.len())?;
         let mut moved = Vec::with_capacity(self.alloc, keys.len())?;
         for (index, when) in order.iter().zip(deadlines.iter()) {
@@ -259,7 +315,7 @@ impl ShardLoad {
         R: Clock + Threads + Wait + Clone + Drop + Send + 'static,
     {
         let keys = self.fill(rt)?;
-        let order = self.draws.shuffled(self.alloc, keys.len())?;
+        let order = self.order()?;
         let ended = self.chosen(keys.as_slice(), order.as_slice())?;
         let mut works = Vec::new(self.alloc);
         for mine in self.dealt(ended.as_slice(), 1)? {
@@ -271,18 +327,23 @@ impl ShardLoad {
         Ok(())
     }
 
-    /// Each thread goes over all shards once, and each begins elsewhere.
+    // Each thread goes over all shards once, and each begins elsewhere. One with a shard of its own polls that alone.
     fn poll<R>(&mut self, rt: &R, bursts: bool) -> Result<()>
     where
         R: Clock + Threads + Wait + Clone + Drop + Send + 'static,
     {
         let keys = self.fill(rt)?;
         let shards = self.shards.shards();
+        let visits = match self.route {
+            Route::Drawn => shards,
+            Route::Own => 1,
+        };
         let mut works = Vec::new(self.alloc);
         for thread in 0..self.threads {
             let (first, _) = part(shards, thread, self.threads);
             let round = Round {
                 first,
+                visits,
                 tick: self.now.wrapping_add(IDLE),
                 entries: self.entries,
             };
@@ -295,7 +356,7 @@ impl ShardLoad {
         self.timed(rt, works, keys.len())
     }
 
-    /// Does each thread's work, and counts it: in this thread if it is alone, else in threads of their own.
+    // Does each thread's work, and counts it: in this thread if it is alone, else in threads of their own.
     fn timed<R>(&mut self, rt: &R, works: Vec<Work>, operations: usize) -> Result<()>
     where
         R: Clock + Threads + Wait + Clone + Drop + Send + 'static,
@@ -329,7 +390,7 @@ impl ShardLoad {
         Ok(ended)
     }
 
-    /// Does each work in a thread of its own, which begins once all of them are there.
+    // Does each work in a thread of its own, which begins once all of them are there.
     fn at_once<R>(&self, rt: &R, works: Vec<Work>) -> Result<Vec<(Work, Done)>>
     where
         R: Clock + Threads + Wait + Clone + Drop + Send + 'static,
@@ -356,7 +417,7 @@ impl ShardLoad {
     }
 }
 
-/// Counts this thread, and waits until so many are counted.
+// Counts this thread, and waits until so many are counted.
 fn wait_for_all<R: Wait>(rt: &R, ready: &AtomicU64, threads: u64) {
     ready.fetch_add(1, Ordering::SeqCst);
     for _ in rt.forever() {

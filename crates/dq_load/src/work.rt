@@ -40,10 +40,11 @@ pub enum Work {
     PollBursts(Round),
 }
 
-/// A thread that polls goes over all shards once, and begins at one of them.
+/// A thread that polls goes over so many shards once, and begins at one of them.
 #[derive(Clone, Copy, Debug)]
 pub struct Round {
     pub first: usize,
+    pub visits: usize,
     pub tick: u64,
     /// The most that may come out.
     pub entries: usize,
@@ -215,7 +216,7 @@ fn poll_all<R: Wait>(
     round: &Round,
     done: &mut Done,
 ) -> Result<(), Refusal> {
-    for step in 0..shards.shards() {
+    for step in 0..round.visits {
         let shard = round.first.wrapping_add(step) % shards.shards();
         for _ in 0..=round.entries {
             let Turn::Out(out) = shards.poll(rt, shard, round.tick).map_err(Refusal::Queue)? else {
@@ -233,7 +234,7 @@ fn poll_bursts<R: Wait>(
     round: &Round,
     done: &mut Done,
 ) -> Result<(), Refusal> {
-    for step in 0..shards.shards() {
+    for step in 0..round.visits {
         let shard = round.first.wrapping_add(step) % shards.shards();
         for _ in 0..=round.entries / BURST {
             let lent = shards.lend(rt, shard, |state| poll_burst(state, round.tick, done));

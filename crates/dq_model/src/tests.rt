@@ -5,6 +5,7 @@ mod limits;
 mod memory;
 mod model;
 mod model_and_twin;
+mod pieces;
 mod plain_queue;
 mod plain_words;
 mod same_calls;

@@ -86,7 +86,7 @@ fn verb_of(token: &[u8]) -> Option<Verb>
     }
 }
 
-/// The command that the tokens behind the first complete.
+// The command that the tokens behind the first complete.
 fn complete(verb: Verb, tokens: &mut Tokens<'_>) -> Result<Command, FaultKind>
     ensures { result ≡ completed (Some verb) tokens.old }
 {
@@ -162,7 +162,7 @@ fn alone(tokens: &mut Tokens<'_>, command: Command) -> Result<Command, FaultKind
     }
 }
 
-/// The tokens of a line that are left, between single spaces.
+// The tokens of a line that are left, between single spaces.
 #[derive(Drop)]
 struct Tokens<'t> {
     rest: Option<&'t [u8]>,
@@ -194,7 +194,7 @@ impl<'t> Tokens<'t> {
     }
 }
 
-/// The first token of a line, and what stands behind the space that ends it.
+// The first token of a line, and what stands behind the space that ends it.
 fn split_token(text: &[u8]) -> (&[u8], Option<&[u8]>)
     ensures { tokens_of text.now ≡ result.0.now ∷ tokens_behind result.1 }
 {
@@ -212,7 +212,7 @@ fn space_at(text: &[u8]) -> Option<usize>
     text.iter().position(|b| *b == b' ')
 }
 
-/// The number that a token is: digits, of which the first of several isn't `0`.
+// The number that a token is: digits, of which the first of several isn't `0`.
 fn number_of(token: &[u8]) -> Option<u64>
     ensures { result ≡ number_of token.now }
 {
@@ -222,7 +222,7 @@ fn number_of(token: &[u8]) -> Option<u64>
     }
 }
 
-/// The number that digits make, where it is below `2^64`.
+// The number that digits make, where it is below `2^64`.
 fn digits(token: &[u8]) -> Option<u64>
     ensures { result ≡ digits_behind 0 token.now }
 {

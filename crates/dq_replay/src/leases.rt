@@ -27,7 +27,7 @@ pub enum Refusal {
 
 type Queue<A> = DelayCore<Name, VecWords<A>, A>;
 
-/// Sweeps a queue that is full, though fewer names are live than it has slots.
+// Sweeps a queue that is full, though fewer names are live than it has slots.
 fn make_room<A: Allocator>(queue: &mut Queue<A>)
     requires few { length (live_of (machine queue.old).table) < length queue.old.slots.rows }
     ensures { IsRoomy queue.old queue.new }
@@ -39,7 +39,7 @@ fn make_room<A: Allocator>(queue: &mut Queue<A>)
     }
 }
 
-/// Links a new name where there is room.
+// Links a new name where there is room.
 fn link<A: Allocator>(queue: &mut Queue<A>, name: Name, when: u64) -> Key
     requires room { count_by is_held queue.old.slots.rows < length queue.old.slots.rows }
     requires stamps { (i : ℕ)
@@ -129,7 +129,7 @@ fn deadline_at<A: Allocator>(queue: &mut Queue<A>, key: &Key) -> u64
     }
 }
 
-/// One poll: a name that is due at `now` leaves the queue, or none is due.
+// One poll: a name that is due at `now` leaves the queue, or none is due.
 fn expire_one<A: Allocator>(queue: &mut Queue<A>, now: u64) -> Option<Lease>
     requires tick { now ≤ LAST_TICK }
     requires later { queue.old.noted ≤ now }
@@ -146,7 +146,7 @@ fn expire_one<A: Allocator>(queue: &mut Queue<A>, now: u64) -> Option<Lease>
     }
 }
 
-/// The key of a live name that may get such a deadline, or why it may not.
+// The key of a live name that may get such a deadline, or why it may not.
 fn key_within<A: Allocator + Clone>(
     names: &Names<A>,
     name: &Name,
@@ -345,7 +345,7 @@ impl<A: Allocator + Copy> Leases<A> {
         count
     }
 
-    /// One name that is due at `now` expires, or none is due.
+    // One name that is due at `now` expires, or none is due.
     fn expire(&mut self, now: u64) -> Option<Lease>
         requires tick { now ≤ LAST_TICK }
         requires later { self.old.noted ≤ now }
@@ -358,7 +358,7 @@ impl<A: Allocator + Copy> Leases<A> {
         Some(lease)
     }
 
-    /// The live names stand in order.
+    // The live names stand in order.
     fn law(&self)
         ensures { IsLined self.now.live }
     {

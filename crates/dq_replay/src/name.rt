@@ -135,7 +135,7 @@ fn is_name_byte(byte: u8) -> bool
     byte.is_ascii_lowercase() || byte.is_ascii_digit() || byte == b'_' || byte == b'-'
 }
 
-/// A name's bytes as text.
+// A name's bytes as text.
 fn as_text(token: &[u8]) -> &str
     requires { list_all is_name_byte token.now ≡ true }
     ensures { result.now ≡ token.now }

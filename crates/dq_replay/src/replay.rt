@@ -93,7 +93,7 @@ fn replay<A: Allocator + Copy, R: Read, W: Write>(
     }
 }
 
-/// Reads and answers one line, and tells whether the script goes on.
+// Reads and answers one line, and tells whether the script goes on.
 fn replay_line<A: Allocator + Copy, R: Read, W: Write>(
     alloc: A,
     reader: &mut R,
@@ -123,7 +123,7 @@ fn replay_line<A: Allocator + Copy, R: Read, W: Write>(
     }
 }
 
-/// Does what one whole line says, and gives the text of its answer.
+// Does what one whole line says, and gives the text of its answer.
 fn answer<A: Allocator + Copy>(
     alloc: A,
     session: &mut Session<A>,

@@ -23,7 +23,7 @@ pub fn report<W: Write>(fault: &ReplayFault, writer: &mut W) -> u8
     }
 }
 
-/// Writes the line that tells a fault.
+// Writes the line that tells a fault.
 fn tell<W: Write>(fault: &ReplayFault, writer: &mut W) -> io::Result<()>
     ensures { OnOk result
         (Appends (W.contents writer.old) (W.contents writer.new) (report_line fault.now)) }

@@ -1,5 +1,6 @@
 mod cases;
 mod draining;
+mod each_shard;
 mod handles;
 mod keys;
 mod memory;
@@ -7,5 +8,6 @@ mod play;
 mod rows;
 mod shards;
 mod swapped;
+mod sweeping;
 mod threads;
 mod twins;

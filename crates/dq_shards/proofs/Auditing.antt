@@ -1,6 +1,5 @@
 -- The numbers of an audit.
 use Rattle.std.proofs.Common.{◌≡◌, ℕ, zero, suc, ◌+◌, ◌*◌, ◌<◌, ◌≤◌, List, [], ◌∷◌, Option, Result, Ok, Err, IfOk, length, get_or, sym, ap, ◌∙◌, arith}
-use Rattle.std.specs.List.{AllByRecursion}
 use mathlib.Core.Option.{some, some-injective, some-ne-none}
 use lib.ListN.{get_elem?}
 use Rattle.dq_ticks.specs.Word.{stamp_of}
@@ -17,8 +16,8 @@ use Rattle.dq_shards.specs.declared.parked.Parked.{Parked}
 use Rattle.dq_shards.specs.declared.totals.Totals.{Totals}
 use Rattle.dq_shards.specs.declared.totals.HandlesOut.{HandlesOut}
 use Rattle.dq_shards.specs.Shard.{ShardView}
-use Rattle.dq_shards.specs.Changes.{with_keeper, OnSome}
-use Rattle.dq_shards.specs.Audits.{IsTotals, AddUp, FewInserted, IsSum, AreSums, AreTotalsOf, ShardAudits}
+use Rattle.dq_shards.specs.Changes.{with_keeper, OnNumbered}
+use Rattle.dq_shards.specs.Audits.{IsTotals, AddUp, FewInserted, IsSum, AreSums, AreTotalsOf, ShardAudits, OnePerShard, QueueAudits}
 
 first_writes : (vs : List View) (w : View) → get_elem? vs 0 ≡ some w → keeper_writes vs ≡ w.writes
 first_writes [] w at = absurd (some-ne-none w (sym at))
@@ -86,25 +85,26 @@ abbrev pub SumsOf : (T : Type 0) → ℕ → Totals → Type 0
 SumsOf T n t =
     (t.inserted ≤ n * most_begins) × AddUp t
     × ((parts : List Totals) × (length parts ≡ n)
-    × AllByRecursion (λ p. OnSome {T = T} ShardAudits (Ok p)) parts × AreSums parts t)
+    × OnePerShard T parts × AreSums parts t)
 
 -- what a state's audit answers adds up, and is few
-pub adds_up : (T : Type 0) (p : Totals) → OnSome {T = T} ShardAudits (Ok p) → AddUp p × FewInserted p
-adds_up T p audit = let told = audit.4.0 in (told.2, told.3)
+pub adds_up : (T : Type 0) (n : ℕ) (p : Totals) → OnNumbered {T = T} n ShardAudits (Ok p) → AddUp p × FewInserted p
+adds_up T n p audit = let told = audit.4.1.0 in (told.2, told.3)
 
 -- one shard more
-pub one_more : (T : Type 0) (n : ℕ) (t p s : Totals) → SumsOf T n t → OnSome {T = T} ShardAudits (Ok p)
+pub one_more : (T : Type 0) (n : ℕ) (t p s : Totals) → SumsOf T n t → OnNumbered {T = T} n ShardAudits (Ok p)
     → IsSum t p s → SumsOf T (n + 1) s
 one_more T n t p s before audit sum =
-    let part = adds_up T p audit in
+    let part = adds_up T n p audit in
     let parts = before.2 in
+    let here : OnNumbered {T = T} (length parts.0) ShardAudits (Ok p) = rw parts.1 audit in
     let sums = parts.3 in (
       omega (arith, before.0, part.1, sum.inserted),
       omega (arith, before.1, part.0, sum.inserted, sum.expired, sum.removed, sum.cancelled, sum.live),
       (
         p ∷ parts.0,
         omega (arith, parts.1),
-        (audit, parts.2),
+        (here, parts.2),
         record {
           inserted = omega (arith, sum.inserted, sums.inserted);
           expired = omega (arith, sum.expired, sums.expired);
@@ -114,3 +114,11 @@ one_more T n t p s before audit sum =
         },
       ),
     )
+
+-- the first shard that refuses
+pub first_refused : (T : Type 0) (n shards : ℕ) (t : Totals) (e : HandlesOut) → SumsOf T n t → n < shards
+    → OnNumbered {T = T} n ShardAudits (Err e) → QueueAudits T shards (Err e)
+first_refused T n shards t e before inside refused =
+    let parts = before.2 in
+    let here : OnNumbered {T = T} (length parts.0) ShardAudits (Err e) = rw parts.1 refused in
+    (parts.0, omega (arith, parts.1, inside), parts.2, here)

@@ -17,6 +17,7 @@ use Rattle.dq_words.specs.Rule.{Ruled, Had, HadAt}
 use Rattle.dq_words.specs.Endings.{StampsEndOnce, EndsAreInForce}
 use Rattle.dq_shards.specs.Shard.{keeper_of}
 use Rattle.dq_shards.specs.Endings.{OutsAreInForce, InsertsAreGiven, ExpiresInForce, IsGivenOnce}
+use Rattle.dq_shards.specs.Endings.{InEveryTable, EveryEntryEndsOnce, InsertedEntriesEndOnce, endings_of}
 
 -- words and parts
 
@@ -129,3 +130,11 @@ given T once old new value when k before law inserted =
     let stamp : k.stamp ≡ (table_at m i).stamp + 1 =
     sym done.stamp ∙ (ap (λ n. (table_at n i).stamp) done.step.3 ∙ ap (λ r. r.stamp) (get_or-set_same m.table i _ _ inside)) in
     λ t r at. given_once (keeper_of new) t r at once k _ (omega arith) seen (omega arith)
+
+-- what an insert began, at a later view of its keeper
+pub inserted_ends : (T : Type 0) → ((w : View) → EveryEntryEndsOnce w) → InsertedEntriesEndOnce T
+inserted_ends T once old new value when k inserted w stay =
+    let born = inserted.0.born in
+    let begun = stay k.entry.index k.stamp _ inserted.2 in
+    let P : ℕ → Type 0 = λ b. InEveryTable w (λ t. endings_of w k.entry.index b t ≡ 1) in
+    subst P (sym born) (once w k.entry.index k.stamp _ begun)

@@ -1,5 +1,5 @@
--- What a queue of shards answers: of a shard behind its lock no more is known than what every shard
--- keeps.
+-- What a queue of shards answers: of a shard behind its lock no more is known than its number, and
+-- what every shard keeps.
 use Rattle.std.specs.Prelude.{◌≡◌, ℕ, ◌<◌, ◌≤◌, ◌%◌, ◌⊎◌, None, Result, Ok, Err, length}
 use Rattle.dq_ticks.specs.declared.TheConstants.{CAPACITY_LIMIT, LAST_STAMP}
 use Rattle.dq_ticks.specs.declared.keys.Key.{Key}
@@ -10,7 +10,7 @@ use Rattle.dq_shards.specs.declared.errors.QueueConfig.{QueueConfig}
 use Rattle.dq_shards.specs.declared.errors.QueueError.{QueueError}
 use Rattle.dq_shards.specs.declared.errors.QueueError.TheVariants.{Core, Unknown, TooManyHandles}
 use Rattle.dq_shards.specs.Shard.{ShardView}
-use Rattle.dq_shards.specs.Changes.{OnSome, ShardInserts}
+use Rattle.dq_shards.specs.Changes.{OnNumbered, ShardInserts}
 
 -- the numbers of a configuration are in their ranges
 abbrev pub IsQueueConfig : QueueConfig → Type 0
@@ -26,6 +26,12 @@ QueueIsMade config (Err e) =
     ((e ≡ Core BadConfig) × ¬ IsQueueConfig config)
     ⊎ ((e ≡ Core NoMemory) × IsQueueConfig config)
 
+-- an answer whose refusal dropped the value, with the value put back
+abbrev pub with_value_back :
+    {T : Type 0} → T → Result Key QueueError → Result Key (QueueError × T)
+with_value_back value (Ok k) = Ok k
+with_value_back value (Err e) = Err (e, value)
+
 -- a shard that was made by a configuration
 abbrev pub IsNewShard : {T : Type 0} → QueueConfig → ℕ → ShardView T → Type 0
 IsNewShard config number s =
@@ -34,41 +40,34 @@ IsNewShard config number s =
     × (s.core.slots.last_stamp ≡ config.last_stamp)
     × (s.parked ≡ None)
 
--- the same key in another shard
-abbrev pub in_shard : Key → ℕ → Key
-in_shard k shard =
-    record {
-      entry = record { shard = shard; index = k.entry.index; born = k.entry.born };
-      stamp = k.stamp;
-    }
-
 module _ {T : Type 0} where
   -- A call on a shard, of which there are some. It is refused as unknown exactly out of range;
-  -- else it answers what the shard's state does.
+  -- else it answers what the state of that number does.
   abbrev pub OnShard :
       {R : Type 0} → ℕ → ℕ → (ShardView T → R → ShardView T → Type 0)
       → Result R QueueError → Type 0
-  OnShard shards shard gives (Ok r) = (shard < shards) × OnSome {T = T} gives r
+  OnShard shards shard gives (Ok r) = (shard < shards) × OnNumbered {T = T} shard gives r
   OnShard shards shard gives (Err e) = (e ≡ Unknown) × (shards ≤ shard)
 
   -- the same for a call that the state may refuse
   abbrev pub OnShardOr :
       {R : Type 0} → ℕ → ℕ → (ShardView T → Result R CoreError → ShardView T → Type 0)
       → Result R QueueError → Type 0
-  OnShardOr shards shard gives (Ok r) = (shard < shards) × OnSome {T = T} gives (Ok r)
+  OnShardOr shards shard gives (Ok r) = (shard < shards) × OnNumbered {T = T} shard gives (Ok r)
   OnShardOr shards shard gives (Err Unknown) = shards ≤ shard
-  OnShardOr shards shard gives (Err (Core e)) = (shard < shards) × OnSome {T = T} gives (Err e)
+  OnShardOr shards shard gives (Err (Core e)) =
+      (shard < shards) × OnNumbered {T = T} shard gives (Err e)
   OnShardOr shards shard gives (Err (TooManyHandles limit)) = ⊥
 
-  -- what the insert of a state answers to a value and its deadline
-  abbrev pub SomeInserts : T → ℕ → Result Key (CoreError × T) → Type 0
-  SomeInserts value when result =
-      OnSome {T = T} (λ old r new. ShardInserts old value when r new) result
+  -- what the insert of the state of that number answers to a value and its deadline
+  abbrev pub InsertsAt : ℕ → T → ℕ → Result Key (CoreError × T) → Type 0
+  InsertsAt number value when result =
+      OnNumbered {T = T} number (λ old r new. ShardInserts old value when r new) result
 
-  -- An insert by a route: its key is that of the state, in the shard that the route names.
+  -- an insert by a route is that of the state whose number is the route modulo the number of shards
   abbrev pub QueueInserts : ℕ → ℕ → T → ℕ → Result Key (QueueError × T) → Type 0
-  QueueInserts shards route value when (Ok key) =
-      (k : Key) × SomeInserts value when (Ok k) × (key ≡ in_shard k (route % shards))
-  QueueInserts shards route value when (Err (Core e, v)) = SomeInserts value when (Err (e, v))
+  QueueInserts shards route value when (Ok key) = InsertsAt (route % shards) value when (Ok key)
+  QueueInserts shards route value when (Err (Core e, v)) =
+      InsertsAt (route % shards) value when (Err (e, v))
   QueueInserts shards route value when (Err (Unknown, v)) = ⊥
   QueueInserts shards route value when (Err (TooManyHandles limit, v)) = ⊥

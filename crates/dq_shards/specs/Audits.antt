@@ -1,6 +1,5 @@
 -- What an audit adds up.
-use Rattle.std.specs.Prelude.{◌≡◌, ℕ, ◌+◌, ◌≤◌, List, Result, Ok, Err, length}
-use Rattle.std.specs.List.{AllByRecursion}
+use Rattle.std.specs.Prelude.{◌≡◌, ℕ, ◌+◌, ◌<◌, ◌≤◌, List, [], ◌∷◌, Result, Ok, Err, length}
 use Rattle.atomic_table.specs.Table.{State}
 use Rattle.dq_core.specs.declared.outcomes.Tally.{Tally}
 use Rattle.dq_words.specs.declared.views.View.{View}
@@ -10,7 +9,7 @@ use Rattle.dq_words.specs.KeeperCalls.{Returns}
 use Rattle.dq_shards.specs.declared.totals.Totals.{Totals}
 use Rattle.dq_shards.specs.declared.totals.HandlesOut.{HandlesOut}
 use Rattle.dq_shards.specs.Shard.{ShardView, keeper_of}
-use Rattle.dq_shards.specs.Changes.{OnlyKeeperGoesOn, OnSome}
+use Rattle.dq_shards.specs.Changes.{OnlyKeeperGoesOn, OnNumbered}
 use Rattle.dq_shards.specs.Endings.{InEveryTable}
 use Rattle.dq_shards.specs.Sums.{total_of}
 
@@ -77,11 +76,17 @@ pub record AreSums (parts : List Totals) (t : Totals) : Type 0 where
   pub cancelled : t.cancelled ≡ total_of (λ (p : Totals). p.cancelled) parts
   pub live : t.live ≡ total_of (λ (p : Totals). p.live) parts
 
--- Audit of a queue of a number of shards: the sums of what states answer, one for each shard, or
--- the refusal of one.
+-- totals that states answer, one for each shard: the last in the list is that of shard 0
+abbrev pub OnePerShard : (T : Type 0) → List Totals → Type 0
+OnePerShard T [] = Unit {0}
+OnePerShard T (p ∷ ps) = OnNumbered {T = T} (length ps) ShardAudits (Ok p) × OnePerShard T ps
+
+-- Audit of a queue of a number of shards: the sums of what their states answer, or the refusal of
+-- the first of them that refuses: those before it answered totals.
 abbrev pub QueueAudits : (T : Type 0) → ℕ → Result Totals HandlesOut → Type 0
 QueueAudits T shards (Ok t) =
-    (parts : List Totals) × (length parts ≡ shards)
-    × AllByRecursion (λ p. OnSome {T = T} ShardAudits (Ok p)) parts
+    (parts : List Totals) × (length parts ≡ shards) × OnePerShard T parts
     × AreSums parts t × AddUp t
-QueueAudits T shards (Err e) = OnSome {T = T} ShardAudits (Err e)
+QueueAudits T shards (Err e) =
+    (parts : List Totals) × (length parts < shards) × OnePerShard T parts
+    × OnNumbered {T = T} (length parts) ShardAudits (Err e)

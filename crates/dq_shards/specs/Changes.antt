@@ -1,32 +1,45 @@
 -- What the calls of a shard's state do, as relations between its states.
-use Rattle.std.specs.Prelude.{◌≡◌, ℕ, Bool, true, is_some, None, Result}
+use Rattle.std.specs.Prelude.{◌≡◌, ℕ, ◌+◌, Bool, true, is_some, Option, Some, None, Result, IfOk}
+use Rattle.std.specs.Prelude.{length, nat_lt, if◌then◌else◌}
 use Rattle.dq_ticks.specs.declared.keys.Key.{Key}
 use Rattle.dq_ticks.specs.declared.keys.EntryId.{EntryId}
 use Rattle.dq_core.specs.declared.errors.CoreError.{CoreError}
+use Rattle.dq_core.specs.declared.errors.ReapError.{ReapError}
 use Rattle.dq_core.specs.declared.outcomes.Removed.{Removed}
+use Rattle.dq_core.specs.declared.outcomes.Swept.{Swept}
 use Rattle.dq_core.specs.declared.outcomes.Turn.{Turn}
 use Rattle.dq_core.specs.Calls.{SameCore, Inserts, Resets, Removes, Polls, TellsDeadline}
-use Rattle.dq_core.specs.Sweeps.{Sweeps, Clears}
+use Rattle.dq_core.specs.Calls.{base_for}
+use Rattle.dq_core.specs.Sweeps.{Sweeps, SweepsSome, Reaps, Clears}
 use Rattle.dq_core.specs.Readers.{with_words}
 use Rattle.dq_words.specs.Seats.{Sat}
 use Rattle.dq_words.specs.declared.keeper.WordsError.{WordsError}
-use Rattle.dq_words.specs.KeeperCalls.{Issues, Tells}
+use Rattle.dq_words.specs.Endings.{WritesStay}
+use Rattle.dq_words.specs.KeeperCalls.{HasBegun, Issues, Tells}
 use Rattle.dq_shards.specs.Parking.{is_rung, after_ring}
-use Rattle.dq_shards.specs.Shard.{ShardView, IsShard, Settles}
+use Rattle.dq_shards.specs.Shard.{ShardView, IsShard, KeepsOrWakes, keeper_of}
+
+-- the slot to go on from behind a piece that ends at one, none behind the last slot
+abbrev pub going_on : ℕ → ℕ → Option ℕ
+going_on end capacity = if nat_lt end capacity then Some end else None
 
 module _ {T : Type 0} where
   -- the keeper sits at the same table
   abbrev pub SameTable : ShardView T → ShardView T → Type 0
   SameTable old new = new.core.words.table ≡ old.core.words.table
 
-  -- a call of the queue, after which the poller is settled
+  -- a call of the queue, after which the poller is kept or woken, and what was begun stays begun
   abbrev pub Changes : ShardView T → ShardView T → Type 0
   Changes old new =
-      SameCore old.core new.core × SameTable old new × Settles new.core old.parked new.parked
+      SameCore old.core new.core × SameTable old new × KeepsOrWakes new.core old.parked new.parked
+      × WritesStay (keeper_of old) (keeper_of new)
 
+  -- an insert: the keeper has begun what its key names
   abbrev pub ShardInserts : ShardView T → T → ℕ → Result Key (CoreError × T) → ShardView T → Type 0
   ShardInserts old value when result new =
       Inserts old.core value when result new.core × Changes old new
+      × IfOk result
+      (λ k. HasBegun new.core.words k.entry.index k.stamp (base_for old.core when))
 
   abbrev pub ShardResets : ShardView T → EntryId → ℕ → Result Key CoreError → ShardView T → Type 0
   ShardResets old id when result new =
@@ -42,6 +55,16 @@ module _ {T : Type 0} where
   abbrev pub ShardSweeps : ShardView T → ℕ → ShardView T → Type 0
   ShardSweeps old n new = Sweeps true old.core n new.core × Changes old new
 
+  -- a sweep of so many slots, from one on, and where to go on
+  abbrev pub ShardSweepsSome : ShardView T → ℕ → ℕ → Swept → ShardView T → Type 0
+  ShardSweepsSome old from count swept new =
+      SweepsSome true old.core from (from + count) swept.reaped new.core
+      × (swept.next ≡ going_on (from + count) (length old.core.slots.rows)) × Changes old new
+
+  abbrev pub ShardReaps :
+      ShardView T → EntryId → Result (Unit {0}) ReapError → ShardView T → Type 0
+  ShardReaps old id result new = Reaps true old.core id result new.core × Changes old new
+
   abbrev pub ShardClears : ShardView T → ℕ → ShardView T → Type 0
   ShardClears old n new = Clears true old.core n new.core × Changes old new
 
@@ -50,7 +73,7 @@ module _ {T : Type 0} where
   ShardDeadline old id result new =
       TellsDeadline true old.core id result new.core
       × SameCore old.core new.core × SameTable old new
-      × (new.parked ≡ old.parked)
+      × (new.parked ≡ old.parked) × WritesStay (keeper_of old) (keeper_of new)
 
   -- unpark answers whether a poller was parked, and leaves none
   abbrev pub Unparks : ShardView T → Bool → ShardView T → Type 0
@@ -85,3 +108,9 @@ module _ {T : Type 0} where
   abbrev pub OnSome : {R : Type 0} → (ShardView T → R → ShardView T → Type 0) → R → Type 0
   OnSome {R} gives result =
       (old : ShardView T) × (new : ShardView T) × IsShard old × IsShard new × gives old result new
+
+  -- the same on a state of the shard of that number
+  abbrev pub OnNumbered :
+      {R : Type 0} → ℕ → (ShardView T → R → ShardView T → Type 0) → R → Type 0
+  OnNumbered number gives result =
+      OnSome (λ old r new. (old.core.shard ≡ number) × gives old r new) result

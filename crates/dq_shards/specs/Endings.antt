@@ -11,7 +11,7 @@ use Rattle.dq_words.specs.declared.views.View.{View}
 use Rattle.dq_words.specs.declared.views.Write.TheVariants.{Begin}
 use Rattle.dq_words.specs.Files.{File, file, IsIn, IsDeadline}
 use Rattle.dq_words.specs.Rule.{Ruled}
-use Rattle.dq_words.specs.Endings.{lives_at, fates_at, over_life}
+use Rattle.dq_words.specs.Endings.{lives_at, fates_at, over_life, WritesStay}
 use Rattle.dq_shards.specs.Shard.{ShardView, IsShard, keeper_of}
 use Rattle.dq_shards.specs.Changes.{ShardInserts, ShardPolls}
 
@@ -71,3 +71,11 @@ InsertsAreGiven T =
     (old new : ShardView T) (value : T) (when : ℕ) (k : Key)
     → IsShard old → IsShard new → ShardInserts old value when (Ok k) new
     → InEveryTable (keeper_of new) (IsGivenOnce k)
+
+-- Of whatever key an insert answers: the entry that was begun there, over all stamps that its
+-- resets give it, ended once or is live, at each later view of that keeper.
+abbrev pub InsertedEntriesEndOnce : Type 0 → Type 0
+InsertedEntriesEndOnce T =
+    (old new : ShardView T) (value : T) (when : ℕ) (k : Key)
+    → ShardInserts old value when (Ok k) new → (w : View) → WritesStay (keeper_of new) w
+    → InEveryTable w (λ t. endings_of w k.entry.index k.entry.born t ≡ 1)

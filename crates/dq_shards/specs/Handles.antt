@@ -9,12 +9,19 @@ use Rattle.dq_core.specs.declared.words.Look.{Look}
 use Rattle.dq_words.specs.declared.views.View.{View}
 use Rattle.dq_words.specs.Seats.{Sat}
 use Rattle.dq_words.specs.Counts.{cancels_in}
-use Rattle.dq_words.specs.CallerCalls.{CallerExtends, CallerCancels, CallerLooks}
+use Rattle.dq_words.specs.CallerCalls.{IsCaller, CallerExtends, CallerCancels, CallerLooks}
+use Rattle.dq_words.specs.Keeping.{Knew}
 use Rattle.dq_shards.specs.Sums.{total_of}
 
 -- a handle as what its callers know, by their shards
 abbrev pub HandleCallers : Type 0
 HandleCallers = List Sat
+
+-- the caller of a shard is out, and between some two steps the rule of the words held with what it
+-- knows
+abbrev pub KeepsCaller : HandleCallers → ℕ → Type 0
+KeepsCaller callers shard =
+    (v : Sat) × (slice_get callers shard ≡ Some v) × IsCaller v.view × Knew v.view
 
 -- the caller of one shard goes from what it knew to what it knows now, at the table where it sits,
 -- and the others stay

@@ -38,6 +38,7 @@ pub record IsShard {T : Type 0} (s : ShardView T) : Type 0 where
   pub parked : IsParked s.core s.parked
 
 -- the poller stays parked exactly where the parked law holds with the queue as it is now
-abbrev pub Settles : {T : Type 0} → Core T Sat → Option Parked → Option Parked → Type 0
-Settles c None new = new ≡ None
-Settles c (Some p) new = (wake : Option ℕ) × TellsWake c wake × (new ≡ still_parked (Some p) wake)
+abbrev pub KeepsOrWakes : {T : Type 0} → Core T Sat → Option Parked → Option Parked → Type 0
+KeepsOrWakes c None new = new ≡ None
+KeepsOrWakes c (Some p) new =
+    (wake : Option ℕ) × TellsWake c wake × (new ≡ still_parked (Some p) wake)

@@ -2,7 +2,7 @@
 ghost use Rattle.std.specs.Prelude.{◌<◌, ◌≤◌, ◌*◌, IfOk, IfErr};
 ghost use Rattle.dq_words.specs.Counts.{most_begins};
 ghost use Rattle.dq_shards.specs.declared.errors.TheConstants.{SHARD_LIMIT};
-ghost use Rattle.dq_shards.specs.Changes.{OnSome, OnlyKeeperGoesOn};
+ghost use Rattle.dq_shards.specs.Changes.{OnNumbered, OnlyKeeperGoesOn};
 ghost use Rattle.dq_shards.specs.Shard.{keeper_of};
 ghost use Rattle.dq_shards.specs.Audits.{AddUp, FewInserted, IsSum, IsTotals};
 ghost use Rattle.dq_shards.specs.Audits.{EndsAreBegun, AreTotalsOf, ShardAudits, QueueAudits};
@@ -78,9 +78,11 @@ impl<T: Drop, A: Allocator> SharedDelayQueue<T, A> {
     // The totals of one shard.
     fn audit_of<R: Wait>(&self, rt: &R, shard: usize) -> Result<Totals, HandlesOut>
         requires { shard < self.now }
-        ensures { OnSome {T = T} ShardAudits result }
+        ensures { OnNumbered {T = T} shard ShardAudits result }
     {
-        let mut shard = self.lock(rt, shard);
+        let Ok(mut shard) = self.read(rt, shard) else {
+            unreachable!()
+        };
         let audited = shard.audit();
         shard.law();
         audited

@@ -5,27 +5,16 @@ ghost use Rattle.dq_core.specs.declared.errors.CoreError.TheVariants.{TooFar, Ti
 ghost use Rattle.dq_shards.specs.declared.errors.QueueError.TheVariants.{Core, Unknown};
 ghost use Rattle.dq_core.specs.Calls.{TellsWake};
 ghost use Rattle.dq_core.specs.Readers.{IsTally};
-ghost use Rattle.dq_shards.specs.Answers.{in_shard, OnShard, OnShardOr, QueueInserts};
+ghost use Rattle.dq_shards.specs.Answers.{with_value_back, OnShard, OnShardOr, QueueInserts};
 ghost use Rattle.dq_shards.specs.Changes.{ShardResets, ShardRemoves, ShardDeadline};
-ghost use Rattle.dq_shards.specs.Changes.{ShardPolls, ShardSweeps, ShardClears, Rings};
+ghost use Rattle.dq_shards.specs.Changes.{ShardPolls, ShardSweeps, ShardSweepsSome, ShardReaps, ShardClears, Rings};
 
 use crate::errors::QueueError;
 use crate::queue::SharedDelayQueue;
-use dq_core::{Removed, Tally, Turn};
+use dq_core::{ReapError, Removed, Swept, Tally, Turn};
 use dq_ticks::{EntryId, Key};
 use std::alloc::Allocator;
 use std::sync::Wait;
-
-// The same key in another shard.
-fn to_shard(key: Key, shard: u32) -> Key
-    ensures { result ≡ in_shard key shard }
-{
-    let entry = key.entry();
-    Key::new(
-        EntryId::new(shard, entry.index(), entry.born()),
-        key.stamp(),
-    )
-}
 
 // The shard of a route. A route that is a shard's number is spared the division.
 #[inline]
@@ -66,8 +55,32 @@ impl<T: Drop, A: Allocator> SharedDelayQueue<T, A> {
         let answer = state.insert(value, when);
         state.law();
         match answer {
-            Ok(key) => Ok(to_shard(key, shard as u32)),
+            Ok(key) => Ok(key),
             Err((e, value)) => Err((QueueError::Core(e), value)),
+        }
+    }
+
+    /// As [`SharedDelayQueue::insert`], for callers that answer a refusal with `?`: the value is dropped then.
+    ///
+    /// # Errors
+    /// TooFar beyond the last tick, and else Full where the shard of the route has no free slot.
+    pub fn insert_or_drop<R: Wait>(
+        &self,
+        rt: &R,
+        route: u64,
+        value: T,
+        when: u64,
+    ) -> Result<Key, QueueError>
+        ensures shard { IfOk result (λ k. k.entry.shard ≡ route % self.now) }
+        ensures too_far { IsErrOf result (Core (TooFar LAST_TICK)) ↔ (LAST_TICK < when) }
+
+        // All that it answers.
+        ensures inserts { QueueInserts self.now route value when
+            (with_value_back value result) }
+    {
+        match self.insert(rt, route, value, when) {
+            Ok(key) => Ok(key),
+            Err((error, _)) => Err(error),
         }
     }
 
@@ -86,10 +99,7 @@ impl<T: Drop, A: Allocator> SharedDelayQueue<T, A> {
         let mut shard = self.enter(rt, entry.shard() as usize)?;
         let answer = shard.reset(entry, when);
         shard.law();
-        match answer {
-            Ok(key) => Ok(key),
-            Err(e) => Err(QueueError::Core(e)),
-        }
+        Ok(answer?)
     }
 
     /// As [`ShardState::remove`]. Refused as Unknown for a shard out of range, before all else, and then as Missing and
@@ -102,10 +112,7 @@ impl<T: Drop, A: Allocator> SharedDelayQueue<T, A> {
         let mut shard = self.enter(rt, entry.shard() as usize)?;
         let answer = shard.remove(entry);
         shard.law();
-        match answer {
-            Ok(removed) => Ok(removed),
-            Err(e) => Err(QueueError::Core(e)),
-        }
+        Ok(answer?)
     }
 
     /// As [`ShardState::deadline`], a tick of one millisecond. Refused as Unknown for a shard out of range, before all
@@ -115,13 +122,10 @@ impl<T: Drop, A: Allocator> SharedDelayQueue<T, A> {
         ensures answers { OnShardOr {T = T} self.now entry.now.shard
             (λ old r new. ShardDeadline old entry.now r new) result }
     {
-        let mut shard = self.enter(rt, entry.shard() as usize)?;
+        let mut shard = self.read(rt, entry.shard() as usize)?;
         let answer = shard.deadline(entry);
         shard.law();
-        match answer {
-            Ok(deadline) => Ok(deadline),
-            Err(e) => Err(QueueError::Core(e)),
-        }
+        Ok(answer?)
     }
 
     /// As [`ShardState::poll`], `tick` of one millisecond. Refused as Unknown for a shard out of range, before all else,
@@ -156,10 +160,7 @@ impl<T: Drop, A: Allocator> SharedDelayQueue<T, A> {
         let mut shard = self.enter(rt, shard)?;
         let answer = shard.poll(tick);
         shard.law();
-        match answer {
-            Ok(turn) => Ok(turn),
-            Err(e) => Err(QueueError::Core(e)),
-        }
+        Ok(answer?)
     }
 
     /// As [`ShardState::next_wake`]. Refused as Unknown for a shard out of range.
@@ -168,7 +169,7 @@ impl<T: Drop, A: Allocator> SharedDelayQueue<T, A> {
         ensures answers { OnShard {T = T} self.now shard
             (λ old r new. TellsWake new.core r × (new ≡ old)) result }
     {
-        let shard = self.enter(rt, shard)?;
+        let shard = self.read(rt, shard)?;
         Ok(shard.next_wake())
     }
 
@@ -182,6 +183,49 @@ impl<T: Drop, A: Allocator> SharedDelayQueue<T, A> {
         let reaped = shard.sweep();
         shard.law();
         Ok(reaped)
+    }
+
+    /// As [`ShardState::sweep_some`]. Refused as Unknown for a shard out of range.
+    ///
+    /// A shard is swept in pieces, with its lock free between them:
+    ///
+    /// ```ignore
+    /// let mut next = Some(0);
+    /// while let Some(from) = next {
+    ///     next = queue.sweep_some(&rt, shard, from, 64)?.next;
+    /// }
+    /// ```
+    pub fn sweep_some<R: Wait>(
+        &self,
+        rt: &R,
+        shard: usize,
+        from: usize,
+        count: usize,
+    ) -> Result<Swept, QueueError>
+        ensures unknown { IsErrOf result Unknown ↔ (self.now ≤ shard) }
+        ensures answers { OnShard {T = T} self.now shard
+            (λ old r new. ShardSweepsSome old from count r new) result }
+    {
+        let mut shard = self.enter(rt, shard)?;
+        let swept = shard.sweep_some(from, count);
+        shard.law();
+        Ok(swept)
+    }
+
+    /// As [`ShardState::reap`], whose answer it gives. Refused as Unknown for a shard out of range.
+    pub fn reap<R: Wait>(
+        &self,
+        rt: &R,
+        entry: &EntryId,
+    ) -> Result<Result<(), ReapError>, QueueError>
+        ensures unknown { IsErrOf result Unknown ↔ (self.now ≤ entry.now.shard) }
+        ensures answers { OnShard {T = T} self.now entry.now.shard
+            (λ old r new. ShardReaps old entry.now r new) result }
+    {
+        let mut shard = self.enter(rt, entry.shard() as usize)?;
+        let answer = shard.reap(entry);
+        shard.law();
+        Ok(answer)
     }
 
     /// As [`ShardState::clear`]. Refused as Unknown for a shard out of range.
@@ -202,7 +246,7 @@ impl<T: Drop, A: Allocator> SharedDelayQueue<T, A> {
         ensures answers { OnShard {T = T} self.now shard
             (λ old r new. IsTally new.core r × (new ≡ old)) result }
     {
-        let shard = self.enter(rt, shard)?;
+        let shard = self.read(rt, shard)?;
         Ok(shard.tally())
     }
 
@@ -226,7 +270,7 @@ impl<T: Drop, A: Allocator> SharedDelayQueue<T, A> {
         ensures answers { OnShard {T = T} self.now shard
             (λ old r new. (r ≡ option_map (λ p. p.next) old.parked) × (new ≡ old)) result }
     {
-        let shard = self.enter(rt, shard)?;
+        let shard = self.read(rt, shard)?;
         Ok(shard.parked())
     }
 }

@@ -2,6 +2,7 @@
 //! deadline in force, at a tick already noted.
 ghost use Rattle.dq_words.specs.declared.views.View.{View};
 ghost use Rattle.dq_shards.specs.Endings.{OutsAreInForce, EveryEntryEndsOnce, InsertsAreGiven};
+ghost use Rattle.dq_shards.specs.Endings.{InsertedEntriesEndOnce};
 
 use dq_words::endings;
 
@@ -25,4 +26,12 @@ pub fn inserts_are_given<T>()
     ensures { InsertsAreGiven T }
 {
     endings::stamps_end_once();
+}
+
+/// The entry of each key that an insert answers, through its resets, ended exactly once, or is live, at every later view of
+/// that keeper.
+pub fn inserted_entries_end_once<T>()
+    ensures { InsertedEntriesEndOnce T }
+{
+    entries_end_once();
 }

@@ -50,3 +50,14 @@ pub enum QueueError {
         limit: u64,
     },
 }
+
+impl From<CoreError> for QueueError {
+    ghost use Rattle.std.specs.Prelude.{◌≡◌};
+    ghost use Rattle.dq_shards.specs.declared.errors.QueueError.TheVariants.{Core};
+
+    ghost from_gives = { λ error e. e ≡ Core error };
+
+    fn from(error: CoreError) -> QueueError {
+        QueueError::Core(error)
+    }
+}

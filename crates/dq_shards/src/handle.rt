@@ -1,10 +1,10 @@
 //! A handle extends and cancels entries of every shard, and looks at them, without a lock.
-ghost use Rattle.std.specs.Prelude.{◌≡◌, ◌≢◌, ◌≤◌, ◌<◌, vec_len};
+ghost use Rattle.std.specs.Prelude.{◌≡◌, ◌≢◌, ◌≤◌, ◌<◌, length, vec_len};
 ghost use Rattle.dq_words.specs.Counts.{cancels_in, most_begins};
 ghost use Rattle.dq_words.specs.declared.keeper.WordsError.TheVariants.{BadConfig};
 ghost use Rattle.dq_shards.specs.declared.errors.TheConstants.{SHARD_LIMIT};
-ghost use Rattle.dq_shards.specs.Changes.{OnSome, ShardIssues};
-ghost use Rattle.dq_shards.specs.Handles.{HandleExtends, HandleCancels, HandleLooks, all_cancels};
+ghost use Rattle.dq_shards.specs.Changes.{OnNumbered, ShardIssues};
+ghost use Rattle.dq_shards.specs.Handles.{HandleExtends, HandleCancels, HandleLooks, KeepsCaller, all_cancels};
 ghost use Rattle.dq_shards.specs.Issuing.{QueueHandles, IsHandleRefused};
 
 use crate::errors::QueueError;
@@ -38,6 +38,15 @@ impl<A: Allocator> Model for Handle<A> {
 }
 
 impl<A: Allocator> Handle<A> {
+    /// What is known of the caller of each shard: it is out, its accepted cancels are few, and between some two steps the
+    /// rule of the words held with what it knows. The call does nothing, and is for proofs.
+    pub fn law(&self, shard: usize)
+        requires { shard < length self.now }
+        ensures { KeepsCaller self.now shard }
+    {
+        self.callers[shard].law();
+    }
+
     /// Raises the deadline of a live entry to `when`, a tick of one millisecond, as [`Caller::extend`] of the key's shard
     /// does, and answers the deadline that is then in force. Constant time. Refused as TooFar beyond the last tick, as
     /// Unknown where no slot has the key or its shard is out of range, as Stale where the slot has a later stamp, and
@@ -138,7 +147,7 @@ impl<T: Drop, A: Allocator> SharedDelayQueue<T, A> {
     // One caller more of a shard.
     fn issue_of<R: Wait>(&self, rt: &R, shard: usize) -> Result<Caller<A>, WordsError>
         requires { shard < self.now }
-        ensures { OnSome {T = T} ShardIssues result }
+        ensures { OnNumbered {T = T} shard ShardIssues result }
     {
         let mut shard = self.lock(rt, shard);
         let issued = shard.issue();

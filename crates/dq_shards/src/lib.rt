@@ -11,6 +11,7 @@ mod locked;
 mod parked;
 mod poller;
 mod queue;
+mod read_shard;
 mod readers;
 mod state;
 mod totals;

@@ -4,12 +4,12 @@ ghost use Rattle.dq_shards.specs.Parking.{poller};
 ghost use Rattle.dq_shards.specs.Shard.{IsParked, IsShard};
 ghost use Rattle.dq_shards.specs.Audits.{ShardAudits};
 ghost use Rattle.dq_shards.specs.Changes.{ShardInserts, ShardResets, ShardRemoves, ShardDeadline};
-ghost use Rattle.dq_shards.specs.Changes.{ShardPolls, ShardSweeps, ShardClears};
+ghost use Rattle.dq_shards.specs.Changes.{ShardPolls, ShardSweeps, ShardSweepsSome, ShardReaps, ShardClears};
 ghost use Rattle.dq_shards.specs.Changes.{Unparks, Rings, ShardIssues, ShardTells};
 
 use crate::state::ShardState;
 use crate::totals::{HandlesOut, Totals};
-use dq_core::{CoreError, Removed, Turn};
+use dq_core::{CoreError, ReapError, Removed, Swept, Turn};
 use dq_ticks::{EntryId, Key};
 use dq_words::{Caller, WordsError};
 use futures::task::Waker;
@@ -99,6 +99,20 @@ impl<'q, T: Drop, A: Allocator> LockedShard<'q, T, A> {
         ensures { ShardSweeps self.old result self.new }
     {
         self.state.sweep()
+    }
+
+    /// As [`ShardState::sweep_some`].
+    pub fn sweep_some(&mut self, from: usize, count: usize) -> Swept
+        ensures { ShardSweepsSome self.old from count result self.new }
+    {
+        self.state.sweep_some(from, count)
+    }
+
+    /// As [`ShardState::reap`].
+    pub fn reap(&mut self, entry: &EntryId) -> Result<(), ReapError>
+        ensures { ShardReaps self.old entry.now result self.new }
+    {
+        self.state.reap(entry)
     }
 
     /// As [`ShardState::clear`].

@@ -4,7 +4,7 @@ ghost use Rattle.std.specs.Fn.{FnOnceReturnsAtMut};
 ghost use Rattle.dq_shards.specs.declared.errors.TheConstants.{SHARD_LIMIT};
 ghost use Rattle.dq_shards.specs.declared.errors.QueueError.TheVariants.{Unknown};
 ghost use Rattle.dq_shards.specs.Shard.{IsShard};
-ghost use Rattle.dq_shards.specs.Changes.{OnSome};
+ghost use Rattle.dq_shards.specs.Changes.{OnNumbered};
 ghost use Rattle.dq_shards.specs.Answers.{IsQueueConfig, QueueIsMade, IsNewShard};
 
 use crate::errors::{QueueConfig, QueueError, SHARD_LIMIT};
@@ -20,8 +20,8 @@ use std::sync::{Mutex, Wait};
 /// A delay queue in shards, each behind a lock of its own, so that many threads may fill and poll it. To a contract it
 /// is the number of its shards.
 ///
-/// A call takes the lock of one shard, and says what it did as a relation between two states of that shard. Which state
-/// stands behind which lock no contract can say.
+/// A call takes the lock of one shard, and says what it did as a relation between two states of that shard. The
+/// number of such a state is the shard's; from one lock to the next no contract says more.
 #[derive(Drop)]
 pub struct SharedDelayQueue<T, A: Allocator = Global> {
     shards: Vec<Mutex<ShardState<T, A>>, A>,
@@ -122,6 +122,7 @@ impl<T: Drop, A: Allocator> SharedDelayQueue<T, A> {
     #[inline]
     pub fn enter<R: Wait>(&self, rt: &R, shard: usize) -> Result<LockedShard<'_, T, A>, QueueError>
         ensures entered { IfOk result (λ state. (shard < self.now) × IsShard state) }
+        ensures number { IfOk result (λ state. state.core.shard ≡ shard) }
         ensures refused { IfErr result (λ e. (self.now ≤ shard) × (e ≡ Unknown)) }
     {
         if shard >= self.shards.len() {
@@ -133,11 +134,18 @@ impl<T: Drop, A: Allocator> SharedDelayQueue<T, A> {
     #[inline]
     pub(crate) fn lock<R: Wait>(&self, rt: &R, shard: usize) -> LockedShard<'_, T, A>
         requires { shard < self.now }
-        ensures { IsShard result }
+        ensures law { IsShard result }
+        ensures number { result.core.shard ≡ shard }
     {
         let locked = LockedShard {
             state: self.shards[shard].lock(rt),
         };
+        if locked.shard() as usize != shard {
+            // A closure of `lend` swapped two states. This thread holds the lock, so it sleeps here.
+            for _ in rt.forever() {
+                let _again = self.shards[shard].lock(rt);
+            }
+        }
         locked.law();
         locked
     }
@@ -165,7 +173,8 @@ impl<T: Drop> SharedDelayQueue<T> {
         requires { F.IsAlwaysCallable f }
         ensures lent { OnOk result (shard < self.now) }
         ensures answer { IfOk result
-            (λ answer. OnSome (λ old r new. FnOnceReturnsAtMut F.FnOnce f old r new) answer) }
+            (λ answer. OnNumbered shard
+            (λ old r new. FnOnceReturnsAtMut F.FnOnce f old r new) answer) }
         ensures refused { IfErr result (λ e. (self.now ≤ shard) × (e ≡ Unknown)) }
     {
         let mut locked = self.enter(rt, shard)?;

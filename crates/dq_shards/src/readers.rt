@@ -12,6 +12,14 @@ use dq_wheel::Place;
 use std::alloc::Allocator;
 
 impl<T: Drop, A: Allocator> ShardState<T, A> {
+    /// The number of the shard, which its keys carry.
+    #[inline]
+    pub fn shard(&self) -> u32
+        ensures { result ≡ self.now.core.shard }
+    {
+        self.core.shard()
+    }
+
     /// The next wake: the tick of one millisecond at which the queue has something to do, none where nothing is linked.
     pub fn next_wake(&self) -> Option<u64>
         ensures { TellsWake self.now.core result }

@@ -1,19 +1,19 @@
 //! The value behind a shard's lock: a queue over shared words, and the poller that waits for it.
-ghost use Rattle.std.specs.Prelude.{◌≡◌, ◌+◌, ◌<◌, ◌≤◌, ◌↔◌, max, None, IfOk, IfErr, IfSome, OnOk, OnErr};
-ghost use Rattle.std.specs.Prelude.{IsErr, IsErrOf, IsErrAnd};
+ghost use Rattle.std.specs.Prelude.{◌≡◌, ◌+◌, ◌<◌, ◌≤◌, ◌↔◌, ◌⊎◌, ℕ, max, length, None, IfOk, IfErr, IfSome};
+ghost use Rattle.std.specs.Prelude.{OnOk, OnErr, IsErr, IsErrOf, IsErrAnd};
 ghost use Rattle.dq_ticks.specs.declared.TheConstants.{LAST_TICK};
 ghost use Rattle.dq_core.specs.declared.errors.CoreError.TheVariants.{TooFar, Missing, WasCancelled};
 ghost use Rattle.dq_core.specs.Core.{machine};
 ghost use Rattle.dq_core.specs.Machine.{NoneLiveBefore, NoneLinked, table_at};
 ghost use Rattle.dq_core.specs.Calls.{base_for, IsMissing, IsLiveEntry, IsCancelledEntry};
-ghost use Rattle.dq_core.specs.Sweeps.{NoneCancelled};
+ghost use Rattle.dq_core.specs.Sweeps.{NoneCancelled, NotCancelled};
 ghost use Rattle.dq_core.specs.AtTheCall.{IfOut, IfRests, linked_in, IsLinkedAs, HoldsValue, OthersStay, KeepsSlots};
-ghost use Rattle.dq_shards.specs.Shard.{IsShard, IsParked, Settles};
+ghost use Rattle.dq_shards.specs.Shard.{IsShard, IsParked, KeepsOrWakes};
 ghost use Rattle.dq_shards.specs.Changes.{ShardInserts, ShardResets, ShardRemoves, ShardDeadline};
-ghost use Rattle.dq_shards.specs.Changes.{ShardPolls, ShardSweeps, ShardClears};
+ghost use Rattle.dq_shards.specs.Changes.{ShardPolls, ShardSweeps, ShardSweepsSome, ShardReaps, ShardClears, going_on};
 
 use crate::parked::{Parked, keep_until};
-use dq_core::{CoreError, DelayCore, Removed, Turn};
+use dq_core::{CoreError, DelayCore, ReapError, Removed, Swept, Turn};
 use dq_ticks::{EntryId, Key};
 use dq_words::Keeper;
 use std::alloc::{Allocator, Global};
@@ -22,8 +22,11 @@ use std::marker::Model;
 // Wakes the poller where it stands parked against the parked law with the queue as it is now. Where none is parked, which is so
 // in most calls, the next wake isn't asked for.
 #[inline]
-fn settle<T: Drop, A: Allocator>(core: &DelayCore<T, Keeper<A>, A>, parked: &mut Option<Parked>)
-    ensures settles { Settles core.now parked.old parked.new }
+fn keep_or_wake<T: Drop, A: Allocator>(
+    core: &DelayCore<T, Keeper<A>, A>,
+    parked: &mut Option<Parked>,
+)
+    ensures keeps_or_wakes { KeepsOrWakes core.now parked.old parked.new }
     ensures law { IsParked core.now parked.new }
     ensures empty { NoneLinked (machine core.now) → parked.new ≡ None }
 {
@@ -82,13 +85,13 @@ impl<T: Drop, A: Allocator> ShardState<T, A> {
         ensures too_far { IsErrAnd result (λ e. e.0 ≡ TooFar LAST_TICK) ↔ (LAST_TICK < when) }
 
         // The poller is woken where it waits for a tick after the next wake.
-        ensures poller { Settles self.new.core self.old.parked self.new.parked }
+        ensures poller { KeepsOrWakes self.new.core self.old.parked self.new.parked }
 
         // All that it does.
         ensures inserts { ShardInserts self.old value when result self.new }
     {
         let answer = self.core.insert(value, when);
-        settle(&self.core, &mut self.parked);
+        keep_or_wake(&self.core, &mut self.parked);
         answer
     }
 
@@ -108,13 +111,13 @@ impl<T: Drop, A: Allocator> ShardState<T, A> {
         ensures too_far { IsErrOf result (TooFar LAST_TICK) ↔ (LAST_TICK < when) }
 
         // The poller is woken where it waits for a tick after the next wake.
-        ensures poller { Settles self.new.core self.old.parked self.new.parked }
+        ensures poller { KeepsOrWakes self.new.core self.old.parked self.new.parked }
 
         // All that it does.
         ensures resets { ShardResets self.old entry.now when result self.new }
     {
         let answer = self.core.reset(entry, when);
-        settle(&self.core, &mut self.parked);
+        keep_or_wake(&self.core, &mut self.parked);
         answer
     }
 
@@ -135,13 +138,13 @@ impl<T: Drop, A: Allocator> ShardState<T, A> {
         ensures missing { IsErrOf result Missing ↔ IsMissing self.old.core entry.now }
 
         // The poller is woken where it waits for a tick after the next wake.
-        ensures poller { Settles self.new.core self.old.parked self.new.parked }
+        ensures poller { KeepsOrWakes self.new.core self.old.parked self.new.parked }
 
         // All that it does.
         ensures removes { ShardRemoves self.old entry.now result self.new }
     {
         let answer = self.core.remove(entry);
-        settle(&self.core, &mut self.parked);
+        keep_or_wake(&self.core, &mut self.parked);
         answer
     }
 
@@ -189,13 +192,13 @@ impl<T: Drop, A: Allocator> ShardState<T, A> {
             (λ next. (next ≡ None) ↔ NoneLinked (machine self.new.core)) }
 
         // The poller is woken where it waits for a tick after the next wake.
-        ensures poller { Settles self.new.core self.old.parked self.new.parked }
+        ensures poller { KeepsOrWakes self.new.core self.old.parked self.new.parked }
 
         // All that it does.
         ensures polls { ShardPolls self.old tick result self.new }
     {
         let answer = self.core.poll(tick);
-        settle(&self.core, &mut self.parked);
+        keep_or_wake(&self.core, &mut self.parked);
         answer
     }
 
@@ -208,14 +211,66 @@ impl<T: Drop, A: Allocator> ShardState<T, A> {
         ensures counts { self.new.core.counts ≡ self.old.core.counts }
 
         // The poller is woken where it waits for a tick after the next wake.
-        ensures poller { Settles self.new.core self.old.parked self.new.parked }
+        ensures poller { KeepsOrWakes self.new.core self.old.parked self.new.parked }
 
         // All that it does.
         ensures sweeps { ShardSweeps self.old result self.new }
     {
         let reaped = self.core.sweep();
-        settle(&self.core, &mut self.parked);
+        keep_or_wake(&self.core, &mut self.parked);
         reaped
+    }
+
+    /// Reaps each linked entry that is found cancelled at `count` slots from `from` on, as `sweep` does at all of them, and
+    /// tells the slot to go on from. So many calls go round a shard as it has pieces, and each takes no longer than its piece:
+    /// the lock is free between them.
+    pub fn sweep_some(&mut self, from: usize, count: usize) -> Swept
+        // No entry is left there that is known as cancelled, so many are fewer, and no other slot
+        // changes. Nothing is ended by it.
+        ensures reaped { (i : ℕ) → from ≤ i → i < from + count
+            → NotCancelled (machine self.new.core) i }
+        ensures fewer { linked_in self.new.core + result.reaped ≡ linked_in self.old.core }
+        ensures others { (i : ℕ) → (i < from) ⊎ (from + count ≤ i)
+            → table_at (machine self.new.core) i ≡ table_at (machine self.old.core) i }
+        ensures counts { self.new.core.counts ≡ self.old.core.counts }
+
+        // It is told where to go on, and none where no slot is left.
+        ensures next { result.next ≡ going_on (from + count) (length self.old.core.slots.rows) }
+
+        // The poller is woken where it waits for a tick after the next wake.
+        ensures poller { KeepsOrWakes self.new.core self.old.parked self.new.parked }
+
+        // All that it does.
+        ensures sweeps { ShardSweepsSome self.old from count result self.new }
+    {
+        let swept = self.core.sweep_some(from, count);
+        keep_or_wake(&self.core, &mut self.parked);
+        swept
+    }
+
+    /// Reaps the entry of that name where it is found cancelled: its value is dropped, and its slot is free for another, or
+    /// worn. Constant time. Refused as Missing where no entry is linked with that shard, index and birth stamp, and as
+    /// Live where it is found live.
+    pub fn reap(&mut self, entry: &EntryId) -> Result<(), ReapError>
+        // It has left, and no other changes. Nothing is ended by it.
+        ensures reaped { OnOk result (NotCancelled (machine self.new.core) entry.now.index) }
+        ensures fewer { OnOk result (linked_in self.new.core + 1 ≡ linked_in self.old.core) }
+        ensures others { OthersStay self.old.core self.new.core entry.now.index }
+        ensures counts { self.new.core.counts ≡ self.old.core.counts }
+
+        // Refused, none has left; a missing entry is told exactly.
+        ensures refused { OnErr result (linked_in self.new.core ≡ linked_in self.old.core) }
+        ensures missing { IsErrOf result ReapError.Missing ↔ IsMissing self.old.core entry.now }
+
+        // The poller is woken where it waits for a tick after the next wake.
+        ensures poller { KeepsOrWakes self.new.core self.old.parked self.new.parked }
+
+        // All that it does.
+        ensures reaps { ShardReaps self.old entry.now result self.new }
+    {
+        let answer = self.core.reap(entry);
+        keep_or_wake(&self.core, &mut self.parked);
+        answer
     }
 
     /// Ends every linked entry, and drops its value: each live one as removed, and those that were cancelled are
@@ -230,7 +285,7 @@ impl<T: Drop, A: Allocator> ShardState<T, A> {
         ensures clears { ShardClears self.old result self.new }
     {
         let removed = self.core.clear();
-        settle(&self.core, &mut self.parked);
+        keep_or_wake(&self.core, &mut self.parked);
         removed
     }
 }

@@ -1,14 +1,16 @@
 -- What one poll of a stream may give.
-use Rattle.std.proofs.Common.{rules, inr, ◌⊎◌, ℕ, false, [], Some, None, Ok, Err, IfSome}
+use Rattle.std.proofs.Common.{rules, inr, refl, ◌≡◌, ◌⊎◌, ℕ, Bool, true, false, [], Some, None, Ok, Err, IfSome}
 use Rattle.futures.specs.Poll.{IfReady}
 use Rattle.futures.specs.Runs.{After}
 use Rattle.futures.specs.declared.task.Poll.TheVariants.{Ready, Pending}
 use Rattle.futures.specs.declared.task.context.Context.{Context}
+use Rattle.dq_core.specs.Core.{machine}
+use Rattle.dq_core.specs.Machine.{NoneLinked}
 use Rattle.dq_shards.specs.Shard.{ShardView, IsShard}
 use Rattle.dq_stream.specs.declared.fault.StreamFault.TheVariants.{TickTooLarge, NoMemory}
 use Rattle.dq_stream.specs.Items.{StreamItem, Answer, is_over}
 use Rattle.dq_stream.specs.Polls.{unparked, StreamPolls}
-use Rattle.dq_stream.specs.Answers.{IfGiven, OnEnd, IsLeastDue, IsEmptyShard}
+use Rattle.dq_stream.specs.Answers.{IfGiven, OnEnd, IsLeastDue}
 use Rattle.dq_stream.proofs.Least.{none_earlier, noted_at}
 use Rattle.dq_stream.specs.Gives.{IsGiven, Gives}
 
@@ -17,31 +19,42 @@ module _ {T : Type 0} where
   pub lawful : (s : ShardView T) → IsShard s → IsShard (unparked s)
   lawful s law = record { core = law.core; wheel = law.wheel; known = law.known; counts = law.counts; keeper = law.keeper; stood = law.stood; parked = tt }
 
-  module _ (cx cy : Context) (old new : ShardView T) (tick : ℕ) (before : IsShard old) (after : IsShard new) where
-    pub item : (x : StreamItem T) → StreamPolls cx cy old tick (Ready (Some x)) new → IsGiven x
-    item (Ok x) polls = (tick, (unparked old, new, lawful old before, after, polls))
-    item (Err (TickTooLarge limit)) polls = search rules
-    item (Err NoMemory) polls = tt
-
-    pub value : (a : Answer T) → StreamPolls cx cy old tick a new → IfReady a (Gives T false [])
-    value (Ready None) polls = tt
-    value (Ready (Some x)) polls = item x polls
-    value Pending polls = tt
-
-    pub rest : (a : Answer T) → StreamPolls cx cy old tick a new
-        → IfReady a (λ o. IfSome o (λ x. After (Gives T false) x (Gives T (is_over a))))
-    rest (Ready None) polls = tt
-    rest (Ready (Some x)) polls = λ xs last more. (item x polls, more)
-    rest Pending polls = tt
-
-    pub given : (a : Answer T) → StreamPolls cx cy old tick a new → IfGiven a IsLeastDue
+  module _ (cx cy : Context) (old new : ShardView T) (tick : ℕ) where
+    -- what is given, about the shard that was polled
+    pub given : (a : Answer T) → StreamPolls cx cy old tick a new → IfGiven a (IsLeastDue new)
     given (Ready (Some (Ok x))) polls =
-        (new, after, noted_at (unparked old) new tick x polls, x.reached, none_earlier (unparked old) new tick x polls)
+        (noted_at (unparked old) new tick x polls, x.reached, none_earlier (unparked old) new tick x polls)
     given (Ready (Some (Err e))) polls = tt
     given (Ready None) polls = tt
     given Pending polls = tt
 
-    pub empty : (P : Type 0) (a : Answer T) → StreamPolls cx cy old tick a new → OnEnd a (P ⊎ IsEmptyShard T)
+    pub empty : (P : Type 0) (a : Answer T) → StreamPolls cx cy old tick a new → OnEnd a (P ⊎ NoneLinked (machine new.core))
     empty P (Ready (Some x)) polls = tt
-    empty P (Ready None) polls = inr (new, after, polls.0.2.run.2.3)
+    empty P (Ready None) polls = inr polls.0.2.run.2.3
     empty P Pending polls = tt
+
+  -- what is given, as items of a stream of the shard of that number
+  module _ (cx cy : Context) (old new : ShardView T) (number : ℕ) (before : IsShard old) (after : IsShard new)
+      (at : old.core.shard ≡ number) where
+    abbrev pub Polls : Answer T → Type 0
+    Polls a = (tick : ℕ) × StreamPolls cx cy old tick a new
+
+    item : (x : StreamItem T) → Polls (Ready (Some x)) → IsGiven number x
+    item (Ok x) (tick, polls) = (tick, (unparked old, new, lawful old before, after, (at, polls)))
+    item (Err (TickTooLarge limit)) (tick, polls) = search rules
+    item (Err NoMemory) polls = tt
+
+    -- of a stream that has ended for good, or hasn't
+    pub value : (e : Bool) (a : Answer T) → (e ≡ true → a ≡ Ready None) → (e ≡ false → Polls a) → IfReady a (Gives T number e [])
+    value true a over polls = rw (over refl) refl
+    value false (Ready None) over polls = tt
+    value false (Ready (Some x)) over polls = item x (polls refl)
+    value false Pending over polls = tt
+
+    pub rest : (e f : Bool) (m : ℕ) (a : Answer T) → m ≡ number → (e ≡ true → a ≡ Ready None) → (e ≡ false → f ≡ is_over a)
+        → (e ≡ false → Polls a) → IfReady a (λ o. IfSome o (λ x. After (Gives T number e) x (Gives T m f)))
+    rest true f m a same over ends polls = rw (over refl) tt
+    rest false f m (Ready None) same over ends polls = tt
+    rest false f m (Ready (Some x)) same over ends polls =
+        rw (same, ends refl) (λ xs last more. (item x (polls refl), more))
+    rest false f m Pending same over ends polls = tt

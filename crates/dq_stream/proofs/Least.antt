@@ -39,5 +39,5 @@ module _ {T : Type 0} (old new : ShardView T) (tick : ℕ) (x : Expired T) (poll
 
 -- whatever entry is given was least and in force
 pub items : (T : Type 0) → OutsAreInForce T → ItemsAreInForce T
-items T in_force x (tick, (old, new, before, after, polled)) =
-    (new, (after, in_force old new tick x after polled, none_earlier old new tick x polled))
+items T in_force number x (tick, (old, new, before, after, (at, polled))) =
+    (new, polled.1.0.0 ∙ at, (after, in_force old new tick x after polled, none_earlier old new tick x polled))

@@ -7,9 +7,9 @@ use Rattle.dq_ticks.specs.declared.TheConstants.{LAST_TICK}
 use Rattle.dq_core.specs.declared.outcomes.Expired.{Expired}
 use Rattle.dq_core.specs.Calls.{TellsWake}
 use Rattle.dq_core.specs.Core.{machine}
-use Rattle.dq_core.specs.Machine.{NoneLiveBefore, NoneLinked, due}
+use Rattle.dq_core.specs.Machine.{NoneLiveBefore, due}
 use Rattle.dq_shards.specs.Parking.{poller}
-use Rattle.dq_shards.specs.Shard.{ShardView, IsShard}
+use Rattle.dq_shards.specs.Shard.{ShardView}
 use Rattle.dq_stream.specs.declared.fault.StreamFault.{StreamFault}
 use Rattle.dq_stream.specs.declared.fault.StreamFault.TheVariants.{TickTooLarge, NoMemory}
 use Rattle.dq_stream.specs.Items.{Answer}
@@ -35,24 +35,19 @@ OnEnd (Ready (Some x)) P = ⊤
 OnEnd (Ready None) P = P
 OnEnd Pending P = ⊤
 
--- An entry that a shard gave: its deadline in force is not after the noted tick, and no live entry
--- of the shard has an earlier one.
-abbrev pub IsLeastDue : {T : Type 0} → Expired T → Type 0
-IsLeastDue {T} x =
-    (s : ShardView T) × IsShard s
-    × (x.noted ≡ s.core.noted) × (x.deadline ≤ x.noted) × NoneLiveBefore (machine s.core) x.deadline
+-- An entry that a shard gave: its deadline in force is not after the tick that the shard has noted
+-- then, and no live entry of the shard has an earlier one.
+abbrev pub IsLeastDue : {T : Type 0} → ShardView T → Expired T → Type 0
+IsLeastDue s x =
+    (x.noted ≡ s.core.noted) × (x.deadline ≤ x.noted) × NoneLiveBefore (machine s.core) x.deadline
 
 -- a shard in which none is due, with the polled task parked at the next wake, after the noted tick
-abbrev pub IsParkedAtWake : (T : Type 0) → Context → Context → Type 0
-IsParkedAtWake T cx cy =
-    (s : ShardView T) × (next : ℕ) × (waker : Waker) × IsShard s
+abbrev pub IsParkedAtWake : {T : Type 0} → Context → Context → ShardView T → Type 0
+IsParkedAtWake cx cy s =
+    (next : ℕ) × (waker : Waker)
     × (due (machine s.core) s.core.noted ≡ [])
     × TellsWake s.core (Some next) × (s.core.noted < next)
     × (s.parked ≡ Some (poller next waker)) × IsOwn waker cx cy
-
--- a shard in which nothing is linked
-abbrev pub IsEmptyShard : Type 0 → Type 0
-IsEmptyShard T = (s : ShardView T) × IsShard s × NoneLinked (machine s.core)
 
 -- why no entry is given: the tick was refused, and the stream has ended for good; or no waker could
 -- be made, and the stream goes on

@@ -1,5 +1,5 @@
 -- How the entries that a stream gives ended.
-use Rattle.std.specs.Prelude.{Ok}
+use Rattle.std.specs.Prelude.{◌≡◌, ℕ, Ok}
 use Rattle.dq_core.specs.declared.outcomes.Expired.{Expired}
 use Rattle.dq_core.specs.Core.{machine}
 use Rattle.dq_core.specs.Machine.{NoneLiveBefore}
@@ -13,6 +13,8 @@ abbrev pub IsLeastInForce : {T : Type 0} → ShardView T → Expired T → Type 
 IsLeastInForce s x =
     IsShard s × IsOutInForce s x × NoneLiveBefore (machine s.core) x.deadline
 
--- whatever entry a stream gives came out of some shard so
+-- whatever entry a stream gives came so out of the shard of its number
 abbrev pub ItemsAreInForce : Type 0 → Type 0
-ItemsAreInForce T = (x : Expired T) → IsGiven (Ok x) → (s : ShardView T) × IsLeastInForce s x
+ItemsAreInForce T =
+    (number : ℕ) (x : Expired T) → IsGiven number (Ok x)
+    → (s : ShardView T) × (s.core.shard ≡ number) × IsLeastInForce s x

@@ -6,7 +6,7 @@ use Rattle.dq_core.specs.declared.errors.CoreError.{CoreError}
 use Rattle.dq_core.specs.declared.outcomes.Turn.{Turn}
 use Rattle.dq_core.specs.declared.outcomes.Turn.TheVariants.{Out, Waiting, Idle}
 use Rattle.dq_shards.specs.Shard.{ShardView}
-use Rattle.dq_shards.specs.Changes.{ShardPolls, OnSome}
+use Rattle.dq_shards.specs.Changes.{ShardPolls, OnNumbered}
 use Rattle.dq_stream.specs.declared.fault.StreamFault.TheVariants.{TickTooLarge, NoMemory}
 use Rattle.dq_stream.specs.Items.{Answer}
 use Rattle.dq_stream.specs.Refusals.{too_large}
@@ -36,7 +36,7 @@ module _ {T : Type 0} where
       (next : ℕ) × (left : ShardView T)
       × PollsUnparked old tick (Ok (Waiting next)) left × Parks cx cy left next new
 
--- a poll of a stream at a tick gives an answer, on some states that every shard may have
-abbrev pub AnswersAt : (T : Type 0) → Context → Context → ℕ → Answer T → Type 0
-AnswersAt T cx cy tick answer =
-    OnSome {T = T} (λ old r new. StreamPolls cx cy old tick r new) answer
+-- a poll of a stream at a tick gives an answer, on a state of the shard of that number
+abbrev pub AnswersAt : (T : Type 0) → ℕ → Context → Context → ℕ → Answer T → Type 0
+AnswersAt T number cx cy tick answer =
+    OnNumbered {T = T} number (λ old r new. StreamPolls cx cy old tick r new) answer

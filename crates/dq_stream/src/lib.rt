@@ -1,15 +1,30 @@
-//! The expired entries of a shard as a stream, polled by hand.
+//! The expired entries of a shard as a stream, polled by hand or by an executor.
 //!
 //! A stream waits in its shard, as the shard's parked poller. The shard wakes it where its next wake comes sooner or is
-//! gone. Whoever keeps the time rings the shard, at each tick or at the ticks that matter:
+//! gone. Whoever keeps the time rings the shard, at each tick or at the ticks that matter: a stream that nobody rings
+//! sleeps until the next wake changes. A shard parks one poller, so a second stream on it puts the first to sleep.
+//!
+//! The crate `stream_example` is the program that these are of:
 //!
 //! ```ignore
-//! let ticks = MillisecondTicks::new(&rt)?;
-//! let stream = ExpiredStream::new(&rt, &queue, shard, ticks)?;
-//! // A task of an executor:
-//! let all = stream.for_each(|item| deliver(item));
-//! // Another one, or another thread:
-//! queue.ring(&rt, shard, tick)?;
+//! let stream = ExpiredStream::new(rt, jobs, SHARD, ticks);
+//! let mut due = stream.map_err(|refused| refused.0)?;
+//! for _ in rt.forever() {
+//!     let Some(job) = block_on(rt, due.next())? else {
+//!         return Ok(());
+//!     };
+//!     let job = job?;
+//!     println!(rt; "{}: {} is tried again", job.deadline, job.value)?;
+//! }
+//! ```
+//!
+//! In another thread somebody rings:
+//!
+//! ```ignore
+//! for second in 5..=60 {
+//!     time.store(1_000 * second, SeqCst);
+//!     jobs.ring(rt, SHARD, 1_000 * second)?;
+//! }
 //! ```
 #![tactic(auto)]
 

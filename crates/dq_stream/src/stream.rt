@@ -1,5 +1,7 @@
 //! The stream of a shard's expired entries.
 ghost use Rattle.std.specs.Prelude.{◌≡◌, ◌<◌, ◌≤◌, ℕ, ⊤, true, false, [], Option, Some, None, Err, IfOk, IfErr, IfSome, OnSome, ◌⊎◌};
+ghost use Rattle.dq_core.specs.Core.{machine};
+ghost use Rattle.dq_core.specs.Machine.{NoneLinked};
 ghost use Rattle.futures.specs.Task.{Covers, Keeps};
 ghost use Rattle.futures.specs.Poll.{IfReady, OnPending};
 ghost use Rattle.futures.specs.Runs.{After, Within};
@@ -7,7 +9,7 @@ ghost use Rattle.dq_shards.specs.declared.errors.QueueError.TheVariants.{Unknown
 ghost use Rattle.dq_stream.specs.Items.{is_over};
 ghost use Rattle.dq_stream.specs.Polls.{StreamPolls, AnswersAt};
 ghost use Rattle.dq_stream.specs.Gives.{Gives};
-ghost use Rattle.dq_stream.specs.Answers.{IfGiven, IfFault, OnEnd, IsLeastDue, IsParkedAtWake, IsEmptyShard, IsFault};
+ghost use Rattle.dq_stream.specs.Answers.{IfGiven, IfFault, OnEnd, IsLeastDue, IsParkedAtWake, IsFault};
 
 use crate::fault::StreamFault;
 use crate::parking::wait;
@@ -26,7 +28,7 @@ use std::sync::Wait;
 /// where its next wake comes sooner or is gone, and [`SharedDelayQueue::ring`] wakes it at a tick. It may be polled
 /// again at any time. A stream that is dropped stays parked until then.
 ///
-/// After a tick that is refused it has ended for good, and its source is asked no more.
+/// After a tick that is refused it has ended for good: its polls take no lock, and its source is asked no more.
 #[derive(Drop)]
 pub struct ExpiredStream<'q, T, S, R: Wait, A: Allocator = Global> {
     rt: &'q R,
@@ -64,27 +66,29 @@ impl<'q, T, S, R: Wait, A: Allocator> ExpiredStream<'q, T, S, R, A> {
     }
 }
 
-impl<'q, T: Drop, S: TickSource, R: Wait, A: Allocator> Stream for ExpiredStream<'q, T, S, R, A> {
-    type Item = Result<Expired<T>, StreamFault>;
-
-    ghost needs = { λ stream s. s ≡ stream.name.id };
-
-    ghost yields = { λ stream. Gives T stream.ended };
-
-    /// An entry that is due, one of least deadline; Pending, parked at the next wake; or None where nothing is linked.
-    /// A tick beyond the last one gives TickTooLarge once, and from then on None. Where no waker can be made for want
-    /// of memory it gives NoMemory, and goes on. Its cost is that of one poll of the shard.
-    fn poll_next(&mut self, cx: &mut Context<'_>) -> Poll<Option<Result<Expired<T>, StreamFault>>>
-        // What is given is due, and no live entry of its shard has an earlier deadline.
-        ensures given { IfGiven result IsLeastDue }
+impl<'q, T: Drop, S: TickSource, R: Wait, A: Allocator> ExpiredStream<'q, T, S, R, A> {
+    /// One poll of the stream on a shard whose lock is held, which [`SharedDelayQueue::enter`] gave: what
+    /// [`Stream::poll_next`] does under its lock. The shard that it polls is the one in hand.
+    ///
+    /// It takes the parked poller out, asks its source for the tick, and polls the shard once at it. An entry that comes
+    /// out is given. Where the shard waits the polled task is parked at its next wake.
+    pub fn poll_locked(
+        &mut self,
+        shard: &mut LockedShard<'_, T, A>,
+        cx: &mut Context<'_>,
+    ) -> Poll<Option<Result<Expired<T>, StreamFault>>>
+        // What is given is due, and no live entry of the shard has an earlier deadline.
+        ensures given { IfGiven result (IsLeastDue shard.new) }
 
         // It waits where none is due: registered, and parked at the next wake with a waker of this task.
-        ensures waits { OnPending result (IsParkedAtWake T cx.old cx.new) }
+        ensures waits { OnPending result (IsParkedAtWake cx.old cx.new shard.new) }
         ensures registered { OnPending result (Covers cx.new (λ s. s ≡ self.new.name.id)) }
 
         // It gives nothing where nothing is linked. Once it has ended for good nothing changes any more.
-        ensures empty { OnEnd result ((self.old.ended ≡ true) ⊎ IsEmptyShard T) }
-        ensures over { self.old.ended ≡ true → (result ≡ Poll.Ready None) × (self.new ≡ self.old) }
+        ensures empty { OnEnd result
+            ((self.old.ended ≡ true) ⊎ NoneLinked (machine shard.new.core)) }
+        ensures over { self.old.ended ≡ true
+            → (result ≡ Poll.Ready None) × (self.new ≡ self.old) × (shard.new ≡ shard.old) }
 
         // It ends for good after a refused tick, and only then.
         ensures fault { IfFault result (λ e. IsFault e cx.new self.new.ended) }
@@ -97,29 +101,71 @@ impl<'q, T: Drop, S: TickSource, R: Wait, A: Allocator> Stream for ExpiredStream
         // All that it does: the shard's own poll, at a tick that the source told.
         ensures polls { self.old.ended ≡ false → (tick : ℕ)
             × S.tells self.old.source tick self.new.source
-            × AnswersAt T cx.old cx.new tick result }
-
-        // What every stream owes.
-        ensures value { IfReady result (Gives T self.old.ended []) }
-        ensures rest { IfReady result
-            (λ o. IfSome o (λ x. After (Gives T self.old.ended) x (Gives T self.new.ended))) }
-        ensures goes { IfReady result (λ o. OnSome o ⊤) }
-        ensures again { OnPending result ⊤ }
-        ensures same { OnPending result
-            (Within (Gives T self.old.ended) (Gives T self.new.ended)) }
+            × StreamPolls cx.old cx.new shard.old tick result shard.new }
         ensures kept { Keeps cx.old cx.new }
     {
         if self.ended {
             return Poll::Ready(None);
         }
-        let Ok(mut shard) = self.queue.enter(self.rt, self.shard) else {
-            unreachable!()
-        };
-        shard.law();
-        let answer = turn(&mut shard, &mut self.source, &self.name, cx);
-        shard.law();
+        let answer = turn(shard, &mut self.source, &self.name, cx);
         self.ended = ends(&answer);
         answer
+    }
+}
+
+impl<'q, T: Drop, S: TickSource, R: Wait, A: Allocator> Stream for ExpiredStream<'q, T, S, R, A> {
+    type Item = Result<Expired<T>, StreamFault>;
+
+    ghost needs = { λ stream s. s ≡ stream.name.id };
+
+    ghost yields = { λ stream. Gives T stream.shard stream.ended };
+
+    /// An entry that is due, one of least deadline; Pending, parked at the next wake; or None where nothing is linked.
+    /// A tick beyond the last one gives TickTooLarge once, and from then on None. Where no waker can be made for want
+    /// of memory it gives NoMemory, and goes on. Its cost is that of one poll of the shard.
+    ///
+    /// It is [`ExpiredStream::poll_locked`] under the shard's lock, which it doesn't take where it has ended for good.
+    fn poll_next(&mut self, cx: &mut Context<'_>) -> Poll<Option<Result<Expired<T>, StreamFault>>>
+        // It waits registered with its context.
+        ensures registered { OnPending result (Covers cx.new (λ s. s ≡ self.new.name.id)) }
+
+        // It ends for good after a refused tick, and only then; nothing of it changes any more then.
+        ensures fault { IfFault result (λ e. IsFault e cx.new self.new.ended) }
+        ensures ends { self.old.ended ≡ false → self.new.ended ≡ is_over result }
+        ensures over { self.old.ended ≡ true → (result ≡ Poll.Ready None) × (self.new ≡ self.old) }
+
+        // It stays a stream of its shard.
+        ensures stays { (self.new.queue ≡ self.old.queue) × (self.new.shard ≡ self.old.shard)
+            × (self.new.name ≡ self.old.name) × (self.new.rt ≡ self.old.rt) }
+
+        // All that it does: the poll of the shard of its number, at a tick that the source told.
+        ensures polls { self.old.ended ≡ false → (tick : ℕ)
+            × S.tells self.old.source tick self.new.source
+            × AnswersAt T self.old.shard cx.old cx.new tick result }
+
+        // What every stream owes. It may be polled at any time: two of these bind nothing here.
+        ensures value { IfReady result (Gives T self.old.shard self.old.ended []) }
+        ensures rest { IfReady result (λ o. IfSome o (λ x.
+            After (Gives T self.old.shard self.old.ended) x
+            (Gives T self.new.shard self.new.ended))) }
+        ensures goes { IfReady result (λ o. OnSome o ⊤) }
+        ensures again { OnPending result ⊤ }
+        ensures same { OnPending result
+            (Within (Gives T self.old.shard self.old.ended)
+            (Gives T self.new.shard self.new.ended)) }
+        ensures kept { Keeps cx.old cx.new }
+    {
+        if self.ended {
+            Poll::Ready(None)
+        } else {
+            let Ok(mut shard) = self.queue.enter(self.rt, self.shard) else {
+                unreachable!()
+            };
+            shard.law();
+            let answer = self.poll_locked(&mut shard, cx);
+            shard.law();
+            answer
+        }
     }
 }
 

@@ -1,6 +1,8 @@
+mod beside;
 mod clocks;
 mod executors;
 mod handles;
+mod parked;
 mod parkers;
 mod refusals;
 mod rows;

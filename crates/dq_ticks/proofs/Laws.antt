@@ -45,9 +45,9 @@ pub rejoin : (q r p a : ℕ) → a ≡ q * 64 + r → q * (p * 64) + r * p ≡ a
 rejoin q r p a is =
     ap (λ x. x + r * p) (ap (λ x. q * x) (mul_comm p 64) ∙ sym (mul_assoc q 64 p)) ∙ sym (add-mul (q * 64) r p) ∙ ap (λ x. x * p) (sym is)
 
-ring_floor : (e f : ℕ) → e < f → f < e + lap → e / top_span ≢ f / top_span →
+lap_floor : (e f : ℕ) → e < f → f < e + lap → e / top_span ≢ f / top_span →
     (e / lap + (if nat_lt (e / top_span % 64) (f / top_span % 64) then 0 else 1)) * lap + f / top_span % 64 * top_span ≡ f / top_span * top_span
-ring_floor e f later near apart = grind (arith, nat_tests)
+lap_floor e f later near apart = grind (arith, nat_tests)
 
 start_floor_at : (e f L : ℕ) → e < f → f < e + lap → IsLevel e f L → start e L (digit_of f L) ≡ f / 64 ^ L * 64 ^ L
 start_floor_at e f L later near at =
@@ -64,7 +64,7 @@ start_floor_at e f L later near at =
           let is : 5 ≡ L = omega (arith, at.small) in
           let P : ℕ → Type 0 = λ M. start e M (digit_of f M) ≡ f / 64 ^ M * 64 ^ M in
           let Q : ℕ → Type 0 = λ M. e / 64 ^ M ≢ f / 64 ^ M in
-          subst P is (start_top e (digit_of f 5) ∙ ring_floor e f later near (subst Q (sym is) at.differs))
+          subst P is (start_top e (digit_of f 5) ∙ lap_floor e f later near (subst Q (sym is) at.differs))
     ]
 
 start_for_is : (e f : ℕ) → start_for e f ≡ start e (level e f) (digit_of f (level e f))
@@ -164,14 +164,14 @@ turn_low e place k other = grind (arith, nat_tests)
 pub turn_top : (e place k : ℕ) → place ≡ 5 → turn e place k ≡ (k + 63 - digit_of e 5) % 64
 turn_top e place k top = grind (arith, nat_tests)
 
-ring_turn : (e f : ℕ) → e < f → f ≤ e + 64 → (f % 64 + 63 - e % 64) % 64 ≡ f - e - 1
-ring_turn e f later near = omega arith
+lap_turn : (e f : ℕ) → e < f → f ≤ e + 64 → (f % 64 + 63 - e % 64) % 64 ≡ f - e - 1
+lap_turn e f later near = omega arith
 
-ring_order : (e f g : ℕ) → e < f → f ≤ e + 64 → e < g → g ≤ e + 64 → (f % 64 + 63 - e % 64) % 64 < (g % 64 + 63 - e % 64) % 64 → f < g
-ring_order e f g f_later f_near g_later g_near before = omega (arith, ring_turn e f f_later f_near, ring_turn e g g_later g_near)
+lap_order : (e f g : ℕ) → e < f → f ≤ e + 64 → e < g → g ≤ e + 64 → (f % 64 + 63 - e % 64) % 64 < (g % 64 + 63 - e % 64) % 64 → f < g
+lap_order e f g f_later f_near g_later g_near before = omega (arith, lap_turn e f f_later f_near, lap_turn e g g_later g_near)
 
-ring_near : (e f : ℕ) → f < e + lap → f / top_span ≤ e / top_span + 64
-ring_near e f near = omega arith
+lap_near : (e f : ℕ) → f < e + lap → f / top_span ≤ e / top_span + 64
+lap_near e f near = omega arith
 
 high_order_low : (e f g L : ℕ) → L < 5 → IsLevel e f L → IsLevel e g L → digit_of f L < digit_of g L → f / 64 ^ L < g / 64 ^ L
 high_order_low e f g L below at_f at_g before =
@@ -184,7 +184,7 @@ high_order_top e f g a b at_f at_g before =
     let p : ℕ = top_span in
     let f_above : e / p < f / p = div_less e f p (omega arith) (omega (arith, a.later)) at_f.differs in
     let g_above : e / p < g / p = div_less e g p (omega arith) (omega (arith, b.later)) at_g.differs in
-    ring_order (e / p) (f / p) (g / p) f_above (ring_near e f a.near) g_above (ring_near e g b.near) before
+    lap_order (e / p) (f / p) (g / p) f_above (lap_near e f a.near) g_above (lap_near e g b.near) before
 
 high_order : (e f g L : ℕ) → IsAhead e f → IsAhead e g → IsLevel e f L → IsLevel e g L → turn e L (digit_of f L) < turn e L (digit_of g L) → f / 64 ^ L < g / 64 ^ L
 high_order e f g L a b at_f at_g before =

@@ -5,7 +5,7 @@ use Rattle.std.proofs.lemmas.Nat.{pow-add}
 use Rattle.std.proofs.lemmas.Bool.{cases_eq}
 use Rattle.std.proofs.lemmas.Bool.Decides.{nat_tests}
 use Rattle.dq_ticks.specs.Digits.{digit_of, highest_differing, start}
-use Rattle.dq_ticks.specs.Places.{IsRingStart}
+use Rattle.dq_ticks.specs.Places.{IsLapStart}
 use Rattle.dq_ticks.specs.Units.{lap, tick_limit, top_span}
 use Rattle.dq_ticks.proofs.Levels.{above_suc, above_zero, digits_make, high_none, highest_here, highest_lower, power_pos, same_above}
 use Rattle.dq_ticks.proofs.Laws.{rejoin, start_low, start_top}
@@ -88,22 +88,22 @@ module _ (e place k : ℕ) (below : place < 5) (k_in : k < 64) where
       (λ same. subst P (sym same) digit_here)
       (digit_higher i)
 
-ring_after : (e k : ℕ) → k < 64 → e < start e 5 k
-ring_after e k k_in = rw start_top (grind (arith, nat_tests))
+lap_after : (e k : ℕ) → k < 64 → e < start e 5 k
+lap_after e k k_in = rw start_top (grind (arith, nat_tests))
 
-ring_multiple : (e k : ℕ) → k < 64 → start e 5 k % top_span ≡ 0
-ring_multiple e k k_in = rw start_top (grind (arith, nat_tests))
+lap_multiple : (e k : ℕ) → k < 64 → start e 5 k % top_span ≡ 0
+lap_multiple e k k_in = rw start_top (grind (arith, nat_tests))
 
-ring_digit : (e k : ℕ) → k < 64 → digit_of (start e 5 k) 5 ≡ k
-ring_digit e k k_in = rw start_top (grind (arith, nat_tests))
+lap_digit : (e k : ℕ) → k < 64 → digit_of (start e 5 k) 5 ≡ k
+lap_digit e k k_in = rw start_top (grind (arith, nat_tests))
 
-ring_lap : (e k : ℕ) → k < 64 → start e 5 k ≤ e + lap
-ring_lap e k k_in = rw start_top (grind (arith, nat_tests))
+lap_once : (e k : ℕ) → k < 64 → start e 5 k ≤ e + lap
+lap_once e k k_in = rw start_top (grind (arith, nat_tests))
 
-ring_least : (e k m : ℕ) → k < 64 → IsRingStart e k m → start e 5 k ≤ m
-ring_least e k m k_in other = rw start_top (grind (arith, nat_tests, other.after, other.multiple, other.digit))
+lap_least : (e k m : ℕ) → k < 64 → IsLapStart e k m → start e 5 k ≤ m
+lap_least e k m k_in other = rw start_top (grind (arith, nat_tests, other.after, other.multiple, other.digit))
 
-pub ring_start : (e k : ℕ) → k < 64 →
-    IsRingStart e k (start e 5 k) × (start e 5 k ≤ e + lap) × ((m : ℕ) → IsRingStart e k m → start e 5 k ≤ m)
-ring_start e k k_in =
-    (record { after = ring_after e k k_in; multiple = ring_multiple e k k_in; digit = ring_digit e k k_in }, ring_lap e k k_in, λ m other. ring_least e k m k_in other)
+pub lap_start : (e k : ℕ) → k < 64 →
+    IsLapStart e k (start e 5 k) × (start e 5 k ≤ e + lap) × ((m : ℕ) → IsLapStart e k m → start e 5 k ≤ m)
+lap_start e k k_in =
+    (record { after = lap_after e k k_in; multiple = lap_multiple e k k_in; digit = lap_digit e k k_in }, lap_once e k k_in, λ m other. lap_least e k m k_in other)

@@ -18,7 +18,7 @@ unfoldable pub level : ℕ → ℕ → ℕ
 level e f = min 5 (highest_differing 7 e f)
 
 -- below the top level the tick e with the digit at that place set to k, and all lower digits 0; the
--- top level is a ring: there the least multiple of its slots' span that is after e and has that
+-- top level goes round: there the least multiple of its slots' span that is after e and has that
 -- digit
 unfoldable pub start : ℕ → ℕ → ℕ → ℕ
 start e place k =
@@ -30,7 +30,7 @@ start e place k =
 unfoldable pub start_for : ℕ → ℕ → ℕ
 start_for e f = start e (level e f) (digit_of f (level e f))
 
--- how many slots of a level come before slot k: on the ring the slot after the tick's own comes
+-- how many slots of a level come before slot k: on the lap the slot after the tick's own comes
 -- first
 abbrev pub turn : ℕ → ℕ → ℕ → ℕ
 turn e place k = if place == 5 then (k + 63 - digit_of e 5) % 64 else k

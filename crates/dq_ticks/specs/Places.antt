@@ -25,18 +25,18 @@ StartsByDigits =
     digit_of (start e place k) i
     ≡ (if nat_lt i place then 0 else (if i == place then k else digit_of e i))
 
--- a start on the ring: after e, a multiple of the span, with digit k at the top level
-pub record IsRingStart (e k s : ℕ) : Type 0 where
+-- a start at the top level: after e, a multiple of the span, with digit k at the top level
+pub record IsLapStart (e k s : ℕ) : Type 0 where
   pub after : e < s
   pub multiple : s % top_span ≡ 0
   pub digit : digit_of s 5 ≡ k
 
--- on the ring a slot starts at the least such tick, at most a lap ahead
-abbrev pub RingStartsAreLeast : Type 0
-RingStartsAreLeast =
+-- at the top level a slot starts at the least such tick, at most a lap ahead
+abbrev pub LapStartsAreLeast : Type 0
+LapStartsAreLeast =
     (e k : ℕ) → k < 64 →
-    IsRingStart e k (start e 5 k) × (start e 5 k ≤ e + lap)
-    × ((m : ℕ) → IsRingStart e k m → start e 5 k ≤ m)
+    IsLapStart e k (start e 5 k) × (start e 5 k ≤ e + lap)
+    × ((m : ℕ) → IsLapStart e k m → start e 5 k ≤ m)
 
 -- the slot in which f stands starts after e, and no later than f
 abbrev pub SlotsStartAhead : Type 0

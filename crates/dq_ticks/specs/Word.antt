@@ -1,5 +1,5 @@
 -- Words: from the top 20 bits of stamp, 2 of mark, 42 of field.
-use Rattle.std.specs.Prelude.{ℕ, ◌+◌, ◌*◌, ◌/◌, ◌%◌, ◌==◌, if◌then◌else◌}
+use Rattle.std.specs.Prelude.{◌≡◌, ℕ, ◌+◌, ◌*◌, ◌/◌, ◌%◌, ◌==◌, if◌then◌else◌}
 pub use Rattle.dq_ticks.specs.Units.{stamp_unit, mark_unit, stamp_count}
 use Rattle.dq_ticks.specs.declared.words.Mark.{Mark}
 use Rattle.dq_ticks.specs.declared.words.Mark.TheVariants.{LiveMark, CancelledMark, ExpiredMark}
@@ -21,6 +21,10 @@ mark_of n = n / mark_unit % 4
 -- the field of a word
 abbrev pub field_of : ℕ → ℕ
 field_of n = n % mark_unit
+
+-- a word is live, and its stamp is s
+abbrev pub IsLiveAt : ℕ → ℕ → Type 0
+IsLiveAt n s = (stamp_of n ≡ s) × (mark_of n ≡ 0)
 
 -- the marks in their order
 abbrev pub mark_number : Mark → ℕ

@@ -1,7 +1,7 @@
 //! Base-64 digits of ticks, and the levels, slots and starts that they name.
 ghost use Rattle.std.specs.Prelude.{◌≡◌, ◌≢◌, ◌+◌, ◌*◌, ◌/◌, ◌%◌, ◌^◌, ◌<◌, ◌≤◌, MatchOption};
 ghost use Rattle.dq_ticks.specs.Digits.{digit_of, level, start};
-ghost use Rattle.dq_ticks.specs.Places.{DigitsTellTicks, EarlierTurnsComeFirst, HighestDiffers, LowerLevelsComeFirst, PlacesAreStable, RingStartsAreLeast, SlotsOpenDownward, SlotsStartAhead, SoonestSlotsStartFirst, StartsByDigits};
+ghost use Rattle.dq_ticks.specs.Places.{DigitsTellTicks, EarlierTurnsComeFirst, HighestDiffers, LowerLevelsComeFirst, PlacesAreStable, LapStartsAreLeast, SlotsOpenDownward, SlotsStartAhead, SoonestSlotsStartFirst, StartsByDigits};
 ghost use Rattle.dq_ticks.specs.Units.{top_span};
 
 use crate::{LAST_TICK, LEVELS, REACH, SLOTS};
@@ -59,7 +59,7 @@ pub fn level_of(now: u64, when: u64) -> Option<usize>
 }
 
 /// The tick at which a slot of a level starts, seen from the tick `now`. Below the top level it is `now` with its digit
-/// at that level set to `slot` and all lower digits 0. The top level is a ring: there it is the least multiple of
+/// at that level set to `slot` and all lower digits 0. The top level goes round: there it is the least multiple of
 /// `2^30` after `now` with that digit, so that the slot of `now` itself comes last.
 #[tactic(auto, unfolding(crate::specs::Digits::start))]
 #[inline]
@@ -70,14 +70,14 @@ pub fn slot_start(now: u64, level: usize, slot: u64) -> u64
     ensures { result ≡ start now level slot }
 {
     if level == LEVELS - 1 {
-        ring_start(now, slot)
+        lap_start(now, slot)
     } else {
         without_lowest(now, level + 1) * span(level + 1) + slot * span(level)
     }
 }
 
 #[tactic(auto, unfolding(crate::specs::Digits::start))]
-fn ring_start(now: u64, slot: u64) -> u64
+fn lap_start(now: u64, slot: u64) -> u64
     requires tick { now ≤ LAST_TICK }
     requires slot_in { slot < SLOTS }
     ensures { result ≡ start now 5 slot }
@@ -95,7 +95,7 @@ pub fn starts_have_digits()
     ensures apart { DigitsTellTicks }
     ensures highest { HighestDiffers }
     ensures low { StartsByDigits }
-    ensures ring { RingStartsAreLeast }
+    ensures lap { LapStartsAreLeast }
 {}
 
 /// Places are stable until their slot starts; opening it leads to a lower level or to due.

@@ -11,7 +11,7 @@
 //! | 2 | 4 s | 4 min |
 //! | 3 | 4 min | 4.7 h |
 //! | 4 | 4.7 h | 12 days |
-//! | 5 | 12 days | 2.2 years, a ring |
+//! | 5 | 12 days | 2.2 years; it goes round |
 //!
 //! A script of the first edition keeps an older, lesser last tick: docs/SCRIPT.md.
 #![tactic(auto)]
@@ -28,7 +28,9 @@ pub use digits::{
     starts_have_digits,
 };
 pub use keys::{EntryId, Key, is_same_entry, is_same_key};
-pub use words::{Mark, Parts, greater_words_win, pack, unpack, words_are_ordered};
+pub use words::{
+    Mark, Parts, field, greater_words_win, is_live, live_at, pack, stamp, unpack, words_are_ordered,
+};
 
 /// The levels of a wheel, one for each base-64 digit of a lap.
 pub const LEVELS: usize = 6;

@@ -1,7 +1,9 @@
 //! Words: a stamp, a mark and a field, packed into one `u64` in that order.
-ghost use Rattle.std.specs.Prelude.{◌≡◌, ◌<◌, ◌≤◌};
+ghost use Rattle.std.specs.Prelude.{◌≡◌, ◌<◌, ◌≤◌, ◌↔◌, IsTrue, MatchOption};
+ghost use Rattle.dq_ticks.specs.declared.TheConstants.{LAST_FIELD, LAST_STAMP};
 ghost use Rattle.dq_ticks.specs.Order.{CancelsEnd, ExtendsRaise, PartsComeBack, PastWordsStay, WordsAreApart, WordsAreOrdered, WordsHaveParts};
 ghost use Rattle.dq_ticks.specs.Word.{mark_by, mark_number, packed, parts_of};
+ghost use Rattle.dq_ticks.specs.Word.{IsLiveAt, stamp_of, mark_of, field_of};
 
 use crate::{LAST_FIELD, LAST_STAMP};
 
@@ -77,6 +79,46 @@ pub fn unpack(word: u64) -> Parts
     }
 }
 
+/// The stamp of a word.
+#[inline]
+pub fn stamp(word: u64) -> u32
+    ensures { (result ≡ stamp_of word) × (result ≤ LAST_STAMP) }
+{
+    (word / STAMP_UNIT) as u32
+}
+
+/// The field of a word: its deadline, where it is live.
+#[inline]
+pub fn field(word: u64) -> u64
+    ensures { (result ≡ field_of word) × (result ≤ LAST_FIELD) }
+{
+    word % MARK_UNIT
+}
+
+/// Whether a word's mark is live.
+#[inline]
+pub fn is_live(word: u64) -> bool
+    ensures { IsTrue result ↔ (mark_of word ≡ 0) }
+{
+    word / MARK_UNIT % 4 == 0
+}
+
+/// The deadline of a word that is live at a stamp, and None of every other word. The words that are live at a stamp are
+/// one run of numbers, in the order of their deadlines: so it takes one subtraction and one comparison.
+#[inline]
+pub fn live_at(word: u64, stamp: u32) -> Option<u64>
+    requires { stamp ≤ LAST_STAMP }
+    ensures { MatchOption result
+        (¬ IsLiveAt word stamp)
+        (λ d. IsLiveAt word stamp × (d ≡ field_of word)) }
+{
+    let deadline = word.wrapping_sub(u64::from(stamp) * STAMP_UNIT);
+    if deadline > LAST_FIELD {
+        return None;
+    }
+    Some(deadline)
+}
+
 /// Words are the numbers of their parts, one for each, and in their order: stamp, then mark, then field.
 pub fn words_are_ordered()
     ensures parts { WordsHaveParts }
@@ -133,6 +175,20 @@ mod tests {
             let parts = Parts { stamp, mark, field };
             assert_eq!(rt; pack(parts), word, "stamp {stamp}, field {field}");
             assert_eq!(rt; unpack(word), parts, "word {word}");
+        }
+    }
+
+    #[test]
+    fn parts_one_by_one(rt: HostRuntime) {
+        for (of, mark, when, word) in WORDS {
+            let live = mark == Mark::LiveMark;
+            assert_eq!(rt; stamp(word), of, "word {word}");
+            assert_eq!(rt; field(word), when, "word {word}");
+            assert_eq!(rt; is_live(word), live, "word {word}");
+            for asked in [0, 1, 2, LAST_STAMP] {
+                let found = if live && asked == of { Some(when) } else { None };
+                assert_eq!(rt; live_at(word, asked), found, "word {word}, stamp {asked}");
+            }
         }
     }
 

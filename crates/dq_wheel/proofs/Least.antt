@@ -1,9 +1,9 @@
 -- The least of a list, as one walks it.
 
 use Rattle.std.proofs.Common.{◌≡◌, ℕ, zero, suc, ◌+◌, ◌<◌, ◌≤◌, List, [], ◌∷◌, length, get_or, take, refl, sym, arith, ◌∙◌, ap, ◌⊎◌, inl, inr}
-use Rattle.dq_wheel.specs.Ring.{Node, IsRings}
+use Rattle.dq_wheel.specs.Circle.{Node, IsCircles}
 use Rattle.dq_wheel.specs.Walks.{IsWalk, occurrences}
-use Rattle.dq_wheel.specs.Lists.{StandsIn}
+use Rattle.dq_wheel.specs.Lists.{IsLeastIn}
 use Rattle.dq_wheel.proofs.Links.{same_or_not}
 use Rattle.dq_wheel.proofs.Rows.{first_stands, capacity_is, seen_home}
 use Rattle.dq_wheel.proofs.Walks.{occurrences_same, occurrences_other, walked, walked_le, walked_met}
@@ -81,10 +81,10 @@ pub record IsLeastSoFar (cap : ℕ) (next homes keys : List ℕ) (p turn at best
   pub fuel : length rest + turn ≤ cap
   pub least : (i : ℕ) → i < cap → get_or homes i 0 ≡ p + 1 → occurrences i rest ≡ 0 → get_or keys best 0 ≤ get_or keys i 0
 
-module _ (cap : ℕ) (next prev homes : List ℕ) (r : IsRings cap next prev homes) (keys : List ℕ) (p : ℕ) (p_in : p < LISTS) where
+module _ (cap : ℕ) (next prev homes : List ℕ) (r : IsCircles cap next prev homes) (keys : List ℕ) (p : ℕ) (p_in : p < LISTS) where
   pub least_init : (first : ℕ) → first ≡ get_or next (cap + p) 0 → first < cap → IsLeastSoFar cap next homes keys p 0 first first
   least_init first first_is first_in =
-      let w = walked cap LISTS _ _ _ r.rank r.ring p p_in in
+      let w = walked cap LISTS _ _ _ r.rank r.circle p p_in in
       let stands : get_or homes first 0 ≡ p + 1 = rw first_is (first_stands cap next prev homes r p p_in) in
       record {
         best_in = first_in;
@@ -95,10 +95,10 @@ module _ (cap : ℕ) (next prev homes : List ℕ) (r : IsRings cap next prev hom
         walk = rw first_is w.1;
         fuel =
             let len : length w.0 ≡ total cap w.0 = length_total cap (cap + p) _ _ w.0 w.1 in
-            let le : total cap w.0 ≤ cap = total_le cap w.0 (λ i i_in. walked_le cap LISTS _ _ _ r.rank r.ring p p_in i i_in) in
+            let le : total cap w.0 ≤ cap = total_le cap w.0 (λ i i_in. walked_le cap LISTS _ _ _ r.rank r.circle p p_in i i_in) in
             omega arith;
         least = λ i i_in h none.
-            let met : occurrences i w.0 ≡ 1 = walked_met cap LISTS _ _ _ r.rank r.ring p p_in i i_in h in
+            let met : occurrences i w.0 ≡ 1 = walked_met cap LISTS _ _ _ r.rank r.circle p p_in i i_in h in
             absurd (omega arith);
       }
 
@@ -109,7 +109,7 @@ module _ (cap : ℕ) (next prev homes : List ℕ) (r : IsRings cap next prev hom
   least_more turn at best better s at_low either best_le at_le =
       let step = walk_step cap (cap + p) _ at s.rest (omega arith) at_low s.walk in
       let at_home : get_or homes at 0 ≡ p + 1 = s.at_home in
-      let node : Node (cap + LISTS) (λ x. get_or next x 0) (λ x. get_or prev x 0) (λ x. get_or homes x 0) at = r.ring.node at s.at_in (omega arith) in
+      let node : Node (cap + LISTS) (λ x. get_or next x 0) (λ x. get_or prev x 0) (λ x. get_or homes x 0) at = r.circle.node at s.at_in (omega arith) in
       let len : length s.rest ≡ suc (length step.0) = ap length step.1 in
       let fuel : length s.rest + turn ≤ cap = s.fuel in
       record {
@@ -141,14 +141,14 @@ module _ (cap : ℕ) (next prev homes : List ℕ) (r : IsRings cap next prev hom
       s.least i i_in h (ap (occurrences i) done)
 
   -- the end, as callers see it
-  pub least_seen : (now : List ℕ) → take cap homes ≡ now → (turn at best : ℕ) → IsLeastSoFar cap next homes keys p turn at best →
-      (cap ≤ at) ⊎ (cap ≤ turn) →
-      StandsIn now p best × ((y : ℕ) → StandsIn now p y → get_or keys best 0 ≤ get_or keys y 0)
-  least_seen now now_is turn at best s over =
+  pub least_seen : (now now_keys : List ℕ) → take cap homes ≡ now → take cap keys ≡ now_keys → (turn at best : ℕ) →
+      IsLeastSoFar cap next homes keys p turn at best → (cap ≤ at) ⊎ (cap ≤ turn) → IsLeastIn now now_keys p best
+  least_seen now now_keys now_is keys_is turn at best s over =
       let len : length now ≡ cap = capacity_is cap homes now (omega (arith, r.homes_len)) now_is in
       let inside : best < cap = s.best_in in (
         (omega arith, seen_home cap homes now best now_is inside ∙ s.best_home),
         λ y y_stands.
             let y_in : y < cap = rw len at y_stands.0 in
-            least_end turn at best s over y y_in (sym (seen_home cap homes now y now_is y_in) ∙ y_stands.1),
+            rw (seen_home cap keys now_keys best keys_is inside, seen_home cap keys now_keys y keys_is y_in)
+            (least_end turn at best s over y y_in (sym (seen_home cap homes now y now_is y_in) ∙ y_stands.1)),
       )

@@ -2,6 +2,9 @@ pub mod Links
 pub mod Rows
 pub mod Walks
 pub mod Taken
+pub mod Seen
+pub mod Hanging
+pub mod Shown
 pub mod Least
 pub mod Bits
 pub mod Occupancy
@@ -13,4 +16,5 @@ pub mod Changes
 pub mod Wakes
 pub mod Passing
 pub mod Going
+pub mod Arriving
 pub mod Places

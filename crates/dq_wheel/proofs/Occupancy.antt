@@ -1,12 +1,14 @@
 -- Occupancy maps through a link and an unlink.
 
-use Rattle.std.proofs.Common.{◌≡◌, ◌≢◌, ℕ, ◌+◌, ◌*◌, ◌/◌, ◌%◌, ◌<◌, ◌↔◌, List, length, get_or, set, refl, sym, arith, ◌∙◌, inl, inr}
+use Rattle.std.proofs.Common.{◌≡◌, ◌≢◌, ℕ, ◌+◌, ◌*◌, ◌/◌, ◌%◌, ◌<◌, ◌↔◌, List, length, get_or, set, map, refl, sym, arith, ◌∙◌, inl, inr, Some}
 use Rattle.std.specs.Int.{bit_at}
 use Rattle.std.proofs.Math.ListN.{length-set}
-use Rattle.std.proofs.lemmas.List.{get_or-set_same, get_or-set_other}
+use Rattle.std.proofs.lemmas.List.{get_or-set_same, get_or-set_other, get_or-map, length-map}
 use Rattle.dq_wheel.specs.Lists.{IsListEmpty, IsListFilled}
 use Rattle.dq_wheel.specs.Walks.{bit_of}
 use Rattle.dq_wheel.specs.Maps.{IsOccupiedAt, IsOccupied, IsOccupiedBut, IsEarlier}
+use Rattle.dq_wheel.specs.Seen.{home_seen}
+use Rattle.dq_wheel.proofs.Seen.{home_there, home_elsewhere}
 use Rattle.dq_wheel.proofs.Links.{same_or_not}
 use Rattle.dq_wheel.specs.declared.TheConstants.{LISTS}
 
@@ -97,3 +99,58 @@ module _ (maps homes : List ℕ) (ok : IsOccupied maps homes) where
 
   pub none_filled : ((p : ℕ) → p < LISTS → bit_of maps p ≢ 1) → (p : ℕ) → p < LISTS → IsListEmpty homes p
   none_filled none p p_in x x_in h = none p p_in (ok.shown p p_in tt (x, (x_in, h)))
+
+-- a list that is filled hangs on the head of list 0
+module _ (maps homes : List ℕ) (ok : IsOccupied maps homes) (p : ℕ) (above : 0 < p) (filled : IsListFilled homes p) where
+  abbrev hung : List ℕ
+  hung = map (home_seen (Some p)) homes
+
+  hung_at : (x : ℕ) → x < length homes → get_or hung x 0 ≡ home_seen (Some p) (get_or homes x 0)
+  hung_at x x_in = get_or-map (home_seen (Some p)) homes x 0 0 x_in
+
+  hung_in : (x : ℕ) → x < length hung → x < length homes
+  hung_in x x_in = rw (length-map homes (home_seen (Some p))) at x_in
+
+  hung_stays : (x q : ℕ) → x < length homes → q ≢ p → get_or homes x 0 ≡ q + 1 → get_or hung x 0 ≡ q + 1
+  hung_stays x q x_in d stands = hung_at x x_in ∙ (home_elsewhere p (get_or homes x 0) (λ e. d (omega arith)) ∙ stands)
+
+  hung_came : (x q : ℕ) → x < length homes → q ≢ 0 → get_or hung x 0 ≡ q + 1 → (q ≢ p) × (get_or homes x 0 ≡ q + 1)
+  hung_came x q x_in some stands =
+      elim (same_or_not (get_or homes x 0) (p + 1)) [
+        | inl there ↦ absurd (some (omega (arith, hung_at x x_in ∙ home_there p (get_or homes x 0) there)))
+        | inr other ↦
+            let same : get_or homes x 0 ≡ q + 1 = sym (hung_at x x_in ∙ home_elsewhere p (get_or homes x 0) other) ∙ stands in
+            (λ e. other (omega arith), same)
+      ]
+
+  pub bit_hung : (mid after : List ℕ) → bit_of mid 0 ≡ 1 → ((q : ℕ) → q ≢ 0 → bit_of mid q ≡ bit_of maps q) → bit_of after p ≡ 0 →
+      ((q : ℕ) → q ≢ p → bit_of after q ≡ bit_of mid q) → IsOccupied after hung
+  bit_hung mid after one others none rest =
+      record {
+        filled = λ q q_in w bit.
+            elim (same_or_not q p) [
+              | inl e ↦ let set_bit : bit_of after p ≡ 1 = rw e at bit in absurd (omega arith)
+              | inr d ↦
+                  elim (same_or_not q 0) [
+                    | inl e ↦
+                        rw e (
+                          filled.0,
+                          (
+                            rw (length-map homes (home_seen (Some p))) filled.1.0,
+                            hung_at filled.0 filled.1.0 ∙ home_there p (get_or homes filled.0 0) filled.1.1,
+                          ),
+                        )
+                    | inr some ↦
+                        let was : IsListFilled homes q = ok.filled q q_in tt (sym (others q some) ∙ (sym (rest q d) ∙ bit)) in
+                        (was.0, (rw (length-map homes (home_seen (Some p))) was.1.0, hung_stays was.0 q was.1.0 d was.1.1))
+                  ]
+            ];
+        shown = λ q q_in w full.
+            elim (same_or_not q 0) [
+              | inl e ↦ rw e (rest 0 (λ z. omega arith) ∙ one)
+              | inr some ↦
+                  let x_in : full.0 < length homes = hung_in full.0 full.1.0 in
+                  let came = hung_came full.0 q x_in some full.1.1 in
+                  rest q came.0 ∙ (others q some ∙ ok.shown q q_in tt (full.0, (x_in, came.1)))
+            ];
+      }

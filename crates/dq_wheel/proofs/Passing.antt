@@ -21,7 +21,7 @@ use Rattle.dq_wheel.proofs.Opening.{home_after_there, home_after_elsewhere, move
 use Rattle.dq_wheel.proofs.Lawful.{filing_of}
 use Rattle.dq_wheel.proofs.Wakes.{ahead, some_at, home_stable, still_there, start_here, start_later, opens_after, opens_in_range, later_all, wake_other, lawful_stable, next_wake, due_stands, due_least, least_all, none_filed}
 use Rattle.dq_wheel.specs.declared.TheConstants.{LISTS}
-use Rattle.dq_wheel.specs.declared.wheel.TheConstants.{NOT_FILED}
+use Rattle.dq_wheel.specs.declared.row.TheConstants.{NOT_FILED}
 
 -- the counts of a row
 move_counts_size : (e n : ℕ) (filed : List (Option ℕ)) (moves : List ℕ) → length moves ≡ length filed → length (move_counts e n filed moves) ≡ length filed
@@ -129,7 +129,7 @@ module _ (e w f h m list : ℕ) (at : IsAt e f h m) (later : e < f) (here : star
       }
 
   -- where it stood at level 0 it is due, and in the due list
-  due_here : list < 64 → w ≡ f
+  pub due_here : list < 64 → w ≡ f
   due_here low =
       elim (start_opens e f ahead_now) [
         | inl due ↦ omega arith
@@ -190,15 +190,15 @@ module _ (e : ℕ) (numbers moves homes : List ℕ) (ok : IsLawfulFiling e (file
   abbrev opening : ℕ
   opening = start e (list / 64) (list % 64)
 
-  number_in : (i : ℕ) → i < length homes → i < length numbers
+  pub number_in : (i : ℕ) → i < length homes → i < length numbers
   number_in i i_in = rw (← length-map numbers filed_by, ok.filed_size) i_in
 
   -- what stands in the opened list
-  standing : (i : ℕ) → i < length homes → get_or homes i 0 ≡ list + 1 →
+  pub standing : (i : ℕ) → i < length homes → get_or homes i 0 ≡ list + 1 →
       (f : ℕ) × (filed_at (filed_ticks numbers) i ≡ Some f) × IsAt e f (get_or homes i 0) (get_or moves i 0)
   standing i i_in stands = some_at e (filed_at (filed_ticks numbers) i) (get_or homes i 0) (get_or moves i 0) (ok.home i i_in) (omega arith)
 
-  opens_at : (i f : ℕ) → filed_at (filed_ticks numbers) i ≡ Some f → get_or homes i 0 ≡ list + 1 → start_for e f ≡ opening
+  pub opens_at : (i f : ℕ) → filed_at (filed_ticks numbers) i ≡ Some f → get_or homes i 0 ≡ list + 1 → start_for e f ≡ opening
   opens_at = start_here e (filed_ticks numbers) moves homes ok list list_in filled first later
 
   pub can_go : 64 ≤ list → (i : ℕ) → StandsIn homes list i → CanGo opening list (get_or numbers i 0) (get_or moves i 0)
@@ -232,10 +232,10 @@ module _ (e : ℕ) (numbers moves homes : List ℕ) (ok : IsLawfulFiling e (file
         sum = omega arith;
       }
 
-  stays : (i f : ℕ) → get_or homes i 0 ≢ list + 1 → filed_at (filed_ticks numbers) i ≡ Some f → (e < f) × (opening < start_for e f)
+  pub stays : (i f : ℕ) → get_or homes i 0 ≢ list + 1 → filed_at (filed_ticks numbers) i ≡ Some f → (e < f) × (opening < start_for e f)
   stays i f elsewhere is = (later i f is, start_later e (filed_ticks numbers) moves homes ok list list_in filled first later i f is elsewhere)
 
-  after : e ≤ opening
+  pub after : e ≤ opening
   after = omega (arith, opens_after e (filed_ticks numbers) moves homes ok list list_in filled first later)
 
   module _ (homes2 moves2 : List ℕ) (made : ℕ) (o : IsOpened opening list numbers homes moves homes2 moves2 made) where

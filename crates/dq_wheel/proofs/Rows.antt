@@ -5,12 +5,13 @@ use Rattle.std.proofs.Math.ListN.{length-set}
 use Rattle.std.proofs.lemmas.List.{get_or-set_same, get_or-set_other}
 use Rattle.std.proofs.Math.Seq.{take-set-lt}
 use Rattle.std.proofs.lemmas.List.{length-take-le, get_or-take, length-take, length-map, length-replicate, get_or-replicate, ext_get_or}
-use Rattle.dq_wheel.specs.Ring.{IsRings}
-use Rattle.dq_wheel.specs.Rows.{nexts, prevs, homes, AreAlone}
+use Rattle.dq_wheel.specs.Circle.{IsCircles}
+use Rattle.dq_wheel.specs.Rows.{nexts, prevs, homes, filed_numbers, moves_made, AreAlone}
 use Rattle.dq_wheel.specs.declared.row.Row.{Row}
 use Rattle.dq_wheel.proofs.Links.{linked, unlinked, first_home, first_back, none_in, last_home, last_in, before_in, after_in}
 use Rattle.dq_ticks.specs.declared.TheConstants.{CAPACITY_LIMIT}
 use Rattle.dq_wheel.specs.declared.TheConstants.{LISTS}
+use Rattle.dq_wheel.specs.declared.row.TheConstants.{NOT_FILED}
 
 -- a row with two numbers written
 pub set_first : (xs : List ℕ) (i j v w : ℕ) → i < length xs → i ≢ j → get_or (set (set xs i v) j w) i 0 ≡ v
@@ -23,12 +24,12 @@ pub set_others : (xs : List ℕ) (i j v w x : ℕ) → x ≢ i → x ≢ j → g
 set_others xs i j v w x d e = get_or-set_other (set xs i v) j x w 0 e ∙ get_or-set_other xs i x v 0 d
 
 -- entry i is linked at the end of list p
-pub rings_link : (cap : ℕ) (next prev homes : List ℕ) (i p last : ℕ) → IsRings cap next prev homes → i < cap → p < LISTS →
+pub circles_link : (cap : ℕ) (next prev homes : List ℕ) (i p last : ℕ) → IsCircles cap next prev homes → i < cap → p < LISTS →
     get_or homes i 0 ≡ 0 → last ≡ get_or prev (cap + p) 0 →
-    IsRings cap (set (set next i (cap + p)) last i) (set (set prev i last) (cap + p) i) (set homes i (p + 1))
-rings_link cap next prev homes i p last r i_in p_in loose last_is =
-    let stands : get_or homes (get_or prev (cap + p) 0) 0 ≡ p + 1 = last_home cap LISTS _ _ _ r.rank r.ring p p_in in
-    let inside : get_or prev (cap + p) 0 < cap + LISTS = last_in cap LISTS _ _ _ r.rank r.ring p p_in in
+    IsCircles cap (set (set next i (cap + p)) last i) (set (set prev i last) (cap + p) i) (set homes i (p + 1))
+circles_link cap next prev homes i p last r i_in p_in loose last_is =
+    let stands : get_or homes (get_or prev (cap + p) 0) 0 ≡ p + 1 = last_home cap LISTS _ _ _ r.rank r.circle p p_in in
+    let inside : get_or prev (cap + p) 0 < cap + LISTS = last_in cap LISTS _ _ _ r.rank r.circle p p_in in
     let last_below : last < cap + LISTS = rw last_is inside in
     let last_stands : get_or homes last 0 ≡ p + 1 = rw last_is stands in
     let apart : i ≢ last = λ e. let h : get_or homes last 0 ≡ 0 = rw e at loose in omega arith in
@@ -38,7 +39,7 @@ rings_link cap next prev homes i p last r i_in p_in loose last_is =
       prev_len = simp length-set r.prev_len;
       homes_len = simp length-set r.homes_len;
       rank = _;
-      ring = linked cap LISTS (λ x. get_or next x 0) (λ x. get_or prev x 0) (λ x. get_or homes x 0) r.rank r.ring i i_in p last p_in loose last_is
+      circle = linked cap LISTS (λ x. get_or next x 0) (λ x. get_or prev x 0) (λ x. get_or homes x 0) r.rank r.circle i i_in p last p_in loose last_is
           (λ x. get_or (set (set next i (cap + p)) last i) x 0) (λ x. get_or (set (set prev i last) (cap + p) i) x 0) (λ x. get_or (set homes i (p + 1)) x 0)
           (set_first next i last (cap + p) i (omega (arith, r.next_len)) apart) (set_second next i last (cap + p) i (omega (arith, r.next_len)))
           (set_others next i last (cap + p) i)
@@ -48,19 +49,19 @@ rings_link cap next prev homes i p last r i_in p_in loose last_is =
     }
 
 -- entry i is taken out of its list
-pub rings_unlink : (cap : ℕ) (next prev homes : List ℕ) (i before after : ℕ) → IsRings cap next prev homes → i < cap →
+pub circles_unlink : (cap : ℕ) (next prev homes : List ℕ) (i before after : ℕ) → IsCircles cap next prev homes → i < cap →
     0 < get_or homes i 0 → before ≡ get_or prev i 0 → after ≡ get_or next i 0 →
-    IsRings cap (set next before after) (set prev after before) (set homes i 0)
-rings_unlink cap next prev homes i before after r i_in on before_is after_is =
-    let before_below : get_or prev i 0 < cap + LISTS = before_in cap LISTS _ _ _ r.rank r.ring i i_in on in
-    let after_below : get_or next i 0 < cap + LISTS = after_in cap LISTS _ _ _ r.rank r.ring i i_in on in
+    IsCircles cap (set next before after) (set prev after before) (set homes i 0)
+circles_unlink cap next prev homes i before after r i_in on before_is after_is =
+    let before_below : get_or prev i 0 < cap + LISTS = before_in cap LISTS _ _ _ r.rank r.circle i i_in on in
+    let after_below : get_or next i 0 < cap + LISTS = after_in cap LISTS _ _ _ r.rank r.circle i i_in on in
     record {
       small = r.small;
       next_len = simp length-set r.next_len;
       prev_len = simp length-set r.prev_len;
       homes_len = simp length-set r.homes_len;
       rank = _;
-      ring = unlinked cap LISTS (λ x. get_or next x 0) (λ x. get_or prev x 0) (λ x. get_or homes x 0) r.rank r.ring i i_in before after on before_is after_is
+      circle = unlinked cap LISTS (λ x. get_or next x 0) (λ x. get_or prev x 0) (λ x. get_or homes x 0) r.rank r.circle i i_in before after on before_is after_is
           (λ x. get_or (set next before after) x 0) (λ x. get_or (set prev after before) x 0) (λ x. get_or (set homes i 0) x 0)
           (get_or-set_same next before after 0 (omega (arith, r.next_len))) (λ x. get_or-set_other next before x after 0)
           (get_or-set_same prev after before 0 (omega (arith, r.prev_len))) (λ x. get_or-set_other prev after x before 0)
@@ -68,24 +69,24 @@ rings_unlink cap next prev homes i before after r i_in on before_is after_is =
     }
 
 -- what follows the head of list p
-module _ (cap : ℕ) (next prev homes : List ℕ) (r : IsRings cap next prev homes) (p : ℕ) (p_in : p < LISTS) where
+module _ (cap : ℕ) (next prev homes : List ℕ) (r : IsCircles cap next prev homes) (p : ℕ) (p_in : p < LISTS) where
   pub first_stands : get_or homes (get_or next (cap + p) 0) 0 ≡ p + 1
-  first_stands = first_home cap LISTS _ _ _ r.rank r.ring p p_in
+  first_stands = first_home cap LISTS _ _ _ r.rank r.circle p p_in
 
   pub first_follows : get_or prev (get_or next (cap + p) 0) 0 ≡ cap + p
-  first_follows = first_back cap LISTS _ _ _ r.rank r.ring p p_in
+  first_follows = first_back cap LISTS _ _ _ r.rank r.circle p p_in
 
   pub first_none : cap ≤ get_or next (cap + p) 0 → (x : ℕ) → x < cap → get_or homes x 0 ≡ p + 1 → ⊥
-  first_none = none_in cap LISTS _ _ _ r.rank r.ring p p_in
+  first_none = none_in cap LISTS _ _ _ r.rank r.circle p p_in
 
 -- the entry that follows the head of list p is taken out of it
-pub rings_detach : (cap : ℕ) (next prev homes : List ℕ) (p i after : ℕ) → IsRings cap next prev homes → p < LISTS →
+pub circles_detach : (cap : ℕ) (next prev homes : List ℕ) (p i after : ℕ) → IsCircles cap next prev homes → p < LISTS →
     i ≡ get_or next (cap + p) 0 → i < cap → after ≡ get_or next i 0 →
-    IsRings cap (set next (cap + p) after) (set prev after (cap + p)) (set homes i 0)
-rings_detach cap next prev homes p i after r p_in i_is i_in after_is =
+    IsCircles cap (set next (cap + p) after) (set prev after (cap + p)) (set homes i 0)
+circles_detach cap next prev homes p i after r p_in i_is i_in after_is =
     let stands : get_or homes i 0 ≡ p + 1 = rw i_is (first_stands cap next prev homes r p p_in) in
     let follows : get_or prev i 0 ≡ cap + p = rw i_is (first_follows cap next prev homes r p p_in) in
-    rings_unlink cap next prev homes i (cap + p) after r i_in (omega arith) (sym follows) after_is
+    circles_unlink cap next prev homes i (cap + p) after r i_in (omega arith) (sym follows) after_is
 
 -- what callers see of a row of which one home was written
 pub home_written : (cap i v : ℕ) (rows old new filled : List Row) (now : List ℕ) → take cap (homes rows) ≡ now → i < length now →
@@ -93,6 +94,22 @@ pub home_written : (cap i v : ℕ) (rows old new filled : List Row) (now : List 
 home_written cap i v rows old new filled now now_is i_in filled_is new_is old_is =
     let i_cap : i < min cap (length (homes rows)) = rw (← length-take cap (homes rows), now_is) i_in in
     rw (filled_is, new_is, old_is, ← now_is) (take-set-lt cap (homes rows) i v (omega arith))
+
+-- what callers see of a row of which one tick or one count of moves was written
+module _ (cap i v : ℕ) (rows old new filled : List Row) (now_homes now : List ℕ) (homes_is : take cap (homes rows) ≡ now_homes) (i_in : i < length now_homes)
+    (filled_is : filled ≡ new) (old_is : old ≡ rows) where
+  below : i < min cap (length (homes rows))
+  below = rw (← length-take cap (homes rows), homes_is) i_in
+
+  pub filed_written : take cap (filed_numbers rows) ≡ now → filed_numbers new ≡ set (filed_numbers old) i v → take cap (filed_numbers filled) ≡ set now i v
+  filed_written now_is new_is =
+      let size = length-map rows (λ r. r.filed) ∙ sym (length-map rows (λ r. r.home)) in
+      rw (filled_is, new_is, old_is, ← now_is) (take-set-lt cap (filed_numbers rows) i v (omega (arith, below)))
+
+  pub moves_written : take cap (moves_made rows) ≡ now → moves_made new ≡ set (moves_made old) i v → take cap (moves_made filled) ≡ set now i v
+  moves_written now_is new_is =
+      let size = length-map rows (λ r. r.moves) ∙ sym (length-map rows (λ r. r.home)) in
+      rw (filled_is, new_is, old_is, ← now_is) (take-set-lt cap (moves_made rows) i v (omega (arith, below)))
 
 -- the number of entries that callers see
 pub capacity_is : (cap : ℕ) (xs : List ℕ) (now : List ℕ) → cap ≤ length xs → take cap xs ≡ now → length now ≡ cap
@@ -103,17 +120,17 @@ pub seen_home : (cap : ℕ) (xs now : List ℕ) (i : ℕ) → take cap xs ≡ no
 seen_home cap xs now i now_is i_in = rw (← now_is) (get_or-take cap xs i 0 i_in)
 
 -- where the head of list p follows itself, callers see that it is empty
-pub empty_seen : (cap : ℕ) (next prev homes now : List ℕ) (p : ℕ) → IsRings cap next prev homes → p < LISTS → take cap homes ≡ now →
+pub empty_seen : (cap : ℕ) (next prev homes now : List ℕ) (p : ℕ) → IsCircles cap next prev homes → p < LISTS → take cap homes ≡ now →
     cap ≤ get_or next (cap + p) 0 → (x : ℕ) → x < length now → get_or now x 0 ≡ p + 1 → ⊥
 empty_seen cap next prev homes now p r p_in now_is high x x_in h =
     let len : length now ≡ cap = capacity_is cap homes now (omega (arith, r.homes_len)) now_is in
     let x_cap : x < cap = omega arith in
     first_none cap next prev homes r p p_in high x x_cap (sym (seen_home cap homes now x now_is x_cap) ∙ h)
 
--- rows that stand alone are rings of which each is empty
-pub rings_alone : (cap : ℕ) (rows : List Row) → cap ≤ CAPACITY_LIMIT → length rows ≡ cap + LISTS → AreAlone cap rows →
-    IsRings cap (nexts rows) (prevs rows) (homes rows)
-rings_alone cap rows small len alone =
+-- rows that stand alone are circles of which each is empty
+pub circles_alone : (cap : ℕ) (rows : List Row) → cap ≤ CAPACITY_LIMIT → length rows ≡ cap + LISTS → AreAlone cap rows →
+    IsCircles cap (nexts rows) (prevs rows) (homes rows)
+circles_alone cap rows small len alone =
     let size : length (homes rows) ≡ cap + LISTS = length-map rows (λ r. r.home) ∙ len in
     let home_of : (x : ℕ) → x < cap + LISTS → get_or (homes rows) x 0 ≡ x + 1 - cap = λ x x_in. alone.home x (omega arith) in
     record {
@@ -122,7 +139,7 @@ rings_alone cap rows small len alone =
       prev_len = length-map rows (λ r. r.prev) ∙ len;
       homes_len = size;
       rank = λ _. 0;
-      ring = record {
+      circle = record {
         head_home = λ p p_in. omega (arith, home_of (cap + p) (omega arith));
         home_le = λ x x_in. omega (arith, home_of x (omega arith));
         node = λ x x_in on.
@@ -140,30 +157,45 @@ rings_alone cap rows small len alone =
       };
     }
 
+-- what is the same in each row
+same_of : (cap v : ℕ) (column : List ℕ) → cap ≤ length column → ((x : ℕ) → x < cap → get_or column x 0 ≡ v) → take cap column ≡ replicate cap v
+same_of cap v column fits each =
+    let seen : length (take cap column) ≡ cap = length-take-le cap column fits in
+    ext_get_or 0 (take cap column) (replicate cap v) (seen ∙ sym (length-replicate cap v))
+    (λ i i_in.
+    let i_cap : i < cap = omega arith in
+    get_or-take cap column i 0 i_cap ∙ (each i i_cap ∙ sym (get_or-replicate cap i v 0 i_cap)))
+
 -- callers see that no index stands in a list
 pub seen_alone : (cap : ℕ) (rows : List Row) → length rows ≡ cap + LISTS → AreAlone cap rows → take cap (homes rows) ≡ replicate cap 0
 seen_alone cap rows len alone =
-    let size : length (homes rows) ≡ cap + LISTS = length-map rows (λ r. r.home) ∙ len in
-    let seen : length (take cap (homes rows)) ≡ cap = length-take-le cap (homes rows) (omega arith) in
-    ext_get_or 0 (take cap (homes rows)) (replicate cap 0) (seen ∙ sym (length-replicate cap 0))
-    (λ i i_in.
-    let i_cap : i < cap = omega arith in
-    let zero_home : get_or (homes rows) i 0 ≡ 0 = omega (arith, alone.home i (omega arith)) in
-    get_or-take cap (homes rows) i 0 i_cap ∙ (zero_home ∙ sym (get_or-replicate cap i 0 0 i_cap)))
+    let size = length-map rows (λ r. r.home) ∙ len in
+    same_of cap 0 (homes rows) (omega arith) (λ x x_in. omega (arith, alone.home x (omega arith)))
+
+-- callers see that none is filed, and that none moved
+pub filed_alone : (cap : ℕ) (rows : List Row) → length rows ≡ cap + LISTS → AreAlone cap rows → take cap (filed_numbers rows) ≡ replicate cap NOT_FILED
+filed_alone cap rows len alone =
+    let size = length-map rows (λ r. r.filed) ∙ len in
+    same_of cap NOT_FILED (filed_numbers rows) (omega arith) (λ x x_in. alone.filed x (omega arith))
+
+pub moves_alone : (cap : ℕ) (rows : List Row) → length rows ≡ cap + LISTS → AreAlone cap rows → take cap (moves_made rows) ≡ replicate cap 0
+moves_alone cap rows len alone =
+    let size = length-map rows (λ r. r.moves) ∙ len in
+    same_of cap 0 (moves_made rows) (omega arith) (λ x x_in. alone.moves x (omega arith))
 
 -- what follows the head of list p, by what callers see
-pub seen_first : (cap : ℕ) (next prev homes now_homes now_next : List ℕ) (p i : ℕ) → IsRings cap next prev homes → take cap homes ≡ now_homes →
+pub seen_first : (cap : ℕ) (next prev homes now_homes now_next : List ℕ) (p i : ℕ) → IsCircles cap next prev homes → take cap homes ≡ now_homes →
     next ≡ now_next → i ≡ get_or now_next (length now_homes + p) 0 → i ≡ get_or next (cap + p) 0
 seen_first cap next prev homes now_homes now_next p i r homes_is next_is i_is =
     let len : length now_homes ≡ cap = capacity_is cap homes now_homes (omega (arith, r.homes_len)) homes_is in
     rw (next_is, ← len) i_is
 
 -- an index that callers see is an entry
-pub stands_seen : (cap : ℕ) (next prev homes now : List ℕ) (i : ℕ) → IsRings cap next prev homes → take cap homes ≡ now → i < length now → i < cap
+pub stands_seen : (cap : ℕ) (next prev homes now : List ℕ) (i : ℕ) → IsCircles cap next prev homes → take cap homes ≡ now → i < length now → i < cap
 stands_seen cap next prev homes now i r now_is i_in =
     let len : length now ≡ cap = capacity_is cap homes now (omega (arith, r.homes_len)) now_is in
     omega arith
 
 -- an index that callers see stands in one of the lists, or in none
-pub home_small : (cap : ℕ) (next prev homes now : List ℕ) (i : ℕ) → IsRings cap next prev homes → take cap homes ≡ now → i < length now → get_or homes i 0 ≤ LISTS
-home_small cap next prev homes now i r now_is i_in = r.ring.home_le i (stands_seen cap next prev homes now i r now_is i_in)
+pub home_small : (cap : ℕ) (next prev homes now : List ℕ) (i : ℕ) → IsCircles cap next prev homes → take cap homes ≡ now → i < length now → get_or homes i 0 ≤ LISTS
+home_small cap next prev homes now i r now_is i_in = r.circle.home_le i (stands_seen cap next prev homes now i r now_is i_in)

@@ -4,7 +4,7 @@ use Rattle.std.proofs.Common.{◌≡◌, ◌≢◌, ℕ, ◌+◌, ◌<◌, ◌�
 use Rattle.std.proofs.Math.ListN.{length-set}
 use Rattle.std.proofs.lemmas.List.{get_or-set_same, get_or-set_other}
 use Rattle.std.proofs.lemmas.Bool.Decides.{nat_tests}
-use Rattle.dq_wheel.specs.Ring.{Node, Ring, IsRings, IsTakenOff, home_but}
+use Rattle.dq_wheel.specs.Circle.{Node, Circle, IsCircles, IsTakenOff, home_but}
 use Rattle.dq_wheel.specs.Walks.{IsWalk, occurrences}
 use Rattle.dq_wheel.specs.declared.TheConstants.{LISTS}
 use Rattle.dq_wheel.proofs.Links.{same_or_not, nat_le_or_lt, head_is, last_home, last_in, linked}
@@ -21,7 +21,7 @@ but_head : (cap p : ℕ) (homes : List ℕ) (x : ℕ) → cap ≤ x → home_but
 but_head cap p homes x high = grind (arith, nat_tests)
 
 -- the head of a list stands alone, and its entries count as loose
-module _ (cap lists : ℕ) (next prev home rank : ℕ → ℕ) (ring : Ring cap lists next prev home rank) (p : ℕ) (p_in : p < lists)
+module _ (cap lists : ℕ) (next prev home rank : ℕ → ℕ) (circle : Circle cap lists next prev home rank) (p : ℕ) (p_in : p < lists)
     (next2 prev2 home2 : ℕ → ℕ)
     (next_head : next2 (cap + p) ≡ cap + p) (next_o : (x : ℕ) → x ≢ cap + p → next2 x ≡ next x)
     (prev_head : prev2 (cap + p) ≡ cap + p) (prev_o : (x : ℕ) → x ≢ cap + p → prev2 x ≡ prev x)
@@ -30,12 +30,12 @@ module _ (cap lists : ℕ) (next prev home rank : ℕ → ℕ) (ring : Ring cap 
   where
     -- what stands elsewhere is not the head
     apart : (x : ℕ) → home x ≢ p + 1 → x ≢ cap + p
-    apart x d e = d (rw e (ring.head_home p p_in))
+    apart x d e = d (rw e (circle.head_home p p_in))
 
     elsewhere : (x : ℕ) → x < cap + lists → 0 < home2 x → x ≢ cap + p → home x ≢ p + 1
     elsewhere x x_in on d here =
         elim (nat_le_or_lt cap x) [
-          | inl high ↦ d (head_is cap lists next prev home rank ring p p_in x high x_in here)
+          | inl high ↦ d (head_is cap lists next prev home rank circle p p_in x high x_in here)
           | inr low ↦ omega (arith, home_out x low here)
         ]
 
@@ -43,7 +43,7 @@ module _ (cap lists : ℕ) (next prev home rank : ℕ → ℕ) (ring : Ring cap 
     other_node x x_in on d =
         let other : home x ≢ p + 1 = elsewhere x x_in on d in
         let same : home2 x ≡ home x = home_o x other in
-        let node : Node (cap + lists) next prev home x = ring.node x x_in (omega arith) in
+        let node : Node (cap + lists) next prev home x = circle.node x x_in (omega arith) in
         let next_other : home (next x) ≢ p + 1 = λ e. other (sym node.next_home ∙ e) in
         let prev_other : home (prev x) ≢ p + 1 = λ e. other (sym node.prev_home ∙ e) in
         record {
@@ -66,14 +66,14 @@ module _ (cap lists : ℕ) (next prev home rank : ℕ → ℕ) (ring : Ring cap 
           forth = ap next2 prev_head ∙ next_head;
         }
 
-    pub taken_off : Ring cap lists next2 prev2 home2 rank
+    pub taken_off : Circle cap lists next2 prev2 home2 rank
     taken_off =
         record {
-          head_home = λ q q_in. home_high (cap + q) (omega arith) ∙ ring.head_home q q_in;
+          head_home = λ q q_in. home_high (cap + q) (omega arith) ∙ circle.head_home q q_in;
           home_le = λ x x_in.
               elim (same_or_not (home x) (p + 1)) [
                 | inl here ↦ omega (arith, home_out x x_in here)
-                | inr other ↦ rw (home_o x other) (ring.home_le x x_in)
+                | inr other ↦ rw (home_o x other) (circle.home_le x x_in)
               ];
           node = λ x x_in on.
               elim (same_or_not x (cap + p)) [
@@ -83,18 +83,18 @@ module _ (cap lists : ℕ) (next prev home rank : ℕ → ℕ) (ring : Ring cap 
           falls = λ x x_in on.
               let d : x ≢ cap + p = λ e. omega arith in
               let same : home2 x ≡ home x = home_o x (elsewhere x (omega arith) on d) in
-              rw (prev_o x d) (ring.falls x x_in (omega arith));
+              rw (prev_o x d) (circle.falls x x_in (omega arith));
         }
 
--- rings with the same homes are the same rings
-pub ring_by : (cap lists : ℕ) (next prev home home2 rank : ℕ → ℕ) → Ring cap lists next prev home rank →
-    ((x : ℕ) → x < cap + lists → home2 x ≡ home x) → Ring cap lists next prev home2 rank
-ring_by cap lists next prev home home2 rank ring same =
+-- circles with the same homes are the same circles
+pub circle_by : (cap lists : ℕ) (next prev home home2 rank : ℕ → ℕ) → Circle cap lists next prev home rank →
+    ((x : ℕ) → x < cap + lists → home2 x ≡ home x) → Circle cap lists next prev home2 rank
+circle_by cap lists next prev home home2 rank circle same =
     record {
-      head_home = λ p p_in. same (cap + p) (omega arith) ∙ ring.head_home p p_in;
-      home_le = λ x x_in. rw (same x (omega arith)) (ring.home_le x x_in);
+      head_home = λ p p_in. same (cap + p) (omega arith) ∙ circle.head_home p p_in;
+      home_le = λ x x_in. rw (same x (omega arith)) (circle.home_le x x_in);
       node = λ x x_in on.
-          let node : Node (cap + lists) next prev home x = ring.node x x_in (omega (arith, same x x_in)) in
+          let node : Node (cap + lists) next prev home x = circle.node x x_in (omega (arith, same x x_in)) in
           record {
             next_in = node.next_in;
             prev_in = node.prev_in;
@@ -103,7 +103,7 @@ ring_by cap lists next prev home home2 rank ring same =
             back = node.back;
             forth = node.forth;
           };
-      falls = λ x x_in on. ring.falls x x_in (omega (arith, same x (omega arith)));
+      falls = λ x x_in on. circle.falls x x_in (omega (arith, same x (omega arith)));
     }
 
 -- what is met in the rest of a walk is met in the walk
@@ -123,17 +123,17 @@ walk_kept cap next next2 head x (y ∷ ys) same w =
     (w.0, w.1, rw (same y w.1 (omega (arith, occurrences_same y y ys refl))) rest)
 
 -- list p is taken off its head
-pub rings_taken : (cap : ℕ) (next prev homes : List ℕ) (p : ℕ) → IsRings cap next prev homes → p < LISTS →
+pub circles_taken : (cap : ℕ) (next prev homes : List ℕ) (p : ℕ) → IsCircles cap next prev homes → p < LISTS →
     IsTakenOff cap p (get_or next (cap + p) 0) (set next (cap + p) (cap + p)) (set prev (cap + p) (cap + p)) homes
-rings_taken cap next prev homes p r p_in =
-    let w = walked cap LISTS _ _ _ r.rank r.ring p p_in in
+circles_taken cap next prev homes p r p_in =
+    let w = walked cap LISTS _ _ _ r.rank r.circle p p_in in
     record {
       small = r.small;
       next_len = simp length-set r.next_len;
       prev_len = simp length-set r.prev_len;
       homes_len = r.homes_len;
       rank = r.rank;
-      ring = taken_off cap LISTS (λ x. get_or next x 0) (λ x. get_or prev x 0) (λ x. get_or homes x 0) r.rank r.ring p p_in
+      circle = taken_off cap LISTS (λ x. get_or next x 0) (λ x. get_or prev x 0) (λ x. get_or homes x 0) r.rank r.circle p p_in
           (λ x. get_or (set next (cap + p) (cap + p)) x 0) (λ x. get_or (set prev (cap + p) (cap + p)) x 0) (home_but cap p homes)
           (get_or-set_same next (cap + p) (cap + p) 0 (omega (arith, r.next_len))) (λ x. get_or-set_other next (cap + p) x (cap + p) 0)
           (get_or-set_same prev (cap + p) (cap + p) 0 (omega (arith, r.prev_len))) (λ x. get_or-set_other prev (cap + p) x (cap + p) 0)
@@ -141,7 +141,7 @@ rings_taken cap next prev homes p r p_in =
       list = w.0;
       walk = walk_kept cap (λ x. get_or next x 0) (λ x. get_or (set next (cap + p) (cap + p)) x 0) (cap + p) (get_or next (cap + p) 0) w.0
           (λ y y_in met. get_or-set_other next (cap + p) y (cap + p) 0 (λ e. omega arith)) w.1;
-      once = walked_once cap LISTS _ _ _ r.rank r.ring p p_in;
+      once = walked_once cap LISTS _ _ _ r.rank r.circle p p_in;
     }
 
 -- what is met stands in the list
@@ -177,10 +177,10 @@ module _ (cap p i to last after : ℕ) (next prev homes : List ℕ) (t : IsTaken
   stands_here = stands_first cap p i next prev homes t i_in
 
   last_stands : home_but cap p homes last ≡ to + 1
-  last_stands = rw last_is (last_home cap LISTS _ _ _ t.rank t.ring to to_in)
+  last_stands = rw last_is (last_home cap LISTS _ _ _ t.rank t.circle to to_in)
 
   pub last_below : last < cap + LISTS
-  last_below = rw last_is (last_in cap LISTS _ _ _ t.rank t.ring to to_in)
+  last_below = rw last_is (last_in cap LISTS _ _ _ t.rank t.circle to to_in)
 
   loose : home_but cap p homes i ≡ 0
   loose = but_here cap p homes i i_in stands_here
@@ -233,7 +233,7 @@ module _ (cap p i to last after : ℕ) (next prev homes : List ℕ) (t : IsTaken
           prev_len = simp length-set t.prev_len;
           homes_len = simp length-set t.homes_len;
           rank = _;
-          ring = linked cap LISTS (λ x. get_or next x 0) (λ x. get_or prev x 0) (home_but cap p homes) t.rank t.ring i i_in to last to_in loose last_is
+          circle = linked cap LISTS (λ x. get_or next x 0) (λ x. get_or prev x 0) (home_but cap p homes) t.rank t.circle i i_in to last to_in loose last_is
               (λ x. get_or next2 x 0) (λ x. get_or prev2 x 0) (home_but cap p homes2)
               (set_first next i last (cap + to) i (omega (arith, t.next_len)) last_apart) (set_second next i last (cap + to) i (omega (arith, t.next_len, last_below)))
               (set_others next i last (cap + to) i)
@@ -264,15 +264,15 @@ module _ (cap p at : ℕ) (next prev homes : List ℕ) (t : IsTakenOff cap p at 
       let none : occurrences i t.list ≡ 0 = ap (λ xs. occurrences i xs) (ended t.list t.walk) in
       omega (arith, t.once i i_in ∙ one_at _ _ here)
 
-  pub rings_back : IsRings cap next prev homes
-  rings_back =
+  pub circles_back : IsCircles cap next prev homes
+  circles_back =
       record {
         small = t.small;
         next_len = t.next_len;
         prev_len = t.prev_len;
         homes_len = t.homes_len;
         rank = t.rank;
-        ring = ring_by cap LISTS _ _ (home_but cap p homes) (λ x. get_or homes x 0) t.rank t.ring
+        circle = circle_by cap LISTS _ _ (home_but cap p homes) (λ x. get_or homes x 0) t.rank t.circle
             (λ x x_in. elim (nat_le_or_lt cap x) [
               | inl up ↦ sym (but_head cap p homes x up)
               | inr low ↦ sym (but_other cap p homes x (none_left x low))

@@ -1,7 +1,7 @@
 -- The walk along a list.
 
 use Rattle.std.proofs.Common.{◌≡◌, ◌≢◌, ℕ, zero, suc, ◌+◌, ◌<◌, ◌≤◌, List, [], ◌∷◌, length, take, refl, sym, arith, ◌∙◌, ap, inl, inr, cond, eqb}
-use Rattle.dq_wheel.specs.Ring.{Node, Ring, IsRings}
+use Rattle.dq_wheel.specs.Circle.{Node, Circle, IsCircles}
 use Rattle.dq_wheel.specs.Walks.{IsWalk, occurrences}
 use Rattle.dq_wheel.specs.Lists.{IsListOf}
 use Rattle.dq_wheel.proofs.Links.{same_or_not, nat_le_or_lt, first_home, first_in, head_is, before_entry}
@@ -33,14 +33,14 @@ rank_bound rank (suc n) =
       λ x x_in. elim (same_or_not x n) [ inl e ↦ rw e (omega arith) | inr d ↦ omega (arith, below.1 x (omega arith)) ],
     )
 
-module _ (cap lists : ℕ) (next prev home rank : ℕ → ℕ) (ring : Ring cap lists next prev home rank) (p : ℕ) (p_in : p < lists) where
+module _ (cap lists : ℕ) (next prev home rank : ℕ → ℕ) (circle : Circle cap lists next prev home rank) (p : ℕ) (p_in : p < lists) where
   node_of : (x : ℕ) → x < cap + lists → home x ≡ p + 1 → Node (cap + lists) next prev home x
-  node_of x x_in h = ring.node x x_in (omega arith)
+  node_of x x_in h = circle.node x x_in (omega arith)
 
   rises : (x : ℕ) → x < cap → home x ≡ p + 1 → next x < cap → rank x < rank (next x)
   rises x x_in h after_in =
       let node : Node (cap + lists) next prev home x = node_of x (omega arith) h in
-      let falls : rank (prev (next x)) < rank (next x) = ring.falls (next x) after_in (omega (arith, node.next_home)) in
+      let falls : rank (prev (next x)) < rank (next x) = circle.falls (next x) after_in (omega (arith, node.next_home)) in
       rw node.back at falls
 
   after_home : (x : ℕ) → x < cap → home x ≡ p + 1 → home (next x) ≡ p + 1
@@ -53,12 +53,12 @@ module _ (cap lists : ℕ) (next prev home rank : ℕ → ℕ) (ring : Ring cap 
       (x < cap → b < rank x + fuel) → (xs : List ℕ) × IsWalk cap next (cap + p) x xs
   walk_from b bound zero x x_in h more =
       elim (nat_le_or_lt cap x) [
-        | inl high ↦ ([], head_is cap lists next prev home rank ring p p_in x high x_in h)
+        | inl high ↦ ([], head_is cap lists next prev home rank circle p p_in x high x_in h)
         | inr low ↦ let le : rank x ≤ b = bound x low in let lt : b < rank x + 0 = more low in absurd (omega arith)
       ]
   walk_from b bound (suc fuel) x x_in h more =
       elim (nat_le_or_lt cap x) [
-        | inl high ↦ ([], head_is cap lists next prev home rank ring p p_in x high x_in h)
+        | inl high ↦ ([], head_is cap lists next prev home rank circle p p_in x high x_in h)
         | inr low ↦
             let lt : b < rank x + suc fuel = more low in
             let rest = walk_from b bound fuel (next x) (after_below x low h) (after_home x low h)
@@ -116,14 +116,14 @@ module _ (cap lists : ℕ) (next prev home rank : ℕ → ℕ) (ring : Ring cap 
   met_by_rank : (xs : List ℕ) → IsWalk cap next (cap + p) (next (cap + p)) xs → (r i : ℕ) → rank i < r → i < cap → home i ≡ p + 1 → occurrences i xs ≡ 1
   met_by_rank xs w zero i lt i_in h = absurd (omega arith)
   met_by_rank xs w (suc r) i lt i_in h =
-      let start_home : home (next (cap + p)) ≡ p + 1 = first_home cap lists next prev home rank ring p p_in in
+      let start_home : home (next (cap + p)) ≡ p + 1 = first_home cap lists next prev home rank circle p p_in in
       let node : Node (cap + lists) next prev home i = node_of i (omega arith) h in
       let forth : next (prev i) ≡ i = node.forth in
-      let falls : rank (prev i) < rank i = ring.falls i i_in (omega arith) in
+      let falls : rank (prev i) < rank i = circle.falls i i_in (omega arith) in
       elim (same_or_not (prev i) (cap + p)) [
         | inl e ↦ let at_head : next (cap + p) ≡ i = rw e at forth in front i (next (cap + p)) xs start_home at_head i_in w
         | inr d ↦
-            let b = before_entry cap lists next prev home rank ring p p_in i i_in h d in
+            let b = before_entry cap lists next prev home rank circle p p_in i i_in h d in
             follows (prev i) i (next (cap + p)) xs start_home forth i_in falls w (met_by_rank xs w r (prev i) (omega arith) b.0 b.1)
       ]
 
@@ -131,14 +131,14 @@ module _ (cap lists : ℕ) (next prev home rank : ℕ → ℕ) (ring : Ring cap 
   pub walked : (xs : List ℕ) × IsWalk cap next (cap + p) (next (cap + p)) xs
   walked =
       let b = rank_bound rank cap in
-      walk_from b.0 b.1 (suc b.0) (next (cap + p)) (first_in cap lists next prev home rank ring p p_in)
-      (first_home cap lists next prev home rank ring p p_in) (λ _. omega arith)
+      walk_from b.0 b.1 (suc b.0) (next (cap + p)) (first_in cap lists next prev home rank circle p p_in)
+      (first_home cap lists next prev home rank circle p p_in) (λ _. omega arith)
 
   pub walked_once : (i : ℕ) → i < cap → occurrences i walked.0 ≡ cond (eqb (home i) (p + 1)) 1 0
   walked_once i i_in =
       elim (same_or_not (home i) (p + 1)) [
         | inl h ↦ met_by_rank walked.0 walked.1 (suc (rank i)) i (omega arith) i_in h ∙ sym (one_at (home i) (p + 1) h)
-        | inr d ↦ strange i d (next (cap + p)) walked.0 (first_home cap lists next prev home rank ring p p_in) walked.1 ∙ sym (none_at (home i) (p + 1) d)
+        | inr d ↦ strange i d (next (cap + p)) walked.0 (first_home cap lists next prev home rank circle p p_in) walked.1 ∙ sym (none_at (home i) (p + 1) d)
       ]
 
   pub walked_met : (i : ℕ) → i < cap → home i ≡ p + 1 → occurrences i walked.0 ≡ 1
@@ -151,14 +151,14 @@ module _ (cap lists : ℕ) (next prev home rank : ℕ → ℕ) (ring : Ring cap 
         | inr d ↦ omega (arith, walked_once i i_in ∙ none_at (home i) (p + 1) d)
       ]
 
-pub list_of_rings : (cap : ℕ) (next prev homes now : List ℕ) → IsRings cap next prev homes → take cap homes ≡ now → (p : ℕ) → p < LISTS → IsListOf next now p
-list_of_rings cap next prev homes now r now_is p p_in =
+pub list_of_circles : (cap : ℕ) (next prev homes now : List ℕ) → IsCircles cap next prev homes → take cap homes ≡ now → (p : ℕ) → p < LISTS → IsListOf next now p
+list_of_circles cap next prev homes now r now_is p p_in =
     let len : length now ≡ cap = capacity_is cap homes now (omega (arith, r.homes_len)) now_is in
-    let w = walked cap LISTS _ _ _ r.rank r.ring p p_in in
+    let w = walked cap LISTS _ _ _ r.rank r.circle p p_in in
     record {
       list = w.0;
       walk = rw len w.1;
       once = λ i i_in.
           let i_cap : i < cap = omega arith in
-          walked_once cap LISTS _ _ _ r.rank r.ring p p_in i i_cap ∙ ap (λ h. cond (eqb h (p + 1)) 1 0) (sym (seen_home cap homes now i now_is i_cap));
+          walked_once cap LISTS _ _ _ r.rank r.circle p p_in i i_cap ∙ ap (λ h. cond (eqb h (p + 1)) 1 0) (sym (seen_home cap homes now i now_is i_cap));
     }

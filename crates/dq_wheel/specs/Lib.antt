@@ -2,11 +2,13 @@ pub mod State
 pub mod Places
 pub mod Moves
 pub mod Wakes
+pub mod Arrivals
 pub mod Walks
 pub mod Lawful
 pub mod Filed
 pub mod Homes
+pub mod Seen
 pub mod Lists
 pub mod Maps
-pub mod Ring
+pub mod Circle
 pub mod Rows

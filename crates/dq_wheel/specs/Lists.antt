@@ -2,19 +2,25 @@
 -- What the lists hold, by the home of each index: one more than the number of its list, or 0.
 
 use Rattle.std.specs.Prelude.{◌≡◌, ◌≢◌, ℕ, ◌+◌, ◌<◌, ◌≤◌, List, length, slice_index, ◌==◌}
-use Rattle.std.specs.Prelude.{if◌then◌else◌}
+use Rattle.std.specs.Prelude.{if◌then◌else◌, Option}
 use Rattle.dq_wheel.specs.Walks.{IsWalk, occurrences}
 
--- the home of each index; and what follows each index, and behind them what follows the head of
--- each list
-pub record RingsState : Type 0 where
+-- the home of each index, the number that says where it is filed, and how often it moved; what
+-- follows each index, and behind them what follows the head of each list; and the list that is open
+pub record CirclesState : Type 0 where
   pub homes : List ℕ
+  pub filed : List ℕ
+  pub moves : List ℕ
   pub next : List ℕ
+  pub opened : Option ℕ
 
 -- the same with the occupancy maps of the lists
 pub record ListsState : Type 0 where
   pub homes : List ℕ
+  pub filed : List ℕ
+  pub moves : List ℕ
   pub next : List ℕ
+  pub opened : Option ℕ
   pub maps : List ℕ
 
 -- index x stands in list p

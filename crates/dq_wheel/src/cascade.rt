@@ -1,7 +1,7 @@
 //! How a list is opened: it is taken off its head, and each of its indexes goes to the list that the new tick names.
 
 ghost use Rattle.std.specs.Prelude.{◌≡◌, ℕ, ◌+◌, ◌<◌, ◌≤◌, length, slice_index};
-ghost use Rattle.dq_wheel.specs.Rows.{entry_homes, AreRings};
+ghost use Rattle.dq_wheel.specs.Rows.{entry_homes, entry_filed, entry_moves, filed_numbers, AreCircles};
 ghost use Rattle.dq_wheel.specs.Lists.{StandsIn};
 ghost use Rattle.dq_wheel.specs.Maps.{IsOccupied};
 ghost use Rattle.dq_wheel.specs.Homes.{CanGo, IsOpened};
@@ -9,40 +9,33 @@ ghost use Rattle.dq_wheel.specs.Homes.{CanGo, IsOpened};
 use crate::LISTS;
 use crate::homes::list_from;
 use crate::maps::{Maps, clear_bit, set_bit};
-use crate::row::{Row, put_last, take_off};
+use crate::row::{Row, put_last, row_at, set_moves, take_off};
 
 /// Places each index of a list again by the new tick, and gives how many of them aren't due yet. Meanwhile the list's
 /// bit stays, and what waits in it is linked only forward.
-pub fn scatter(
-    rows: &mut [Row],
-    capacity: usize,
-    maps: &mut Maps,
-    list: usize,
-    tick: u64,
-    filed: &[u64],
-    moves: &mut [u8],
-) -> u64
-    requires rings { AreRings capacity rows.old }
+pub fn scatter(rows: &mut [Row], capacity: usize, maps: &mut Maps, list: usize, tick: u64) -> u64
+    requires circles { AreCircles capacity rows.old }
     requires list_in { list < LISTS }
-    requires filed_all { length filed.now ≡ capacity }
-    requires moves_all { length moves.old ≡ capacity }
     requires occupied { IsOccupied maps.old (entry_homes capacity rows.old) }
     requires can_go { (i : ℕ) → StandsIn (entry_homes capacity rows.old) list i →
-        CanGo tick list (slice_index filed.now i) (slice_index moves.old i) }
-    ensures rings { AreRings capacity rows.new }
-    ensures opened { IsOpened tick list filed.now (entry_homes capacity rows.old) moves.old
-        (entry_homes capacity rows.new) moves.new result }
+        CanGo tick list (slice_index (entry_filed capacity rows.old) i)
+        (slice_index (entry_moves capacity rows.old) i) }
+    ensures circles { AreCircles capacity rows.new }
+    ensures opened { IsOpened tick list (entry_filed capacity rows.old)
+        (entry_homes capacity rows.old) (entry_moves capacity rows.old)
+        (entry_homes capacity rows.new) (entry_moves capacity rows.new) result }
+    ensures filed { filed_numbers rows.new ≡ filed_numbers rows.old }
     ensures occupied { IsOccupied maps.new (entry_homes capacity rows.new) }
 {
     let mut made = 0;
     let mut index = take_off(rows, capacity, list);
     while index < capacity {
-        let when = filed[index];
-        let to = list_from(list, tick, when);
+        let row = row_at(rows, index);
+        let to = list_from(list, tick, row.filed);
         let after = put_last(rows, capacity, list, index, to);
         set_bit(maps, to);
-        if when != tick {
-            moves[index] += 1;
+        if row.filed != tick {
+            set_moves(rows, index, row.moves + 1);
             made += 1;
         }
         index = after;

@@ -1,15 +1,17 @@
 //! The lists of six levels, of which one is the due list, with occupancy maps.
 
-ghost use Rattle.std.specs.Prelude.{◌≡◌, ◌≢◌, ℕ, ◌+◌, ◌*◌, ◌<◌, ◌≤◌, ◌↔◌, length, slice_index, slice_set, replicate, IfOk, MatchOption};
+ghost use Rattle.std.specs.Prelude.{◌≡◌, ◌≢◌, ℕ, ◌+◌, ◌*◌, ◌<◌, ◌≤◌, ◌↔◌, length, slice_index, slice_set, map, replicate, IfOk, MatchOption, Option, None, Some};
 ghost use Rattle.std.specs.Int.{bit_at};
 ghost use Rattle.dq_wheel.specs.Lists.{IsLeastIn, IsListEmpty, IsListFilled, IsListOf, StandsIn};
+ghost use Rattle.dq_wheel.specs.Seen.{home_seen, numbers_seen};
 ghost use Rattle.dq_wheel.specs.Walks.{bit_of};
 ghost use Rattle.dq_wheel.specs.Maps.{IsFirstFilled, IsOccupied, IsOccupiedBut};
 ghost use Rattle.dq_wheel.specs.Homes.{CanGo, IsOpened};
+ghost use Rattle.dq_wheel.specs.declared.row.TheConstants.{NOT_FILED};
 
 use crate::LISTS;
+use crate::circles::Circles;
 use crate::maps::{Maps, clear_bit, first_list, set_bit};
-use crate::rings::Rings;
 use dq_ticks::{CAPACITY_LIMIT, LEVELS};
 use std::alloc::{AllocError, Allocator, Global};
 use std::marker::Model;
@@ -17,7 +19,7 @@ use std::marker::Model;
 /// Which list each index stands in, if any, with a bit for each list that isn't empty.
 #[derive(Drop)]
 pub struct Lists<A: Allocator = Global> {
-    rings: Rings<A>,
+    circles: Circles<A>,
     maps: Maps,
 }
 
@@ -27,19 +29,26 @@ impl<A: Allocator> Model for Lists<A> {
 
     ghost Value = { ListsState };
 
-    ghost view = { λ a. record { homes = a.rings.homes; next = a.rings.next; maps = a.maps } };
+    ghost view = { λ a. record {
+      homes = a.circles.homes;
+      filed = a.circles.filed;
+      moves = a.circles.moves;
+      next = a.circles.next;
+      opened = a.circles.opened;
+      maps = a.maps;
+    } };
 
-    ghost invariant = { λ a. IsOccupied a.maps a.rings.homes };
+    ghost invariant = { λ a. IsOccupied a.maps a.circles.homes };
 }
 
-/// Clears the bit of a list where its last index has left it.
-fn clear_if_empty<A: Allocator>(rings: &Rings<A>, maps: &mut Maps, list: usize)
+// Clears the bit of a list where its last index has left it.
+fn clear_if_empty<A: Allocator>(circles: &Circles<A>, maps: &mut Maps, list: usize)
     requires list_in { list < LISTS }
-    requires others { IsOccupiedBut list maps.old rings.now.homes }
+    requires others { IsOccupiedBut list maps.old circles.now.homes }
     requires was_filled { bit_of maps.old list ≡ 1 }
-    ensures { IsOccupied maps.new rings.now.homes }
+    ensures { IsOccupied maps.new circles.now.homes }
 {
-    match rings.first(list) {
+    match circles.first(list) {
         Some(_) => {}
         None => clear_bit(maps, list),
     }
@@ -49,11 +58,13 @@ impl<A: Allocator> Lists<A> {
     /// No index stands in a list.
     pub fn new(alloc: A, capacity: usize) -> Result<Lists<A>, AllocError>
         requires { capacity ≤ CAPACITY_LIMIT }
-        ensures { IfOk result (λ r. r.homes ≡ replicate capacity 0) }
+        ensures { IfOk result (λ r. (r.homes ≡ replicate capacity 0)
+            × (r.filed ≡ replicate capacity NOT_FILED) × (r.moves ≡ replicate capacity 0)
+            × (r.opened ≡ None)) }
     {
-        let rings = Rings::new(alloc, capacity)?;
+        let circles = Circles::new(alloc, capacity)?;
         Ok(Lists {
-            rings,
+            circles,
             maps: [0; LEVELS],
         })
     }
@@ -64,7 +75,7 @@ impl<A: Allocator> Lists<A> {
         ensures lists { (p : ℕ) → p < LISTS → IsListOf self.now.next self.now.homes p }
         ensures bits { IsOccupied self.now.maps self.now.homes }
     {
-        self.rings.law();
+        self.circles.law();
     }
 
     /// The number of indexes.
@@ -72,7 +83,7 @@ impl<A: Allocator> Lists<A> {
         ensures value { result ≡ length self.now.homes }
         ensures small { length self.now.homes ≤ CAPACITY_LIMIT }
     {
-        self.rings.capacity()
+        self.circles.capacity()
     }
 
     /// The list of an index, and one more, or 0.
@@ -81,7 +92,23 @@ impl<A: Allocator> Lists<A> {
         ensures value { result ≡ slice_index self.now.homes index }
         ensures small { result ≤ LISTS }
     {
-        self.rings.home(index)
+        self.circles.home(index)
+    }
+
+    /// The number that says where an index is filed.
+    pub fn filed(&self, index: usize) -> u64
+        requires { index < length self.now.homes }
+        ensures { result ≡ slice_index self.now.filed index }
+    {
+        self.circles.filed(index)
+    }
+
+    /// How often an index moved.
+    pub fn moves(&self, index: usize) -> u8
+        requires { index < length self.now.homes }
+        ensures { result ≡ slice_index self.now.moves index }
+    {
+        self.circles.moves(index)
     }
 
     /// The first index of a list.
@@ -91,21 +118,20 @@ impl<A: Allocator> Lists<A> {
             (IsListEmpty self.now.homes list)
             (λ x. StandsIn self.now.homes list x) }
     {
-        match self.rings.first(list) {
+        match self.circles.first(list) {
             Some(first) => Some(first),
             None => None,
         }
     }
 
-    /// An index of a list whose key is least there.
-    pub fn least_in(&self, list: usize, keys: &[u64]) -> Option<usize>
-        requires list_in { list < LISTS }
-        requires same_length { length keys.now ≡ length self.now.homes }
+    /// An index of a list that is filed least there.
+    pub fn least_in(&self, list: usize) -> Option<usize>
+        requires { list < LISTS }
         ensures { MatchOption result
             (IsListEmpty self.now.homes list)
-            (λ x. IsLeastIn self.now.homes keys.now list x) }
+            (λ x. IsLeastIn self.now.homes self.now.filed list x) }
     {
-        self.rings.least_in(list, keys)
+        self.circles.least_in(list)
     }
 
     /// The occupancy map of a level, in which a list shows as empty.
@@ -134,26 +160,43 @@ impl<A: Allocator> Lists<A> {
         }
     }
 
-    /// Puts a loose index at the end of a list.
-    pub fn link(&mut self, index: usize, list: usize)
+    /// Puts a loose index at the end of a list, filed at a tick.
+    pub fn link(&mut self, index: usize, list: usize, filed: u64)
         requires index_in { index < length self.old.homes }
         requires list_in { list < LISTS }
         requires loose { slice_index self.old.homes index ≡ 0 }
-        ensures { self.new.homes ≡ slice_set self.old.homes index (list + 1) }
+        requires shut { self.old.opened ≢ Some list }
+        ensures homes { self.new.homes ≡ slice_set self.old.homes index (list + 1) }
+        ensures filed { self.new.filed ≡ slice_set self.old.filed index filed }
+        ensures moves { self.new.moves ≡ slice_set self.old.moves index 0 }
+        ensures opened { self.new.opened ≡ self.old.opened }
     {
-        self.rings.link(index, list);
+        self.circles.link(index, list, filed);
         set_bit(&mut self.maps, list);
+    }
+
+    /// The number, once the rows were read that an unlink of the index writes.
+    #[inline]
+    pub fn once_near(&self, index: usize, number: u32) -> u32
+        requires index_in { index < length self.now.homes }
+        requires linked { 0 < slice_index self.now.homes index }
+        ensures { result ≡ number }
+    {
+        self.circles.once_near(index, number)
     }
 
     /// Takes an index out of its list.
     pub fn unlink(&mut self, index: usize)
         requires index_in { index < length self.old.homes }
         requires linked { 0 < slice_index self.old.homes index }
-        ensures { self.new.homes ≡ slice_set self.old.homes index 0 }
+        ensures homes { self.new.homes ≡ slice_set self.old.homes index 0 }
+        ensures filed { self.new.filed ≡ slice_set self.old.filed index NOT_FILED }
+        ensures moves { self.new.moves ≡ slice_set self.old.moves index 0 }
+        ensures opened { self.new.opened ≡ self.old.opened }
     {
-        let list = self.rings.home(index) as usize - 1;
-        self.rings.unlink(index);
-        clear_if_empty(&self.rings, &mut self.maps, list);
+        let list = self.circles.home(index) as usize - 1;
+        self.circles.unlink(index);
+        clear_if_empty(&self.circles, &mut self.maps, list);
     }
 
     /// Takes the first index out of a list.
@@ -162,25 +205,60 @@ impl<A: Allocator> Lists<A> {
         ensures { MatchOption result
             (IsListEmpty self.old.homes list × (self.new ≡ self.old))
             (λ x. StandsIn self.old.homes list x
-            × (self.new.homes ≡ slice_set self.old.homes x 0)) }
+            × (self.new.homes ≡ slice_set self.old.homes x 0)
+            × (self.new.filed ≡ slice_set self.old.filed x NOT_FILED)
+            × (self.new.moves ≡ slice_set self.old.moves x 0)
+            × (self.new.opened ≡ self.old.opened)) }
     {
-        let Some(first) = self.rings.take_first(list) else {
+        let Some(first) = self.circles.take_first(list) else {
             return None;
         };
-        clear_if_empty(&self.rings, &mut self.maps, list);
+        clear_if_empty(&self.circles, &mut self.maps, list);
         Some(first)
     }
 
     /// Opens a list: each of its indexes is placed again by the new tick. Gives how many of them aren't due yet.
-    pub fn open(&mut self, list: usize, tick: u64, filed: &[u64], moves: &mut [u8]) -> u64
+    pub fn open(&mut self, list: usize, tick: u64) -> u64
         requires list_in { list < LISTS }
-        requires filed_all { length filed.now ≡ length self.old.homes }
-        requires moves_all { length moves.old ≡ length self.old.homes }
+        requires free { IsListEmpty self.old.homes 0 }
         requires can_go { (i : ℕ) → StandsIn self.old.homes list i →
-            CanGo tick list (slice_index filed.now i) (slice_index moves.old i) }
-        ensures { IsOpened tick list filed.now self.old.homes moves.old
-            self.new.homes moves.new result }
+            CanGo tick list (slice_index self.old.filed i) (slice_index self.old.moves i) }
+        ensures opened { IsOpened tick list self.old.filed self.old.homes self.old.moves
+            self.new.homes self.new.moves result }
+        ensures filed { self.new.filed ≡ self.old.filed }
+        ensures shut { self.new.opened ≡ None }
     {
-        self.rings.open(&mut self.maps, list, tick, filed, moves)
+        self.circles.close();
+        self.circles.open(&mut self.maps, list, tick)
+    }
+
+    /// Opens a list as it is: its circle hangs on the head of list 0, where none stands. From now on its indexes are seen
+    /// there, filed at the tick.
+    pub fn hang(&mut self, list: usize, tick: u64)
+        requires list_in { list < LISTS }
+        requires above { 0 < list }
+        requires free { IsListEmpty self.old.homes 0 }
+        requires filled { IsListFilled self.old.homes list }
+        ensures homes { self.new.homes ≡ map (home_seen (Some list)) self.old.homes }
+        ensures filed { self.new.filed
+            ≡ numbers_seen (Some list) tick self.old.homes self.old.filed }
+        ensures moves { self.new.moves ≡ self.old.moves }
+        ensures opened { self.new.opened ≡ Some list }
+    {
+        self.circles.close();
+        self.circles.hang(list, tick);
+        set_bit(&mut self.maps, 0);
+        clear_bit(&mut self.maps, list);
+    }
+
+    /// Ends the opening, once all of its indexes have left. Nothing is seen to change.
+    pub fn close(&mut self)
+        requires { IsListEmpty self.old.homes 0 }
+        ensures homes { self.new.homes ≡ self.old.homes }
+        ensures filed { self.new.filed ≡ self.old.filed }
+        ensures moves { self.new.moves ≡ self.old.moves }
+        ensures shut { self.new.opened ≡ None }
+    {
+        self.circles.close();
     }
 }

@@ -29,7 +29,7 @@ pub fn clear_bit(maps: &mut Maps, list: usize)
     maps[list / SLOTS] &= !(1 << (list % SLOTS));
 }
 
-/// The place of the lowest bit that is 1.
+// The place of the lowest bit that is 1.
 fn lowest_bit(bits: u64) -> Option<usize>
     ensures { MatchOption result
         (bits ≡ 0)
@@ -42,7 +42,7 @@ fn lowest_bit(bits: u64) -> Option<usize>
     }
 }
 
-/// The place of the first bit after the own one that is 1, in a circle.
+// The place of the first bit after the own one that is 1, in a circle.
 fn first_after(bits: u64, own: usize) -> Option<usize>
     requires { own < 64 }
     ensures { MatchOption result

@@ -5,6 +5,7 @@ ghost use Rattle.std.specs.Int.{bit_at};
 ghost use Rattle.dq_wheel.specs.State.{filed_at, fresh_filing, linked, unlinked, IsLeast, NoneFiled, NoneFiledAt, NoneFiledBefore, OthersStayFiled};
 ghost use Rattle.dq_wheel.specs.Places.{place_for, IsSlotFilled};
 ghost use Rattle.dq_wheel.specs.Moves.{ReachesLimit, ReachesWake};
+ghost use Rattle.dq_wheel.specs.Arrivals.{AreFiledByThen, ArrivesAtWake};
 ghost use Rattle.dq_wheel.specs.Wakes.{IsNextWake, IsWithin, WakesAreAhead};
 ghost use Rattle.dq_wheel.specs.Filed.{filed_by};
 ghost use Rattle.dq_wheel.specs.Homes.{place_of_home};
@@ -13,13 +14,11 @@ ghost use Rattle.dq_wheel.specs.Lawful.{IsLawfulWheel};
 use crate::LISTS;
 use crate::homes::{due_list, list_of, start_of};
 use crate::lists::Lists;
+use crate::row::NOT_FILED;
 use dq_ticks::{CAPACITY_LIMIT, LAST_TICK, LEVELS, REACH, SLOTS, digit};
 use std::alloc::{AllocError, Allocator, Global};
 use std::marker::Model;
 use thiserror::Error;
-
-/// Stands for the tick of an index that is loose.
-const NOT_FILED: u64 = u64::MAX;
 
 /// Where an index stands.
 #[derive(Clone, Copy, Debug, PartialEq, Eq)]
@@ -63,8 +62,6 @@ impl From<AllocError> for WheelError {
 #[derive(Drop)]
 pub struct Wheel<A: Allocator = Global> {
     tick: u64,
-    filed: Vec<u64, A>,
-    moves: Vec<u8, A>,
     moved: u64,
     lists: Lists<A>,
 }
@@ -73,14 +70,15 @@ impl<A: Allocator> Model for Wheel<A> {
     ghost use Rattle.dq_wheel.specs.State.{Filing, WheelState};
     ghost use Rattle.dq_wheel.specs.Filed.{filed_ticks};
     ghost use Rattle.dq_wheel.specs.Homes.{IsLawfulFiling};
+    ghost use Rattle.dq_wheel.specs.Seen.{IsUnnamed};
 
     ghost Value = { WheelState };
 
     ghost view = { λ w. record {
       filing = record {
         tick = w.tick;
-        filed = filed_ticks w.filed.items;
-        moves = w.moves.items;
+        filed = filed_ticks w.lists.filed;
+        moves = w.lists.moves;
         moved = w.moved;
       };
       next = w.lists.next;
@@ -88,10 +86,11 @@ impl<A: Allocator> Model for Wheel<A> {
     } };
 
     ghost invariant = { λ w.
-        IsLawfulFiling w.tick (filed_ticks w.filed.items) w.moves.items w.lists.homes };
+        IsLawfulFiling w.tick (filed_ticks w.lists.filed) w.lists.moves w.lists.homes
+        × IsUnnamed w.tick w.lists.opened };
 }
 
-/// What the number says that is kept for an index.
+// What the number says that is kept for an index.
 fn filed_of(number: u64) -> Option<u64>
     ensures { result ≡ filed_by number }
 {
@@ -102,7 +101,7 @@ fn filed_of(number: u64) -> Option<u64>
     }
 }
 
-/// The place that a home stands for.
+// The place that a home stands for.
 fn place_of(tick: u64, home: u16) -> Place
     requires in_range { tick ≤ LAST_TICK }
     requires small { home ≤ LISTS }
@@ -122,7 +121,7 @@ fn place_of(tick: u64, home: u16) -> Place
     }
 }
 
-impl<A: Allocator + Clone> Wheel<A> {
+impl<A: Allocator> Wheel<A> {
     /// A wheel at tick 0 with nothing linked, over 1 to [`CAPACITY_LIMIT`] indexes. Another capacity is `BadConfig`;
     /// where an allocation is refused it is `NoMemory`. No other call takes memory.
     pub fn new(alloc: A, capacity: usize) -> Result<Wheel<A>, WheelError>
@@ -133,20 +132,14 @@ impl<A: Allocator + Clone> Wheel<A> {
         if capacity == 0 || capacity > CAPACITY_LIMIT {
             return Err(WheelError::BadConfig);
         }
-        let filed = vec![in alloc.clone()?; NOT_FILED; capacity]?;
-        let moves = vec![in alloc.clone()?; 0; capacity]?;
         let lists = Lists::new(alloc, capacity)?;
         Ok(Wheel {
             tick: 0,
-            filed,
-            moves,
             moved: 0,
             lists,
         })
     }
-}
 
-impl<A: Allocator> Wheel<A> {
     /// Each list, walked along the wheel's own links from its head, has each index once whose place it is, and no
     /// other; each occupancy bit is 1 exactly where its list isn't empty; each filed tick is in reach; and no index has
     /// moved more often than it came down.
@@ -179,7 +172,7 @@ impl<A: Allocator> Wheel<A> {
         ensures value { result ≡ filed_at self.now.filing.filed index }
         ensures within { IfSome result (λ f. IsWithin self.now.filing.tick f) }
     {
-        filed_of(self.filed[index])
+        filed_of(self.lists.filed(index))
     }
 
     /// The place of an index.
@@ -205,7 +198,7 @@ impl<A: Allocator> Wheel<A> {
         requires { index < length self.now.filing.filed }
         ensures { result ≡ slice_index self.now.filing.moves index }
     {
-        self.moves[index]
+        self.lists.moves(index)
     }
 
     /// How often any index did so since the wheel was made, or the greatest `u64`.
@@ -249,7 +242,7 @@ impl<A: Allocator> Wheel<A> {
         else {
             return None;
         };
-        self.lists.least_in(list, &self.filed)
+        self.lists.least_in(list)
     }
 
     /// Files a loose index at a tick from the wheel's own on, at most [`REACH`] ticks ahead. It has not moved then.
@@ -266,9 +259,19 @@ impl<A: Allocator> Wheel<A> {
         ensures tick { self.new.filing.tick ≡ self.old.filing.tick }
         ensures exact { self.new.filing ≡ linked self.old.filing index filed }
     {
-        self.lists.link(index, list_of(self.tick, filed));
-        self.filed[index] = filed;
-        self.moves[index] = 0;
+        let list = list_of(self.tick, filed);
+        self.lists.link(index, list, filed);
+    }
+
+    /// The number itself, once what an unlink of the index will write was read. Where the number goes into an atomic step,
+    /// which is a fence, these reads go out before it, together with those of the step: after it each would wait alone.
+    #[inline]
+    pub fn once_near(&self, index: usize, number: u32) -> u32
+        requires index_in { index < length self.now.filing.filed }
+        requires linked { filed_at self.now.filing.filed index ≢ None }
+        ensures { result ≡ number }
+    {
+        self.lists.once_near(index, number)
     }
 
     /// Takes a linked index out, wherever it stands.
@@ -282,8 +285,6 @@ impl<A: Allocator> Wheel<A> {
         ensures exact { self.new.filing ≡ unlinked self.old.filing index }
     {
         self.lists.unlink(index);
-        self.filed[index] = NOT_FILED;
-        self.moves[index] = 0;
     }
 
     /// Takes one index off the due list, or tells that nothing is filed at the tick.
@@ -307,8 +308,6 @@ impl<A: Allocator> Wheel<A> {
         let Some(index) = self.lists.take_first(due_list(self.tick)) else {
             return None;
         };
-        self.filed[index] = NOT_FILED;
-        self.moves[index] = 0;
         Some(index)
     }
 
@@ -332,20 +331,63 @@ impl<A: Allocator> Wheel<A> {
         let own = digit(self.tick, LEVELS - 1) as usize;
         let Some(list) = self.lists.first_filled(own) else {
             self.tick = limit;
+            self.lists.close();
             return false;
         };
         let start = start_of(self.tick, list);
         if limit < start {
             self.tick = limit;
+            self.lists.close();
             return false;
         }
         self.tick = start;
         // All that stands in a list of level 0 is due at its start, where that list is the due list.
         if list < SLOTS {
+            self.lists.close();
             return true;
         }
-        let made = self.lists.open(list, start, &self.filed, &mut self.moves);
+        let made = self.lists.open(list, start);
         self.moved = self.moved.saturating_add(made);
+        true
+    }
+
+    /// Goes on as [`Self::advance`] does, in constant time. Where the wake was reached each index of its slot counts from
+    /// now on as filed at that tick, so it is due, and none is moved.
+    pub fn arrive(&mut self, limit: u64) -> bool
+        requires none_due { NoneFiledAt self.old.filing.filed self.old.filing.tick }
+        requires not_before { self.old.filing.tick ≤ limit }
+        requires in_range { limit ≤ LAST_TICK }
+        // The tick goes on, to the limit at the most, and past no filed tick.
+        ensures onward { self.old.filing.tick < limit →
+            self.old.filing.tick < self.new.filing.tick }
+        ensures within { self.new.filing.tick ≤ limit }
+        ensures none_before { NoneFiledBefore self.new.filing.filed self.new.filing.tick }
+        // Each index is filed at the same tick or an earlier one, and its moves stay.
+        ensures earlier { AreFiledByThen self.old.filing.filed self.new.filing.filed }
+        ensures moves { self.new.filing.moves ≡ self.old.filing.moves }
+        ensures way { MatchBool result
+            (ArrivesAtWake self.old.filing limit self.new.filing)
+            (ReachesLimit self.old.filing limit self.new.filing) }
+    {
+        let own = digit(self.tick, LEVELS - 1) as usize;
+        let Some(list) = self.lists.first_filled(own) else {
+            self.lists.close();
+            self.tick = limit;
+            return false;
+        };
+        let begin = start_of(self.tick, list);
+        if begin > limit {
+            self.lists.close();
+            self.tick = limit;
+            return false;
+        }
+        self.tick = begin;
+        // All that stands in a list of level 0 is due at its start already, where that list is the due list.
+        if SLOTS > list {
+            self.lists.close();
+        } else {
+            self.lists.hang(list, begin);
+        }
         true
     }
 }

@@ -10,7 +10,7 @@ use Rattle.dq_core.specs.declared.words.Settled.TheVariants.{SettledExpired, Lat
 use Rattle.dq_core.specs.Words.{live, cancelled, expired, removed, never, word_at, AreFresh, IsInForce, IsSettled, IsChanged, Learned}
 use Rattle.dq_words.specs.declared.views.View.{View}
 use Rattle.dq_words.specs.Keeping.{counts_of, IsOpen}
-use Rattle.dq_words.specs.KeeperCalls.{loaded, KeeperSettles, KeeperRenews, KeeperFinishes}
+use Rattle.dq_words.specs.KeeperCalls.{after_failures, KeeperSettles, KeeperRenews, KeeperFinishes}
 use Rattle.dq_words.specs.Rule.{zeros, first_keeper}
 use Rattle.dq_words.specs.Word.{LearnedWord, parts_row}
 use Rattle.dq_words.proofs.Keepings.{Grown}
@@ -148,7 +148,7 @@ module _ (v w : View) (i s : ℕ) (inside : i < length (parts_row v.seen)) where
       ((now.0, learned_to (word s 1 0) (cancelled s) h.1 e now.0), now.1)
 
   -- a word that was found cancelled
-  missed_parts : (n : ℕ) → LearnedWord (get_or xs i 0) (word s 1 0) → w ≡ loaded v i (word s 1 0) n
+  missed_parts : (n : ℕ) → LearnedWord (get_or xs i 0) (word s 1 0) → w ≡ after_failures v i (word s 1 0) n
       → Learned true (word_at (parts_row xs) i) (cancelled s) × (word_at (parts_row w.seen) i ≡ cancelled s) × (parts_row w.seen ≡ set (parts_row xs) i (word_at (parts_row w.seen) i))
   missed_parts n learned is =
       let e = cancelled_is s (word s 1 0) refl in
@@ -161,11 +161,11 @@ module _ (v w : View) (i s : ℕ) (inside : i < length (parts_row v.seen)) where
   renews_parts when (Some d) small h =
       let now = shows (word (s + 1) 0 when) (live (s + 1) when) (ap (λ (u : View). u.seen) h.2.1 ∙ set-set xs i (word s 0 d) (word (s + 1) 0 when)) (live_is (s + 1) when (word (s + 1) 0 when) refl small) in
       ((learned_at xs i (word s 0 d) (live s d) h.1 (live_is s d (word s 0 d) refl h.0), now.0), now.1)
-  renews_parts when None small h = let m = missed_parts (suc h.1.0) h.0 h.1.1 in ((m.0, m.1), m.2)
+  renews_parts when None small h = let m = missed_parts h.1.0 h.0 h.1.1 in ((m.0, m.1), m.2)
 
   -- a finish, in parts
   pub finishes_parts : (r : Option ℕ) → KeeperFinishes v i s r w → IsChanged true s (removed s) (word_at (parts_row xs) i) r (word_at (parts_row w.seen) i) × (parts_row w.seen ≡ set (parts_row xs) i (word_at (parts_row w.seen) i))
   finishes_parts (Some d) h =
       let now = shows (word s 3 d) (removed s d) (ap (λ (u : View). u.seen) h.2.1 ∙ set-set xs i (word s 0 d) (word s 3 d)) (removed_is s d (word s 3 d) refl h.0) in
       ((learned_at xs i (word s 0 d) (live s d) h.1 (live_is s d (word s 0 d) refl h.0), now.0), now.1)
-  finishes_parts None h = let m = missed_parts (suc h.1.0) h.0 h.1.1 in ((m.0, m.1), m.2)
+  finishes_parts None h = let m = missed_parts h.1.0 h.0 h.1.1 in ((m.0, m.1), m.2)

@@ -1,5 +1,6 @@
 pub mod Accounts
 pub mod Advances
+pub mod Begun
 pub mod Births
 pub mod Bridge
 pub mod Callings

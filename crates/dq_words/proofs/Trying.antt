@@ -1,29 +1,29 @@
 -- What the keeper's tries leave of its view.
-use Rattle.std.proofs.Common.{◌≡◌, ℕ, suc, ◌<◌, length, get_or, ap, ◌∙◌, subst, get_or-set_same, set-set}
+use Rattle.std.proofs.Common.{◌≡◌, ◌∷◌, ℕ, suc, ◌<◌, length, get_or, ap, ◌∙◌, subst, get_or-set_same, set-set}
 use Rattle.dq_words.specs.declared.views.View.{View}
-use Rattle.dq_words.specs.declared.views.StepKind.TheVariants.{KeeperLoad}
+use Rattle.dq_words.specs.declared.views.StepKind.TheVariants.{KeeperLoad, FailedExchange}
 use Rattle.dq_words.specs.Keeping.{IsOpen}
-use Rattle.dq_words.specs.KeeperCalls.{loads_on, loaded}
+use Rattle.dq_words.specs.KeeperCalls.{failed_on, after_failures}
 use Rattle.dq_words.specs.Plays.{stepping}
 use Rattle.dq_words.specs.Plays.{SeatGoesOn}
 use Rattle.dq_words.specs.Word.{LearnedWord}
 use Rattle.dq_words.proofs.Keepings.{learned_on, open_on}
 
--- the slot i of stamp s was loaded, some times, and the last load saw x
+-- the slot i of stamp s was loaded, some exchanges failed, and the last step saw x
 pub record Loaded (v w : View) (i s x : ℕ) : Type 0 where
   pub many : ℕ
-  pub is : w ≡ loaded v i x (suc many)
+  pub is : w ≡ after_failures v i x many
   pub learned : LearnedWord (get_or v.seen i 0) x
   pub open_word : IsOpen x s
 
-pub loaded_more : (v u w : View) (i s x y : ℕ) → i < length v.seen → Loaded v u i s x → LearnedWord (get_or u.seen i 0) y → w ≡ stepping u i y KeeperLoad → Loaded v w i s y
+pub loaded_more : (v u w : View) (i s x y : ℕ) → i < length v.seen → Loaded v u i s x → LearnedWord (get_or u.seen i 0) y → w ≡ stepping u i y FailedExchange → Loaded v w i s y
 loaded_more v u w i s x y inside l learned is =
     let here : get_or u.seen i 0 ≡ x = ap (λ (z : View). get_or z.seen i 0) l.is ∙ get_or-set_same v.seen i x 0 inside in
     let P : ℕ → Type 0 = λ k. LearnedWord k y in
     let new : LearnedWord x y = subst P here learned in
     record {
       many = suc l.many;
-      is = is ∙ ap (λ (z : View). stepping z i y KeeperLoad) l.is ∙ (λ q. record v { seen = set-set v.seen i x y q; steps = loads_on (suc (suc l.many)) v.steps });
+      is = is ∙ ap (λ (z : View). stepping z i y FailedExchange) l.is ∙ (λ q. record v { seen = set-set v.seen i x y q; steps = failed_on (suc l.many) (KeeperLoad ∷ v.steps) });
       learned = learned_on (get_or v.seen i 0) x y l.learned new;
       open_word = open_on x y s l.open_word new;
     }

@@ -8,7 +8,7 @@ use Rattle.atomic_table.proofs.Lists.{exchanged}
 use Rattle.dq_words.specs.declared.views.View.{View}
 use Rattle.dq_words.specs.declared.views.Write.{Write}
 use Rattle.dq_words.specs.declared.views.Write.TheVariants.{Begin, Expired, Renewed, Removed}
-use Rattle.dq_words.specs.declared.views.StepKind.TheVariants.{KeeperLoad}
+use Rattle.dq_words.specs.declared.views.StepKind.TheVariants.{FailedExchange}
 use Rattle.dq_ticks.specs.Word.{stamp_unit, word, stamp_of, mark_of, field_of}
 use Rattle.dq_words.specs.Word.{Left, LearnedWord}
 use Rattle.dq_words.specs.Counts.{lives}
@@ -230,7 +230,7 @@ module _ (rows : ℕ) where
       let seen = (r.kept.sees id me.0 at).learns keeper i inside in
       exchanged n old new (λ m. Outcome rows t i id me m (exchange_made f (step slots i old new none) me n))
       (λ e. (f me.0 i old new, keeps, tt, hits t r at here e, (seen, ((λ _. refl), λ ne. absurd (ne e)))))
-      (λ ne. missed rows t r i id me KeeperLoad n (exchange_made f (step slots i old new none) me n) inside at here refl (seen, ((λ e. absurd (ne e)), λ _. refl))))
+      (λ ne. missed rows t r i id me FailedExchange n (exchange_made f (step slots i old new none) me n) inside at here refl (seen, ((λ e. absurd (ne e)), λ _. refl))))
 
   pub settles : (slots id : ℕ) (me : WordMe) (i old new : ℕ) → i < rows → me.0.keeps ≡ true → 0 < stamp_of old → mark_of old ≡ 0 → stamp_of new ≡ stamp_of old → mark_of new ≡ 2 → field_of new ≡ field_of old → new < 18446744073709551616
       → Allows (Ruled rows) slots id me i (λ n. either (eqb n old) new n) (Knowing (exchange_made settling) (step slots i old new none) me)

@@ -77,6 +77,10 @@ over_life f i b ws zero = 0
 over_life f i b ws (suc k) =
     (if birth_at i (suc k) ws == b then f (suc k) else 0) + over_life f i b ws k
 
+-- what the keeper has begun by one view it has begun by another
+abbrev pub WritesStay : View → View → Type 0
+WritesStay v w = (i b base : ℕ) → IsIn v.writes (Begin i b base) → IsIn w.writes (Begin i b base)
+
 -- Between any two steps each Begin's entry, over all stamps that its resets gave it, was ended once
 -- as expired, as removed or by an accepted cancel, or is live.
 abbrev pub EntriesEndOnce : Type 0

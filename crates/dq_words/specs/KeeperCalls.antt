@@ -13,7 +13,8 @@ use Rattle.dq_ticks.specs.declared.TheConstants.{CAPACITY_LIMIT, LAST_TICK}
 use Rattle.dq_ticks.specs.declared.words.Parts.{Parts}
 use Rattle.dq_words.specs.declared.views.View.{View}
 use Rattle.dq_words.specs.declared.views.StepKind.{StepKind}
-use Rattle.dq_words.specs.declared.views.StepKind.TheVariants.{KeeperLoad}
+use Rattle.dq_words.specs.declared.views.StepKind.TheVariants.{KeeperLoad, FailedExchange}
+use Rattle.dq_words.specs.declared.views.Write.TheVariants.{Begin}
 use Rattle.dq_words.specs.declared.keeper.WordsError.{WordsError}
 use Rattle.dq_words.specs.declared.keeper.WordsError.TheVariants.{BadConfig, NoMemory}
 use Rattle.dq_words.specs.declared.keeper.WordsError.TheVariants.{TooManyHandles}
@@ -21,9 +22,10 @@ use Rattle.dq_words.specs.declared.keeper.TheConstants.{HANDLE_LIMIT}
 use Rattle.dq_words.specs.Counts.{gone_by, cancels_by, begins_in, expiries_in, removals_in, total}
 use Rattle.dq_words.specs.Counts.{goes, own_cancels}
 use Rattle.dq_words.specs.Counts.{lives, below}
+use Rattle.dq_words.specs.Files.{IsIn}
 use Rattle.dq_words.specs.Keeping.{Stood, counts_of}
 use Rattle.dq_words.specs.Plays.{beginning, settling, renewing, finishing, issuing, newcomer}
-use Rattle.dq_words.specs.Plays.{loading_return, KeeperLoads}
+use Rattle.dq_words.specs.Plays.{loading_return, KeeperLoads, KeeperMisses}
 use Rattle.dq_words.specs.Rule.{Ruled, first_keeper}
 use Rattle.dq_words.specs.Seats.{Sat}
 use Rattle.dq_words.specs.Word.{LearnedWord, parts_row}
@@ -40,6 +42,10 @@ known_word k i = word_at (known_of k) i
 abbrev pub counts_by : Sat → Counts
 counts_by k = counts_of k.view.writes
 
+-- it has begun an entry at the slot i, under the stamp s and with the deadline d
+abbrev pub HasBegun : Sat → ℕ → ℕ → ℕ → Type 0
+HasBegun k i s d = IsIn k.view.writes (Begin i s d)
+
 -- a begin stores the live word of the stamp s
 abbrev pub KeeperBegins : View → ℕ → ℕ → ℕ → View → Type 0
 KeeperBegins v i s when w = w ≡ beginning v i (word s 0 when)
@@ -54,38 +60,39 @@ abbrev pub KeeperSettles : View → ℕ → ℕ → ℕ → Settled → View →
 KeeperSettles v i s at SettledExpired w =
     LearnedWord (slice_index v.seen i) (word s 0 at)
     × (w ≡ settling v i (word s 0 at) (word s 2 at))
-KeeperSettles v i s at (Later d) w = (at < d) × (d ≤ LAST_TICK) × KeeperLoads v w i (word s 0 d)
-KeeperSettles v i s at SettledCancelled w = KeeperLoads v w i (word s 1 0)
+KeeperSettles v i s at (Later d) w = (at < d) × (d ≤ LAST_TICK) × KeeperMisses v w i (word s 0 d)
+KeeperSettles v i s at SettledCancelled w = KeeperMisses v w i (word s 1 0)
 
--- n keeper loads in front of the steps
-abbrev pub loads_on : ℕ → List StepKind → List StepKind
-loads_on zero steps = steps
-loads_on (suc n) steps = KeeperLoad ∷ loads_on n steps
+-- n exchanges that failed in front of the steps
+abbrev pub failed_on : ℕ → List StepKind → List StepKind
+failed_on zero steps = steps
+failed_on (suc n) steps = FailedExchange ∷ failed_on n steps
 
--- the view after n loads of the slot i, which saw the word x last
-abbrev pub loaded : View → ℕ → ℕ → ℕ → View
-loaded v i x n = record v { seen = slice_set v.seen i x; steps = loads_on n v.steps }
+-- the view after one load of the slot i, and n exchanges that failed, which saw the word x last
+abbrev pub after_failures : View → ℕ → ℕ → ℕ → View
+after_failures v i x n =
+    record v { seen = slice_set v.seen i x; steps = failed_on n (KeeperLoad ∷ v.steps) }
 
--- the word was found cancelled by one load or more, n of them after the first
+-- the word was found cancelled by one load, or by the last of n exchanges after it
 abbrev pub FindsCancelled : View → ℕ → ℕ → View → Type 0
 FindsCancelled v i s w =
     LearnedWord (slice_index v.seen i) (word s 1 0)
-    × ((n : ℕ) × (w ≡ loaded v i (word s 1 0) (suc n)))
+    × ((n : ℕ) × (w ≡ after_failures v i (word s 1 0) n))
 
--- A renew loads, and tries until an exchange of the live word succeeds: each try that fails is a
--- load. It stops at a cancelled word.
+-- A renew loads once, and tries until an exchange of the live word succeeds: n that fail, and then
+-- that one. It stops at a cancelled word.
 abbrev pub KeeperRenews : View → ℕ → ℕ → ℕ → Option ℕ → View → Type 0
 KeeperRenews v i s when (Some d) w =
     (d ≤ LAST_TICK) × LearnedWord (slice_index v.seen i) (word s 0 d)
     × ((n : ℕ)
-    × (w ≡ renewing (loaded v i (word s 0 d) (suc n)) i (word s 0 d) (word (s + 1) 0 when)))
+    × (w ≡ renewing (after_failures v i (word s 0 d) n) i (word s 0 d) (word (s + 1) 0 when)))
 KeeperRenews v i s when None w = FindsCancelled v i s w
 
 -- A finish does the same with the removed word.
 abbrev pub KeeperFinishes : View → ℕ → ℕ → Option ℕ → View → Type 0
 KeeperFinishes v i s (Some d) w =
     (d ≤ LAST_TICK) × LearnedWord (slice_index v.seen i) (word s 0 d)
-    × ((n : ℕ) × (w ≡ finishing (loaded v i (word s 0 d) (suc n)) i (word s 0 d) (word s 3 d)))
+    × ((n : ℕ) × (w ≡ finishing (after_failures v i (word s 0 d) n) i (word s 0 d) (word s 3 d)))
 KeeperFinishes v i s None w = FindsCancelled v i s w
 
 -- a keeper is made exactly within the limits, but where memory is refused

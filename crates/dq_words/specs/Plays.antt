@@ -8,7 +8,8 @@ use Rattle.dq_words.specs.declared.views.View.{View}
 use Rattle.dq_words.specs.declared.views.StepKind.{StepKind}
 use Rattle.dq_words.specs.declared.views.StepKind.TheVariants.{KeeperLoad, BeginStore}
 use Rattle.dq_words.specs.declared.views.StepKind.TheVariants.{SettleExchange, RenewExchange}
-use Rattle.dq_words.specs.declared.views.StepKind.TheVariants.{FinishExchange, CallerLoad}
+use Rattle.dq_words.specs.declared.views.StepKind.TheVariants.{FinishExchange, FailedExchange}
+use Rattle.dq_words.specs.declared.views.StepKind.TheVariants.{CallerLoad}
 use Rattle.dq_words.specs.declared.views.StepKind.TheVariants.{ExtendMax, CancelMax, GiveBackAdd}
 use Rattle.dq_words.specs.declared.views.StepKind.TheVariants.{ReturnLoad}
 use Rattle.dq_words.specs.declared.views.Call.{Call}
@@ -176,11 +177,15 @@ BeginStep v w i k = w ≡ beginning v i k
 abbrev pub begin_made : Told
 begin_made st m n m' = BeginStep m.0 m'.0 st.word st.first
 
--- A compare-exchange of the keeper that found n. A failed one is a load.
+-- an exchange of the keeper that failed, as it found n
+abbrev pub KeeperMisses : View → View → ℕ → ℕ → Type 0
+KeeperMisses v w i n = (w ≡ stepping v i n FailedExchange) × LearnedWord (slice_index v.seen i) n
+
+-- A compare-exchange of the keeper that found n. A failed one only sees a word.
 abbrev pub ExchangeStep : (View → ℕ → ℕ → ℕ → View) → View → View → ℕ → ℕ → ℕ → ℕ → Type 0
 ExchangeStep f v w i old new n =
     LearnedWord (slice_index v.seen i) n
-    × ((n ≡ old → w ≡ f v i old new) × (n ≢ old → w ≡ stepping v i n KeeperLoad))
+    × ((n ≡ old → w ≡ f v i old new) × (n ≢ old → w ≡ stepping v i n FailedExchange))
 
 abbrev pub exchange_made : (View → ℕ → ℕ → ℕ → View) → Told
 exchange_made f st m n m' = ExchangeStep f m.0 m'.0 st.word st.first st.second n

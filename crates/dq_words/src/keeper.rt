@@ -3,9 +3,9 @@ ghost use Rattle.std.specs.Prelude.{◌≡◌, ◌+◌, ◌<◌, ◌≤◌, leng
 ghost use Rattle.atomic_table.specs.Seated.{TableId};
 ghost use Rattle.dq_core.specs.Words.{AreFresh, live, removed, begun_counts, settled_counts};
 ghost use Rattle.dq_core.specs.Words.{finished_counts, IsChanged, IsInForce, IsOver, IsSettled};
-ghost use Rattle.dq_core.specs.Words.{Learned};
+ghost use Rattle.dq_core.specs.Words.{Learned, StillBegun};
 ghost use Rattle.dq_words.specs.AtTheCall.{KnowsNothing, NoCallerAfter, NoKeeperFor, StepsAtMost};
-ghost use Rattle.dq_words.specs.KeeperCalls.{known_of, known_word, counts_by, EndsFit};
+ghost use Rattle.dq_words.specs.KeeperCalls.{known_of, known_word, counts_by, EndsFit, HasBegun};
 ghost use Rattle.dq_words.specs.KeeperCalls.{KeeperIsMade, KeeperBegins, KeeperLooks};
 ghost use Rattle.dq_words.specs.KeeperCalls.{KeeperSettles, KeeperRenews, KeeperFinishes, Issues};
 ghost use Rattle.dq_words.specs.KeeperCalls.{Tells, Returns, Accounts};
@@ -180,9 +180,11 @@ impl<A: Allocator> Words for Keeper<A> {
 
     ghost keeps = { λ k. IsKeeper k.view × Stood k.view };
 
-    ghost Home = { TableId };
+    ghost Origin = { TableId };
 
-    ghost home = { λ k. k.table };
+    ghost origin = { λ k. k.table };
+
+    ghost begun = { HasBegun };
 
     fn law(&self) {
         Keeper::law(self);
@@ -200,7 +202,9 @@ impl<A: Allocator> Words for Keeper<A> {
         requires tick { when ≤ LAST_TICK }
         ensures known { known_of self.new ≡ slice_set (known_of self.old) index (live stamp when) }
         ensures counts { counts_by self.new ≡ begun_counts (counts_by self.old) }
-        ensures home { self.new.table ≡ self.old.table }
+        ensures begins { HasBegun self.new index stamp when }
+        ensures origin { self.new.table ≡ self.old.table }
+        ensures begun { StillBegun HasBegun self.old self.new }
         ensures step { KeeperBegins self.old.view index stamp when self.new.view }
     {
         self.seat.begin(index, live_word(stamp, when));
@@ -211,7 +215,8 @@ impl<A: Allocator> Words for Keeper<A> {
         ensures learned { Learned true (known_word self.old index) result }
         ensures known { known_of self.new ≡ slice_set (known_of self.old) index result }
         ensures counts { counts_by self.new ≡ counts_by self.old }
-        ensures home { self.new.table ≡ self.old.table }
+        ensures origin { self.new.table ≡ self.old.table }
+        ensures begun { StillBegun HasBegun self.old self.new }
         ensures step { KeeperLooks self.old.view index result self.new.view }
     {
         unpack(self.seat.keeper_load(index))
@@ -227,7 +232,8 @@ impl<A: Allocator> Words for Keeper<A> {
         ensures known { known_of self.new
             ≡ slice_set (known_of self.old) index (known_word self.new index) }
         ensures counts { counts_by self.new ≡ settled_counts (counts_by self.old) result }
-        ensures home { self.new.table ≡ self.old.table }
+        ensures origin { self.new.table ≡ self.old.table }
+        ensures begun { StillBegun HasBegun self.old self.new }
         ensures step { KeeperSettles self.old.view index stamp at result self.new.view }
     {
         tries::settle(&mut self.seat, index, stamp, at)
@@ -243,7 +249,8 @@ impl<A: Allocator> Words for Keeper<A> {
         ensures known { known_of self.new
             ≡ slice_set (known_of self.old) index (known_word self.new index) }
         ensures counts { counts_by self.new ≡ counts_by self.old }
-        ensures home { self.new.table ≡ self.old.table }
+        ensures origin { self.new.table ≡ self.old.table }
+        ensures begun { StillBegun HasBegun self.old self.new }
         ensures step { KeeperRenews self.old.view index stamp when result self.new.view }
     {
         tries::renew(&mut self.seat, index, stamp, when)
@@ -258,7 +265,8 @@ impl<A: Allocator> Words for Keeper<A> {
         ensures known { known_of self.new
             ≡ slice_set (known_of self.old) index (known_word self.new index) }
         ensures counts { counts_by self.new ≡ finished_counts (counts_by self.old) result }
-        ensures home { self.new.table ≡ self.old.table }
+        ensures origin { self.new.table ≡ self.old.table }
+        ensures begun { StillBegun HasBegun self.old self.new }
         ensures step { KeeperFinishes self.old.view index stamp result self.new.view }
     {
         tries::finish(&mut self.seat, index, stamp)

@@ -6,9 +6,10 @@ ghost use Rattle.dq_words.specs.KeeperCalls.{KeeperSettles, KeeperRenews, Keeper
 ghost use Rattle.dq_words.specs.Keeping.{IsOpen, IsOpenFrom};
 ghost use Rattle.dq_words.specs.Plays.{SeatGoesOn};
 
-use crate::parts::{expired_word, field, is_live, live_word, removed_word};
+use crate::parts::{expired_word, live_word, removed_word};
 use crate::seated::Seated;
 use dq_core::Settled;
+use dq_ticks::{field, is_live};
 use std::alloc::Allocator;
 
 // Ends the word that is live at exactly `at` by one try: a word that isn't is live at a later deadline or cancelled.

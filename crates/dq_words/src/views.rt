@@ -29,6 +29,8 @@ pub enum StepKind {
     SettleExchange,
     RenewExchange,
     FinishExchange,
+    /// Of the keeper, which found another word than it asked for.
+    FailedExchange,
     CallerLoad,
     ExtendMax,
     CancelMax,

@@ -32,7 +32,7 @@ where
     }
 }
 
-/// How these words ask an example to run.
+// How these words ask an example to run.
 fn asked_by<R>(rt: &R, usage: &str, words: &[String]) -> io::Result<Result<Mode, ExitCode>>
 where
     R: Print + Eprint,
@@ -48,7 +48,7 @@ where
     }
 }
 
-/// Says what the command line may say.
+// Says what the command line may say.
 fn refuse(rt: &impl Eprint, usage: &str) -> io::Result<ExitCode> {
     eprintln!(rt; "{usage}")?;
     Ok(ExitCode::from(2))

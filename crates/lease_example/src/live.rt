@@ -12,13 +12,13 @@ use std::thread;
 use std::thread::Threads;
 use std::time::{Duration, Instant};
 
-/// For how many ticks of a millisecond a lease is given, and renewed.
+// For how many ticks of a millisecond a lease is given, and renewed.
 const TERM: u64 = 2_000;
 
-/// How many milliseconds pass before a renewal.
+// How many milliseconds pass before a renewal.
 const PAUSE: u64 = 1_000;
 
-/// How often a lease is renewed.
+// How often a lease is renewed.
 const RENEWALS: u32 = 3;
 
 /// Gives two leases, and tells when each has ended.
@@ -42,7 +42,7 @@ where
     Ok(())
 }
 
-/// Renews a lease, each time for a term from then on, and answers until when it holds in the end. No call takes a lock.
+// Renews a lease, each time for a term from then on, and answers until when it holds in the end. No call takes a lock.
 fn renew_often<C: Clock>(
     clock: &C,
     start: Instant,
@@ -60,7 +60,7 @@ fn renew_often<C: Clock>(
     Ok(until)
 }
 
-/// Polls a shard, and sleeps until its next wake, until no lease is left.
+// Polls a shard, and sleeps until its next wake, until no lease is left.
 fn end_all<R>(rt: &R, queue: &SharedDelayQueue<String>, shard: usize, start: Instant) -> Result<()>
 where
     R: Clock + Print + Wait,

@@ -15,13 +15,13 @@ use std::sync::Wait;
 use std::thread::Threads;
 use std::{env, io, thread};
 
-/// What the command line may say.
+// What the command line may say.
 const USAGE: &str = "usage: lease_example [live] (live: by the real clock, some five seconds)";
 
-/// How many leases a shard may have at once. All memory but that of names is taken when the queue is made.
+// How many leases a shard may have at once. All memory but that of names is taken when the queue is made.
 const LEASES: usize = 64;
 
-/// A new lease until a tick: milliseconds of the server's own clock. The route picks the shard.
+// A new lease until a tick: milliseconds of the server's own clock. The route picks the shard.
 fn lease<R: AllocGlobal + Wait>(
     rt: &R,
     queue: &SharedDelayQueue<String>,
@@ -30,11 +30,10 @@ fn lease<R: AllocGlobal + Wait>(
     until: u64,
 ) -> Result<Key> {
     let holder = String::from_str(rt.alloc(), holder)?;
-    let given = queue.insert(rt, route, holder, until);
-    Ok(given.map_err(|refused| refused.0)?)
+    Ok(queue.insert_or_drop(rt, route, holder, until)?)
 }
 
-/// Renews a lease in a thread of its own: one load, one atomic step, no lock. Answers until when it now holds.
+// Renews a lease in a thread of its own: one load, one atomic step, no lock. Answers until when it now holds.
 fn renew<R>(rt: &R, handle: Handle, lease: Key, until: u64) -> Result<u64>
 where
     R: Threads + Wait + Clone + Drop + Send + 'static,
@@ -49,7 +48,7 @@ where
     Ok(renewing.join(rt)?)
 }
 
-/// Tells which leases of a shard have ended by a tick.
+// Tells which leases of a shard have ended by a tick.
 fn end_leases<R>(rt: &R, queue: &SharedDelayQueue<String>, shard: usize, tick: u64) -> Result<()>
 where
     R: Print + Wait,
@@ -66,7 +65,7 @@ where
     Ok(())
 }
 
-/// Gives two leases, of which one is renewed, and ends both.
+// Gives two leases, of which one is renewed, and ends both.
 fn walk<R>(rt: &R) -> Result<()>
 where
     R: Print + AllocGlobal + Threads + Wait + Clone + Drop + Send + 'static,

@@ -5,7 +5,7 @@
 use std::alloc::{AllocError, Allocator};
 use std::cell::Cell;
 
-/// How many allocations are granted before one is refused.
+// How many allocations are granted before one is refused.
 #[derive(Drop)]
 struct Grants {
     /// `None` once an allocation was refused.
@@ -13,7 +13,7 @@ struct Grants {
 }
 
 impl Grants {
-    /// Whether the next allocation is granted.
+    // Whether the next allocation is granted.
     fn grants(&self) -> bool {
         let left = self.left.get();
         self.left.set(left.and_then(|left| left.checked_sub(1)));

@@ -14,13 +14,13 @@ use std::thread;
 use std::thread::{Parker, Threads};
 use std::time::{Duration, Instant};
 
-/// For how many ticks of a millisecond a session may be idle.
+// For how many ticks of a millisecond a session may be idle.
 const IDLE: u64 = 3_000;
 
-/// The keys of the sessions, by their names.
+// The keys of the sessions, by their names.
 type Keys = HashMap<String, Key>;
 
-/// What the two threads share.
+// What the two threads share.
 #[derive(Drop)]
 struct Server {
     sessions: IdleSessions,
@@ -54,7 +54,7 @@ where
     tell_audit(rt, server.sessions)
 }
 
-/// Polls in a thread of its own while this thread visits.
+// Polls in a thread of its own while this thread visits.
 fn beside_polls<R, V>(rt: &R, server: &Server, visits: V) -> (Result<()>, Result<()>)
 where
     R: Clock + Print + Threads + Wait + Sync,
@@ -64,7 +64,7 @@ where
     thread::join(rt, move || poll_all(rt, server), visits)
 }
 
-/// Visits for each line, which is the name of who was just active. Then the polling thread is to end.
+// Visits for each line, which is the name of who was just active. Then the polling thread is to end.
 fn visit_all<R>(rt: &R, server: &Server, mut handle: Handle) -> Result<()>
 where
     R: Clock + Input + Print + AllocGlobal + Wait,
@@ -89,7 +89,7 @@ where
     Ok(())
 }
 
-/// Touches the session of a name, without a lock; one that is new, or whose session timed out, logs in.
+// Touches the session of a name, without a lock; one that is new, or whose session timed out, logs in.
 fn visit<R>(
     rt: &R,
     server: &Server,
@@ -115,8 +115,8 @@ where
     Ok(())
 }
 
-/// Polls until the input has ended, and waits between for the next wake. Who logs in meanwhile can't time out before a wait
-/// for the idle time is over.
+// Polls until the input has ended, and waits between for the next wake. Who logs in meanwhile can't time out before a wait
+// for the idle time is over.
 fn poll_all<R: Clock + Print + Wait>(rt: &R, server: &Server) -> Result<()> {
     let mut ticks = MillisecondTicks::since(rt, server.start);
     for _ in rt.forever() {

@@ -15,11 +15,11 @@ use example_mode::{Mode, asked};
 use std::process::ExitCode;
 use std::sync::Wait;
 
-/// What the command line may say.
+// What the command line may say.
 const USAGE: &str =
     "usage: sessions_example [live] (live: by the real clock, who is active on standard input)";
 
-/// How many sessions there may be at once.
+// How many sessions there may be at once.
 const SESSIONS: usize = 64;
 
 fn main(rt: HostRuntime) -> Result<ExitCode> {
@@ -31,7 +31,7 @@ fn main(rt: HostRuntime) -> Result<ExitCode> {
     Ok(ExitCode::SUCCESS)
 }
 
-/// Prints which sessions have timed out by a tick, and answers the tick to poll at next, if there is one.
+// Prints which sessions have timed out by a tick, and answers the tick to poll at next, if there is one.
 fn time_out<R: Print + Wait>(rt: &R, sessions: &IdleSessions, tick: u64) -> Result<Option<u64>> {
     for _ in 0..SESSIONS {
         match sessions.next_idle(rt, 0, tick)? {
@@ -43,7 +43,7 @@ fn time_out<R: Print + Wait>(rt: &R, sessions: &IdleSessions, tick: u64) -> Resu
     Ok(Some(tick))
 }
 
-/// Prints what became of all sessions, when every handle is given back.
+// Prints what became of all sessions, when every handle is given back.
 fn tell_audit<R: Print + Wait>(rt: &R, sessions: IdleSessions) -> Result<()> {
     let totals = sessions.into_queue().audit(rt)?;
     println!(rt;

@@ -10,7 +10,7 @@ use std::sync::Wait;
 use std::thread;
 use std::thread::Threads;
 
-/// For how many ticks of a millisecond a session may be idle.
+// For how many ticks of a millisecond a session may be idle.
 const IDLE: u64 = 30_000;
 
 /// Logs three in, lets one stay and one leave, and prints who times out.
@@ -32,7 +32,7 @@ where
     tell_audit(rt, sessions)
 }
 
-/// In a thread of its own one is active at two ticks and another logs out, while this thread polls.
+// In a thread of its own one is active at two ticks and another logs out, while this thread polls.
 fn visit<R>(rt: &R, sessions: &IdleSessions, handle: Handle, ann: Key, cy: Key) -> Result<u64>
 where
     R: Print + Threads + Wait + Sync,
@@ -46,7 +46,7 @@ where
     Ok(until?)
 }
 
-/// By a handle: no lock is taken, whatever the polling thread does.
+// By a handle: no lock is taken, whatever the polling thread does.
 fn touch(sessions: &IdleSessions, mut handle: Handle, ann: Key, cy: Key) -> Result<u64, CallError> {
     sessions.touch(&mut handle, &ann, 15_000)?;
     let until = sessions.touch(&mut handle, &ann, 25_000)?;

@@ -12,7 +12,7 @@ use std::alloc::Global;
 use std::process::Abort;
 use std::test::Fail;
 
-/// What is made, with room for a number of entries.
+// What is made, with room for a number of entries.
 #[derive(Clone, Copy, Debug)]
 enum Making {
     Wheel,
@@ -26,7 +26,7 @@ enum Making {
 
 type Heap<'a> = RefusingHeap<&'a LocalHeap>;
 
-/// Whether a queue is made over words that are there already. Where it isn't, they come back.
+// Whether a queue is made over words that are there already. Where it isn't, they come back.
 fn is_queue_made<W: Words + Drop>(heap: &Heap, words: W) -> Result<bool, CoreError>
     requires { AreFresh (W.known words) (W.counts words) }
 {
@@ -43,7 +43,7 @@ fn is_queue_made<W: Words + Drop>(heap: &Heap, words: W) -> Result<bool, CoreErr
     }
 }
 
-/// Whether it is made where memory is taken from that heap.
+// Whether it is made where memory is taken from that heap.
 fn is_made(alloc: Global, heap: &Heap, making: Making, capacity: u16) -> Result<bool, Fail> {
     let capacity = usize::from(capacity);
     match making {
@@ -76,7 +76,7 @@ fn is_made(alloc: Global, heap: &Heap, making: Making, capacity: u16) -> Result<
     }
 }
 
-/// How many allocations a making has, each of which was refused. A refused making gives back all that it took.
+// How many allocations a making has, each of which was refused. A refused making gives back all that it took.
 fn refusals(rt: &impl Abort, alloc: Global, making: Making, capacity: u16) -> Result<u64, Fail> {
     for grants in 0..100u64 {
         let all = LocalHeap::new(alloc, 1 << 20)?;
@@ -95,16 +95,16 @@ fn refusals(rt: &impl Abort, alloc: Global, making: Making, capacity: u16) -> Re
 #[test]
 fn each_allocation_is_refused(rt: HostRuntime) -> Result<(), Fail> {
     for (making, allocations) in [
-        // three rows of entries: their links with the heads of the lists, their filed ticks, their moves
-        (Making::Wheel, 3),
+        // the row of entries and of the heads of the lists
+        (Making::Wheel, 1),
         // the cells, and of those that are free the small stack and the bits
         (Making::Slots, 3),
         (Making::PlainWords, 1),
         // the row of zeros, the table's words, its row of no slots, and the table itself
         (Making::SharedWords, 4),
         // the slots and the wheel: the words are there already
-        (Making::QueueOverPlainWords, 6),
-        (Making::QueueOverSharedWords, 6),
+        (Making::QueueOverPlainWords, 4),
+        (Making::QueueOverSharedWords, 4),
         (Making::PlainTwin, 1),
     ] {
         for capacity in [4, 4096] {
@@ -115,7 +115,7 @@ fn each_allocation_is_refused(rt: HostRuntime) -> Result<(), Fail> {
     Ok(())
 }
 
-/// Over a heap that refuses what comes behind the keeper's own allocations.
+// Over a heap that refuses what comes behind the keeper's own allocations.
 #[test]
 fn callers_take_no_memory(rt: HostRuntime) -> Result<(), Fail> {
     for capacity in [4, 4096] {

@@ -92,7 +92,7 @@ pub struct Queue<W: Words, C> {
     pub out: Vec<char>,
 }
 
-/// An empty queue over fresh words.
+// An empty queue over fresh words.
 fn over<T: Drop, W: Words + Drop>(
     alloc: Global,
     last_stamp: u32,

@@ -6,12 +6,12 @@ use dq_words::{Caller, Keeper};
 use std::test::Fail;
 use std::thread;
 
-/// Extends the entry of that key, and is given back.
+// Extends the entry of that key, and is given back.
 fn extend_once(mut caller: Caller, key: Key) -> (Result<u64, CallError>, u64) {
     (caller.extend(&key, 50), caller.give_back())
 }
 
-/// How many callers are out, and what is returned.
+// How many callers are out, and what is returned.
 fn audit(mut keeper: Keeper) -> (u64, Result<u64, u64>) {
     (keeper.out(), keeper.returned())
 }

@@ -116,7 +116,7 @@ impl<W: Words, C: Calls<W>> Queue<W, C> {
         })
     }
 
-    /// What a reader tells.
+    // What a reader tells.
     fn tells(&self, step: Step) -> Option<bool> {
         Some(match step {
             Step::Stamps(at, stamp, born) => {
@@ -173,7 +173,7 @@ impl<W: Words, C: Calls<W>> Queue<W, C> {
         }
     }
 
-    /// A poll at which an entry comes out at that deadline: its key and its value.
+    // A poll at which an entry comes out at that deadline: its key and its value.
     fn gives(&mut self, tick: u64, deadline: u64) -> Option<(Key, char)> {
         match self.core.poll(tick) {
             Ok(Turn::Out(out)) if out.deadline == deadline && out.noted == tick => {
@@ -184,7 +184,7 @@ impl<W: Words, C: Calls<W>> Queue<W, C> {
         }
     }
 
-    /// Whether the value didn't come out before.
+    // Whether the value didn't come out before.
     fn is_new(&mut self, value: char) -> bool {
         !self.out.contains(&value) && self.out.push(value).is_ok()
     }

@@ -7,7 +7,7 @@ use dq_core::{SharedWords, Words};
 use std::process::Abort;
 use std::test::Fail;
 
-/// Each step of a case answers as it has to.
+// Each step of a case answers as it has to.
 fn plays<W: Words, C: Calls<W>>(rt: &impl Abort, queue: &mut Queue<W, C>, case: &Case) {
     let (name, _, _, steps) = case;
     for (number, step) in steps.iter().enumerate() {
@@ -31,7 +31,7 @@ fn cases_over_plain_words(rt: HostRuntime) -> Result<(), Fail> {
     plays_over_plain(&rt, OVER_PLAIN_WORDS)
 }
 
-/// How many cancels of a case are accepted.
+// How many cancels of a case are accepted.
 fn cancels(case: &Case) -> u64 {
     case.3
         .iter()
@@ -39,7 +39,7 @@ fn cancels(case: &Case) -> u64 {
         .count() as u64
 }
 
-/// Behind each case its caller is given back through the queue, and the keeper is told its accepted cancels.
+// Behind each case its caller is given back through the queue, and the keeper is told its accepted cancels.
 fn plays_over_shared<R: Abort + AllocGlobal>(rt: &R, cases: &[Case]) -> Result<(), Fail> {
     for case in cases {
         let mut queue = shared(rt.alloc(), case.1, case.2)?;

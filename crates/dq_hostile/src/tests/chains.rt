@@ -8,7 +8,7 @@ use std::sync::Wait;
 use std::test::Fail;
 use std::thread::{Threads, join};
 
-/// Looks until an entry is live at a deadline. False where it gives up.
+// Looks until an entry is live at a deadline. False where it gives up.
 fn sees(handle: &mut Handle, key: &Key, deadline: u64) -> bool {
     for _ in 0..TURNS {
         if handle.look(key) == Ok(Look::StillLive(deadline)) {
@@ -22,7 +22,7 @@ fn extends(handle: &mut Handle, key: &Key, deadline: u64) -> bool {
     handle.extend(key, deadline) == Ok(deadline)
 }
 
-/// Goes first in a chain of extends: extends to 50 and waits for 60, then to 70 and waits for 80, and so on.
+// Goes first in a chain of extends: extends to 50 and waits for 60, then to 70 and waits for 80, and so on.
 fn goes_first(handle: &mut Handle, key: &Key, links: u64) -> bool {
     let mut deadline = 50u64;
     for _ in 0..links {
@@ -35,7 +35,7 @@ fn goes_first(handle: &mut Handle, key: &Key, links: u64) -> bool {
     true
 }
 
-/// Goes second: waits for 50 and extends to 60, then waits for 70 and extends to 80, and so on.
+// Goes second: waits for 50 and extends to 60, then waits for 70 and extends to 80, and so on.
 fn goes_second(handle: &mut Handle, key: &Key, links: u64) -> bool {
     let mut deadline = 50u64;
     for _ in 0..links {
@@ -48,7 +48,7 @@ fn goes_second(handle: &mut Handle, key: &Key, links: u64) -> bool {
     true
 }
 
-/// A body that runs the two threads one after the other gives up.
+// A body that runs the two threads one after the other gives up.
 #[test]
 fn chain_of_extends(rt: HostRuntime) -> Result<(), Fail> {
     for (config, links) in one_and_four().iter().zip([1u64, 100]) {
@@ -68,7 +68,7 @@ fn chain_of_extends(rt: HostRuntime) -> Result<(), Fail> {
     Ok(())
 }
 
-/// Holds a shard's lock until a handle's calls there are answered. False where it gives up.
+// Holds a shard's lock until a handle's calls there are answered. False where it gives up.
 fn holds(
     rt: &impl Wait,
     queue: &Numbers,
@@ -82,7 +82,7 @@ fn holds(
     })
 }
 
-/// Makes each of a handle's calls while the key's shard is held. No `Wait` in its signature: it takes no lock.
+// Makes each of a handle's calls while the key's shard is held. No `Wait` in its signature: it takes no lock.
 fn calls(handle: &mut Handle, key: &Key, held: &Gate, answered: &Gate) -> bool {
     let is_answered = held.opens_at(1)
         && handle.extend(key, 50) == Ok(50)
@@ -110,8 +110,8 @@ fn calls_beside_holder<R: Threads + Wait + Sync>(
     )
 }
 
-/// An extend that takes the shard's lock (extend_takes_lock) gets no answer here: `calls` has no `Wait` to give it, and one that
-/// found a lock elsewhere would wait for the holder, which waits for the answer and gives up.
+// An extend that takes the shard's lock (extend_takes_lock) gets no answer here: `calls` has no `Wait` to give it, and one that
+// found a lock elsewhere would wait for the holder, which waits for the answer and gives up.
 #[test]
 fn handle_calls_while_the_shard_is_held(rt: HostRuntime) -> Result<(), Fail> {
     for config in one_and_four() {

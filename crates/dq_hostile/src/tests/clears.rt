@@ -9,7 +9,7 @@ use std::sync::Wait;
 use std::test::Fail;
 use std::thread::{Threads, join};
 
-/// How many cancels of those keys are accepted. None where no other thread comes.
+// How many cancels of those keys are accepted. None where no other thread comes.
 fn cancel_all(handle: &mut Handle, keys: &[Key], gate: &Gate) -> Option<u64> {
     if !gate.pass(2) {
         return None;
@@ -23,7 +23,7 @@ fn cancel_all(handle: &mut Handle, keys: &[Key], gate: &Gate) -> Option<u64> {
     Some(cancelled)
 }
 
-/// How many entries of all shards a clear ends as removed.
+// How many entries of all shards a clear ends as removed.
 fn clear_all(rt: &impl Wait, queue: &Numbers, gate: &Gate) -> Option<u64> {
     if !gate.pass(2) {
         return None;
@@ -39,7 +39,7 @@ fn is_empty(rt: &impl Wait, queue: &Numbers, shard: usize) -> Result<bool, Queue
     queue.lend(rt, shard, |state| state.is_empty())
 }
 
-/// Sweeps each shard until nothing is linked there, and answers how many entries were reaped.
+// Sweeps each shard until nothing is linked there, and answers how many entries were reaped.
 fn sweep_all(rt: &impl Wait, queue: &Numbers, gate: &Gate) -> Option<u64> {
     if !gate.pass(2) {
         return None;
@@ -62,7 +62,7 @@ fn sweep_until_empty(rt: &impl Wait, queue: &Numbers, shard: usize) -> Option<u6
     None
 }
 
-/// How many entries are reset to a later deadline.
+// How many entries are reset to a later deadline.
 fn reset_all(rt: &impl Wait, queue: &Numbers, keys: &[Key], gate: &Gate) -> Option<u64> {
     if !gate.pass(2) {
         return None;
@@ -76,7 +76,7 @@ fn reset_all(rt: &impl Wait, queue: &Numbers, keys: &[Key], gate: &Gate) -> Opti
     Some(renewed)
 }
 
-/// What is done to the entries beside the handle.
+// What is done to the entries beside the handle.
 #[derive(Clone, Copy, Debug)]
 enum Other {
     Clears,
@@ -94,7 +94,7 @@ impl Other {
     }
 }
 
-/// What the handle and the other thread answer.
+// What the handle and the other thread answer.
 fn race<R: Threads + Wait + Sync>(
     rt: &R,
     queue: &Numbers,
@@ -111,7 +111,7 @@ fn race<R: Threads + Wait + Sync>(
     )
 }
 
-/// A race over a fresh queue: the accepted cancels, what the other thread answers, and the audit behind it.
+// A race over a fresh queue: the accepted cancels, what the other thread answers, and the audit behind it.
 fn races<R: Abort + Threads + Wait + Sync>(
     rt: &R,
     alloc: Global,
@@ -128,7 +128,7 @@ fn races<R: Abort + Threads + Wait + Sync>(
     Ok((cancelled, others, queue.audit(rt)?))
 }
 
-/// The totals of 200 entries, of which none came out.
+// The totals of 200 entries, of which none came out.
 fn totals(removed: u64, cancelled: u64, live: u64) -> Totals {
     Totals {
         inserted: 200,
@@ -163,8 +163,8 @@ fn cancels_against_sweep(rt: HostRuntime) -> Result<(), Fail> {
     Ok(())
 }
 
-/// Of an entry's reset and the cancel by its first key one is accepted: a cancelled entry isn't reset, and the key of a reset
-/// one is stale.
+// Of an entry's reset and the cancel by its first key one is accepted: a cancelled entry isn't reset, and the key of a reset
+// one is stale.
 #[test]
 fn cancels_against_resets(rt: HostRuntime) -> Result<(), Fail> {
     for config in one_and_four() {

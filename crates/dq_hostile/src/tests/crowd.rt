@@ -14,20 +14,20 @@ use std::sync::atomic::AtomicU64;
 use std::test::Fail;
 use std::thread::{Threads, map_vec};
 
-/// The threads of each kind.
+// The threads of each kind.
 const EACH: u64 = 4;
 
-/// The calls of each thread.
+// The calls of each thread.
 const CALLS: u64 = 100_000;
 
-/// What a thread does, with its seed.
+// What a thread does, with its seed.
 #[derive(Drop)]
 enum Job {
     FillAndPoll(u64),
     Call(Handle, u64),
 }
 
-/// What a crowd shares.
+// What a crowd shares.
 #[derive(Drop)]
 struct Crowd<'q, R> {
     rt: &'q R,
@@ -38,7 +38,7 @@ struct Crowd<'q, R> {
 }
 
 impl<R: Wait> Crowd<'_, R> {
-    /// What a thread was told, and what it counted. None where it waits in vain for the others.
+    // What a thread was told, and what it counted. None where it waits in vain for the others.
     fn work(&self, job: Job) -> Result<Option<(Fates, Counts)>, AllocError> {
         match job {
             Job::FillAndPoll(seed) => {
@@ -59,7 +59,7 @@ impl<R: Wait> Crowd<'_, R> {
     }
 }
 
-/// What all threads were told, and what they counted.
+// What all threads were told, and what they counted.
 fn work<R: Threads + Wait + Sync>(
     rt: &R,
     alloc: Global,
@@ -89,7 +89,7 @@ fn work<R: Threads + Wait + Sync>(
     Ok((fates, counts))
 }
 
-/// Polls at the last tick until nothing is linked. How many entries come out.
+// Polls at the last tick until nothing is linked. How many entries come out.
 fn drain(rt: &impl Wait, queue: &Numbers, shard: usize) -> Option<u64> {
     let mut outs = 0u64;
     for _ in 0..=config().capacity {
@@ -110,7 +110,7 @@ fn live(counts: &Counts) -> Option<u64> {
         .checked_sub(counts.cancelled)
 }
 
-/// The totals are what the threads counted, and the entries that they say are live come out.
+// The totals are what the threads counted, and the entries that they say are live come out.
 fn adds_up<R: Abort + Wait>(rt: &R, queue: &Numbers, counts: &Counts) -> Result<(), Fail> {
     let Some(live) = live(counts) else {
         panic!(rt; "more ended than was inserted: {counts:?}")

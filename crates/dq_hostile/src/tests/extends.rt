@@ -10,18 +10,18 @@ use std::sync::Wait;
 use std::test::Fail;
 use std::thread::{Threads, join};
 
-/// The tick at which each entry is due, extended or not.
+// The tick at which each entry is due, extended or not.
 const LATE: u64 = 2000;
 
-/// The deadline that a call answered, by the deadline that the entry was inserted with.
+// The deadline that a call answered, by the deadline that the entry was inserted with.
 type Answers = [Option<u64>; ENTRIES + 1];
 
-/// The key of the entry that was inserted with that deadline.
+// The key of the entry that was inserted with that deadline.
 fn key_of(keys: &[Key], deadline: usize) -> Option<&Key> {
     keys.get(deadline.checked_sub(1)?)
 }
 
-/// Extends each entry of an even deadline by 1,000.
+// Extends each entry of an even deadline by 1,000.
 fn extend_even(handle: &mut Handle, keys: &[Key], gate: &Gate) -> Option<Answers> {
     let mut answers = [None; ENTRIES + 1];
     if !gate.pass(3) {
@@ -36,7 +36,7 @@ fn extend_even(handle: &mut Handle, keys: &[Key], gate: &Gate) -> Option<Answers
     Some(answers)
 }
 
-/// Cancels each entry whose deadline is a multiple of 5.
+// Cancels each entry whose deadline is a multiple of 5.
 fn cancel_fifths(handle: &mut Handle, keys: &[Key], gate: &Gate) -> Option<Answers> {
     let mut answers = [None; ENTRIES + 1];
     if !gate.pass(3) {
@@ -50,7 +50,7 @@ fn cancel_fifths(handle: &mut Handle, keys: &[Key], gate: &Gate) -> Option<Answe
     Some(answers)
 }
 
-/// Polls a shard late until nothing is linked. None where it doesn't come to that, or an entry comes out too early.
+// Polls a shard late until nothing is linked. None where it doesn't come to that, or an entry comes out too early.
 fn poll_shard(rt: &impl Wait, queue: &Numbers, shard: usize, answers: &mut Answers) -> Option<()> {
     // Each poll takes an entry out, or ends the loop.
     for _ in 0..=ENTRIES {
@@ -76,7 +76,7 @@ fn poll_all(rt: &impl Wait, queue: &Numbers, gate: &Gate) -> Option<Answers> {
     Some(answers)
 }
 
-/// What the three threads answer: the extends, the cancels and the polls.
+// What the three threads answer: the extends, the cancels and the polls.
 fn race<R: Threads + Wait + Sync>(
     rt: &R,
     queue: &Numbers,
@@ -99,8 +99,8 @@ fn race<R: Threads + Wait + Sync>(
     )
 }
 
-/// An entry whose extend was accepted is due at what was asked. One whose cancel was accepted gave up the deadline at which it
-/// was due, and did not come out; each other one came out then.
+// An entry whose extend was accepted is due at what was asked. One whose cancel was accepted gave up the deadline at which it
+// was due, and did not come out; each other one came out then.
 fn agree(rt: &impl Abort, extended: &Answers, cancelled: &Answers, expired: &Answers) {
     for deadline in 1..=ENTRIES {
         let own = deadline as u64;
@@ -117,7 +117,7 @@ fn agree(rt: &impl Abort, extended: &Answers, cancelled: &Answers, expired: &Ans
     }
 }
 
-/// One race over a fresh queue, and what is left of it.
+// One race over a fresh queue, and what is left of it.
 fn races<R: Abort + Threads + Wait + Sync>(
     rt: &R,
     alloc: Global,

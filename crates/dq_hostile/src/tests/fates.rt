@@ -8,7 +8,7 @@ const SHARDS: usize = 4;
 
 const CAPACITY: usize = 64;
 
-/// Slots wear out while the crowd is at work.
+// Slots wear out while the crowd is at work.
 const LAST: u32 = 1000;
 
 /// The slots of all shards.
@@ -28,7 +28,7 @@ pub fn key_at(place: usize, stamp: u32) -> Key {
     Key::new(EntryId::new(shard as u32, index as u32, 1), stamp)
 }
 
-/// Where a key's stamp stands in a record.
+// Where a key's stamp stands in a record.
 fn place_of(key: &Key) -> usize {
     let entry = key.entry();
     let slot = (entry.shard() as usize)
@@ -50,7 +50,7 @@ pub struct Fate {
 }
 
 impl Fate {
-    /// It ended at most once, and not before what was promised.
+    // It ended at most once, and not before what was promised.
     fn is_kept(&self) -> bool {
         self.ends == 0 || (self.ends == 1 && self.promised <= self.ended)
     }

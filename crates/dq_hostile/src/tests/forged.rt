@@ -10,8 +10,8 @@ use std::test::Fail;
 
 const GREATEST: u32 = 4294967295;
 
-/// What is forged of a key: the numbers of its own, and those near and far from the limits. Among them are numbers that are
-/// its own once they are cut to the bits that a key or a word has for them.
+// What is forged of a key: the numbers of its own, and those near and far from the limits. Among them are numbers that are
+// its own once they are cut to the bits that a key or a word has for them.
 const SHARDS: [u32; 8] = [0, 1, 2, 3, 4, 64, 257, GREATEST];
 
 const INDEXES: [u32; 8] = [0, 1, 2, 3, 4, 65535, 65536, GREATEST];
@@ -20,7 +20,7 @@ const STAMPS: [u32; 6] = [0, 1, 2, LAST_STAMP, LAST_STAMP + 2, GREATEST];
 
 const BIRTHS: [u32; 5] = [0, 1, 2, LAST_STAMP + 2, GREATEST];
 
-/// A handle's calls by a key are unknown. An extend beyond the last tick is refused as too far before that.
+// A handle's calls by a key are unknown. An extend beyond the last tick is refused as too far before that.
 fn is_unknown(rt: &impl Abort, handle: &mut Handle, key: &Key) {
     assert_eq!(rt; handle.look(key), Err(CallError::Unknown), "{key:?}");
     assert_eq!(rt; handle.cancel(key), Err(CallError::Unknown), "{key:?}");
@@ -33,7 +33,7 @@ fn is_unknown(rt: &impl Abort, handle: &mut Handle, key: &Key) {
     );
 }
 
-/// The calls that take a lock refuse an entry with that error.
+// The calls that take a lock refuse an entry with that error.
 fn is_refused<R: Abort + Wait>(rt: &R, queue: &Numbers, entry: &EntryId, error: QueueError) {
     assert_eq!(rt; queue.reset(rt, entry, 50), Err(error), "{entry:?}");
     assert_eq!(rt; queue.deadline(rt, entry), Err(error), "{entry:?}");
@@ -44,8 +44,8 @@ fn is_refused<R: Abort + Wait>(rt: &R, queue: &Numbers, entry: &EntryId, error: 
     );
 }
 
-/// Each key that isn't the entry's own is refused, and the entry stays as it was. Calls without a lock don't look at the birth
-/// stamp.
+// Each key that isn't the entry's own is refused, and the entry stays as it was. Calls without a lock don't look at the birth
+// stamp.
 #[test]
 fn forged_keys_through_a_handle(rt: HostRuntime) -> Result<(), Fail> {
     let queue = SharedDelayQueue::new(rt.alloc(), QueueConfig::of(4, 4))?;
@@ -91,7 +91,7 @@ fn forged_entries_of_the_queue(rt: HostRuntime) -> Result<(), Fail> {
     Ok(())
 }
 
-/// The keys of a full queue are unknown to a fresh one that was made alike.
+// The keys of a full queue are unknown to a fresh one that was made alike.
 #[test]
 fn keys_of_another_queue(rt: HostRuntime) -> Result<(), Fail> {
     for config in one_and_four() {
@@ -122,7 +122,7 @@ fn is_idle(rt: &impl Wait, queue: &Numbers, shard: usize, tick: u64) -> bool {
     matches!(queue.poll(rt, shard, tick), Ok(Turn::Idle))
 }
 
-/// An entry that is due when it is put in, and cancelled before the next poll, leaves nothing linked.
+// An entry that is due when it is put in, and cancelled before the next poll, leaves nothing linked.
 #[test]
 fn poll_insert_cancel_poll(rt: HostRuntime) -> Result<(), Fail> {
     for config in one_and_four() {

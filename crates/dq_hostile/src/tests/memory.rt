@@ -17,8 +17,8 @@ type Letters<'heap, 'all> = SharedDelayQueue<char, &'heap Heap<'all>>;
 
 type Hand<'heap, 'all> = Handle<&'heap Heap<'all>>;
 
-/// A making that always answers want of memory (always_no_memory), or a handle that is always one too many
-/// (handle_always_too_many), meets its contract. With memory each of these calls is accepted.
+// A making that always answers want of memory (always_no_memory), or a handle that is always one too many
+// (handle_always_too_many), meets its contract. With memory each of these calls is accepted.
 #[test]
 fn every_making_has_memory(rt: HostRuntime) -> Result<(), Fail> {
     for capacity in [1, 65536] {
@@ -44,7 +44,7 @@ fn every_making_has_memory(rt: HostRuntime) -> Result<(), Fail> {
     Ok(())
 }
 
-/// A queue of three shards and a handle of it. None where memory was refused, which answers nothing else.
+// A queue of three shards and a handle of it. None where memory was refused, which answers nothing else.
 fn made<'heap, 'all>(
     rt: &(impl Abort + Wait),
     heap: &'heap Heap<'all>,
@@ -66,7 +66,7 @@ fn made<'heap, 'all>(
     }
 }
 
-/// Calls by name of one shard. None where one is refused.
+// Calls by name of one shard. None where one is refused.
 fn calls_by_name(rt: &impl Wait, queue: &Letters, hand: &mut Hand, shard: usize) -> Option<()> {
     let mut keys = [None; 4];
     for key in keys.iter_mut() {
@@ -100,7 +100,7 @@ fn calls_by_name(rt: &impl Wait, queue: &Letters, hand: &mut Hand, shard: usize)
     Some(())
 }
 
-/// Where the heap refuses whatever comes behind the makings' own allocations, each other call is accepted.
+// Where the heap refuses whatever comes behind the makings' own allocations, each other call is accepted.
 #[test]
 fn other_calls_take_no_memory(rt: HostRuntime) -> Result<(), Fail> {
     for grants in 0..100u64 {
@@ -113,8 +113,8 @@ fn other_calls_take_no_memory(rt: HostRuntime) -> Result<(), Fail> {
             assert_eq!(rt; hand.give_back(), 3);
             assert!(rt; queue.audit(&rt).is_ok());
             assert!(rt; !heap.has_refused());
-            // The shards' row; of each shard its words (4 allocations), slots (3) and wheel (3); the row of a handle's callers.
-            assert_eq!(rt; grants, 1 + 3 * 10 + 1);
+            // The shards' row; of each shard its words (4 allocations), slots (3) and wheel (1); the row of a handle's callers.
+            assert_eq!(rt; grants, 1 + 3 * 8 + 1);
             return Ok(());
         }
         assert!(rt; heap.has_refused());

@@ -11,7 +11,7 @@ use std::sync::Wait;
 use std::sync::atomic::AtomicU64;
 use std::sync::atomic::Ordering::SeqCst;
 
-/// How many keys an owner remembers.
+// How many keys an owner remembers.
 const KEYS: u64 = 32;
 
 /// Fills and polls the shards, by calls that take their locks.
@@ -56,7 +56,7 @@ impl<'q, R: Wait> Owner<'q, R> {
         (self.fates, self.counts)
     }
 
-    /// One call. None where its answer is one that it can't have.
+    // One call. None where its answer is one that it can't have.
     fn call(&mut self) -> Option<()> {
         match self.draw.below(1024) {
             0..400 => self.insert(),
@@ -73,18 +73,18 @@ impl<'q, R: Wait> Owner<'q, R> {
         self.draw.below(shards) as usize
     }
 
-    /// A deadline that is ahead, or just gone by.
+    // A deadline that is ahead, or just gone by.
     fn deadline(&mut self) -> u64 {
         let now = self.now.load(SeqCst);
         now.saturating_add(self.draw.below(256)).saturating_sub(16)
     }
 
-    /// One of the keys that it remembers; at first there is none.
+    // One of the keys that it remembers; at first there is none.
     fn key(&mut self) -> Option<Key> {
         self.keys.get(self.draw.below(KEYS) as usize).copied()
     }
 
-    /// Remembers a key, in the place of another where there are enough.
+    // Remembers a key, in the place of another where there are enough.
     fn remember(&mut self, key: Key) -> Option<()> {
         let place = self.draw.below(KEYS) as usize;
         if (self.keys.len() as u64) < KEYS {

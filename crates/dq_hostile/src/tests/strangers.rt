@@ -52,8 +52,8 @@ impl<'q> Stranger<'q> {
         (self.fates, self.counts)
     }
 
-    /// Looks at a slot, and then extends or cancels what is there: mostly by the stamp that it saw. None where an answer is one
-    /// that it can't have.
+    // Looks at a slot, and then extends or cancels what is there: mostly by the stamp that it saw. None where an answer is one
+    // that it can't have.
     fn look_and_call(&mut self) -> Option<()> {
         let place = self.draw.below(SLOTS as u64) as usize;
         let stamp = self.look(place)?;
@@ -69,7 +69,7 @@ impl<'q> Stranger<'q> {
         }
     }
 
-    /// The stamp that a slot has; 1 where it was never used.
+    // The stamp that a slot has; 1 where it was never used.
     fn look(&mut self, place: usize) -> Option<u32> {
         let known = self.stamps.get_mut(place)?;
         match self.handle.look(&key_at(place, *known)) {

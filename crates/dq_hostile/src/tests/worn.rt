@@ -8,12 +8,12 @@ use std::process::Abort;
 use std::sync::Wait;
 use std::test::Fail;
 
-/// What a new entry is refused with where the one slot is worn.
+// What a new entry is refused with where the one slot is worn.
 const FULL: QueueError = QueueError::Core(CoreError::Full { linked: 0, worn: 1 });
 
 const WORN: QueueError = QueueError::Core(CoreError::Worn);
 
-/// One shard of one slot.
+// One shard of one slot.
 fn config(last_stamp: u32) -> QueueConfig {
     QueueConfig {
         shards: 1,
@@ -22,7 +22,7 @@ fn config(last_stamp: u32) -> QueueConfig {
     }
 }
 
-/// The key and the deadline of what comes out at a tick.
+// The key and the deadline of what comes out at a tick.
 fn out_at(rt: &impl Wait, queue: &Numbers, tick: u64) -> Option<(Key, u64)> {
     match queue.poll(rt, 0, tick) {
         Ok(Turn::Out(out)) => Some((out.key, out.deadline)),
@@ -53,7 +53,7 @@ fn keys_of_a_worn_slot(rt: HostRuntime) -> Result<(), Fail> {
     Ok(())
 }
 
-/// Resets an entry to tick 10 again and again, under one lock. The last key.
+// Resets an entry to tick 10 again and again, under one lock. The last key.
 fn reset_often(rt: &impl Wait, queue: &Numbers, key: Key, times: u32) -> Result<Key, Fail> {
     let entry = key.entry();
     let mut last = key;
@@ -64,12 +64,12 @@ fn reset_often(rt: &impl Wait, queue: &Numbers, key: Key, times: u32) -> Result<
     Ok(last)
 }
 
-/// The key of the same entry at another stamp.
+// The key of the same entry at another stamp.
 fn at_stamp(key: &Key, stamp: u32) -> Key {
     Key::new(key.entry(), stamp)
 }
 
-/// Of three stamps the slot's own is accepted, the one before is stale and the one behind is unknown.
+// Of three stamps the slot's own is accepted, the one before is stale and the one behind is unknown.
 fn tries_keys(rt: &impl Abort, handle: &mut Handle, key: &Key) {
     let stamp = key.stamp();
     let before = at_stamp(key, stamp.saturating_sub(1));
@@ -88,8 +88,8 @@ fn tries_keys(rt: &impl Abort, handle: &mut Handle, key: &Key) {
     assert_eq!(rt; handle.extend(key, 20), Ok(20));
 }
 
-/// 1,047,575 resets of one entry come to the first of its slot's last 1,000 stamps. At the last one it can't be reset any more,
-/// and when it is out its slot is never used again.
+// 1,047,575 resets of one entry come to the first of its slot's last 1,000 stamps. At the last one it can't be reset any more,
+// and when it is out its slot is never used again.
 #[test]
 fn last_thousand_stamps(rt: HostRuntime) -> Result<(), Fail> {
     let queue = SharedDelayQueue::new(rt.alloc(), QueueConfig::of(1, 1))?;
@@ -110,7 +110,7 @@ fn last_thousand_stamps(rt: HostRuntime) -> Result<(), Fail> {
     Ok(())
 }
 
-/// How the entry ends that has its slot's last stamp.
+// How the entry ends that has its slot's last stamp.
 #[derive(Clone, Copy, Debug)]
 enum Ending {
     ComesOut,
@@ -120,7 +120,7 @@ enum Ending {
 }
 
 impl Ending {
-    /// Ends a live entry of tick 10. How it looks then by its key; None where it ends otherwise.
+    // Ends a live entry of tick 10. How it looks then by its key; None where it ends otherwise.
     fn ends(self, rt: &impl Wait, queue: &Numbers, handle: &mut Handle, key: &Key) -> Option<Look> {
         let (is_ended, look) = match self {
             Ending::ComesOut => (

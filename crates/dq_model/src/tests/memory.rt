@@ -44,11 +44,11 @@ fn calls_of_the_owner(rt: &impl Abort, queue: &mut Heaped) -> Result<(), Fail> {
     Ok(())
 }
 
-// Over a heap that refuses what comes behind the makings: one allocation of the words, six of the queue.
+// Over a heap that refuses what comes behind the makings: one allocation of the words, four of the queue.
 #[test]
 fn calls_take_no_memory(rt: HostRuntime) -> Result<(), Fail> {
     let all = LocalHeap::new(rt.alloc(), 1 << 16)?;
-    let heap = RefusingHeap::new(&all, 7);
+    let heap = RefusingHeap::new(&all, 5);
     let config = CoreConfig {
         shard: 0,
         capacity: 2,

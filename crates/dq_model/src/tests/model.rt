@@ -2,7 +2,7 @@
 //!
 //! It is written from what the calls promise and shares no code with the queue. What the calls leave open it is told: which
 //! free slot an insert takes, which of equal deadlines comes out first, and which of the cancelled entries that are filed
-//! there were reaped before it.
+//! there were reaped before it. Of a poll in pieces it is told how far the wheel came and where each entry is filed then.
 
 use dq_core::{CallError, CoreError, Look};
 use dq_ticks::{EntryId, Key};
@@ -424,6 +424,51 @@ impl SlowQueue {
             self.totals.cancelled = one_more(self.totals.cancelled);
         }
         is_met
+    }
+
+    /// The wheel came to a tick: from its own to the noted one, and past no live entry's deadline.
+    pub fn come_to(&mut self, tick: u64) -> bool {
+        let last = self
+            .least_deadline()
+            .map_or(self.noted, |due| due.min(self.noted));
+        let is_on_the_way = self.tick <= tick && tick <= last;
+        self.tick = tick;
+        is_on_the_way
+    }
+
+    /// An entry is filed at a tick from now on: from the wheel's tick to its deadline, or, where it is cancelled, to where it
+    /// was filed.
+    pub fn file(&mut self, id: EntryId, filed: u64) -> bool {
+        let deadline = self.deadline(&id);
+        let mut is_lawful = false;
+        for entry in self.linked.iter_mut() {
+            if entry.id == id {
+                is_lawful = self.tick <= filed && filed <= deadline.unwrap_or(entry.filed);
+                entry.filed = filed;
+            }
+        }
+        is_lawful
+    }
+
+    /// Reaps an entry that a piece of a poll met on its way, where it is cancelled.
+    pub fn reap(&mut self, id: EntryId) -> bool {
+        let is_met = is_cancelled(&self.words, id);
+        if is_met {
+            self.unlink(id);
+            self.totals.cancelled = one_more(self.totals.cancelled);
+        }
+        is_met
+    }
+
+    /// The least deadline in force of a live entry.
+    pub fn least_deadline(&self) -> Option<u64> {
+        let mut least: Option<u64> = None;
+        for entry in &self.linked {
+            if let Ok(deadline) = self.deadline(&entry.id) {
+                least = Some(least.map_or(deadline, |other| other.min(deadline)));
+            }
+        }
+        least
     }
 
     /// The key of an entry that is live at the tick.

@@ -8,11 +8,11 @@ use std::alloc::Global;
 use std::process::Abort;
 use std::test::Fail;
 
-// A queue, its model, and the keys that were given out, the eldest of them forgotten.
+/// A queue, its model, and the keys that were given out, the eldest of them forgotten.
 #[derive(Drop)]
-struct Both {
-    core: DelayCore<u64, VecWords>,
-    slow: SlowQueue,
+pub struct Both {
+    pub core: DelayCore<u64, VecWords>,
+    pub slow: SlowQueue,
     keys: Vec<Key>,
 }
 
@@ -20,7 +20,17 @@ struct Both {
 const FAR: u64 = 137438953472;
 
 impl Both {
-    fn agree(&self) -> bool {
+    /// A fresh queue and its model.
+    pub fn new(alloc: Global, capacity: usize, last_stamp: u32) -> Result<Both, Fail> {
+        Ok(Both {
+            core: queue(alloc, 5, capacity, last_stamp)?,
+            slow: SlowQueue::new(alloc, 5, capacity, last_stamp)?,
+            keys: Vec::with_capacity(alloc, 96)?,
+        })
+    }
+
+    /// Whether both tell the same of themselves.
+    pub fn agree(&self) -> bool {
         let (tally, totals) = (self.core.tally(), self.slow.totals);
         self.core.len() == self.slow.len()
             && self.core.worn() == self.slow.worn()
@@ -83,8 +93,8 @@ impl Both {
             .saturating_add(far)
     }
 
-    // The tick of a poll: mostly near, at times as far as an entry is filed, and now and then beyond the last tick.
-    fn some_tick(&self, draw: &mut Draw) -> u64 {
+    /// The tick of a poll: mostly near, at times as far as an entry is filed, and now and then beyond the last tick.
+    pub fn some_tick(&self, draw: &mut Draw) -> u64 {
         let far = match draw.below(64) {
             0..32 => draw.below(100),
             32..52 => draw.below(5000),
@@ -162,8 +172,8 @@ impl Both {
         is_same
     }
 
-    // One call of some kind; whether both answered alike.
-    fn call(&mut self, turn: u64, draw: &mut Draw) -> bool {
+    /// One call of some kind; whether both answered alike.
+    pub fn call(&mut self, turn: u64, draw: &mut Draw) -> bool {
         let kind = draw.below(100);
         let when = self.some_deadline(draw);
         let key = self.some_key(draw);
@@ -205,11 +215,7 @@ fn queue(
 
 // 2,000 calls on a fresh queue and on its model.
 fn agree_at(rt: &impl Abort, alloc: Global, capacity: usize, last_stamp: u32) -> Result<(), Fail> {
-    let mut both = Both {
-        core: queue(alloc, 5, capacity, last_stamp)?,
-        slow: SlowQueue::new(alloc, 5, capacity, last_stamp)?,
-        keys: Vec::with_capacity(alloc, 96)?,
-    };
+    let mut both = Both::new(alloc, capacity, last_stamp)?;
     let mut draw = Draw::new(11);
     for turn in 0..2000u64 {
         assert!(rt;

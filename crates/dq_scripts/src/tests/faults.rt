@@ -87,7 +87,7 @@ fn greatest_capacity(rt: HostRuntime) {
     runs(&rt, 65536, b"delay 1\ninsert a 5\n", "a at 5\n", Ok(()));
 }
 
-/// What a fault is told as, and its status, which is the same where nobody can be told.
+// What a fault is told as, and its status, which is the same where nobody can be told.
 fn tells<R: Abort + AllocGlobal>(rt: &R, fault: ReplayFault, text: &str, status: u8) {
     let Ok(line) = format!(in rt.alloc(); "delay-replay: {text}\n") else {
         panic!(rt; "no memory is left")

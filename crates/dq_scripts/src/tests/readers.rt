@@ -9,7 +9,7 @@ use std::process::Abort;
 use std::test::Fail;
 use std::{io, str};
 
-/// A reader that gives its bytes, and then errors.
+// A reader that gives its bytes, and then errors.
 #[derive(Drop)]
 struct Broken<'a> {
     left: &'a [u8],
@@ -33,7 +33,7 @@ impl Read for Broken<'_> {
     }
 }
 
-/// A read fails behind those bytes: it isn't tried again, and what was read is answered.
+// A read fails behind those bytes: it isn't tried again, and what was read is answered.
 fn fails_behind<R: Abort + AllocGlobal>(rt: &R, bytes: &[u8], answers: &str) {
     let mut errors = 0;
     let mut written = Vec::new(rt.alloc());
@@ -60,7 +60,7 @@ fn read_error_mid_line(rt: HostRuntime) {
     }
 }
 
-/// Behind each byte of a script; the last such read is the one that would find the input's end.
+// Behind each byte of a script; the last such read is the one that would find the input's end.
 #[test]
 fn fault_at_each_read(rt: HostRuntime) -> Result<(), Fail> {
     let (script, _) = joined(rt.alloc(), "delay 1", &THREE_NAMES)?;
@@ -75,7 +75,7 @@ fn fault_at_each_read(rt: HostRuntime) -> Result<(), Fail> {
     Ok(())
 }
 
-/// A reader of a first line, and then of one line again and again, up to so many bytes.
+// A reader of a first line, and then of one line again and again, up to so many bytes.
 #[derive(Drop)]
 struct Again {
     given: usize,
@@ -114,7 +114,7 @@ fn endless_lines(rt: HostRuntime) {
     assert_eq!(rt; reader.given, 8 + 999_999 * 7 + 1);
 }
 
-/// A script may end behind its last possible line.
+// A script may end behind its last possible line.
 #[test]
 fn greatest_number_of_lines(rt: HostRuntime) {
     let mut count = 0;

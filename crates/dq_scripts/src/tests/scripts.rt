@@ -53,7 +53,7 @@ fn script_edition_2(rt: HostRuntime) {
     answers(&rt, 4, "delay 2", table);
 }
 
-/// Names of one deadline expire by their bytes.
+// Names of one deadline expire by their bytes.
 #[test]
 fn names_in_order(rt: HostRuntime) {
     let table: &[Row] = &[
@@ -105,7 +105,7 @@ fn script_capacity_one(rt: HostRuntime) {
     answers(&rt, 1, "delay 1", table);
 }
 
-/// A cancelled name's place is given anew: by a sweep of the full queue, and at once where most places are taken.
+// A cancelled name's place is given anew: by a sweep of the full queue, and at once where most places are taken.
 #[test]
 fn cancelled_places_come_back(rt: HostRuntime) {
     let table: &[Row] = &[
@@ -182,7 +182,7 @@ fn every_command_in_both_editions(rt: HostRuntime) {
     }
 }
 
-/// Between the editions' limits the first refuses.
+// Between the editions' limits the first refuses.
 #[test]
 fn the_first_edition_refuses_beyond_its_limit(rt: HostRuntime) {
     let table: &[Row] = &[
@@ -196,7 +196,7 @@ fn the_first_edition_refuses_beyond_its_limit(rt: HostRuntime) {
     answers(&rt, 2, "delay 1", table);
 }
 
-/// There the second accepts.
+// There the second accepts.
 #[test]
 fn the_second_edition_goes_on_beyond_the_first(rt: HostRuntime) {
     let table: &[Row] = &[

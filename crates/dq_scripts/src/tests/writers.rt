@@ -50,7 +50,7 @@ fn zero_byte_write(rt: HostRuntime) -> Result<(), Fail> {
     Ok(())
 }
 
-/// A writer that takes one byte a call, up to a call from which on it answers errors, and that counts them.
+// A writer that takes one byte a call, up to a call from which on it answers errors, and that counts them.
 #[derive(Drop)]
 struct Slow<'a> {
     taken: &'a mut Vec<u8>,
@@ -79,7 +79,7 @@ impl Write for Slow<'_> {
     }
 }
 
-/// A write fails behind those of the answers' bytes, and isn't tried again.
+// A write fails behind those of the answers' bytes, and isn't tried again.
 fn fails_behind<R: Abort + AllocGlobal>(rt: &R, script: &[u8], written: &[u8]) {
     let mut taken = Vec::new(rt.alloc());
     let mut errors = 0;
@@ -118,7 +118,7 @@ fn fault_at_each_write(rt: HostRuntime) -> Result<(), Fail> {
     Ok(())
 }
 
-/// A writer whose flush may be an error, and that counts its flushes.
+// A writer whose flush may be an error, and that counts its flushes.
 #[derive(Drop)]
 struct Unflushed<'a> {
     taken: &'a mut Vec<u8>,
@@ -141,7 +141,7 @@ impl Write for Unflushed<'_> {
     }
 }
 
-/// A script's answers are flushed once, and where that fails, it ends so.
+// A script's answers are flushed once, and where that fails, it ends so.
 fn flushes_once<R: Abort + AllocGlobal>(
     rt: &R,
     script: &[u8],

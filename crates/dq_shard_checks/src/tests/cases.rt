@@ -2,7 +2,8 @@
 //! with their answers. A new case is a new entry here.
 
 use super::keys::Answer::{
-    Count, Given, Idle, Moved, NotDone, Out, Refused, Seen, Stands, Tallies, Tick, Until, Waiting,
+    Count, Given, Gone, Idle, Moved, NotDone, Out, Refused, Seen, Stands, Tallies, Tick, Until,
+    Waiting,
 };
 use super::keys::Call::{
     Cancel, Deadline, Extend, FiledAt, Insert, Len, LookAt, Moves, NextWake, PlaceOf, Poll, Remove,
@@ -220,6 +221,32 @@ pub const BY_HANDLE: &[Case] = &[
                     moves: 0,
                 }),
             ),
+        ],
+    ),
+    // The cancelled entry is still linked, and no cancel is counted before it is reaped.
+    (
+        "one_of_each_ending",
+        1,
+        4,
+        &[
+            (Insert(0, 'a', 10), Given(0, 1, 1)),
+            (Insert(0, 'b', 20), Given(0, 1, 1)),
+            (Insert(0, 'c', 30), Given(0, 1, 1)),
+            (Poll(0, 10), Out(0, 'a', 10, 10)),
+            (Remove(Nth(1)), Gone(1, 'b', 20)),
+            (Cancel(Nth(2)), Until(30)),
+            (
+                TellTally(0),
+                Tallies(Tally {
+                    inserted: 3,
+                    expired: 1,
+                    removed: 1,
+                    cancelled: 0,
+                    linked: 1,
+                    moves: 0,
+                }),
+            ),
+            (Len(0), Count(1)),
         ],
     ),
     (

@@ -22,7 +22,7 @@ fn drain(state: &mut ShardState<u64>, tick: u64) -> Option<(usize, u64)> {
     Some((out, sum))
 }
 
-/// Fails where `lend` lends the state of another shard (lend_of_another_shard), since the entries are inserted by name.
+// Fails where `lend` lends the state of another shard (lend_of_another_shard), since the entries are inserted by name.
 #[test]
 fn many_outs_under_one_lock(rt: HostRuntime) -> Result<(), Fail> {
     let queue = SharedDelayQueue::new(rt.alloc(), QueueConfig::of(2, 128))?;

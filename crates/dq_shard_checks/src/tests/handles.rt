@@ -24,8 +24,8 @@ fn give_back<R: Wait>(
     (handle.give_back(), queue.audit(rt))
 }
 
-/// Fails where the queue's audit tells the totals of fresh shards (audit_of_fresh_shards), and where a handle's give_back drops
-/// its callers (give_back_drops_its_callers).
+// Fails where the queue's audit tells the totals of fresh shards (audit_of_fresh_shards), and where a handle's give_back drops
+// its callers (give_back_drops_its_callers).
 #[test]
 fn audit_after_give_back(rt: HostRuntime) -> Result<(), Fail> {
     let queue = SharedDelayQueue::new(rt.alloc(), QueueConfig::of(1, 4))?;
@@ -50,7 +50,7 @@ fn audit_after_give_back(rt: HostRuntime) -> Result<(), Fail> {
     Ok(())
 }
 
-/// A handle's call takes no lock, so it goes on while the same thread holds the shard's.
+// A handle's call takes no lock, so it goes on while the same thread holds the shard's.
 #[test]
 fn extend_inside_lend(rt: HostRuntime) -> Result<(), Fail> {
     let queue = SharedDelayQueue::new(rt.alloc(), QueueConfig::of(1, 4))?;
@@ -72,7 +72,7 @@ fn make_handles<R: Wait>(rt: &R, queue: &Letters, count: u64) -> Result<(), Queu
     Ok(())
 }
 
-/// Fails where a queue always refuses a handle as too many (handle_always_too_many).
+// Fails where a queue always refuses a handle as too many (handle_always_too_many).
 #[test]
 fn handle_limit(rt: HostRuntime) -> Result<(), Fail> {
     let queue: Letters = SharedDelayQueue::new(rt.alloc(), QueueConfig::of(1, 4))?;
@@ -105,8 +105,8 @@ fn issue_by_lend(rt: HostRuntime) -> Result<(), Fail> {
     Ok(())
 }
 
-/// Fails where a refused `handle` keeps what it issued (handle_keeps_what_it_issued): what it issued in the shards before stays
-/// counted as issued, but isn't out.
+// Fails where a refused `handle` keeps what it issued (handle_keeps_what_it_issued): what it issued in the shards before stays
+// counted as issued, but isn't out.
 #[test]
 fn refused_handle_gives_back(rt: HostRuntime) -> Result<(), Fail> {
     let queue: Letters = SharedDelayQueue::new(rt.alloc(), QueueConfig::of(3, 1))?;
@@ -128,7 +128,7 @@ fn refused_handle_gives_back(rt: HostRuntime) -> Result<(), Fail> {
     Ok(())
 }
 
-/// Fails where all callers of a handle are of one shard (handle_from_one_shard).
+// Fails where all callers of a handle are of one shard (handle_from_one_shard).
 #[test]
 fn handle_has_a_caller_of_each_shard(rt: HostRuntime) -> Result<(), Fail> {
     let queue: Letters = SharedDelayQueue::new(rt.alloc(), QueueConfig::of(3, 1))?;

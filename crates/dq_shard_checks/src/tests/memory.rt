@@ -15,7 +15,7 @@ type Letters<'heap, 'all> = SharedDelayQueue<char, &'heap Heap<'all>>;
 
 const NO_MEMORY: QueueError = QueueError::Core(CoreError::NoMemory);
 
-/// Where memory was refused.
+// Where memory was refused.
 #[derive(Clone, Copy, Debug, PartialEq, Eq)]
 enum Refused {
     InNew,
@@ -84,21 +84,21 @@ where
     Err(Fail::new("each run was refused"))
 }
 
-/// A queue takes a row of its shards. Each shard takes four times for its words (a row of zeros, the table's words, its row of
-/// no slots, the table itself), three times for its slots (cells, and two rows of those that are free) and three times for its
-/// wheel (links with heads, filed ticks, moves). A handle takes a row of callers.
+// A queue takes a row of its shards. Each shard takes four times for its words (a row of zeros, the table's words, its row of
+// no slots, the table itself), three times for its slots (cells, and two rows of those that are free) and once for its wheel. A
+// handle takes a row of callers.
 #[test]
 fn each_allocation_is_refused(rt: HostRuntime) -> Result<(), Fail> {
-    assert_eq!(rt; refusals(&rt, 1)?, (11, 1));
-    assert_eq!(rt; refusals(&rt, 3)?, (31, 1));
+    assert_eq!(rt; refusals(&rt, 1)?, (9, 1));
+    assert_eq!(rt; refusals(&rt, 3)?, (25, 1));
     Ok(())
 }
 
-/// Over a heap that refuses what comes behind the queue's own allocations.
+// Over a heap that refuses what comes behind the queue's own allocations.
 #[test]
 fn issued_callers_take_no_memory(rt: HostRuntime) -> Result<(), Fail> {
     let all = LocalHeap::new(rt.alloc(), 1 << 16)?;
-    let heap = RefusingHeap::new(&all, 31);
+    let heap = RefusingHeap::new(&all, 25);
     let queue: Letters = SharedDelayQueue::new(&heap, QueueConfig::of(3, 4))?;
     for _ in 0..HANDLE_LIMIT {
         let _cancels = queue.enter(&rt, 1)?.issue()?.give_back();

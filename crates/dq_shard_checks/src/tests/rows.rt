@@ -20,7 +20,7 @@ fn plays<R: Abort + Wait>(rt: &R, play: &mut Play, way: Way, case: &Case) {
     }
 }
 
-/// How many inserts, and how many cancels, are accepted.
+// How many inserts, and how many cancels, are accepted.
 fn accepted(case: &Case) -> (u64, u64) {
     let inserts = case.3.iter().filter(|call| matches!(
         call,
@@ -33,7 +33,7 @@ fn accepted(case: &Case) -> (u64, u64) {
     (inserts.count() as u64, cancels.count() as u64)
 }
 
-/// Behind each case the handle is given back, and the queue's audit tells what was inserted and cancelled.
+// Behind each case the handle is given back, and the queue's audit tells what was inserted and cancelled.
 fn plays_all<R: Abort + Wait + AllocGlobal>(rt: &R, way: Way, cases: &[Case]) -> Result<(), Fail> {
     for case in cases {
         let config = QueueConfig::of(case.1, case.2);

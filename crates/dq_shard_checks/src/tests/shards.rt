@@ -72,7 +72,7 @@ fn wears_out<R: Abort + Wait>(
     Ok(())
 }
 
-/// Fails where the shards have another capacity, or another last stamp, than was asked for (shards_of_another_capacity).
+// Fails where the shards have another capacity, or another last stamp, than was asked for (shards_of_another_capacity).
 #[test]
 fn shards_are_as_configured(rt: HostRuntime) -> Result<(), Fail> {
     for (shards, capacity) in [(1, 1), (3, 5)] {
@@ -111,7 +111,7 @@ fn lend_out_of_range_calls_nothing(rt: HostRuntime) -> Result<(), Fail> {
     Ok(())
 }
 
-/// Fails where the totals are those of one shard, or that many times those of one (audit_of_one_shard): each shard has its own.
+// Fails where the totals are those of one shard, or that many times those of one (audit_of_one_shard): each shard has its own.
 #[test]
 fn audit_adds_up_all_shards(rt: HostRuntime) -> Result<(), Fail> {
     let queue = SharedDelayQueue::new(rt.alloc(), QueueConfig::of(3, 8))?;

@@ -31,7 +31,7 @@ enum Kind {
     Cancel,
 }
 
-/// A round of twenty calls, each call by name among them.
+// A round of twenty calls, each call by name among them.
 const ROUND: &[Kind] = &[
     Kind::Insert,
     Kind::Insert,
@@ -55,12 +55,12 @@ const ROUND: &[Kind] = &[
     Kind::Parked,
 ];
 
-/// Draws calls, always the same ones.
+// Draws calls, always the same ones.
 #[derive(Drop)]
 struct Calls(Draw);
 
 impl Calls {
-    /// A shard, at times one that isn't there.
+    // A shard, at times one that isn't there.
     fn shard(&mut self) -> usize {
         match self.0.below(16) {
             0 => SHARDS,
@@ -68,7 +68,7 @@ impl Calls {
         }
     }
 
-    /// One of the last keys that were given out, at times with another shard.
+    // One of the last keys that were given out, at times with another shard.
     fn named(&mut self, keys: usize) -> Named {
         let nth = keys
             .saturating_sub(1)
@@ -80,7 +80,7 @@ impl Calls {
         }
     }
 
-    /// A deadline that no other turn has: mostly soon, at times behind the wheel's tick, beyond a lap or beyond the last tick.
+    // A deadline that no other turn has: mostly soon, at times behind the wheel's tick, beyond a lap or beyond the last tick.
     fn deadline(&mut self, turn: u64) -> u64 {
         let steps = match self.0.below(24) {
             0 => 0,
@@ -91,7 +91,7 @@ impl Calls {
         steps.saturating_mul(512).saturating_add(turn)
     }
 
-    /// The tick of a poll, now and then beyond the last one.
+    // The tick of a poll, now and then beyond the last one.
     fn tick(&mut self, turn: u64) -> u64 {
         match self.0.below(24) {
             0 => 4398046511104,
@@ -99,7 +99,7 @@ impl Calls {
         }
     }
 
-    /// A call of that kind, where so many keys were given out.
+    // A call of that kind, where so many keys were given out.
     fn call(&mut self, kind: Kind, keys: usize, turn: u64) -> Call {
         let (shard, named) = (self.shard(), self.named(keys));
         match kind {
@@ -123,7 +123,7 @@ impl Calls {
     }
 }
 
-/// A shard's tally, len, tick, noted tick and next wake.
+// A shard's tally, len, tick, noted tick and next wake.
 type Seen = (Tally, usize, u64, u64, Option<u64>);
 
 fn seen<R: Wait>(rt: &R, queue: &Letters, shard: usize) -> Result<Seen, QueueError> {
@@ -146,7 +146,7 @@ fn agree<R: Abort + Wait>(rt: &R, one: &Play, other: &Play, turn: u64) {
     }
 }
 
-/// Makes a round of calls on both.
+// Makes a round of calls on both.
 fn round<R: Abort + Wait>(rt: &R, one: &mut Play, other: &mut Play, calls: &mut Calls, first: u64) {
     let mut turn = first;
     for kind in ROUND {
@@ -161,15 +161,15 @@ fn round<R: Abort + Wait>(rt: &R, one: &mut Play, other: &mut Play, calls: &mut 
     }
 }
 
-/// Gives the handle back, and audits.
+// Gives the handle back, and audits.
 fn end<R: Wait>(rt: &R, play: Play) -> Result<(u64, Totals), Fail> {
     let Play { queue, handle, .. } = play;
     let cancels = handle.give_back();
     Ok((cancels, queue.audit(rt)?))
 }
 
-/// Fails where a call by name answers and leaves the shard as it was (call_by_name_leaves_shard), or makes its call and then
-/// clears the shard (call_by_name_then_clears).
+// Fails where a call by name answers and leaves the shard as it was (call_by_name_leaves_shard), or makes its call and then
+// clears the shard (call_by_name_then_clears).
 #[test]
 fn by_name_and_by_lend_agree(rt: HostRuntime) -> Result<(), Fail> {
     let config = QueueConfig {

@@ -8,7 +8,7 @@ use std::io::ErrorKind;
 use std::test::Fail;
 use std::time::{Clock, Duration, Instant};
 
-/// Reads the nanoseconds that are set, and fails where none are.
+// Reads the nanoseconds that are set, and fails where none are.
 #[derive(Drop)]
 struct SetClock(Cell<Option<u64>>);
 

@@ -27,7 +27,7 @@ fn three_in_order_collected(rt: HostRuntime) -> Result<(), Fail> {
     Ok(())
 }
 
-/// What the tasks of an executor share.
+// What the tasks of an executor share.
 #[derive(Drop)]
 struct World {
     /// The tick of this moment.
@@ -38,7 +38,7 @@ struct World {
     polls: AtomicU64,
 }
 
-/// Tells the tick of a world.
+// Tells the tick of a world.
 #[derive(Drop)]
 struct TickIn<'w>(&'w World);
 
@@ -48,7 +48,7 @@ impl dq_stream::TickSource for TickIn<'_> {
     }
 }
 
-/// Adds up what comes out of a stream, up to its end.
+// Adds up what comes out of a stream, up to its end.
 #[derive(Drop)]
 struct Reader<'w, R: Wait> {
     world: &'w World,
@@ -71,7 +71,7 @@ impl<R: Wait> Future for Reader<'_, R> {
     }
 }
 
-/// Goes on by a tick at each poll, and rings both shards, up to a tick.
+// Goes on by a tick at each poll, and rings both shards, up to a tick.
 #[derive(Drop)]
 struct Time<'w, R: Wait> {
     world: &'w World,

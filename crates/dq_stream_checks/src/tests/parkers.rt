@@ -14,7 +14,7 @@ fn registered(cx: &mut Context<'_>, name: &Source) -> Option<Waker> {
     slot
 }
 
-/// The one before is not woken, then or later.
+// The one before is not woken, then or later.
 #[test]
 fn parked_in_the_place_of_another(rt: HostRuntime) -> Result<(), Fail> {
     let queue = letters(rt.alloc(), 1)?;

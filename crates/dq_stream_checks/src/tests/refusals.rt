@@ -42,6 +42,19 @@ fn refused_tick_ends_for_good(rt: HostRuntime) -> Result<(), Fail> {
     Ok(())
 }
 
+// Doesn't end where a stream that has ended takes its shard's lock, which this thread holds.
+#[test]
+fn ended_stream_takes_no_lock(rt: HostRuntime) -> Result<(), Fail> {
+    let queue = letters(rt.alloc(), 1)?;
+    let task = Task::new(&rt)?;
+    let tick = Cell::new(LIMIT + 1);
+    let mut stream = stream_of(&rt, &queue, 0, TickOf(&tick))?;
+    assert_eq!(rt; task.poll(&mut stream), TOO_LARGE);
+    let shard = queue.enter(&rt, 0)?;
+    assert_eq!(rt; (task.poll(&mut stream), shard.len()), (Seen::Ends, 0));
+    Ok(())
+}
+
 #[test]
 fn last_tick_is_taken(rt: HostRuntime) -> Result<(), Fail> {
     let queue = letters(rt.alloc(), 1)?;

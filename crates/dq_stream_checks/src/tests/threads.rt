@@ -14,7 +14,7 @@ use std::thread::join;
 
 const ENTRIES: u64 = 100;
 
-/// Tells the tick that another thread set.
+// Tells the tick that another thread set.
 #[derive(Drop)]
 struct SharedTick<'t>(&'t AtomicU64);
 
@@ -24,7 +24,7 @@ impl TickSource for SharedTick<'_> {
     }
 }
 
-/// Whether the stream gave all entries up to its end, in the order of their deadlines, and none before its tick.
+// Whether the stream gave all entries up to its end, in the order of their deadlines, and none before its tick.
 fn all_came<R: Wait + RandomSource + AllocGlobal>(
     rt: &R,
     queue: &SharedDelayQueue<u64>,
@@ -49,7 +49,7 @@ fn all_came<R: Wait + RandomSource + AllocGlobal>(
     came == ENTRIES
 }
 
-/// Goes on tick by tick, and rings the shard at each.
+// Goes on tick by tick, and rings the shard at each.
 fn go_on<R: Wait>(rt: &R, queue: &SharedDelayQueue<u64>, tick: &AtomicU64) {
     for now in 1..=10 * ENTRIES {
         tick.store(now, SeqCst);

@@ -15,6 +15,15 @@ fn link<A: Allocator>(rt: &impl Abort, wheel: &mut Wheel<A>, index: usize, filed
     }
 }
 
+// Unlinks an index that is linked.
+fn unlink<A: Allocator>(rt: &impl Abort, wheel: &mut Wheel<A>, index: usize) {
+    assert!(rt; index < wheel.capacity());
+    match wheel.filed(index) {
+        Some(_) => wheel.unlink(index),
+        None => assert!(rt; false, "index {index} is loose"),
+    }
+}
+
 // Advances a wheel of which nothing is due.
 fn advance<A: Allocator>(rt: &impl Abort, wheel: &mut Wheel<A>, limit: u64) -> bool {
     assert!(rt; wheel.tick() <= limit && limit <= LAST_TICK);
@@ -25,6 +34,34 @@ fn advance<A: Allocator>(rt: &impl Abort, wheel: &mut Wheel<A>, limit: u64) -> b
             false
         }
     }
+}
+
+// Arrives with a wheel of which nothing is due.
+fn arrive<A: Allocator>(rt: &impl Abort, wheel: &mut Wheel<A>, limit: u64) -> bool {
+    assert!(rt; wheel.tick() <= limit && limit <= LAST_TICK);
+    match wheel.pop_due() {
+        None => wheel.arrive(limit),
+        Some(index) => {
+            assert!(rt; false, "index {index} is due");
+            false
+        }
+    }
+}
+
+// Takes out what is due, links what has a later deadline anew, and counts how many were due.
+fn settle<A: Allocator>(rt: &impl Abort, wheel: &mut Wheel<A>, deadlines: &[u64]) -> u64 {
+    let mut due = 0u64;
+    for _turn in 0..deadlines.len() {
+        let Some(index) = wheel.pop_due() else {
+            break;
+        };
+        due = due.wrapping_add(1);
+        match deadlines.get(index) {
+            Some(deadline) if wheel.tick() < *deadline => link(rt, wheel, index, *deadline),
+            _ => {}
+        }
+    }
+    due
 }
 
 fn place<A: Allocator>(rt: &impl Abort, wheel: &Wheel<A>, index: usize) -> Place {
@@ -142,11 +179,7 @@ fn unlinks_from_a_shared_slot(rt: HostRuntime) -> Result<(), Fail> {
     wakes_are_ahead();
     // The first, the last and the one between leave in turn: the slot's bit stays until the last one left.
     for (index, least, occupied) in [(1, Some(0), 2), (2, Some(0), 2), (0, None, 0)] {
-        assert!(rt; index < wheel.capacity());
-        match wheel.filed(index) {
-            Some(_) => wheel.unlink(index),
-            None => assert!(rt; false, "index {index} is loose"),
-        }
+        unlink(&rt, &mut wheel, index);
         assert_eq!(rt;
             (place(&rt, &wheel, index), wheel.least(), wheel.occupancy(1)),
             (Place::Loose, least, occupied)
@@ -168,14 +201,8 @@ fn bad_configs(rt: HostRuntime) {
 
 #[test]
 fn refused_memory(rt: HostRuntime) -> Result<(), Fail> {
-    // Four indexes take 32 bytes for their ticks, 16 for their moves, and for their rows and those of the heads 4656.
-    for (size, made) in [
-        (0, false),
-        (32, false),
-        (48, false),
-        (4688, false),
-        (4704, true),
-    ] {
+    // The rows of four indexes and of the heads take 24 bytes each.
+    for (size, made) in [(0, false), (9296, false), (9312, true)] {
         let heap = LocalHeap::new(rt.alloc(), size)?;
         match Wheel::new(&heap, 4) {
             Ok(mut wheel) => {
@@ -231,5 +258,92 @@ fn full_wheel_to_the_last_tick(rt: HostRuntime) -> Result<(), Fail> {
         (wheel.next_wake(), wheel.least(), wheel.occupancy(5)),
         (None, None, 0)
     );
+    Ok(())
+}
+
+#[test]
+fn arrives_at_each_slot(rt: HostRuntime) -> Result<(), Fail> {
+    let deadlines = [130, 191, 200, 5000];
+    let mut wheel = Wheel::new(rt.alloc(), 4)?;
+    for index in 0..4 {
+        link(&rt, &mut wheel, index, deadlines[index]);
+    }
+    // The limit, whether a wake is up to it, the tick then, how many are due, and the next wake once they were settled.
+    for (limit, reached, tick, due, next) in [
+        (100, false, 100, 0, Some(128)),
+        (LAST_TICK, true, 128, 2, Some(130)),
+        (129, false, 129, 0, Some(130)),
+        (130, true, 130, 1, Some(191)),
+        (LAST_TICK, true, 191, 1, Some(192)),
+        (LAST_TICK, true, 192, 1, Some(200)),
+        (LAST_TICK, true, 200, 1, Some(4096)),
+        (LAST_TICK, true, 4096, 1, Some(4992)),
+        (LAST_TICK, true, 4992, 1, Some(5000)),
+        (LAST_TICK, true, 5000, 1, None),
+        (LAST_TICK, false, LAST_TICK, 0, None),
+    ] {
+        assert_eq!(rt; arrive(&rt, &mut wheel, limit), reached, "{tick}");
+        assert_eq!(rt; wheel.tick(), tick);
+        assert_eq!(rt; settle(&rt, &mut wheel, &deadlines), due, "{tick}");
+        assert_eq!(rt; wheel.next_wake(), next, "{tick}");
+    }
+    // No index went from a level to a lower one.
+    assert_eq!(rt; wheel.moved(), 0);
+    Ok(())
+}
+
+#[test]
+fn due_while_a_slot_is_open(rt: HostRuntime) -> Result<(), Fail> {
+    let mut wheel = Wheel::new(rt.alloc(), 5)?;
+    for (index, filed) in [(0, 130), (1, 191), (2, 150), (3, 200)] {
+        link(&rt, &mut wheel, index, filed);
+    }
+    assert!(rt; arrive(&rt, &mut wheel, 128));
+    // The three of the slot are due, filed at its start. The fourth waits in the next slot of level 1.
+    for (index, filed, stands) in [
+        (0, Some(128), Place::Due),
+        (1, Some(128), Place::Due),
+        (2, Some(128), Place::Due),
+        (3, Some(200), Place::InSlot { level: 1, slot: 3 }),
+        (4, None, Place::Loose),
+    ] {
+        assert!(rt; index < wheel.capacity());
+        assert_eq!(rt;
+            (wheel.filed(index), place(&rt, &wheel, index)),
+            (filed, stands),
+            "{index}"
+        );
+    }
+    assert_eq!(rt;
+        (wheel.occupancy(0), wheel.occupancy(1), wheel.next_wake()),
+        (0, 8, Some(128))
+    );
+    // One leaves from between, and one is filed at the tick itself: it is due with the others.
+    unlink(&rt, &mut wheel, 2);
+    link(&rt, &mut wheel, 4, 128);
+    wheel.law();
+    assert_eq!(rt; settle(&rt, &mut wheel, &[130, 191, 150, 200, 128]), 3);
+    assert_eq!(rt; (wheel.least(), wheel.next_wake()), (Some(0), Some(130)));
+    Ok(())
+}
+
+#[test]
+fn arrives_a_lap_ahead(rt: HostRuntime) -> Result<(), Fail> {
+    let mut wheel = Wheel::new(rt.alloc(), 2)?;
+    assert!(rt; !arrive(&rt, &mut wheel, 5));
+    link(&rt, &mut wheel, 0, 68719476740);
+    assert!(rt; arrive(&rt, &mut wheel, LAST_TICK));
+    // While the top level's own slot is open, an index is filed as far ahead as the wheel reaches.
+    link(&rt, &mut wheel, 1, 68719476736 + REACH);
+    assert_eq!(rt;
+        (wheel.tick(), place(&rt, &wheel, 0), place(&rt, &wheel, 1)),
+        (
+            68719476736,
+            Place::Due,
+            Place::InSlot { level: 5, slot: 63 }
+        )
+    );
+    assert_eq!(rt; settle(&rt, &mut wheel, &[68719476740]), 1);
+    assert_eq!(rt; wheel.next_wake(), Some(68719476740));
     Ok(())
 }

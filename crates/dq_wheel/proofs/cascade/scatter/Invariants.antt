@@ -5,7 +5,7 @@ use Rattle.dq_wheel.proofs.cascade.scatter.Given as goal
 
 abbrev pub invariant-loop-index : goal.invariant-loop-index
 invariant-loop-index l =
-    IsScattering l.capacity l.tick l.list l.index l.filed (entry_homes l.capacity l.fn.rows) l.fn.moves l.rows l.moves l.maps l.made
+    IsScattering l.capacity l.tick l.list l.index l.fn.rows l.rows l.maps l.made
 
 abbrev pub decreases-loop-index : goal.decreases-loop-index
 decreases-loop-index l = waiting l.list (entry_homes l.capacity l.rows)

@@ -11,3 +11,9 @@ returns-clause-prev c = map-set_same _ _ _ _ _ refl
 
 pub returns-clause-home : goal.returns-clause-home
 returns-clause-home c = map-set_same _ _ _ _ _ refl
+
+pub returns-clause-filed : goal.returns-clause-filed
+returns-clause-filed c = map-set_same _ _ _ _ _ refl
+
+pub returns-clause-moves : goal.returns-clause-moves
+returns-clause-moves c = map-set_same _ _ _ _ _ refl

@@ -1,7 +1,7 @@
 use Rattle.std.proofs.Common.{ap, ◌∙◌, refl, arith}
 use Rattle.dq_core.specs.Words.{begun_counts}
 use Rattle.dq_core.proofs.Law.{few}
-use Rattle.dq_core.proofs.Inserts.{law_inserted, inserts, refused_full, same_slots}
+use Rattle.dq_core.proofs.Inserts.{law_inserted, inserts, refused_full, same_slots, room}
 use Rattle.dq_core.proofs.CallWords.{inserted_live, inserted_others}
 use Rattle.dq_core.proofs.queue.DelayCore.insert.Goals as goal
 
@@ -28,3 +28,7 @@ returns-in-Ok-clause-live g c = inserted_live (returns-in-Ok-clause-inserts g c)
 
 pub returns-in-Ok-clause-others : goal.returns-in-Ok-clause-others
 returns-in-Ok-clause-others g c = inserted_others (returns-in-Ok-clause-inserts g c)
+
+pub returns-in-Ok-clause-room : goal.returns-in-Ok-clause-room
+returns-in-Ok-clause-room g c =
+    rw (← c.self.view_is) (room _ _ c.in-Ok.index c.args.value c.in-Ok.ensures.0 c.in-Ok.ensures.1)

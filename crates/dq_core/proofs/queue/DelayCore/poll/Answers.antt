@@ -9,7 +9,8 @@ returns-in-Gave-clause-polls g c =
 pub steps-preserved : goal.steps-preserved
 steps-preserved g c = (
   on_way_more g.W.Words.shared c.args.self.now c.steps.self c.step.new.self c.args.tick c.steps.invariant.0 c.in-Went.ensures.same c.in-Went.ensures.noted c.in-Went.ensures.progress.0,
-  c.in-Went.ensures.home ∙ c.steps.invariant.1,
+  c.in-Went.ensures.origin ∙ c.steps.invariant.1,
+  λ i s d b. c.in-Went.ensures.begun i s d (c.steps.invariant.2 i s d b),
 )
 
 pub returns-in-Some-clause-polls : goal.returns-in-Some-clause-polls

@@ -13,7 +13,7 @@ returns-in_default g c =
     let b = core_of s.shard s.noted s.wheel s.slots (g.W.Words.known s.words) (g.W.Words.counts s.words) s.words in
     let at = held_at b c.self.invariant.0 c.args.index c.if-not-is_held.ensures in
     rw (← c.self.view_is)
-    (record { same = (refl, refl, refl); home = c.look-word.ensures.home; swept = swept_live g.W.Words.shared b _ c.self.invariant.0 c.args.index at.0 at.1 c.look-word.result c.look-word.ensures.learned c.in_default.not-CancelledMark refl refl c.look-word.ensures.known c.look-word.ensures.counts refl })
+    (record { same = (refl, refl, refl); origin = c.look-word.ensures.origin; begun = c.look-word.ensures.begun; swept = swept_live g.W.Words.shared b _ c.self.invariant.0 c.args.index at.0 at.1 c.look-word.result c.look-word.ensures.learned c.in_default.not-CancelledMark refl refl c.look-word.ensures.known c.look-word.ensures.counts refl })
 
 pub invariant_of-self-2 : goal.invariant_of-self-2
 invariant_of-self-2 g c =

@@ -1,7 +1,7 @@
 use Rattle.std.proofs.Common.{ap, ◌∙◌, refl, Some}
 use Rattle.dq_core.specs.Words.{finished_counts}
 use Rattle.dq_core.proofs.Ways.{core_of}
-use Rattle.dq_core.proofs.Finds.{found_cancelled, law_removed, removes, learned_at}
+use Rattle.dq_core.proofs.Finds.{found_linked, found_cancelled, law_removed, removes, learned_at}
 use Rattle.dq_core.proofs.CallWords.{missing_exactly, looked_others, removed_others, removed_gone}
 use Rattle.dq_core.proofs.queue.DelayCore.remove.Goals as goal
 
@@ -10,7 +10,7 @@ returns-in_default-finish-clause-removes g c =
     let s = c.self.inside in
     let b = core_of s.shard s.noted s.wheel s.slots (g.W.Words.known s.words) (g.W.Words.counts s.words) s.words in
     let found = rw (← c.self.view_is) at c.in-Some.ensures in
-    let changed = rw c.stamp-stamp.ensures at c.in_default-finish.ensures.changed in
+    let changed = rw (c.once_near-stamp.ensures ∙ c.stamp.ensures) at c.in_default-finish.ensures.changed in
     rw (← c.self.view_is)
     (found_cancelled g.W.Words.shared b c.self.invariant.0 c.args.entry.now c.in-Some.index found _ _ changed.1 (learned_at _ _ _ _ changed) c.in_default-finish.ensures.known refl refl c.in_default-finish.ensures.counts refl refl)
 
@@ -19,7 +19,7 @@ invariant_of-self-2 g c =
     let s = c.self.inside in
     let b = core_of s.shard s.noted s.wheel s.slots (g.W.Words.known s.words) (g.W.Words.counts s.words) s.words in
     let found = rw (← c.self.view_is) at c.in-Some.ensures in
-    (law_removed g.W.Words.shared b c.self.invariant.0 c.args.entry.now c.in-Some.index found c.unlink.new.self c.vacate-held.new.self (g.W.Words.known c.finish.new.self) (g.W.Words.counts c.finish.new.self) c.stamp-stamp.result c.in-Some-finish.deadline c.stamp-stamp.ensures c.in-Some-finish.ensures.changed.1 c.unlink.ensures.exact c.vacate-held.ensures.vacated c.in-Some-finish.ensures.known c.in-Some-finish.ensures.counts, c.in-Some-finish.ensures.counts ∙ ap (λ x. finished_counts x (Some c.in-Some-finish.deadline)) c.self.invariant.1)
+    (law_removed g.W.Words.shared b c.self.invariant.0 c.args.entry.now c.in-Some.index found c.unlink.new.self c.vacate-held.new.self (g.W.Words.known c.finish.new.self) (g.W.Words.counts c.finish.new.self) c.once_near-stamp.result c.in-Some-finish.deadline (c.once_near-stamp.ensures ∙ c.stamp.ensures) c.in-Some-finish.ensures.changed.1 c.unlink.ensures.exact c.vacate-held.ensures.vacated c.in-Some-finish.ensures.known c.in-Some-finish.ensures.counts, c.in-Some-finish.ensures.counts ∙ ap (λ x. finished_counts x (Some c.in-Some-finish.deadline)) c.self.invariant.1)
 
 pub returns-clause-removes : goal.returns-clause-removes
 returns-clause-removes g c =
@@ -27,7 +27,7 @@ returns-clause-removes g c =
     let b = core_of s.shard s.noted s.wheel s.slots (g.W.Words.known s.words) (g.W.Words.counts s.words) s.words in
     let found = rw (← c.self.view_is) at c.in-Some.ensures in
     rw (← c.self.view_is)
-    (removes g.W.Words.shared b c.self.invariant.0 c.args.entry.now c.in-Some.index found _ c.stamp-stamp.result c.in-Some-finish.deadline c.vacate-held.result _ c.stamp-stamp.ensures c.in-Some-finish.ensures.changed c.vacate-held.ensures.held c.unlink.ensures.exact c.vacate-held.ensures.vacated c.in-Some-finish.ensures.known c.in-Some-finish.ensures.counts c.new.ensures refl refl refl refl)
+    (removes g.W.Words.shared b c.self.invariant.0 c.args.entry.now c.in-Some.index found _ c.once_near-stamp.result c.in-Some-finish.deadline c.vacate-held.result _ (c.once_near-stamp.ensures ∙ c.stamp.ensures) c.in-Some-finish.ensures.changed c.vacate-held.ensures.held c.unlink.ensures.exact c.vacate-held.ensures.vacated c.in-Some-finish.ensures.known c.in-Some-finish.ensures.counts c.new.ensures refl refl refl refl)
 
 pub returns-in_default-finish-clause-others : goal.returns-in_default-finish-clause-others
 returns-in_default-finish-clause-others g c = looked_others (returns-in_default-finish-clause-removes g c).looked
@@ -51,3 +51,10 @@ returns-clause-missing g c =
     let b = core_of s.shard s.noted s.wheel s.slots (g.W.Words.known s.words) (g.W.Words.counts s.words) s.words in
     let found = rw (← c.self.view_is) at c.in-Some.ensures in
     rw (← c.self.view_is) (missing_exactly b c.self.invariant.0 c.args.entry.now c.in-Some.index found _ (λ e. cc))
+
+pub once_near-stamp-requires-clause-linked : goal.once_near-stamp-requires-clause-linked
+once_near-stamp-requires-clause-linked g c =
+    let s = c.self.inside in
+    let b = core_of s.shard s.noted s.wheel s.slots (g.W.Words.known s.words) (g.W.Words.counts s.words) s.words in
+    let found = rw (← c.self.view_is) at c.in-Some.ensures in
+    found_linked b c.self.invariant.0 c.args.entry.now c.in-Some.index found

@@ -6,4 +6,4 @@ pub returns : goal.returns
 returns g c =
     let named = ap (λ e. e.index) c.entry.ensures in
     rw (← ap (λ w. w.known) c.self.view_is)
-    (live_by_key c.self.inside.row c.args.key.now c.index-index.result c.stamp-2.result c.live_at.result (omega arith) (omega arith) (omega arith) (omega arith) c.live_at.ensures)
+    (live_by_key c.self.inside.row c.args.key.now c.index-index.result c.stamp-stamp.result c.live_at.result (omega arith) (omega arith) (omega arith) (omega arith) (omega arith) c.live_at.ensures)

@@ -1,23 +1,14 @@
-use Rattle.dq_stream.proofs.Giving.{value, rest, given, empty}
-use Rattle.dq_stream.proofs.Parked.{parked_at_wake}
+use Rattle.dq_stream.proofs.Giving.{value, rest}
 use Rattle.dq_stream.proofs.stream.ExpiredStreamStream.poll_next.Goals as goal
 
-pub returns-clause-value : goal.returns-clause-value
-returns-clause-value g c =
-    rw c.if-self.false (value c.args.cx.now c.turn-answer.new.cx c.in-Ok.shard _ _ c.law.ensures c.law-2.ensures _ c.turn-answer.ensures.polls.2)
+pub returns-in-Ok-clause-value : goal.returns-in-Ok-clause-value
+returns-in-Ok-clause-value g c =
+    let once = c.poll_locked-answer.ensures in
+    value c.args.cx.now c.poll_locked-answer.new.cx c.in-Ok.shard _ _ c.law.ensures c.law-else-self.ensures c.in-Ok.ensures.number
+    _ _ (λ over. (once.over over).0) (λ goes. ((once.polls goes).0, (once.polls goes).2))
 
-pub returns-clause-rest : goal.returns-clause-rest
-returns-clause-rest g c =
-    rw (c.if-self.false, c.ends-self.ensures) (rest c.args.cx.now c.turn-answer.new.cx c.in-Ok.shard _ _ c.law.ensures c.law-2.ensures _ c.turn-answer.ensures.polls.2)
-
-pub returns-clause-waits : goal.returns-clause-waits
-returns-clause-waits g c =
-    parked_at_wake c.args.cx.now c.turn-answer.new.cx c.in-Ok.shard _ _ _ c.law-2.ensures c.turn-answer.ensures.polls.2
-
-pub returns-clause-given : goal.returns-clause-given
-returns-clause-given g c =
-    given c.args.cx.now c.turn-answer.new.cx c.in-Ok.shard _ _ c.law.ensures c.law-2.ensures _ c.turn-answer.ensures.polls.2
-
-pub returns-clause-empty : goal.returns-clause-empty
-returns-clause-empty g c =
-    empty c.args.cx.now c.turn-answer.new.cx c.in-Ok.shard _ _ c.law.ensures c.law-2.ensures _ _ c.turn-answer.ensures.polls.2
+pub returns-in-Ok-clause-rest : goal.returns-in-Ok-clause-rest
+returns-in-Ok-clause-rest g c =
+    let once = c.poll_locked-answer.ensures in
+    rest c.args.cx.now c.poll_locked-answer.new.cx c.in-Ok.shard _ _ c.law.ensures c.law-else-self.ensures c.in-Ok.ensures.number
+    _ _ _ _ once.stays.1 (λ over. (once.over over).0) once.ends (λ goes. ((once.polls goes).0, (once.polls goes).2))

@@ -7,4 +7,4 @@ use Rattle.dq_wheel.proofs.wheel.Wheel.filed.Goals as goal
 pub returns-clause-within : goal.returns-clause-within
 returns-clause-within g c =
     let value : c.filed_of.result ≡ filed_at c.args.self.now.filing.filed c.args.index = grind (arith, common_steps) in
-    rw value (seen_within _ _ _ _ _ _ c.self.invariant (ap (λ w. w.filing) c.self.view_is) _ c.requires)
+    rw value (seen_within _ _ _ _ _ _ c.self.invariant.0 (ap (λ w. w.filing) c.self.view_is) _ c.requires)

@@ -4,5 +4,5 @@ use Rattle.dq_wheel.proofs.wheel.Wheel.occupancy.Goals as goal
 
 pub returns : goal.returns
 returns g c =
-    seen_occupied _ _ _ _ _ _ c.self.invariant (ap (λ w. w.filing) c.self.view_is) _ _ c.requires
+    seen_occupied _ _ _ _ _ _ c.self.invariant.0 (ap (λ w. w.filing) c.self.view_is) _ _ c.requires
     (rw c.due_list.ensures.value at c.map_without.ensures)

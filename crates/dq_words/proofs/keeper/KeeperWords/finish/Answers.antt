@@ -2,6 +2,7 @@ use Rattle.std.proofs.Common.{sym, ap}
 use Rattle.dq_words.specs.KeeperCalls.{KeeperFinishes}
 use Rattle.dq_words.specs.Seats.{Sat}
 use Rattle.dq_words.proofs.Bridge.{finishes_parts}
+use Rattle.dq_words.proofs.Begun.{finish_stays}
 use Rattle.dq_words.proofs.keeper.KeeperWords.finish.Goals as goal
 
 pub returns-clause-changed : goal.returns-clause-changed
@@ -15,3 +16,9 @@ returns-clause-known g c =
     let own = ap (λ (s : Sat). s.view) (sym c.self.view_is) in
     let h : KeeperFinishes c.args.self.now.view c.args.index c.args.stamp c.finish.result c.finish.new.seat.view = rw own c.finish.ensures.finishes in
     (finishes_parts _ _ _ _ c.requires.in_range _ h).1
+
+pub returns-clause-begun : goal.returns-clause-begun
+returns-clause-begun g c =
+    let own = ap (λ (s : Sat). s.view) (sym c.self.view_is) in
+    let h : KeeperFinishes c.args.self.now.view c.args.index c.args.stamp c.finish.result c.finish.new.seat.view = rw own c.finish.ensures.finishes in
+    finish_stays c.args.self.now.view c.finish.new.seat.view c.args.index c.args.stamp c.finish.result h

@@ -1,10 +1,18 @@
 use Rattle.std.proofs.Common.{sym, ap}
+use Rattle.dq_words.specs.Plays.{KeeperLoads}
 use Rattle.dq_words.specs.Seats.{Sat}
 use Rattle.dq_words.specs.declared.views.View.{View}
 use Rattle.dq_words.proofs.Bridge.{row_set}
+use Rattle.dq_words.proofs.Begun.{load_stays}
 use Rattle.dq_words.proofs.keeper.KeeperWords.look.Goals as goal
 
 pub returns-clause-known : goal.returns-clause-known
 returns-clause-known g c =
     let own = ap (λ (s : Sat). s.view) (sym c.self.view_is) in
     row_set _ _ _ _ _ (rw own (ap (λ (v : View). v.seen) c.keeper_load.ensures.step.0)) (sym c.unpack.ensures)
+
+pub returns-clause-begun : goal.returns-clause-begun
+returns-clause-begun g c =
+    let own = ap (λ (s : Sat). s.view) (sym c.self.view_is) in
+    let h : KeeperLoads c.args.self.now.view c.keeper_load.new.self.view c.args.index c.keeper_load.result = rw own c.keeper_load.ensures.step in
+    load_stays c.args.self.now.view c.keeper_load.new.self.view c.args.index c.keeper_load.result h

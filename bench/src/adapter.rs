@@ -1,0 +1,122 @@
+//! Our queue by tokio_util's own calls: the crate `hontkhale-tokio`, under a clock that stands until it is moved.
+
+use std::task::{Context, Poll, Waker};
+use std::time::Duration;
+
+use hontkhale_tokio::delay_queue::{Expired, Key};
+use hontkhale_tokio::{DelayQueue, Handle};
+use tokio::time::Instant;
+
+use crate::queue::{Extends, Parts, Polls, Queue, Shared};
+use crate::tokio_queue::PausedClock;
+
+/// Who extends and cancels.
+#[derive(Clone, Copy, PartialEq, Eq)]
+pub enum Touching {
+    /// The owner, by the calls that `DelayQueue` has: a `reset_at` and a `remove`.
+    Owner,
+    /// A handle.
+    Handle,
+}
+
+/// The queue, and a handle in its owner's hands.
+pub struct Adapter {
+    queue: DelayQueue<u64>,
+    handle: Option<Handle>,
+    start: Instant,
+}
+
+impl Adapter {
+    /// A queue within the runtime of that clock.
+    pub fn new(clock: &PausedClock, capacity: usize, touching: Touching) -> Adapter {
+        clock.enter(|| {
+            let mut queue = DelayQueue::with_capacity(capacity);
+            let handle = (touching == Touching::Handle).then(|| queue.handle());
+            Adapter { queue, handle, start: clock.start() }
+        })
+    }
+}
+
+fn moment(start: Instant, tick: u64) -> Instant {
+    start + Duration::from_millis(tick)
+}
+
+#[inline(always)]
+fn extended(handle: &Handle, start: Instant, key: &Key, deadline: u64) -> u64 {
+    let when = moment(start, deadline);
+    let in_force = handle.extend_at(key, when).expect("the entry is live");
+    if in_force == when {
+        deadline
+    } else {
+        in_force.duration_since(start).as_millis() as u64
+    }
+}
+
+/// The clock says the tick.
+#[inline(always)]
+fn polled(queue: &mut DelayQueue<u64>) -> Option<Expired<u64>> {
+    match queue.poll_expired(&mut Context::from_waker(Waker::noop())) {
+        Poll::Ready(out) => out,
+        Poll::Pending => None,
+    }
+}
+
+impl Queue for Adapter {
+    type Key = Key;
+    type Out = Expired<u64>;
+
+    fn insert(&mut self, value: u64, deadline: u64) -> Key {
+        self.queue.insert_at(value, moment(self.start, deadline))
+    }
+
+    fn extend(&mut self, key: Key, deadline: u64) -> u64 {
+        match &self.handle {
+            Some(handle) => extended(handle, self.start, &key, deadline),
+            None => {
+                self.queue.reset_at(&key, moment(self.start, deadline));
+                deadline
+            }
+        }
+    }
+
+    fn reset(&mut self, key: Key, deadline: u64) -> Key {
+        self.queue.reset_at(&key, moment(self.start, deadline));
+        key
+    }
+
+    fn remove(&mut self, key: Key) -> u64 {
+        self.queue.remove(&key).into_inner()
+    }
+
+    fn cancel(&mut self, key: Key) {
+        match &self.handle {
+            Some(handle) => assert!(handle.cancel(&key).is_ok(), "the entry is live"),
+            None => drop(self.queue.remove(&key)),
+        }
+    }
+
+    fn poll(&mut self, _tick: u64) -> Option<Expired<u64>> {
+        polled(&mut self.queue)
+    }
+
+    fn value(out: &Expired<u64>) -> u64 {
+        *out.get_ref()
+    }
+
+    fn deadline(&self, out: &Expired<u64>) -> u64 {
+        out.deadline().duration_since(self.start).as_millis() as u64
+    }
+}
+
+impl Shared for Adapter {
+    fn share(&mut self, threads: usize) -> Parts<impl Extends<Key>, impl Polls<Expired<u64>>> {
+        let (start, queue) = (self.start, &mut self.queue);
+        let extends = (0..threads)
+            .map(|_| {
+                let handle = queue.handle();
+                move |key, deadline| extended(&handle, start, &key, deadline)
+            })
+            .collect();
+        Parts { extends, poll: move |_| polled(queue) }
+    }
+}

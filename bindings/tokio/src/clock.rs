@@ -1,0 +1,52 @@
+//! Moments of tokio's clock as ticks of one millisecond.
+
+use std::time::Duration;
+use tokio::time::Instant;
+
+const NANOS_PER_MILLI: u32 = 1_000_000;
+
+#[derive(Clone, Copy, Debug)]
+pub(crate) struct Clock {
+    /// The moment of tick 0.
+    start: Instant,
+}
+
+impl Clock {
+    /// It is tick 0 now.
+    pub fn new() -> Clock {
+        Clock { start: Instant::now() }
+    }
+
+    /// The tick at which a moment is reached: milliseconds since the start, rounded up; 0 before it.
+    #[inline]
+    pub fn tick_at(&self, moment: Instant) -> u64 {
+        millis_up(moment.saturating_duration_since(self.start))
+    }
+
+    /// The tick that is reached that long after now, none where no moment is.
+    #[inline]
+    pub fn tick_after(&self, timeout: Duration) -> Option<u64> {
+        let since = Instant::now().saturating_duration_since(self.start);
+        since.checked_add(timeout).map(millis_up)
+    }
+
+    /// The tick that is over now: milliseconds since the start, rounded down.
+    #[inline]
+    pub fn tick_over(&self) -> u64 {
+        let since = Instant::now().saturating_duration_since(self.start);
+        since.as_secs().saturating_mul(1_000).saturating_add(u64::from(since.subsec_millis()))
+    }
+
+    /// The moment of a tick.
+    #[inline]
+    pub fn moment(&self, tick: u64) -> Instant {
+        self.start + Duration::from_millis(tick)
+    }
+}
+
+/// Whole milliseconds, rounded up.
+#[inline]
+fn millis_up(since: Duration) -> u64 {
+    let millis = (since.subsec_nanos() + NANOS_PER_MILLI - 1) / NANOS_PER_MILLI;
+    since.as_secs().saturating_mul(1_000).saturating_add(u64::from(millis))
+}

@@ -1,0 +1,38 @@
+#![doc = include_str!("../README.md")]
+#![warn(missing_docs)]
+#![forbid(unsafe_code)]
+
+mod clock;
+mod handle;
+mod key;
+mod moves;
+mod part;
+mod parts;
+mod queue;
+mod seats;
+mod sharded;
+mod shared;
+mod stream;
+#[cfg(test)]
+mod tests;
+
+pub use handle::{EntryError, Handle};
+pub use queue::DelayQueue;
+pub use sharded::{SharedDelayQueue, SharedHandle};
+pub use stream::ExpiredStream;
+
+/// The types beside [`DelayQueue`], under the name of the module in which tokio_util has them.
+pub mod delay_queue {
+    pub use crate::key::{Expired, Key};
+    pub use crate::queue::DelayQueue;
+}
+
+/// The types beside [`SharedDelayQueue`]: its keys and its refusals are those of the crate `hontkhale`.
+pub mod shared_queue {
+    pub use crate::sharded::{SharedDelayQueue, SharedHandle};
+    pub use crate::stream::ExpiredStream;
+    pub use hontkhale::{CallError, InsertError, IssueError, Key, NewError, QueueError, SharedConfig, SharedError};
+
+    /// An entry that came out of a [`SharedDelayQueue`], or was removed from it.
+    pub type Expired<T> = crate::key::Expired<T, Key>;
+}

@@ -1,0 +1,74 @@
+//! The callers that a thread keeps, one for each part at which it called: so a handle can be shared, and takes no lock.
+
+use crate::key::Key;
+use crate::shared::{Link, Refusal, Shared, Step};
+use hontkhale::Caller;
+use std::cell::RefCell;
+use std::sync::Arc;
+
+thread_local! {
+    static SEATS: RefCell<Seats> = const { RefCell::new(Seats { row: Vec::new(), last: 0 }) };
+}
+
+/// A thread's seats in the order of their shards.
+struct Seats {
+    row: Vec<Seat>,
+    /// The seat of the last call.
+    last: usize,
+}
+
+struct Seat {
+    link: Arc<Link>,
+    /// Here until the drop.
+    caller: Option<Caller>,
+}
+
+/// A step from the thread's seat at the entry's part, none where it has no seat.
+#[inline]
+pub(crate) fn step(shared: &Shared, key: &Key, step: Step) -> Option<Result<u64, Refusal>> {
+    SEATS
+        .try_with(|seats| {
+            let mut seats = seats.try_borrow_mut().ok()?;
+            let Seat { link, caller } = seats.of(key.shard)?;
+            // A handle takes no key of another queue.
+            if link.queue != shared.id {
+                return Some(Err(Refusal::Ended));
+            }
+            Some(link.step(caller.as_mut()?, key, step))
+        })
+        .ok()
+        .flatten()
+}
+
+/// Keeps a caller for the thread. Seats at parts that aren't there any more are given up.
+pub(crate) fn take(link: Arc<Link>, caller: Caller) {
+    let seat = Seat { link, caller: Some(caller) };
+    // Where the thread ends just now the seat is dropped, which gives the caller back.
+    let _ = SEATS.try_with(|seats| {
+        if let Ok(mut seats) = seats.try_borrow_mut() {
+            seats.row.retain(|it| !it.link.is_closed());
+            let place = seats.row.partition_point(|it| it.link.shard < seat.link.shard);
+            seats.row.insert(place, seat);
+            seats.last = place;
+        }
+    });
+}
+
+impl Seats {
+    #[inline]
+    fn of(&mut self, shard: u32) -> Option<&mut Seat> {
+        match self.row.get(self.last) {
+            Some(seat) if seat.link.shard == shard => {}
+            _ => self.last = self.row.binary_search_by_key(&shard, |seat| seat.link.shard).ok()?,
+        }
+        self.row.get_mut(self.last)
+    }
+}
+
+impl Drop for Seat {
+    fn drop(&mut self) {
+        if let Some(caller) = self.caller.take() {
+            self.link.give_back(caller);
+        }
+    }
+}

@@ -1,0 +1,256 @@
+use crate::sharded::{expired, Inner};
+use crate::shared_queue::Expired;
+use futures_core::{ready, Stream};
+use hontkhale::{Seat, SharedError, Turn, LAST_TICK};
+use std::fmt;
+use std::future::Future;
+use std::ops::Range;
+use std::pin::Pin;
+use std::sync::atomic::{AtomicU64, Ordering::SeqCst};
+use std::sync::{Arc, Mutex, MutexGuard, PoisonError};
+use std::task::{Context, Poll, Wake, Waker};
+use tokio::time::{sleep_until, Sleep};
+
+/// The wake of an empty shard.
+const NEVER: u64 = u64::MAX;
+
+/// What is due in a [`SharedDelayQueue`](crate::SharedDelayQueue): in all of its shards, or in one.
+///
+/// Entries come out in the order of their deadlines, over all shards of the stream; one that is put in late, or reset to a
+/// moment that is over, comes out next. Where none is due the task sleeps, and is woken by tokio's timer, or by an insert or
+/// a reset that comes sooner, from any thread. A handle's extend or cancel wakes nobody.
+///
+/// Each entry comes out once, under the lock of its shard, and no earlier than its deadline. Nothing is taken out ahead: a
+/// stream that is dropped leaves all entries where they are, and a new stream gives them.
+///
+/// A shard has one stream, the one that was made last. A stream whose shard was taken over goes on with the others that it
+/// has.
+///
+/// **`None`** means that nothing comes any more. Either the shards are empty and the last hold of the queue was dropped, so
+/// that nobody can put anything in; or other streams took over every shard ([`is_replaced`](ExpiredStream::is_replaced)).
+/// While somebody has the queue, a stream over empty shards waits.
+pub struct ExpiredStream<T> {
+    inner: Arc<Inner<T>>,
+    places: Vec<Place>,
+    bells: Arc<Bells>,
+    /// The greatest tick that is known to be over.
+    reached: u64,
+    sleep: Option<Pin<Box<Sleep>>>,
+}
+
+/// The stream's place in a shard.
+struct Place {
+    /// None where another stream took the shard over.
+    seat: Option<Seat>,
+    /// A tick before which nothing comes out of the shard. While it lies ahead, the waker is parked there until it.
+    wake: u64,
+    waker: Waker,
+}
+
+/// What the stream's shards tell it.
+#[derive(Default)]
+struct Bells {
+    /// A bit for each place in whose shard something came.
+    rung: AtomicU64,
+    task: Mutex<Option<Waker>>,
+}
+
+/// The waker that is parked in a shard.
+struct Bell {
+    bells: Arc<Bells>,
+    bit: u64,
+}
+
+/// The next entry of a stream.
+struct Next<'a, T>(&'a mut ExpiredStream<T>);
+
+enum Found<T> {
+    Out(Expired<T>),
+    /// Nothing before that tick.
+    Waiting(u64),
+    Idle,
+}
+
+// No value is ever pinned.
+impl<T> Unpin for ExpiredStream<T> {}
+
+impl<T> ExpiredStream<T> {
+    pub(crate) fn of(inner: Arc<Inner<T>>, shards: Range<usize>) -> ExpiredStream<T> {
+        let bells = Arc::<Bells>::default();
+        let places = shards
+            .enumerate()
+            .map(|(at, shard)| {
+                let bell = Bell { bells: Arc::clone(&bells), bit: 1 << at };
+                let seat = inner.queue.seat(shard).expect("a shard of the queue");
+                Place { seat: Some(seat), wake: 0, waker: Waker::from(Arc::new(bell)) }
+            })
+            .collect();
+        ExpiredStream { inner, places, bells, reached: 0, sleep: None }
+    }
+
+    /// Takes out the entry whose deadline is reached first. Pending where none is, and the task is woken for the next; none
+    /// where nothing comes any more.
+    pub fn poll_expired(&mut self, cx: &mut Context<'_>) -> Poll<Option<Expired<T>>> {
+        self.bells.listen(cx.waker());
+        let mut has_looked = false;
+        loop {
+            match self.turn() {
+                Found::Out(out) => return Poll::Ready(Some(out)),
+                Found::Waiting(wake) => {
+                    if !has_looked {
+                        has_looked = true;
+                        self.reached = self.reached.max(self.inner.clock.tick_over());
+                    }
+                    if wake > self.reached {
+                        ready!(self.poll_sleep(wake, cx));
+                    }
+                }
+                // The places are parked by now, so a hold that is dropped from here on wakes the task.
+                Found::Idle if self.inner.may_be_filled() && !self.is_replaced() => return Poll::Pending,
+                Found::Idle => return Poll::Ready(None),
+            }
+        }
+    }
+
+    /// The next entry, as [`poll_expired`](ExpiredStream::poll_expired) gives it. A future that is dropped loses none.
+    pub async fn next(&mut self) -> Option<Expired<T>> {
+        Next(self).await
+    }
+
+    /// Whether other streams took over every shard.
+    pub fn is_replaced(&self) -> bool {
+        self.places.iter().all(|place| place.seat.is_none())
+    }
+
+    /// What the shards have at the tick that is reached.
+    fn turn(&mut self) -> Found<T> {
+        loop {
+            self.heed();
+            let (at, wake, second) = self.soonest();
+            if wake == NEVER {
+                return Found::Idle;
+            }
+            if wake > self.reached {
+                return Found::Waiting(wake);
+            }
+            let limit = self.reached.min(second).min(LAST_TICK);
+            if let Some(out) = self.places[at].poll(&self.inner, limit) {
+                return Found::Out(out);
+            }
+        }
+    }
+
+    /// The places in whose shards something came are to be polled.
+    fn heed(&mut self) {
+        let mut rung = self.bells.rung.swap(0, SeqCst);
+        while rung != 0 {
+            let place = &mut self.places[rung.trailing_zeros() as usize];
+            if place.seat.is_some() {
+                place.wake = 0;
+            }
+            rung &= rung - 1;
+        }
+    }
+
+    /// The place with the least wake, that wake, and the least of the others'.
+    fn soonest(&self) -> (usize, u64, u64) {
+        let (mut at, mut wake, mut second) = (0, NEVER, NEVER);
+        for (it, place) in self.places.iter().enumerate() {
+            if place.wake < wake {
+                (at, second, wake) = (it, wake, place.wake);
+            } else {
+                second = second.min(place.wake);
+            }
+        }
+        (at, wake, second)
+    }
+
+    /// Sleeps until a tick. Ready where it is reached.
+    fn poll_sleep(&mut self, wake: u64, cx: &mut Context<'_>) -> Poll<()> {
+        let moment = self.inner.clock.moment(wake);
+        let sleep = self.sleep.get_or_insert_with(|| Box::pin(sleep_until(moment)));
+        if sleep.deadline() != moment {
+            sleep.as_mut().reset(moment);
+        }
+        ready!(sleep.as_mut().poll(cx));
+        self.reached = wake;
+        Poll::Ready(())
+    }
+}
+
+impl Place {
+    /// Takes one entry out of the shard that is due at a tick.
+    fn poll<T>(&mut self, inner: &Inner<T>, tick: u64) -> Option<Expired<T>> {
+        let seat = self.seat.as_ref()?;
+        match inner.queue.poll_or_park(seat, tick, &self.waker) {
+            Ok(Turn::Out(out)) => {
+                self.wake = out.deadline();
+                return Some(expired(out, inner.clock));
+            }
+            Ok(Turn::Waiting { next }) => self.wake = next,
+            Ok(_) => self.wake = NEVER,
+            Err(SharedError::Replaced) => (self.seat, self.wake) = (None, NEVER),
+            Err(error) => unreachable!("a seat of the queue, and a tick up to the last: {}", error),
+        }
+        None
+    }
+}
+
+impl Bells {
+    fn task(&self) -> MutexGuard<'_, Option<Waker>> {
+        self.task.lock().unwrap_or_else(PoisonError::into_inner)
+    }
+
+    /// From here on a bell wakes that task, once.
+    fn listen(&self, waker: &Waker) {
+        match &mut *self.task() {
+            Some(task) if task.will_wake(waker) => {}
+            task => *task = Some(waker.clone()),
+        }
+    }
+}
+
+impl Wake for Bell {
+    fn wake(self: Arc<Bell>) {
+        self.wake_by_ref();
+    }
+
+    fn wake_by_ref(self: &Arc<Bell>) {
+        self.bells.rung.fetch_or(self.bit, SeqCst);
+        let task = self.bells.task().take();
+        if let Some(task) = task {
+            task.wake();
+        }
+    }
+}
+
+impl<T> Drop for ExpiredStream<T> {
+    fn drop(&mut self) {
+        // A bell that stays parked wakes nobody.
+        let task = self.bells.task().take();
+        drop(task);
+    }
+}
+
+impl<T> Future for Next<'_, T> {
+    type Output = Option<Expired<T>>;
+
+    fn poll(self: Pin<&mut Self>, cx: &mut Context<'_>) -> Poll<Option<Expired<T>>> {
+        self.get_mut().0.poll_expired(cx)
+    }
+}
+
+impl<T> Stream for ExpiredStream<T> {
+    type Item = Expired<T>;
+
+    fn poll_next(self: Pin<&mut Self>, cx: &mut Context<'_>) -> Poll<Option<Expired<T>>> {
+        self.get_mut().poll_expired(cx)
+    }
+}
+
+impl<T> fmt::Debug for ExpiredStream<T> {
+    fn fmt(&self, f: &mut fmt::Formatter<'_>) -> fmt::Result {
+        let shards = self.places.iter().filter(|place| place.seat.is_some()).count();
+        f.debug_struct("ExpiredStream").field("shards", &shards).finish_non_exhaustive()
+    }
+}

@@ -1,0 +1,172 @@
+//! Slots that have no stamp left: a refresh, the calls that refresh by themselves, and what leaves a cache.
+
+use dq_apps::TtlCache;
+use dq_core::CoreError;
+use linked_list_allocator::LocalHeap;
+use refusing_heap::RefusingHeap;
+use std::alloc::{AllocError, Global};
+use std::process::Abort;
+use std::test::Fail;
+
+// Two keys until tick 10, in slots that are both at their last stamp.
+fn worn_cache(rt: &impl Abort, alloc: Global) -> Result<TtlCache<char, u32>, Fail> {
+    let mut cache = TtlCache::new(alloc, 2, 2)?;
+    for (key, value) in [('a', 1), ('b', 2), ('a', 3), ('b', 4)] {
+        assert!(rt; cache.put(key, value, 10, 0).is_ok(), "{key} {value}");
+    }
+    assert_eq!(rt; cache.renew(&'a', 5, 0), Err(CoreError::Worn));
+    Ok(cache)
+}
+
+// A refresh leaves what is seen, and each key can be renewed again.
+#[test]
+fn a_refresh_keeps_what_is_seen(rt: HostRuntime) -> Result<(), Fail> {
+    let mut cache = worn_cache(&rt, rt.alloc())?;
+    assert_eq!(rt; cache.refresh(), Ok(()));
+    assert_eq!(rt; (cache.len(), cache.moment(), cache.worn()), (2, 0, 0));
+    assert_eq!(rt; cache.next_deadline(), Some(10));
+    for (key, now, value) in [('a', 9, Some(3)), ('b', 9, Some(4)), ('a', 10, None)] {
+        assert_eq!(rt; cache.get(&key, now).copied(), value, "{key} at {now}");
+    }
+    assert_eq!(rt; cache.renew(&'a', 15, 1), Ok(16));
+    assert_eq!(rt; cache.purge(10), Ok(1));
+    assert_eq!(rt; cache.get(&'a', 15).copied(), Some(3));
+    Ok(())
+}
+
+// A key in a worn slot gets its deadline and its value, and one that isn't kept the place of a worn slot.
+#[test]
+fn touch_and_set_refresh(rt: HostRuntime) -> Result<(), Fail> {
+    let mut cache = worn_cache(&rt, rt.alloc())?;
+    assert_eq!(rt; cache.touch(&'a', 15, 1), Ok(16));
+    assert_eq!(rt; cache.touch(&'c', 15, 1), Err(CoreError::Missing));
+    let mut cache = worn_cache(&rt, rt.alloc())?;
+    assert!(rt; matches!(cache.set('b', 5, 15, 1), Ok(Some(4))));
+    assert_eq!(rt; cache.get(&'b', 15).copied(), Some(5));
+    let mut cache = worn_cache(&rt, rt.alloc())?;
+    assert_eq!(rt; (cache.take(&'b', 1), cache.worn()), (Some(4), 1));
+    assert!(rt;
+        matches!(
+            cache.put('c', 6, 15, 1),
+            Err((CoreError::Full { linked: 1, worn: 1 }, 'c', 6))
+        )
+    );
+    assert!(rt; matches!(cache.set('c', 6, 15, 1), Ok(None)));
+    assert_eq!(rt; (cache.len(), cache.worn()), (2, 0));
+    assert!(rt;
+        matches!(
+            cache.set('d', 7, 5, 2),
+            Err((CoreError::Full { linked: 2, worn: 0 }, 'd', 7))
+        )
+    );
+    Ok(())
+}
+
+// Two stamps a slot are enough for as many calls as one likes; one stamp is not.
+#[test]
+fn two_stamps_are_enough(rt: HostRuntime) -> Result<(), Fail> {
+    let mut cache: TtlCache<char, u64> = TtlCache::new(rt.alloc(), 2, 2)?;
+    for now in 0..300 {
+        assert!(rt; cache.set('a', now, 10, now).is_ok(), "set at {now}");
+        assert!(rt; cache.touch(&'a', 20, now).is_ok(), "touch at {now}");
+        assert!(rt; cache.set('b', now, 1, now).is_ok(), "other at {now}");
+    }
+    assert_eq!(rt;
+        (cache.len(), cache.get(&'a', 300).copied()),
+        (2, Some(299))
+    );
+    let mut once: TtlCache<char, u64> = TtlCache::new(rt.alloc(), 1, 1)?;
+    assert!(rt; once.set('a', 1, 10, 0).is_ok());
+    assert_eq!(rt; once.touch(&'a', 10, 0), Err(CoreError::Worn));
+    Ok(())
+}
+
+// Whether a refresh was refused, which left the cache as it was; none where the cache wasn't made.
+fn is_refused(rt: &impl Abort, heap: &RefusingHeap<&LocalHeap>) -> Option<bool> {
+    let mut cache: TtlCache<char, u32, &RefusingHeap<&LocalHeap>> = match TtlCache::new(
+        heap, 2, 2,
+    ) {
+        Ok(cache) => cache,
+        Err(_) => return None,
+    };
+    for (key, value) in [('a', 1), ('a', 2), ('b', 3)] {
+        if cache.put(key, value, 10, 0).is_err() {
+            return None;
+        }
+    }
+    let refreshed = cache.refresh();
+    assert_eq!(rt;
+        (cache.len(), cache.worn(), cache.next_deadline()),
+        (2, 0, Some(10))
+    );
+    assert_eq!(rt; cache.get(&'a', 9).copied(), Some(2));
+    match refreshed {
+        Ok(()) => assert_eq!(rt; cache.renew(&'a', 10, 1), Ok(11)),
+        Err(error) => {
+            assert_eq!(rt; error, CoreError::NoMemory);
+            assert_eq!(rt; cache.renew(&'a', 10, 1), Err(CoreError::Worn));
+        }
+    }
+    Some(refreshed.is_err())
+}
+
+#[test]
+fn each_allocation_of_a_refresh_is_refused(rt: HostRuntime) -> Result<(), Fail> {
+    let mut refusals = 0usize;
+    for grants in 0..100u64 {
+        let all = LocalHeap::new(rt.alloc(), 1 << 16)?;
+        let heap = RefusingHeap::new(&all, grants);
+        let refused = is_refused(&rt, &heap);
+        assert_eq!(rt; all.used(), 0);
+        match refused {
+            None => {}
+            Some(true) => refusals = refusals.saturating_add(1),
+            Some(false) => {
+                // Words, wheel and slots.
+                assert!(rt; !heap.has_refused() && refusals >= 3);
+                return Ok(());
+            }
+        }
+    }
+    assert!(rt; false, "each run was refused");
+    Ok(())
+}
+
+type Text<'heap> = String<&'heap LocalHeap>;
+
+fn text(heap: &LocalHeap) -> Result<Text<'_>, AllocError> {
+    String::from_str(heap, "a value")
+}
+
+// Values that own memory leave a cache by each call that lets one go, and the last with the cache.
+fn let_go(rt: &impl Abort, alloc: Global, heap: &LocalHeap) -> Result<(), Fail> {
+    let mut cache: TtlCache<char, Text> = TtlCache::with_capacity(alloc, 2)?;
+    assert!(rt; cache.put('a', text(heap)?, 10, 0).is_ok());
+    let one = heap.used();
+    assert!(rt; one > 0);
+    assert!(rt; cache.put('a', text(heap)?, 10, 0).is_ok());
+    assert_eq!(rt; heap.used(), one);
+    assert!(rt; cache.put('b', text(heap)?, 5, 0).is_ok());
+    assert_eq!(rt; heap.used(), one.saturating_mul(2));
+    assert!(rt; cache.put('c', text(heap)?, 5, 0).is_err());
+    assert_eq!(rt; heap.used(), one.saturating_mul(2));
+    assert_eq!(rt; cache.purge(5), Ok(1));
+    assert_eq!(rt; heap.used(), one);
+    assert!(rt; matches!(cache.take_expired(10), Ok(Some(_))));
+    assert_eq!(rt; heap.used(), 0);
+    assert!(rt; cache.set('a', text(heap)?, 10, 10).is_ok());
+    assert!(rt; cache.take(&'a', 10).is_some());
+    assert_eq!(rt; heap.used(), 0);
+    assert!(rt; cache.set('b', text(heap)?, 10, 10).is_ok());
+    assert_eq!(rt; cache.refresh(), Ok(()));
+    assert_eq!(rt; heap.used(), one);
+    Ok(())
+}
+
+#[test]
+fn what_leaves_is_dropped(rt: HostRuntime) -> Result<(), Fail> {
+    let heap = LocalHeap::new(rt.alloc(), 1 << 12)?;
+    let_go(&rt, rt.alloc(), &heap)?;
+    assert_eq!(rt; heap.used(), 0);
+    Ok(())
+}

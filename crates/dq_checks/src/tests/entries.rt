@@ -1,0 +1,78 @@
+//! The live entries of a queue over plain words, one after the other, and the value of one of them.
+
+use dq_core::{CoreConfig, DelayCore, VecWords};
+use dq_ticks::{EntryId, Key};
+use std::alloc::Global;
+use std::process::Abort;
+use std::test::Fail;
+
+type Queue = DelayCore<String, VecWords>;
+
+// A queue of five slots, each of which is used twice at the most.
+fn queue_of_five(alloc: Global) -> Result<Queue, Fail> {
+    let config = CoreConfig {
+        shard: 0,
+        capacity: 5,
+        last_stamp: 2,
+    };
+    let words = VecWords::new(alloc, 5)?;
+    match DelayCore::new(alloc, config, words) {
+        Ok(queue) => Ok(queue),
+        Err((error, _)) => Err(Fail::from(error)),
+    }
+}
+
+fn inserted(alloc: Global, queue: &mut Queue, name: &str, when: u64) -> Result<Key, Fail> {
+    let value = String::from_str(alloc, name)?;
+    Ok(queue.insert_or_drop(value, when)?)
+}
+
+// Each of those and nothing else is listed, in that order.
+fn lists(rt: &impl Abort, queue: &Queue, expected: &[(Key, u64, &str)]) {
+    let mut rest = expected.iter();
+    for entry in queue.entries() {
+        let listed = (entry.key, entry.deadline, entry.value.as_str());
+        assert_eq!(rt; rest.next(), Some(&listed));
+    }
+    assert!(rt; rest.next().is_none());
+}
+
+fn value_of<'a>(queue: &'a Queue, entry: &EntryId) -> Option<&'a str> {
+    let value = queue.get(entry)?;
+    Some(value.as_str())
+}
+
+// A worn slot, one whose entry was reset, one whose entry is cancelled and still linked, one whose entry was extended, and
+// one that was never used.
+#[test]
+fn live_entries_are_listed_once(rt: HostRuntime) -> Result<(), Fail> {
+    let mut queue = queue_of_five(rt.alloc())?;
+    lists(&rt, &queue, &[]);
+    for name in ["first", "second"] {
+        let key = inserted(rt.alloc(), &mut queue, name, 5)?;
+        lists(&rt, &queue, &[(key, 5, name)]);
+        queue.remove(&key.entry())?;
+    }
+    assert_eq!(rt; queue.worn(), 1);
+    let early = inserted(rt.alloc(), &mut queue, "reset", 10)?;
+    let cancelled = inserted(rt.alloc(), &mut queue, "cancelled", 30)?;
+    let extended = inserted(rt.alloc(), &mut queue, "extended", 40)?;
+    let reset = queue.reset(&early.entry(), 20)?;
+    assert_eq!(rt; queue.extend(&extended, 50), Ok(50));
+    assert_eq!(rt; queue.cancel(&cancelled), Ok(30));
+    lists(
+        &rt,
+        &queue,
+        &[(reset, 20, "reset"), (extended, 50, "extended")],
+    );
+    assert_eq!(rt; value_of(&queue, &early.entry()), Some("reset"));
+    assert_eq!(rt; value_of(&queue, &cancelled.entry()), Some("cancelled"));
+    assert_eq!(rt; queue.sweep(), 1);
+    assert_eq!(rt; value_of(&queue, &cancelled.entry()), None);
+    lists(
+        &rt,
+        &queue,
+        &[(reset, 20, "reset"), (extended, 50, "extended")],
+    );
+    Ok(())
+}

@@ -1,0 +1,260 @@
+//! A queue that goes on for years: it is renewed over fresh words each time that its slots are worn.
+
+ghost use Rattle.std.specs.Prelude.{IfOk};
+ghost use Rattle.dq_core.specs.Words.{AreFresh};
+
+use dq_core::{CallError, CoreConfig, CoreError, DelayCore, RenewError, VecWords, Words};
+use dq_ticks::{Key, LAST_STAMP};
+use dq_words::Keeper;
+use std::alloc::Global;
+use std::process::Abort;
+use std::test::Fail;
+
+// Words of which there are always more.
+trait Anew: Words + Drop + Sized {
+    /// A row that was never used.
+    fn anew(alloc: Global, rows: usize) -> Result<Self, Fail>
+        ensures { IfOk result (λ w. AreFresh (Self.known w) (Self.counts w)) };
+}
+
+impl Anew for VecWords {
+    fn anew(alloc: Global, rows: usize) -> Result<VecWords, Fail> {
+        Ok(VecWords::new(alloc, rows)?)
+    }
+}
+
+impl Anew for Keeper {
+    fn anew(alloc: Global, rows: usize) -> Result<Keeper, Fail> {
+        Ok(Keeper::new(alloc, rows)?)
+    }
+}
+
+// A queue of texts under the number 0.
+fn queue<W: Anew>(
+    alloc: Global,
+    capacity: usize,
+    last_stamp: u32,
+) -> Result<DelayCore<String, W>, Fail> {
+    let config = CoreConfig {
+        shard: 0,
+        capacity,
+        last_stamp,
+    };
+    match DelayCore::new(alloc, config, W::anew(alloc, capacity)?) {
+        Ok(queue) => Ok(queue),
+        Err((error, _words)) => Err(error.into()),
+    }
+}
+
+// How a renewal over as many fresh words goes.
+fn renewed<W: Anew>(
+    alloc: Global,
+    queue: &mut DelayCore<String, W>,
+    number: u32,
+    rows: usize,
+) -> Result<Result<(), RenewError>, Fail> {
+    let words = W::anew(alloc, rows)?;
+    match queue.renew(number, words) {
+        Ok(_old) => Ok(Ok(())),
+        Err((error, _words)) => Ok(Err(error)),
+    }
+}
+
+// Whether the owner finds nothing by a key.
+fn is_unknown<W: Anew>(queue: &mut DelayCore<String, W>, key: &Key) -> bool {
+    let entry = key.entry();
+    matches!(queue.reset(&entry, 9), Err(CoreError::Missing))
+        && matches!(queue.remove(&entry), Err(CoreError::Missing))
+        && matches!(queue.deadline(&entry), Err(CoreError::Missing))
+        && queue.place(&entry).is_none()
+}
+
+// What a generation is asked with.
+#[derive(Drop)]
+struct Round<'a> {
+    alloc: Global,
+    capacity: usize,
+    last_stamp: u32,
+    /// A key from each earlier generation that is still asked for.
+    old: &'a mut Vec<Key>,
+}
+
+// Uses every stamp of a queue, so that all of its slots are worn, and answers a key that it gave.
+fn wear<R: Abort, W: Anew>(
+    rt: &R,
+    queue: &mut DelayCore<String, W>,
+    round: &Round,
+) -> Result<Option<Key>, Fail> {
+    let mut last = None;
+    let mut used = 0u64;
+    for turn in 0..100u64 {
+        let value = format!(in round.alloc; "{turn}")?;
+        let key = match queue.insert(value, turn) {
+            Ok(key) => key,
+            Err((error, _value)) => {
+                let worn = round.capacity;
+                assert_eq!(rt; error, CoreError::Full { linked: 0, worn });
+                break;
+            }
+        };
+        let removed = queue.remove(&key.entry())?;
+        assert_eq!(rt; removed.key, key);
+        last = Some(key);
+        used = used.saturating_add(1);
+    }
+    let stamps = (round.capacity as u64).saturating_mul(u64::from(round.last_stamp));
+    assert_eq!(rt; used, stamps);
+    Ok(last)
+}
+
+// One generation: the queue is worn out, old keys are refused, and it is renewed.
+fn generation<R: Abort, W: Anew>(
+    rt: &R,
+    queue: &mut DelayCore<String, W>,
+    round: &mut Round,
+) -> Result<(), Fail> {
+    let key = wear(rt, queue, round)?;
+    let number = queue.shard();
+    let next = number.saturating_add(1);
+    let again = renewed(round.alloc, queue, number, round.capacity)?;
+    assert_eq!(rt; again, Err(RenewError::UsedNumber { number }));
+    let wrong = renewed(round.alloc, queue, next, round.capacity.saturating_add(1))?;
+    assert_eq!(rt; wrong, Err(RenewError::WrongRows));
+    assert_eq!(rt; renewed(round.alloc, queue, next, round.capacity)?, Ok(()));
+    assert_eq!(rt; (queue.shard(), queue.worn(), queue.len()), (next, 0, 0));
+    if let Some(key) = key {
+        if round.old.len() == 8 {
+            round.old.remove(0);
+        }
+        round.old.push(key)?;
+    }
+    for key in round.old.iter() {
+        let found = is_unknown(queue, key);
+        assert!(rt; found);
+    }
+    Ok(())
+}
+
+// So many generations of a queue of two slots. In each an entry is linked while the old keys are asked for.
+fn lasts<R: Abort, W: Anew>(
+    rt: &R,
+    alloc: Global,
+    last_stamp: u32,
+    generations: u32,
+) -> Result<(), Fail> {
+    let capacity = 2;
+    let mut queue: DelayCore<String, W> = queue(alloc, capacity, last_stamp)?;
+    let mut old = Vec::new(alloc);
+    let mut round = Round {
+        alloc,
+        capacity,
+        last_stamp,
+        old: &mut old,
+    };
+    for _turn in 0..generations {
+        generation(rt, &mut queue, &mut round)?;
+    }
+    assert_eq!(rt; queue.shard(), generations);
+    let Ok(key) = queue.insert(format!(in alloc; "held")?, 7) else {
+        unreachable_case(rt);
+        return Ok(());
+    };
+    let linked = renewed(alloc, &mut queue, generations.saturating_add(1), capacity)?;
+    assert_eq!(rt; linked, Err(RenewError::StillLinked { linked: 1 }));
+    let found = queue.deadline(&key.entry());
+    assert_eq!(rt; found, Ok(7));
+    Ok(())
+}
+
+// A case that no test may come to.
+fn unreachable_case<R: Abort>(rt: &R) {
+    assert!(rt; false);
+}
+
+#[test]
+fn plain_words_last(rt: HostRuntime) -> Result<(), Fail> {
+    let alloc = rt.alloc();
+    lasts::<_, VecWords>(&rt, alloc, 1, 20_000)?;
+    lasts::<_, VecWords>(&rt, alloc, 2, 10_000)?;
+    lasts::<_, VecWords>(&rt, alloc, 3, 10_000)
+}
+
+#[test]
+fn shared_words_last(rt: HostRuntime) -> Result<(), Fail> {
+    let alloc = rt.alloc();
+    lasts::<_, Keeper>(&rt, alloc, 1, 4_000)?;
+    lasts::<_, Keeper>(&rt, alloc, 2, 2_000)?;
+    lasts::<_, Keeper>(&rt, alloc, 3, 2_000)
+}
+
+// Calls by key of the owner, with a key from before a renewal, while another entry has its slot and its stamp.
+#[test]
+fn old_keys_never_reach_a_new_entry(rt: HostRuntime) -> Result<(), Fail> {
+    let alloc = rt.alloc();
+    let mut queue: DelayCore<String, VecWords> = queue(alloc, 1, LAST_STAMP)?;
+    let Ok(old) = queue.insert(format!(in alloc; "old")?, 5) else {
+        unreachable_case(&rt);
+        return Ok(());
+    };
+    queue.remove(&old.entry())?;
+    assert_eq!(rt; renewed(alloc, &mut queue, 3, 1)?, Ok(()));
+    let Ok(new) = queue.insert(format!(in alloc; "new")?, 6) else {
+        unreachable_case(&rt);
+        return Ok(());
+    };
+    let same = (new.entry().index(), new.stamp()) == (old.entry().index(), old.stamp());
+    assert!(rt; same);
+    assert_eq!(rt; queue.extend(&old, 9), Err(CallError::Unknown));
+    assert_eq!(rt; queue.cancel(&old), Err(CallError::Unknown));
+    assert_eq!(rt; queue.look(&old), Err(CallError::Unknown));
+    let found = is_unknown(&mut queue, &old);
+    assert!(rt; found);
+    assert_eq!(rt; queue.deadline(&new.entry()), Ok(6));
+    Ok(())
+}
+
+// A caller from before a renewal stays at the words from before, and the queue's new entry doesn't feel it.
+#[test]
+fn old_callers_stay_at_the_old_words(rt: HostRuntime) -> Result<(), Fail> {
+    let alloc = rt.alloc();
+    let mut queue: DelayCore<String, Keeper> = queue(alloc, 1, LAST_STAMP)?;
+    let mut caller = queue.issue()?;
+    let Ok(old) = queue.insert(format!(in alloc; "old")?, 5) else {
+        unreachable_case(&rt);
+        return Ok(());
+    };
+    queue.remove(&old.entry())?;
+    assert_eq!(rt; renewed(alloc, &mut queue, 1, 1)?, Ok(()));
+    let Ok(new) = queue.insert(format!(in alloc; "new")?, 6) else {
+        unreachable_case(&rt);
+        return Ok(());
+    };
+    let cancelled = caller.cancel(&new);
+    assert!(rt; cancelled.is_err());
+    let extended = caller.extend(&new, 90);
+    assert!(rt; extended.is_err());
+    assert_eq!(rt; queue.deadline(&new.entry()), Ok(6));
+    Ok(())
+}
+
+// A loop of one slot's worth goes on past the last stamp there is.
+#[test]
+fn three_million_inserts_go_on(rt: HostRuntime) -> Result<(), Fail> {
+    let alloc = rt.alloc();
+    let mut queue: DelayCore<u64, VecWords> = DelayCore::with_capacity(alloc, 1)?;
+    let mut renewals = 0u32;
+    for turn in 0..3_000_000u64 {
+        if queue.worn() == 1 {
+            renewals = renewals.saturating_add(1);
+            let words = VecWords::new(alloc, 1)?;
+            if let Err((error, _words)) = queue.renew(renewals, words) {
+                return Err(error.into());
+            }
+        }
+        let key = queue.insert_or_drop(turn, turn)?;
+        let removed = queue.remove(&key.entry())?;
+        assert_eq!(rt; removed.value, turn);
+    }
+    assert_eq!(rt; renewals, 2);
+    Ok(())
+}

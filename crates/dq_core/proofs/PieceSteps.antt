@@ -1,0 +1,402 @@
+-- The steps of a poll in pieces: each keeps the shard law, goes the machine's way, and leaves a step less.
+use Rattle.std.proofs.Common.{◌≡◌, ◌≢◌, ℕ, ◌+◌, ◌-◌, ◌*◌, ◌<◌, ◌≤◌, max, Bool, List, [], ◌∷◌, ◌++◌, length, get_or, set, Option, Some, None, MatchOption, MatchBool, true, false, refl, sym, ap, ◌∙◌, subst, inl, inr, ◌⊎◌, arith}
+use Rattle.std.specs.List.{sum_by}
+use Rattle.std.proofs.lemmas.List.{length-map, length-set}
+use Rattle.std.proofs.lemmas.List.Sums.{sum_by-set, sum_by-le}
+use Rattle.std.proofs.lemmas.List.Elements.{All-from_get_or}
+use Rattle.std.proofs.lemmas.Bool.{cases_eq}
+use Rattle.std.proofs.lemmas.Nat.{mul-le}
+use Rattle.std.proofs.Math.Nat.{add-mul}
+use Rattle.dq_ticks.specs.declared.words.Parts.{Parts}
+use Rattle.dq_ticks.specs.declared.TheConstants.{LAST_TICK}
+use Rattle.dq_ticks.specs.Units.{lap}
+use Rattle.dq_wheel.specs.State.{Filing, filed_at, linked, unlinked}
+use Rattle.dq_wheel.specs.Moves.{ReachesLimit}
+use Rattle.dq_wheel.specs.Arrivals.{arrives, ArrivesAtWake, AreFiledByThen}
+use Rattle.dq_core.specs.declared.slots.Held.{Held}
+use Rattle.dq_core.specs.declared.outcomes.Expired.{Expired}
+use Rattle.dq_core.specs.declared.outcomes.Turn.{Turn}
+use Rattle.dq_core.specs.declared.outcomes.Turn.TheVariants.{Out, Waiting, Idle}
+use Rattle.dq_core.specs.declared.outcomes.Piece.TheVariants.{Answer, Working}
+use Rattle.dq_core.specs.Words.{word_at, live, IsInForce, IsSettled, Learned, settled_counts}
+use Rattle.dq_core.specs.declared.words.Settled.TheVariants.{SettledExpired, Later, SettledCancelled}
+use Rattle.dq_core.specs.Slots.{row_at, vacated, vacated_row}
+use Rattle.dq_core.specs.Machine.{Machine, Pass, RunOf, IsOnTheWay, NoneLiveBefore}
+use Rattle.dq_core.specs.Core.{Core, machine, IsPlaced, IsLawfulCore, filing_for}
+use Rattle.dq_core.specs.TableRows.{machine_of}
+use Rattle.dq_core.specs.Calls.{SameCore, LooksOver, IsFiledOver, IsUnderWay, IsAnswered, IsOut, IsTurn, TurnRow, turn_counts, TellsWake, WakesAhead, noting}
+use Rattle.dq_core.specs.Pieces.{ArrivesOn, PieceStep, ComesThrough, WheelComes, IsFiledByThen, IsComing, IsAnsweredBy, due_step, steps_left, IsPolledSome}
+use Rattle.dq_core.proofs.Looks.{looks_none, looks_more, learned_more}
+use Rattle.dq_core.proofs.Law.{filed_is}
+use Rattle.dq_core.proofs.Steps.{IsAtRest, relinked, step_later, step_cancelled}
+use Rattle.dq_core.proofs.RunsMoves.{least_out}
+use Rattle.dq_core.proofs.Ways.{run_of_more, run_of_none, run_of_one, none_before, none_due, machine_is}
+
+-- ways of the wheel, one after another
+through_more : (shared : Bool) (known : List Parts) (limit : ℕ) (u v w : Filing) (us vs : List Filing) → ComesThrough shared known limit u us v → ComesThrough shared known limit v vs w → ComesThrough shared known limit u (us ++ vs) w
+through_more shared known limit u v w [] vs a b = let P : Filing → Type 0 = λ x. ComesThrough shared known limit x vs w in subst P a b
+through_more shared known limit u v w (x ∷ us) vs a b = (a.0, through_more shared known limit x v w us vs a.1 b)
+
+step_known : (shared : Bool) (old new : List Parts) (limit : ℕ) (v w : Filing) → LooksOver shared old new → PieceStep shared new limit v w → PieceStep shared old limit v w
+step_known shared old new limit v w looks (inl out) = inl out
+step_known shared old new limit v w looks (inr (inl (i, s, d, at, later, learned, is))) =
+    inr (inl (i, s, d, at, later, learned_more shared (word_at old i) (word_at new i) (live s d) (looks.1 i) learned, is))
+step_known shared old new limit v w looks (inr (inr on)) = inr (inr on)
+
+through_known : (shared : Bool) (old new : List Parts) (limit : ℕ) (v w : Filing) (us : List Filing) → LooksOver shared old new → ComesThrough shared new limit v us w → ComesThrough shared old limit v us w
+through_known shared old new limit v w [] looks a = a
+through_known shared old new limit v w (u ∷ us) looks a = (step_known shared old new limit v u looks a.0, through_known shared old new limit u w us looks a.1)
+
+comes_more : (shared : Bool) (old new : List Parts) (limit limit' : ℕ) (u v w : Filing) → limit' ≡ limit → LooksOver shared old new → WheelComes shared old limit u v → WheelComes shared new limit' v w → WheelComes shared old limit u w
+comes_more shared old new limit limit' u v w same looks a b =
+    let P : ℕ → Type 0 = λ l. WheelComes shared new l v w in
+    let c = subst P same b in
+    (a.0 ++ c.0, through_more shared old limit u v w a.0 c.0 a.1 (through_known shared old new limit v w c.0 looks c.1))
+
+comes_one : (shared : Bool) (known : List Parts) (limit : ℕ) (v w : Filing) → PieceStep shared known limit v w → WheelComes shared known limit v w
+comes_one shared known limit v w s = (w ∷ [], (s, refl))
+
+comes_none : (shared : Bool) (known : List Parts) (limit : ℕ) (v : Filing) → WheelComes shared known limit v v
+comes_none shared known limit v = ([], refl)
+
+went : (reached : Bool) (limit : ℕ) (v w : Filing) → MatchBool reached (ArrivesAtWake v limit w) (ReachesLimit v limit w) → ArrivesAtWake v limit w ⊎ ReachesLimit v limit w
+went true limit v w h = inl h
+went false limit v w h = inr h
+
+-- the wheel went on, by what it tells of its way
+pub arrives_on : (reached : Bool) (limit : ℕ) (v mid w : Filing) → mid ≡ v → v.tick < limit → ((i : ℕ) → filed_at v.filed i ≢ Some v.tick) → MatchBool reached (ArrivesAtWake mid limit w) (ReachesLimit mid limit w) → ArrivesOn limit v w
+arrives_on reached limit v mid w same less none way =
+    let P : Filing → Type 0 = λ x. ArrivesAtWake x limit w ⊎ ReachesLimit x limit w in
+    (less, none, subst P same (went reached limit mid w way))
+
+pub earlier_from : (v mid w : Filing) → mid ≡ v → AreFiledByThen mid.filed w.filed → AreFiledByThen v.filed w.filed
+earlier_from v mid w same way = let P : Filing → Type 0 = λ x. AreFiledByThen x.filed w.filed in subst P same way
+
+-- as many indexes are filed or not as before
+arrived_size : (limit : ℕ) (v w : Filing) → ArrivesAtWake v limit w ⊎ ReachesLimit v limit w → length w.filed ≡ length v.filed
+arrived_size limit v w (inl (n, wake, by, is)) = ap (λ x. length x.filed) is ∙ length-map v.filed (arrives v.tick n)
+arrived_size limit v w (inr (late, is)) = ap (λ x. length x.filed) is
+
+-- how one index is filed
+kept_filed : (v : Filing) (old : List Parts) (w : Filing) (new : List Parts) (i : ℕ) (o : Option ℕ) → filed_at v.filed i ≡ o → filed_at w.filed i ≡ o → word_at new i ≡ word_at old i → IsFiledByThen v old w new i
+kept_filed v old w new i None was now same = inl now
+kept_filed v old w new i (Some f) was now same = inr (inl (f, f, was, now, omega arith, same))
+
+filed_of : (v : Filing) (old : List Parts) (w : Filing) (new : List Parts) (i : ℕ) → IsFiledOver v old w new i → IsFiledByThen v old w new i
+filed_of v old w new i (inl (same, word)) = kept_filed v old w new i (filed_at v.filed i) refl same word
+filed_of v old w new i (inr (inl gone)) = inl gone
+filed_of v old w new i (inr (inr (t, from, to, mark, is))) = inr (inr (t, filing_for t (word_at new i).field, from, to, mark, is, omega arith))
+
+filed_earlier : (v : Filing) (old : List Parts) (w : Filing) (new : List Parts) (i : ℕ) (o : Option ℕ) → filed_at v.filed i ≡ o →
+    MatchOption o (filed_at w.filed i ≡ None) (λ f. (g : ℕ) × (filed_at w.filed i ≡ Some g) × (g ≤ f)) → word_at new i ≡ word_at old i → IsFiledByThen v old w new i
+filed_earlier v old w new i None was now same = inl now
+filed_earlier v old w new i (Some f) was now same = inr (inl (f, now.0, was, now.1, now.2, same))
+
+-- how it is filed after two ways
+then_more : (u : Filing) (a : List Parts) (v : Filing) (b : List Parts) (w : Filing) (c : List Parts) (i : ℕ) → u.tick ≤ v.tick → v.tick ≤ w.tick → IsFiledByThen u a v b i → IsFiledByThen v b w c i → IsFiledByThen u a w c i
+then_more u a v b w c i up up' x (inl gone) = inl gone
+then_more u a v b w c i up up' (inl gone) (inr (inl (f, g, was, now, le, word))) = absurd (cc)
+then_more u a v b w c i up up' (inr (inl (f, g, was, now, le, word))) (inr (inl (f', g', was', now', le', word'))) =
+    let same : g ≡ f' = cc in
+    inr (inl (f, g', was, now', omega arith, word' ∙ word))
+then_more u a v b w c i up up' (inr (inr (t, g, from, to, mark, now, le))) (inr (inl (f', g', was', now', le', word'))) =
+    let same : g ≡ f' = cc in
+    let P : Parts → Type 0 = λ p. g ≤ filing_for t p.field in
+    let bound : g ≤ filing_for t (word_at c i).field = subst P (sym word') le in
+    inr (inr (t, g', from, omega (arith, to, up'), ap (λ p. p.mark) word' ∙ mark, now', omega arith))
+then_more u a v b w c i up up' x (inr (inr (t, g, from, to, mark, now, le))) = inr (inr (t, g, omega (arith, from, up), to, mark, now, le))
+
+-- one way after another
+coming_more : {T W : Type 0} (shared : Bool) (a b c : Core T W) → b.slots.last_stamp ≡ a.slots.last_stamp → b.noted ≡ a.noted → IsComing shared a b → IsComing shared b c → IsComing shared a c
+coming_more shared a b c last noted x y =
+    let P : ℕ → Type 0 = λ n. RunOf (IsOnTheWay shared) n (machine b) (machine c) in
+    let ticks = x.ticks in
+    let ticks' = y.ticks in
+    record {
+      way = run_of_more (IsOnTheWay shared) a.slots.last_stamp (machine a) (machine b) (machine c) x.way (subst P last y.way);
+      looks = looks_more shared a.known b.known c.known x.looks y.looks;
+      wheel = comes_more shared a.known b.known a.noted b.noted a.wheel.filing b.wheel.filing c.wheel.filing noted x.looks x.wheel y.wheel;
+      ticks = omega arith;
+      filed = λ i. then_more a.wheel.filing a.known b.wheel.filing b.known c.wheel.filing c.known i ticks ticks' (x.filed i) (y.filed i);
+      counts = y.counts ∙ x.counts;
+    }
+
+pub coming_none : {T W : Type 0} (shared : Bool) (b : Core T W) → IsComing shared b b
+coming_none shared b =
+    record {
+      way = run_of_none (IsOnTheWay shared) b.slots.last_stamp (machine b) (machine b) refl;
+      looks = looks_none shared b.known;
+      wheel = comes_none shared b.known b.noted b.wheel.filing;
+      ticks = omega arith;
+      filed = λ i. kept_filed b.wheel.filing b.known b.wheel.filing b.known i (filed_at b.wheel.filing.filed i) refl refl refl;
+      counts = refl;
+    }
+
+-- a step that poll makes too
+pub coming_by : {T W : Type 0} (shared : Bool) (b c : Core T W) → PieceStep shared b.known b.noted b.wheel.filing c.wheel.filing → IsUnderWay shared b c → IsComing shared b c
+coming_by shared b c step x =
+    record {
+      way = x.way;
+      looks = x.looks;
+      wheel = comes_one shared b.known b.noted b.wheel.filing c.wheel.filing step;
+      ticks = x.ticks;
+      filed = λ i. filed_of b.wheel.filing b.known c.wheel.filing c.known i (x.filed i);
+      counts = x.counts;
+    }
+
+pub answered_by : {T W : Type 0} (shared : Bool) (b c : Core T W) (turn : Turn T) → PieceStep shared b.known b.noted b.wheel.filing c.wheel.filing → IsAnswered shared b turn c → IsAnsweredBy shared b turn c
+answered_by shared b c turn step x =
+    record {
+      run = x.run;
+      row = x.row;
+      wheel = comes_one shared b.known b.noted b.wheel.filing c.wheel.filing step;
+      ticks = x.ticks;
+      filed = λ i. filed_of b.wheel.filing b.known c.wheel.filing c.known i (x.filed i);
+      counts = x.counts;
+    }
+
+-- the steps that are left
+due_here : (t f : ℕ) → f ≡ t → due_step t (Some f) ≡ 1
+due_here t f is = grind arith
+
+not_due : (t f : ℕ) → f ≢ t → due_step t (Some f) ≡ 0
+not_due t f other = grind arith
+
+due_few : (t : ℕ) (o : Option ℕ) → due_step t o ≤ 1
+due_few t None = omega arith
+due_few t (Some f) = elim (cases_eq f t) [ inl is ↦ omega (arith, due_here t f is) | inr other ↦ omega (arith, not_due t f other) ]
+
+-- one index that was due is so no more
+pub steps_fewer : {T W : Type 0} (b c : Core T W) (i : ℕ) (o : Option ℕ) → i < length b.wheel.filing.filed → filed_at b.wheel.filing.filed i ≡ Some b.wheel.filing.tick →
+    due_step b.wheel.filing.tick o ≡ 0 → c.wheel.filing.filed ≡ set b.wheel.filing.filed i o → c.wheel.filing.tick ≡ b.wheel.filing.tick → c.noted ≡ b.noted →
+    length c.slots.rows ≡ length b.slots.rows → steps_left c < steps_left b
+steps_fewer b c i o inside at none ef et en er =
+    let t = b.wheel.filing.tick in
+    let put = sum_by-set (due_step t) b.wheel.filing.filed i o None inside in
+    let was : due_step t (filed_at b.wheel.filing.filed i) ≡ 1 = ap (due_step t) at ∙ due_here t t refl in
+    rw (ef, et, en, er) (omega (arith, put, was, none))
+
+ahead_more : (k j m d d' : ℕ) → k + 1 ≤ j → d' < m → k * m + d' < j * m + d
+ahead_more k j m d d' less few =
+    let grown : (k + 1) * m ≤ j * m = mul-le (k + 1) m j m less (omega arith) in
+    let one : (k + 1) * m ≡ k * m + 1 * m = add-mul k 1 m in
+    omega arith
+
+-- the tick went on
+steps_on : {T W : Type 0} (b c : Core T W) → length c.wheel.filing.filed ≤ length c.slots.rows → b.wheel.filing.tick < c.wheel.filing.tick → c.wheel.filing.tick ≤ b.noted →
+    c.noted ≡ b.noted → length c.slots.rows ≡ length b.slots.rows → steps_left c < steps_left b
+steps_on b c size up small en er =
+    let t = c.wheel.filing.tick in
+    let bound : sum_by (due_step t) c.wheel.filing.filed ≤ length c.wheel.filing.filed * 1 =
+    sum_by-le (due_step t) 1 c.wheel.filing.filed (All-from_get_or (λ o. due_step t o ≤ 1) c.wheel.filing.filed None (λ i inside. due_few t (get_or c.wheel.filing.filed i None))) in
+    rw (en, er)
+    (ahead_more (b.noted - t) (b.noted - b.wheel.filing.tick) (length b.slots.rows + 1) (sum_by (due_step b.wheel.filing.tick) b.wheel.filing.filed)
+    (sum_by (due_step t) c.wheel.filing.filed) (omega arith) (omega arith))
+
+-- the steps at a tick
+module _ {T W : Type 0} (shared : Bool) (b c : Core T W) (l : IsLawfulCore b) (i : ℕ) (due : filed_at b.wheel.filing.filed i ≡ Some b.wheel.filing.tick) (en : c.noted ≡ b.noted) where
+  inside_filed : i < length b.wheel.filing.filed
+  inside_filed =
+      let at = filed_is l i b.wheel.filing.tick due in
+      let size = l.as_filed in
+      let inside = at.inside in
+      omega arith
+
+  -- a due entry that is live at a later deadline is filed again
+  pub piece_later : (d : ℕ) → IsSettled shared (row_at b.slots.rows i).stamp b.wheel.filing.tick (word_at b.known i) (Later d) (word_at c.known i) → c.wheel.filing ≡ linked (unlinked b.wheel.filing i) i (filing_for b.wheel.filing.tick d) → c.slots ≡ b.slots → c.known ≡ set b.known i (word_at c.known i) → c.counts ≡ b.counts →
+      IsComing shared b c × (steps_left c < steps_left b)
+  piece_later d settled ew es ek ec =
+      let t = b.wheel.filing.tick in
+      let g = filing_for t d in
+      let filing : c.wheel.filing ≡ linked b.wheel.filing i g = ew ∙ relinked b.wheel.filing i g in
+      let L : Parts → Type 0 = λ p. Learned shared (word_at b.known i) p in
+      let later : t < d = settled.0 in
+      let way = step_later shared b c l i due en d settled ew es ek ec in (
+        coming_by shared b c (inr (inl (i, (row_at b.slots.rows i).stamp, d, due, later, subst L settled.1 settled.2, filing))) way.0,
+        steps_fewer b c i (Some g) inside_filed due (not_due t g (λ e. omega arith)) (ap (λ f. f.filed) filing) (ap (λ f. f.tick) filing) en (ap (λ x. length x.rows) es),
+      )
+
+  -- a due entry that is found cancelled is reaped
+  pub piece_cancelled : IsSettled shared (row_at b.slots.rows i).stamp b.wheel.filing.tick (word_at b.known i) SettledCancelled (word_at c.known i) → c.wheel.filing ≡ unlinked b.wheel.filing i → c.slots ≡ vacated b.slots i → c.known ≡ set b.known i (word_at c.known i) → c.counts ≡ b.counts →
+      IsComing shared b c × (steps_left c < steps_left b)
+  piece_cancelled settled ew es ek ec =
+      let way = step_cancelled shared b c l i due en settled ew es ek ec in (
+        coming_by shared b c (inl (i, due, ew)) way.0,
+        steps_fewer b c i None inside_filed due refl (ap (λ f. f.filed) ew) (ap (λ f. f.tick) ew) en
+            (ap (λ x. length x.rows) es ∙ length-set b.slots.rows i (vacated_row (row_at b.slots.rows i))),
+      )
+
+-- the shard law where indexes are filed earlier
+force_earlier : (s f g : ℕ) (w : Parts) → g ≤ f → IsInForce s f w → IsInForce s g w
+force_earlier s f g w le (pos, inl (is, before, small)) = (pos, inl (is, omega arith, small))
+force_earlier s f g w le (pos, inr is) = (pos, inr is)
+
+placed_earlier : {T : Type 0} (tick later noted stamp : ℕ) (held : Option (Held T)) (w : Parts) (o p : Option ℕ) → tick ≤ later → ((g : ℕ) → p ≡ Some g → later ≤ g) →
+    MatchOption o (p ≡ None) (λ f. (g : ℕ) × (p ≡ Some g) × (g ≤ f)) → IsPlaced tick noted stamp held w o → IsPlaced later noted stamp held w p
+placed_earlier {T} tick later noted stamp None w None p up before now placed = let P : Option ℕ → Type 0 = λ x. IsPlaced {T = T} later noted stamp None w x in subst P (sym now) placed
+placed_earlier tick later noted stamp None w (Some f) p up before now placed = absurd placed
+placed_earlier tick later noted stamp (Some h) w None p up before now placed = absurd placed
+placed_earlier {T} tick later noted stamp (Some h) w (Some f) p up before now placed =
+    let P : Option ℕ → Type 0 = λ x. IsPlaced {T = T} later noted stamp (Some h) w x in
+    let le : later ≤ now.0 = before now.0 now.1 in
+    let small : now.0 ≤ f = now.2 in
+    let near : f < tick + lap = placed.2 in
+    subst P (sym now.1) (force_earlier stamp f now.0 w small placed.0, le, omega arith, placed.3)
+
+module _ {T W : Type 0} (shared : Bool) (b c : Core T W) (l : IsLawfulCore b) (on : ArrivesOn b.noted b.wheel.filing c.wheel.filing)
+    (earlier : AreFiledByThen b.wheel.filing.filed c.wheel.filing.filed) (small : c.wheel.filing.tick ≤ b.noted) (up : b.wheel.filing.tick < c.wheel.filing.tick)
+    (before : (i f : ℕ) → filed_at c.wheel.filing.filed i ≡ Some f → c.wheel.filing.tick ≤ f)
+    (es : c.slots ≡ b.slots) (ek : c.known ≡ b.known) (ec : c.counts ≡ b.counts) (en : c.noted ≡ b.noted) where
+  size : length c.wheel.filing.filed ≡ length b.wheel.filing.filed
+  size = arrived_size b.noted b.wheel.filing c.wheel.filing on.2
+
+  pub arrived_lawful : IsLawfulCore c
+  arrived_lawful =
+      let filed = l.as_filed in
+      rw (es, ek, ec, en) (record {
+        as_filed = size ∙ l.as_filed;
+        as_known = l.as_known;
+        capacity = l.capacity;
+        last_bound = l.last_bound;
+        tick = small;
+        noted_bound = l.noted_bound;
+        each = λ i inside.
+            let s = l.each i inside in
+            record {
+              stamp = s.stamp;
+              bound = s.bound;
+              placed = placed_earlier b.wheel.filing.tick c.wheel.filing.tick b.noted (row_at b.slots.rows i).stamp (row_at b.slots.rows i).held (word_at b.known i)
+                  (filed_at b.wheel.filing.filed i) (filed_at c.wheel.filing.filed i) (omega (arith, up)) (before i) (earlier i) s.placed;
+            };
+        stamps = l.stamps;
+        balance = l.balance;
+      })
+
+  late_of : (o : Option ℕ) (i f : ℕ) → o ≡ Some f → MatchOption o (filed_at c.wheel.filing.filed i ≡ None) (λ f. (g : ℕ) × (filed_at c.wheel.filing.filed i ≡ Some g) × (g ≤ f)) →
+      c.wheel.filing.tick ≤ f
+  late_of None i f is now = absurd (cc)
+  late_of (Some k) i f is now =
+      let same : k ≡ f = cc in
+      let le : c.wheel.filing.tick ≤ now.0 = before i now.0 now.1 in
+      let less : now.0 ≤ k = now.2 in
+      omega arith
+
+  pub step_arrived : IsComing shared b c × (steps_left c < steps_left b)
+  step_arrived =
+      let t = c.wheel.filing.tick in
+      let Q : List Parts → Type 0 = λ ws. LooksOver shared b.known ws in
+      let late : (i f : ℕ) → filed_at b.wheel.filing.filed i ≡ Some f → t ≤ f = λ i f e. late_of (filed_at b.wheel.filing.filed i) i f e (earlier i) in
+      let none : NoneLiveBefore (machine b) t = none_before b.wheel.filing.tick b.noted b.slots.last_stamp t b.slots.rows b.known b.wheel.filing.filed l.as_known l.each late in
+      let mc : machine c ≡ machine_of t b.noted b.slots.rows b.known = machine_is c t b.noted b.slots.rows b.known refl en (ap (λ x. x.rows) es) ek in
+      let rows : length c.slots.rows ≡ length b.slots.rows = ap (λ x. length x.rows) es in
+      let filed = l.as_filed in
+      let as_many = size in (
+        record {
+          way = run_of_one (IsOnTheWay shared) b.slots.last_stamp (machine b) (machine c) (Pass t) tt (omega (arith, up), small, none, mc);
+          looks = subst Q (sym ek) (looks_none shared b.known);
+          wheel = comes_one shared b.known b.noted b.wheel.filing c.wheel.filing (inr (inr on));
+          ticks = omega (arith, up);
+          filed = λ i. filed_earlier b.wheel.filing b.known c.wheel.filing c.known i (filed_at b.wheel.filing.filed i) refl (earlier i) (ap (λ ws. word_at ws i) ek);
+          counts = ec;
+        },
+        steps_on b c (omega arith) up small en rows,
+      )
+
+-- what a loop of steps keeps
+abbrev pub IsOnPiece : {T W : Type 0} → Bool → Core T W → ℕ → ℕ → Core T W → Type 0
+IsOnPiece shared b t turns cur =
+    (t ≤ LAST_TICK) × SameCore (noting b t) cur × (cur.noted ≡ max b.noted t) × IsComing shared (noting b t) cur
+    × (steps_left cur + turns ≤ steps_left (noting b t))
+
+pub piece_more : {T W : Type 0} (shared : Bool) (b cur c : Core T W) (t turns : ℕ) → IsOnPiece shared b t turns cur → SameCore cur c → c.noted ≡ cur.noted →
+    IsComing shared cur c × (steps_left c < steps_left cur) → IsOnPiece shared b t (turns + 1) c
+piece_more shared b cur c t turns on same noted way =
+    let fewer : steps_left c < steps_left cur = way.1 in
+    let left : steps_left cur + turns ≤ steps_left (noting b t) = on.4 in
+    (on.0, (same.0 ∙ on.1.0, same.1 ∙ on.1.1, same.2 ∙ on.1.2), noted ∙ on.2, coming_more shared (noting b t) cur c on.1.1 on.2 on.3 way.0, omega arith)
+
+pub piece_init : {T W : Type 0} (shared : Bool) (b n : Core T W) (t : ℕ) → t ≤ LAST_TICK → n ≡ noting b t → IsOnPiece shared b t 0 n
+piece_init {T} {W} shared b n t small is =
+    let P : Core T W → Type 0 = λ m. IsOnPiece shared b t 0 m in
+    subst P (sym is) (small, (refl, refl, refl), refl, coming_none shared (noting b t), omega arith)
+
+-- a piece that ends its steps
+pub piece_working : {T W : Type 0} (shared : Bool) (b cur : Core T W) (t turns most : ℕ) → IsOnPiece shared b t turns cur → most ≤ turns → IsPolledSome shared b t most Working cur
+piece_working shared b cur t turns most on all =
+    let left : steps_left cur + turns ≤ steps_left (noting b t) = on.4 in
+    (on.0, refl, (on.3, omega arith), on.2)
+
+-- a piece that takes an entry out
+pub piece_out : {T W : Type 0} (shared : Bool) (b cur c : Core T W) (t turns most : ℕ) (x : Expired T) → IsOnPiece shared b t turns cur → IsAnsweredBy shared cur (Out x) c → c.noted ≡ cur.noted →
+    IsPolledSome shared b t most (Answer (Out x)) c
+piece_out {T} shared b cur c t turns most x on ans noted =
+    let n = noting b t in
+    let same : SameCore n cur = on.1 in
+    let way : IsComing shared n cur = on.3 in
+    let L : ℕ → Type 0 = λ s. (m : Machine T) × RunOf (IsOnTheWay shared) s (machine cur) m × IsOut cur.shard s m x (machine c) in
+    let S : ℕ → Type 0 = λ s. (m : Machine T) × RunOf (IsOnTheWay shared) n.slots.last_stamp (machine cur) m × IsOut s n.slots.last_stamp m x (machine c) in
+    let run = subst S same.0 (subst L same.1 ans.run) in
+    let up = way.ticks in
+    let up' = ans.ticks in (
+      on.0,
+      refl,
+      record {
+        run = (run.0, run_of_more (IsOnTheWay shared) n.slots.last_stamp (machine n) (machine cur) run.0 way.way run.1, run.2);
+        row = (ans.row.0, looks_more shared n.known cur.known ans.row.0 way.looks ans.row.1, ans.row.2, ans.row.3);
+        wheel = comes_more shared n.known cur.known n.noted cur.noted n.wheel.filing cur.wheel.filing c.wheel.filing on.2 way.looks way.wheel ans.wheel;
+        ticks = omega arith;
+        filed = λ i. then_more n.wheel.filing n.known cur.wheel.filing cur.known c.wheel.filing c.known i up up' (way.filed i) (ans.filed i);
+        counts = ans.counts ∙ ap (λ k. settled_counts k SettledExpired) way.counts;
+      },
+      noted ∙ on.2,
+    )
+
+-- what comes out is due, and no live entry has an earlier deadline
+pub out_due : {T W : Type 0} (shared : Bool) (b c : Core T W) (x : Expired T) → IsAnsweredBy shared b (Out x) c → (x.deadline ≤ c.noted) × NoneLiveBefore (machine c) x.deadline
+out_due shared b c x ans =
+    let m = ans.run.0 in
+    let step = ans.run.2.0.0 in
+    let noted : c.noted ≡ m.noted = ap (λ k. k.noted) step.7 in
+    let by : x.deadline ≤ m.noted = step.5 in
+    (omega arith, least_out b.slots.last_stamp m (machine c) x.key.entry.index x.key.entry.born x.deadline step)
+
+-- a piece that finds nothing due
+piece_rests : {T W : Type 0} (shared : Bool) (b cur : Core T W) (t turns most : ℕ) (turn : Turn T) → IsOnPiece shared b t turns cur →
+    IsTurn cur.shard cur.slots.last_stamp (machine cur) turn (machine cur) cur.wheel.filing → TurnRow shared (noting b t).known turn cur.known →
+    turn_counts b.counts turn ≡ b.counts → IsPolledSome shared b t most (Answer turn) cur
+piece_rests {T} {W} shared b cur t turns most turn on is row counts =
+    let n = noting b t in
+    let same : SameCore n cur = on.1 in
+    let way : IsComing shared n cur = on.3 in
+    let S : ℕ → Type 0 = λ s. IsTurn s cur.slots.last_stamp (machine cur) turn (machine cur) cur.wheel.filing in
+    let L : ℕ → Type 0 = λ s. IsTurn n.shard s (machine cur) turn (machine cur) cur.wheel.filing in (
+      on.0,
+      refl,
+      record {
+        run = (machine cur, way.way, subst L same.1 (subst S same.0 is));
+        row = row;
+        wheel = way.wheel;
+        ticks = way.ticks;
+        filed = way.filed;
+        counts = way.counts ∙ sym counts;
+      },
+      on.2,
+    )
+
+rested : {T W : Type 0} (shared : Bool) (b cur after : Core T W) (t turns : ℕ) → IsOnPiece shared b t turns cur → after ≡ cur → IsOnPiece shared b t turns after
+rested {T} {W} shared b cur after t turns on e = let P : Core T W → Type 0 = λ m. IsOnPiece shared b t turns m in subst P (sym e) on
+
+wakes_later : {T W : Type 0} (c : Core T W) (next : ℕ) → c.wheel.filing.tick ≡ c.noted → ((i : ℕ) → filed_at c.wheel.filing.filed i ≢ Some c.wheel.filing.tick) → WakesAhead c (Some next) → c.noted < next
+wakes_later c next at none ahead = let later = ahead none in omega (arith, at, later)
+
+pub piece_waiting : {T W : Type 0} (shared : Bool) (b cur after : Core T W) (t turns most next : ℕ) → IsOnPiece shared b t turns cur → IsAtRest cur after → TellsWake after (Some next) → WakesAhead after (Some next) →
+    IsPolledSome shared b t most (Answer (Waiting next)) after
+piece_waiting shared b cur after t turns most next on r wake ahead =
+    let now = rested shared b cur after t turns on r.0 in
+    piece_rests shared b after t turns most (Waiting next) now (refl, r.1, none_due (machine after) after.noted r.2, wake, wakes_later after next r.1 r.3 ahead) now.3.looks refl
+
+pub piece_idle : {T W : Type 0} (shared : Bool) (b cur after : Core T W) (t turns most : ℕ) → IsOnPiece shared b t turns cur → IsAtRest cur after → TellsWake after None →
+    IsPolledSome shared b t most (Answer Idle) after
+piece_idle shared b cur after t turns most on r wake =
+    let now = rested shared b cur after t turns on r.0 in
+    piece_rests shared b after t turns most Idle now (refl, r.1, none_due (machine after) after.noted r.2, wake) now.3.looks refl

@@ -1,0 +1,10 @@
+use Rattle.std.proofs.Common.{arith}
+use Rattle.dq_core.proofs.Renewing.{all_forgotten, none_held_at}
+use Rattle.dq_core.proofs.slots.Slots.forget.Goals as goal
+
+pub returns : goal.returns
+returns g c =
+    let i = c.loop-index.invariant in
+    let end = i.end in
+    let size = i.size in
+    all_forgotten c.loop-index.self c.args.self.now c.loop-index.index i.last size (omega arith) i.before

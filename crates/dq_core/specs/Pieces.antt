@@ -1,0 +1,122 @@
+-- A poll in pieces: each call makes at most so many steps, and a slot that starts is opened as it
+-- is, so no step goes through all of its indexes.
+use Rattle.std.specs.Prelude.{max, ◌≡◌, ◌≢◌, ℕ, ◌+◌, ◌-◌, ◌*◌, ◌<◌, ◌≤◌, ◌⊎◌, ◌==◌, Bool, List, []}
+use Rattle.std.specs.Prelude.{◌∷◌, Option, Some, None, Result, Ok, Err, length, if◌then◌else◌}
+use Rattle.std.specs.List.{sum_by}
+use Rattle.dq_ticks.specs.declared.words.Parts.{Parts}
+use Rattle.dq_ticks.specs.declared.words.Mark.TheVariants.{LiveMark}
+use Rattle.dq_ticks.specs.declared.TheConstants.{LAST_TICK}
+use Rattle.dq_wheel.specs.State.{Filing, filed_at, NoneFiledAt}
+use Rattle.dq_wheel.specs.Arrivals.{ArrivesAtWake}
+use Rattle.dq_wheel.specs.Moves.{ReachesLimit}
+use Rattle.dq_core.specs.declared.errors.CoreError.{CoreError}
+use Rattle.dq_core.specs.declared.errors.CoreError.TheVariants.{TickTooLarge}
+use Rattle.dq_core.specs.declared.outcomes.Turn.{Turn}
+use Rattle.dq_core.specs.declared.outcomes.Turn.TheVariants.{Out}
+use Rattle.dq_core.specs.declared.outcomes.Piece.{Piece}
+use Rattle.dq_core.specs.declared.outcomes.Piece.TheVariants.{Answer, Working}
+use Rattle.dq_core.specs.declared.outcomes.Progress.{Progress}
+use Rattle.dq_core.specs.declared.outcomes.Progress.TheVariants.{Gave, Went, Rests}
+use Rattle.dq_core.specs.Machine.{Machine, Note, Step, RunOf, IsOnTheWay, NoneLiveBefore}
+use Rattle.dq_core.specs.Words.{word_at}
+use Rattle.dq_core.specs.Core.{Core, machine, filing_for}
+use Rattle.dq_core.specs.Calls.{LooksOver, IsTurn, TurnRow, turn_counts, noting}
+use Rattle.dq_core.specs.WheelWays.{TakesOut, FilesLater}
+
+-- where none is filed at the tick, the wheel goes on: it arrives at its next wake, or goes to the
+-- limit where there is no wake up to it
+abbrev pub ArrivesOn : ℕ → Filing → Filing → Type 0
+ArrivesOn limit v w =
+    (v.tick < limit) × NoneFiledAt v.filed v.tick
+    × (ArrivesAtWake v limit w ⊎ ReachesLimit v limit w)
+
+-- one step of the wheel, over those known words
+abbrev pub PieceStep : Bool → List Parts → ℕ → Filing → Filing → Type 0
+PieceStep shared known limit v w =
+    TakesOut v w ⊎ (FilesLater shared known v w ⊎ ArrivesOn limit v w)
+
+-- such steps, one after the other, through those filings
+abbrev pub ComesThrough : Bool → List Parts → ℕ → Filing → List Filing → Filing → Type 0
+ComesThrough shared known limit v [] w = w ≡ v
+ComesThrough shared known limit v (u ∷ us) w =
+    PieceStep shared known limit v u × ComesThrough shared known limit u us w
+
+-- the wheel's way from one filing to another
+abbrev pub WheelComes : Bool → List Parts → ℕ → Filing → Filing → Type 0
+WheelComes shared known limit v w = (us : List Filing) × ComesThrough shared known limit v us w
+
+-- how an index is filed after some pieces: nowhere; as before or earlier, with its word as it was
+-- known; or by its known deadline, at a tick that was passed, or earlier
+abbrev pub IsFiledByThen : Filing → List Parts → Filing → List Parts → ℕ → Type 0
+IsFiledByThen v old w new i =
+    (filed_at w.filed i ≡ None)
+    ⊎ (((f g : ℕ) × (filed_at v.filed i ≡ Some f) × (filed_at w.filed i ≡ Some g) × (g ≤ f)
+    × (word_at new i ≡ word_at old i))
+    ⊎ ((t g : ℕ) × (v.tick ≤ t) × (t ≤ w.tick) × ((word_at new i).mark ≡ LiveMark)
+    × (filed_at w.filed i ≡ Some g) × (g ≤ filing_for t (word_at new i).field)))
+
+-- the way of some pieces from one queue to another
+pub record IsComing {T W : Type 0} (shared : Bool) (b c : Core T W) : Type 0 where
+  pub way : RunOf (IsOnTheWay shared) b.slots.last_stamp (machine b) (machine c)
+  pub looks : LooksOver shared b.known c.known
+  pub wheel : WheelComes shared b.known b.noted b.wheel.filing c.wheel.filing
+  pub ticks : b.wheel.filing.tick ≤ c.wheel.filing.tick
+  pub filed : (i : ℕ) → IsFiledByThen b.wheel.filing b.known c.wheel.filing c.known i
+  pub counts : c.counts ≡ b.counts
+
+-- the way of some pieces to an answer
+pub record IsAnsweredBy {T W : Type 0} (shared : Bool) (b : Core T W) (turn : Turn T) (c : Core T W)
+    : Type 0 where
+  pub run :
+      (m : Machine T) × RunOf (IsOnTheWay shared) b.slots.last_stamp (machine b) m
+      × IsTurn b.shard b.slots.last_stamp m turn (machine c) c.wheel.filing
+  pub row : TurnRow shared b.known turn c.known
+  pub wheel : WheelComes shared b.known b.noted b.wheel.filing c.wheel.filing
+  pub ticks : b.wheel.filing.tick ≤ c.wheel.filing.tick
+  pub filed : (i : ℕ) → IsFiledByThen b.wheel.filing b.known c.wheel.filing c.known i
+  pub counts : c.counts ≡ turn_counts b.counts turn
+
+-- 1 where an index is filed at that tick
+abbrev pub due_step : ℕ → Option ℕ → ℕ
+due_step tick None = 0
+due_step tick (Some f) = if f == tick then 1 else 0
+
+-- how many steps are left at the most: the indexes that are due, and for each tick up to the noted
+-- one all that may be due there, and the step to it
+abbrev pub steps_left : {T W : Type 0} → Core T W → ℕ
+steps_left c =
+    (c.noted - c.wheel.filing.tick) * (length c.slots.rows + 1)
+    + sum_by (due_step c.wheel.filing.tick) c.wheel.filing.filed
+
+-- what one step does
+abbrev pub IsPieceStep : {T W : Type 0} → Bool → Core T W → Progress T → Core T W → Type 0
+IsPieceStep shared b (Gave x) c = IsAnsweredBy shared b (Out x) c
+IsPieceStep shared b Went c = IsComing shared b c × (steps_left c < steps_left b)
+IsPieceStep shared b Rests c =
+    (c ≡ b) × (c.wheel.filing.tick ≡ c.noted) × NoneLiveBefore (machine c) (c.noted + 1)
+    × ((i : ℕ) → filed_at c.wheel.filing.filed i ≢ Some c.wheel.filing.tick)
+
+-- what is left of a queue after a piece: its answer, or so many steps fewer
+abbrev pub IsPieceOf : {T W : Type 0} → Bool → Core T W → ℕ → Piece T → Core T W → Type 0
+IsPieceOf shared b most (Answer turn) c = IsAnsweredBy shared b turn c
+IsPieceOf shared b most Working c = IsComing shared b c × (steps_left c + most ≤ steps_left b)
+
+-- a poll in pieces notes its tick, and makes at most so many steps
+abbrev pub IsPolledSome : {T W : Type 0} →
+    Bool → Core T W → ℕ → ℕ → Piece T → Core T W → Type 0
+IsPolledSome shared b tick most piece c =
+    (tick ≤ LAST_TICK) × Step b.slots.last_stamp (machine b) (Note tick) (machine (noting b tick))
+    × IsPieceOf shared (noting b tick) most piece c × (c.noted ≡ max b.noted tick)
+
+-- such a poll, or its refusal: exactly beyond the last tick, and then nothing changes
+abbrev pub PollsSome : {T W : Type 0} →
+    Bool → Core T W → ℕ → ℕ → Result (Piece T) CoreError → Core T W → Type 0
+PollsSome shared b tick most (Ok piece) c = IsPolledSome shared b tick most piece c
+PollsSome shared b tick most (Err e) c =
+    (e ≡ TickTooLarge LAST_TICK) × (LAST_TICK < tick) × (c ≡ b)
+
+-- the answer of a poll in pieces, where it came to one
+abbrev pub IfAnswer : {T : Type 0} →
+    Result (Piece T) CoreError → (Result (Turn T) CoreError → Type 0) → Type 0
+IfAnswer (Ok (Answer turn)) P = P (Ok turn)
+IfAnswer r P = Unit {0}

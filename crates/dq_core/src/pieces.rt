@@ -1,0 +1,112 @@
+//! A poll in pieces, for an owner who can't wait for a whole one.
+//!
+//! A poll that comes to the start of a full slot takes a step for each of its entries. Here the slot is opened as it is, in
+//! constant time, and its entries are gone through one by one. A call makes at most so many of these steps, and leaves
+//! the queue lawful behind each.
+
+ghost use Rattle.std.specs.Prelude.{◌≡◌, ℕ, ◌+◌, ◌<◌, ◌≤◌, ◌↔◌, max, IfSome, None, IsErr, OnErr, OnOk};
+ghost use Rattle.dq_core.specs.AtTheCall.{IfOut, IfRests};
+ghost use Rattle.dq_core.specs.Calls.{SameCore};
+ghost use Rattle.dq_core.specs.Core.{machine};
+ghost use Rattle.dq_core.specs.Machine.{NoneLinked, NoneLiveBefore};
+ghost use Rattle.dq_core.specs.Pieces.{IfAnswer, IsPieceStep, PollsSome};
+ghost use Rattle.dq_core.specs.Words.{StillBegun};
+
+use crate::errors::CoreError;
+use crate::outcomes::{Expired, Piece, Progress, Turn};
+use crate::queue::{DelayCore, filing_tick};
+use crate::words::{Settled, Words};
+use dq_ticks::{EntryId, Key, LAST_TICK};
+use std::alloc::Allocator;
+
+impl<T: Drop, W: Words, A: Allocator> DelayCore<T, W, A> {
+    // One step of a poll in pieces: settles an index that is due, or arrives at a later tick.
+    #[inline]
+    fn step_some(&mut self) -> Progress<T>
+        ensures same { SameCore self.old self.new }
+        ensures origin { W.origin self.new.words ≡ W.origin self.old.words }
+        ensures begun { StillBegun W.begun self.old.words self.new.words }
+        ensures noted { self.new.noted ≡ self.old.noted }
+        ensures progress { IsPieceStep W.shared self.old result self.new }
+    {
+        let tick = self.wheel.tick();
+        let Some(index) = self.wheel.pop_due() else {
+            if tick < self.noted {
+                self.wheel.arrive(self.noted);
+                return Progress::Went;
+            }
+            return Progress::Rests;
+        };
+        let stamp = self.slots.stamp(index);
+        match self.words.settle(index, stamp, tick) {
+            Settled::SettledExpired => {
+                let gone = self.slots.vacate(index);
+                self.expired += 1;
+                let entry = EntryId::new(self.shard, index as u32, gone.born);
+                Progress::Gave(Expired {
+                    key: Key::new(entry, stamp),
+                    deadline: tick,
+                    noted: self.noted,
+                    value: gone.value,
+                })
+            }
+            Settled::Later(deadline) => {
+                self.wheel.link(index, filing_tick(tick, deadline));
+                Progress::Went
+            }
+            Settled::SettledCancelled => {
+                self.slots.vacate(index);
+                Progress::Went
+            }
+        }
+    }
+
+    /// Does of a [`Self::poll`] at most `most` steps, each in constant time but for a value's drop. Call again while it
+    /// answers Working: each such call leaves at least so many steps fewer. Between the calls every other call may be made.
+    ///
+    /// Who is told Working by a call of no step at all learns nothing. Refused as TickTooLarge beyond the last tick.
+    pub fn poll_some(&mut self, tick: u64, most: u32) -> Result<Piece<T>, CoreError>
+        // The greater of the two ticks is noted. A tick is refused, and nothing changes, exactly
+        // beyond the last one.
+        ensures noted { OnOk result (self.new.noted ≡ max self.old.noted tick) }
+        ensures refused { IsErr result ↔ (LAST_TICK < tick) }
+        ensures kept { OnErr result (self.new ≡ self.old) }
+
+        // An answer is one of poll: what comes out is due, and no live entry has an earlier deadline.
+        ensures out { IfAnswer result (λ turn. IfOut turn
+            (λ x. (x.deadline ≤ self.new.noted) × NoneLiveBefore (machine self.new) x.deadline)) }
+
+        // Else no live entry is due, and the tick to wait for is after the noted one. There is none
+        // exactly where nothing is linked.
+        ensures waiting { IfAnswer result (λ turn. IfRests turn
+            (λ next. NoneLiveBefore (machine self.new) (self.new.noted + 1))) }
+        ensures ahead { IfAnswer result (λ turn. IfRests turn
+            (λ next. IfSome next (λ tick. self.new.noted < tick))) }
+        ensures idle { IfAnswer result (λ turn. IfRests turn
+            (λ next. (next ≡ None) ↔ NoneLinked (machine self.new))) }
+
+        // Exactly: a run of the queue machine to an answer of poll, or so many steps fewer.
+        ensures polls { PollsSome W.shared self.old tick most result self.new }
+        ensures same { SameCore self.old self.new }
+        ensures origin { W.origin self.new.words ≡ W.origin self.old.words }
+        ensures begun { StillBegun W.begun self.old.words self.new.words }
+    {
+        if tick > LAST_TICK {
+            return Err(CoreError::TickTooLarge { limit: LAST_TICK });
+        }
+        self.note(tick);
+        for _turn in 0..most {
+            match self.step_some() {
+                Progress::Gave(expired) => return Ok(Piece::Answer(Turn::Out(expired))),
+                Progress::Went => {}
+                Progress::Rests => {
+                    return match self.next_wake() {
+                        Some(next) => Ok(Piece::Answer(Turn::Waiting { next })),
+                        None => Ok(Piece::Answer(Turn::Idle)),
+                    };
+                }
+            }
+        }
+        Ok(Piece::Working)
+    }
+}

@@ -1,0 +1,122 @@
+-- What the calls of a shard do, as relations between its states.
+use Rattle.std.specs.Prelude.{◌≡◌, ℕ, ◌+◌, ◌<◌, true, false, None, Result, Ok, Err}
+use Rattle.std.specs.List.{count_by}
+use Rattle.dq_ticks.specs.declared.keys.Key.{Key}
+use Rattle.dq_ticks.specs.declared.keys.EntryId.{EntryId}
+use Rattle.dq_core.specs.declared.errors.CoreError.{CoreError}
+use Rattle.dq_core.specs.declared.outcomes.Removed.{Removed}
+use Rattle.dq_core.specs.declared.outcomes.Tally.{Tally}
+use Rattle.dq_core.specs.declared.outcomes.Turn.{Turn}
+use Rattle.dq_core.specs.Calls.{SameCore, Inserts, Resets, Removes, Polls, TellsDeadline}
+use Rattle.dq_core.specs.Readers.{IsTally, with_words}
+use Rattle.dq_core.specs.Renewals.{renewed_core}
+use Rattle.dq_core.specs.Slots.{is_held}
+use Rattle.dq_core.specs.Sweeps.{Sweeps, Clears}
+use Rattle.dq_core.specs.Words.{AreFresh}
+use Rattle.dq_words.specs.AtTheCall.{KnowsNothing}
+use Rattle.dq_words.specs.KeeperCalls.{Issues}
+use Rattle.dq_words.specs.declared.keeper.WordsError.{WordsError}
+use Rattle.dq_lasting.specs.Numbered.{Numbered}
+use Rattle.dq_lasting.specs.declared.ended.Ended.{Ended}
+use Rattle.dq_lasting.specs.declared.ended.LastingTally.{LastingTally}
+use Rattle.dq_lasting.specs.declared.errors.LastingError.{LastingError}
+use Rattle.dq_lasting.specs.declared.errors.LastingError.TheVariants.{Core, Closed, Unknown}
+use Rattle.dq_lasting.specs.declared.errors.ReopenError.{ReopenError}
+use Rattle.dq_lasting.specs.declared.errors.ReopenError.TheVariants.{StillLinked, NumbersSpent}
+use Rattle.dq_lasting.specs.declared.errors.ReopenError.TheVariants.{NoMemory}
+use Rattle.dq_lasting.specs.Parking.{KeepsOrWakes}
+use Rattle.dq_lasting.specs.Shard.{LastingView, AddsUp}
+
+-- the entries that ended earlier, with those of a tally
+pub record IsWith (past : Ended) (t : Tally) (e : Ended) : Type 0 where
+  pub inserted : e.inserted ≡ past.inserted + t.inserted
+  pub expired : e.expired ≡ past.expired + t.expired
+  pub removed : e.removed ≡ past.removed + t.removed
+  pub sum : AddsUp e
+
+-- The entries that ended earlier, with all that the keeper of a generation began and ended. What it
+-- neither expired nor removed was cancelled.
+pub record IsPast {T : Type 0} (old : LastingView T) (e : Ended) : Type 0 where
+  pub inserted : e.inserted ≡ old.past.inserted + old.core.counts.begins
+  pub expired : e.expired ≡ old.past.expired + old.core.counts.expiries
+  pub removed : e.removed ≡ old.past.removed + old.core.counts.removals
+  pub sum : AddsUp e
+
+module _ {T : Type 0} where
+  -- a call of the queue: its number stays, and whether it takes entries, and its past; the poller
+  -- is kept or woken
+  abbrev pub Keeps : LastingView T → LastingView T → Type 0
+  Keeps old new =
+      SameCore old.core new.core × (new.takes ≡ old.takes) × (new.past ≡ old.past)
+      × KeepsOrWakes new.core old.parked new.parked
+
+  -- An insert is refused as closed exactly where the shard takes none. Then the value comes back
+  -- and nothing changes.
+  abbrev pub LastingInserts :
+      LastingView T → T → ℕ → Result Key (LastingError × T) → LastingView T → Type 0
+  LastingInserts old value when (Ok k) new =
+      (old.takes ≡ true) × Inserts old.core value when (Ok k) new.core × Keeps old new
+  LastingInserts old value when (Err (Closed, v)) new =
+      (old.takes ≡ false) × (v ≡ value) × (new ≡ old)
+  LastingInserts old value when (Err (Core e, v)) new =
+      (old.takes ≡ true) × Inserts old.core value when (Err (e, v)) new.core × (new ≡ old)
+  LastingInserts old value when (Err (Unknown, v)) new = ⊥
+
+  abbrev pub LastingResets :
+      LastingView T → EntryId → ℕ → Result Key CoreError → LastingView T → Type 0
+  LastingResets old id when result new =
+      Resets true old.core id when result new.core × Keeps old new
+
+  abbrev pub LastingRemoves :
+      LastingView T → EntryId → Result (Removed T) CoreError → LastingView T → Type 0
+  LastingRemoves old id result new = Removes true old.core id result new.core × Keeps old new
+
+  abbrev pub LastingDeadline :
+      LastingView T → EntryId → Result ℕ CoreError → LastingView T → Type 0
+  LastingDeadline old id result new =
+      TellsDeadline true old.core id result new.core × Keeps old new
+
+  abbrev pub LastingPolls :
+      LastingView T → ℕ → Result (Turn T) CoreError → LastingView T → Type 0
+  LastingPolls old tick result new = Polls true old.core tick result new.core × Keeps old new
+
+  abbrev pub LastingSweeps : LastingView T → ℕ → LastingView T → Type 0
+  LastingSweeps old n new = Sweeps true old.core n new.core × Keeps old new
+
+  abbrev pub LastingClears : LastingView T → ℕ → LastingView T → Type 0
+  LastingClears old n new = Clears true old.core n new.core × Keeps old new
+
+  -- what came and went in this generation, and in all before it
+  abbrev pub LastingTells : LastingView T → LastingTally → LastingView T → Type 0
+  LastingTells old t new = IsTally new.core t.present × (t.past ≡ new.past) × (new ≡ old)
+
+  -- it takes no more entries, and no poller is left parked
+  abbrev pub Closes : LastingView T → LastingView T → Type 0
+  Closes old new = new ≡ record old { takes = false; parked = None }
+
+  -- It goes on over a keeper that knows nothing, under a number that is higher by so much, and
+  -- takes entries; no poller is left parked. Refused, nothing changes.
+  abbrev pub Reopens : LastingView T → ℕ → Result (Unit {0}) ReopenError → LastingView T → Type 0
+  Reopens old by (Ok done) new =
+      (count_by is_held old.core.slots.rows ≡ 0)
+      × (new.core ≡ renewed_core old.core (old.core.shard + by) new.core.known new.core.counts
+      new.core.words)
+      × AreFresh new.core.known new.core.counts × KnowsNothing new.core.words
+      × (new.takes ≡ true) × IsPast old new.past × (new.parked ≡ None)
+  Reopens old by (Err (StillLinked linked)) new =
+      (linked ≡ count_by is_held old.core.slots.rows) × (0 < linked) × (new ≡ old)
+  Reopens old by (Err NumbersSpent) new = (count_by is_held old.core.slots.rows ≡ 0) × (new ≡ old)
+  Reopens old by (Err NoMemory) new = (count_by is_held old.core.slots.rows ≡ 0) × (new ≡ old)
+
+  -- nothing changes but what the keeper knows, by a step that tells nothing of the entries
+  abbrev pub OnlyKeeperGoesOn : LastingView T → LastingView T → Type 0
+  OnlyKeeperGoesOn old new = new ≡ record old { core = with_words old.core new.core.words }
+
+  -- one caller more, of this generation's number, or its refusal
+  abbrev pub LastingIssues :
+      LastingView T → Result Numbered WordsError → LastingView T → Type 0
+  LastingIssues old (Ok c) new =
+      (c.number ≡ old.core.shard) × Issues old.core.words (Ok c.seat) new.core.words
+      × OnlyKeeperGoesOn old new
+  LastingIssues old (Err e) new =
+      Issues old.core.words (Err e) new.core.words × OnlyKeeperGoesOn old new

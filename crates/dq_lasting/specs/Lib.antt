@@ -1,0 +1,9 @@
+pub mod Answers
+pub mod Audits
+pub mod Changes
+pub mod Handles
+pub mod Keeping
+pub mod Numbered
+pub mod Parking
+pub mod Polling
+pub mod Shard

@@ -1,0 +1,83 @@
+//! Why a call of a lasting queue is refused, and what one is made by.
+ghost use Rattle.std.specs.Prelude.{◌≡◌};
+ghost use Rattle.dq_ticks.specs.declared.TheConstants.{LAST_STAMP};
+
+use dq_core::CoreError;
+use dq_ticks::LAST_STAMP;
+use thiserror::Error;
+
+/// The most shards of a queue. Two is the least: while one is being renewed another takes the entries.
+pub const SHARD_LIMIT: usize = 64;
+
+/// What a lasting queue is made by.
+#[derive(Clone, Copy, Debug, PartialEq, Eq)]
+pub struct LastingConfig {
+    /// The number of shards, from 2 to [`SHARD_LIMIT`].
+    pub shards: usize,
+    /// The number of slots of each shard, from 1 to [`dq_ticks::CAPACITY_LIMIT`].
+    pub capacity: usize,
+    /// The stamp after which a slot is worn, from 1 to [`LAST_STAMP`].
+    pub last_stamp: u32,
+}
+
+impl LastingConfig {
+    /// So many shards of that capacity, whose slots are worn as late as may be.
+    pub const fn of(shards: usize, capacity: usize) -> LastingConfig
+        ensures { result
+            ≡ record { shards = shards; capacity = capacity; last_stamp = LAST_STAMP } }
+    {
+        LastingConfig {
+            shards,
+            capacity,
+            last_stamp: LAST_STAMP,
+        }
+    }
+}
+
+/// Why a call of a lasting queue is refused.
+#[derive(Clone, Copy, Debug, PartialEq, Eq, Error)]
+pub enum LastingError {
+    /// The shard's queue refused it.
+    #[error("{0}")]
+    Core(CoreError),
+    /// The shard takes no entries until it is opened again.
+    #[error("the shard is closed to new entries")]
+    Closed,
+    /// The queue has no such shard.
+    #[error("there is no such shard")]
+    Unknown,
+}
+
+/// Why a shard isn't opened again.
+#[derive(Clone, Copy, Debug, PartialEq, Eq, Error)]
+pub enum ReopenError {
+    /// Entries are linked, live or cancelled and not yet reaped.
+    #[error("{linked} entries are still linked")]
+    StillLinked {
+        /// How many.
+        linked: usize,
+    },
+    /// No higher number is left, or more entries were inserted than a tally counts.
+    #[error("the shard has no number left")]
+    NumbersSpent,
+    /// Memory was refused.
+    #[error("out of memory")]
+    NoMemory,
+}
+
+/// Why no handle is made, or why it takes no renewed shard's caller on.
+#[derive(Clone, Copy, Debug, PartialEq, Eq, Error)]
+pub enum HandleError {
+    /// A shard has issued as many callers of this generation as it may, given back or not.
+    #[error("no more than {limit} handles are issued")]
+    TooManyHandles {
+        /// How many it may issue.
+        limit: u64,
+    },
+    /// The queue has not as many shards as the handle has callers.
+    #[error("the handle is of another queue")]
+    OtherQueue,
+    /// Memory was refused.
+    #[error("out of memory")]
+    NoMemory,
+}

@@ -1,0 +1,223 @@
+//! A handle extends and cancels entries of every shard, and looks at them, without a lock.
+ghost use Rattle.std.specs.Prelude.{◌≡◌, ◌≢◌, ◌%◌, ◌<◌, ◌≤◌, ◌⊎◌, IfOk, OnOk, length, slice_set, Ok};
+ghost use Rattle.dq_words.specs.declared.keeper.WordsError.TheVariants.{BadConfig};
+ghost use Rattle.dq_lasting.specs.Answers.{AtPlace};
+ghost use Rattle.dq_lasting.specs.Changes.{LastingIssues};
+ghost use Rattle.dq_lasting.specs.Numbered.{NumberedExtends, NumberedCancels, NumberedLooks, OfPlace};
+ghost use Rattle.dq_lasting.specs.Handles.{QueueHandles, NumberAt, TakesOn, AreRenewed};
+
+use crate::errors::HandleError;
+use crate::numbered::NumberedCaller;
+use crate::queue::LastingQueue;
+use dq_core::{CallError, Look};
+use dq_ticks::Key;
+use dq_words::WordsError;
+use std::alloc::{AllocError, Allocator, Global};
+use std::marker::Model;
+use std::mem;
+use std::sync::Wait;
+
+/// Extends and cancels entries of a lasting queue, and looks at them, from any thread. It has one caller for each shard, of
+/// one of its generations. Its calls take no lock and no memory, and wait for nobody.
+///
+/// A key of another generation than that of its shard's caller is unknown to it, older or newer, and never misread. After a
+/// shard was renewed [`LastingHandle::renew`] takes its new caller on.
+#[derive(Drop)]
+pub struct LastingHandle<A: Allocator = Global> {
+    callers: Vec<NumberedCaller<A>, A>,
+}
+
+impl<A: Allocator> Model for LastingHandle<A> {
+    ghost use Rattle.std.specs.Prelude.{List, ◌<◌, length};
+    ghost use Rattle.dq_lasting.specs.Numbered.{Numbered};
+
+    ghost Value = { List Numbered };
+
+    ghost view = { λ h. h.callers.items };
+
+    ghost invariant = { λ h. 0 < length h.callers.items };
+}
+
+impl<A: Allocator> LastingHandle<A> {
+    // The place of a number.
+    #[inline]
+    fn place_of(&self, number: u32) -> usize
+        ensures place { result ≡ number % length self.now }
+        ensures range { result < length self.now }
+    {
+        number as usize % self.callers.len()
+    }
+
+    /// Raises the deadline of a live entry to `when`, a tick of one millisecond, as [`NumberedCaller::extend`] of the key's
+    /// shard does, and answers the deadline that is then in force. Constant time.
+    ///
+    /// # Errors
+    /// TooFar beyond the last tick, Unknown where no slot has the key or it is of another generation than the caller, Stale
+    /// where the slot has a later stamp, and Ended where the entry isn't live.
+    #[inline]
+    pub fn extend(&mut self, key: &Key, when: u64) -> Result<u64, CallError>
+        ensures { OfPlace self.old (key.now.entry.shard % length self.old)
+            (λ v w. NumberedExtends v key.now when result w) self.new }
+    {
+        let place = self.place_of(key.entry().shard());
+        self.callers[place].extend(key, when)
+    }
+
+    /// Cancels a live entry, as [`NumberedCaller::cancel`] of the key's shard does, and answers the deadline that it gave up.
+    /// Constant time.
+    ///
+    /// # Errors
+    /// As `extend`, but never TooFar.
+    #[inline]
+    pub fn cancel(&mut self, key: &Key) -> Result<u64, CallError>
+        ensures { OfPlace self.old (key.now.entry.shard % length self.old)
+            (λ v w. NumberedCancels v key.now result w) self.new }
+    {
+        let place = self.place_of(key.entry().shard());
+        self.callers[place].cancel(key)
+    }
+
+    /// What the entry of a key is, as [`NumberedCaller::look`] of the key's shard tells. Constant time.
+    ///
+    /// # Errors
+    /// Unknown, and Stale.
+    #[inline]
+    pub fn look(&mut self, key: &Key) -> Result<Look, CallError>
+        ensures { OfPlace self.old (key.now.entry.shard % length self.old)
+            (λ v w. NumberedLooks v key.now result w) self.new }
+    {
+        let place = self.place_of(key.entry().shard());
+        self.callers[place].look(key)
+    }
+
+    /// Gives each of its callers back.
+    pub fn give_back(self) {
+        let LastingHandle { callers } = self;
+        give_back_all(callers);
+    }
+
+    // Takes the caller of the shard at a place on, where that was renewed; tells whether it was.
+    fn renew_at<R: Wait, T: Drop>(
+        &mut self,
+        rt: &R,
+        queue: &LastingQueue<T, A>,
+        place: usize,
+    ) -> Result<bool, HandleError>
+        requires place { place < length self.old }
+        requires of_queue { length self.old ≡ queue.now }
+        ensures { TakesOn T queue.now place self.old result self.new }
+    {
+        if self.callers[place].number() == queue.number_at(rt, place) {
+            return Ok(false);
+        }
+        let caller = queue.issue_at(rt, place)?;
+        let old = mem::replace(&mut self.callers[place], caller);
+        old.give_back();
+        Ok(true)
+    }
+
+    /// Takes on the caller of each shard that was renewed since, gives the old ones back, and answers how many. It takes each
+    /// shard's lock once or twice.
+    ///
+    /// # Errors
+    /// OtherQueue where the queue has another number of shards. Then, shard by shard, TooManyHandles where 1,024 callers of
+    /// this generation were issued, and NoMemory; the callers from before stay there, and what was taken on stays so.
+    pub fn renew<R: Wait, T: Drop>(
+        &mut self,
+        rt: &R,
+        queue: &LastingQueue<T, A>,
+    ) -> Result<usize, HandleError>
+        ensures size { length self.new ≡ length self.old }
+
+        // Each shard's caller is a new one, or was seen to be of that shard's number.
+        ensures renewed { OnOk result (AreRenewed T queue.now self.old self.new queue.now) }
+    {
+        let shards = queue.shards();
+        if self.callers.len() != shards {
+            return Err(HandleError::OtherQueue);
+        }
+        let mut renewed = 0;
+        for place in 0..shards {
+            if self.renew_at(rt, queue, place)? {
+                renewed += 1;
+            }
+        }
+        Ok(renewed)
+    }
+}
+
+// Gives back callers.
+fn give_back_all<A: Allocator>(mut callers: Vec<NumberedCaller<A>, A>) {
+    while let Some(caller) = callers.pop() {
+        caller.give_back();
+    }
+}
+
+// Why no handle is made.
+fn refused(refusal: WordsError) -> HandleError
+    requires { refusal ≢ BadConfig }
+{
+    match refusal {
+        WordsError::TooManyHandles { limit } => HandleError::TooManyHandles { limit },
+        WordsError::NoMemory => HandleError::NoMemory,
+        WordsError::BadConfig => unreachable!(),
+    }
+}
+
+impl<T: Drop, A: Allocator> LastingQueue<T, A> {
+    // The number of the shard at a place.
+    pub(crate) fn number_at<R: Wait>(&self, rt: &R, place: usize) -> u32
+        requires { place < self.now }
+        ensures { NumberAt T self.now place result }
+    {
+        self.lock(rt, place).number()
+    }
+
+    // One caller more of the shard at a place.
+    pub(crate) fn issue_at<R: Wait>(
+        &self,
+        rt: &R,
+        place: usize,
+    ) -> Result<NumberedCaller<A>, HandleError>
+        requires { place < self.now }
+        ensures { IfOk result (λ c. AtPlace {T = T} self.now place LastingIssues (Ok c)) }
+    {
+        let mut shard = self.lock(rt, place);
+        let issued = shard.issue();
+        shard.law();
+        match issued {
+            Ok(caller) => Ok(caller),
+            Err(refusal) => Err(refused(refusal)),
+        }
+    }
+}
+
+impl<T: Drop, A: Allocator + Clone + Drop> LastingQueue<T, A> {
+    /// A handle, with a caller of each shard, issued in turn under that shard's lock.
+    ///
+    /// # Errors
+    /// NoMemory where there is no room for the callers, and then, shard by shard, TooManyHandles where 1,024 callers of its
+    /// generation were issued, given back or not, and NoMemory. The callers that were issued before are given back then.
+    #[tactic(auto, using(crate::proofs::Locked::issued_more))]
+    pub fn handle<R: Wait>(&self, rt: &R) -> Result<LastingHandle<A>, HandleError>
+        ensures { IfOk result (λ h. QueueHandles T self.now h) }
+    {
+        let shards = self.shards();
+        let Ok(alloc) = self.shards.allocator().clone() else {
+            return Err(HandleError::NoMemory);
+        };
+        let Ok(mut callers) = Vec::with_capacity(alloc, shards) else {
+            return Err(HandleError::NoMemory);
+        };
+        for place in 0..shards {
+            match self.issue_at(rt, place) {
+                Ok(caller) => callers.push_reserved(caller),
+                Err(refusal) => {
+                    give_back_all(callers);
+                    return Err(refusal);
+                }
+            }
+        }
+        Ok(LastingHandle { callers })
+    }
+}

@@ -1,0 +1,152 @@
+//! The poller that waits for a shard: one at a time.
+ghost use Rattle.std.specs.Prelude.{◌≡◌, None, Err};
+ghost use Rattle.futures.specs.Task.{Covers, Keeps};
+ghost use Rattle.futures.specs.Poll.{IfReady, OnPending};
+ghost use Rattle.dq_core.specs.Calls.{TellsWake};
+ghost use Rattle.dq_lasting.specs.Answers.{AtPlaceAll};
+ghost use Rattle.dq_lasting.specs.Polling.{LacksWaker, Parks, Rings, PollsOrParks, PollsOrParksAt};
+ghost use Rattle.dq_lasting.specs.Polling.{no_memory, parked_at, unparked};
+
+use crate::errors::LastingError;
+use crate::parked::{Parked, ring};
+use crate::queue::LastingQueue;
+use crate::shard::LastingShard;
+use dq_core::{CoreError, Expired, Turn};
+use futures::task::{Context, Poll, Source, Waker};
+use std::alloc::Allocator;
+use std::mem;
+use std::sync::Wait;
+
+impl<T: Drop, A: Allocator> LastingShard<T, A> {
+    // Takes the parked poller out and doesn't wake it.
+    fn unpark(&mut self)
+        ensures { self.new ≡ unparked self.old }
+    {
+        if let Some(poller) = self.parked.take() {
+            // A waker that is dropped wakes.
+            mem::forget(poller.waker);
+        }
+    }
+
+    // Parks a poller, in the place of one that was parked before, which isn't woken.
+    fn park(&mut self, next: Option<u64>, waker: Waker)
+        requires { TellsWake self.old.core next }
+        ensures { self.new ≡ parked_at self.old next waker }
+    {
+        self.unpark();
+        self.parked = Some(Parked { next, waker });
+    }
+
+    // Registers with the context and parks its task. The name stands for the shard, as a source that fires where it wakes its
+    // poller.
+    fn wait(
+        &mut self,
+        next: Option<u64>,
+        name: &Source,
+        cx: &mut Context<'_>,
+    ) -> Poll<Result<Expired<T>, LastingError>>
+        requires wake { TellsWake self.old.core next }
+        ensures parks { OnPending result (Parks cx.old cx.new self.old next self.new) }
+        ensures refused { IfReady result (λ r. (r ≡ Err no_memory)
+            × LacksWaker cx.new × (self.new ≡ self.old)) }
+        ensures registered { OnPending result (Covers cx.new (λ s. s ≡ name.now.id)) }
+        ensures kept { Keeps cx.old cx.new }
+    {
+        let mut slot = None;
+        let _pending: Poll<()> = cx.register(name, &mut slot);
+        let Some(waker) = slot else {
+            return Poll::Ready(Err(LastingError::Core(CoreError::NoMemory)));
+        };
+        self.park(next, waker);
+        Poll::Pending
+    }
+
+    /// As [`LastingShard::poll`], for a task: where nothing is due it is parked, until the next wake or, where nothing is
+    /// linked, until an insert. It takes the place of one that was parked before, which isn't woken.
+    ///
+    /// # Errors
+    /// TickTooLarge beyond the last tick, and NoMemory where no waker can be made; nothing is parked then.
+    pub fn poll_or_park(
+        &mut self,
+        tick: u64,
+        name: &Source,
+        cx: &mut Context<'_>,
+    ) -> Poll<Result<Expired<T>, LastingError>>
+        // It waits registered with its context.
+        ensures registered { OnPending result (Covers cx.new (λ s. s ≡ name.now.id)) }
+
+        // All that it does.
+        ensures polls { PollsOrParks cx.old cx.new self.old tick result self.new }
+        ensures kept { Keeps cx.old cx.new }
+    {
+        self.unpark();
+        match self.poll(tick) {
+            Ok(Turn::Out(expired)) => Poll::Ready(Ok(expired)),
+            Ok(Turn::Waiting { next }) => self.wait(Some(next), name, cx),
+            Ok(Turn::Idle) => self.wait(None, name, cx),
+            Err(error) => Poll::Ready(Err(LastingError::Core(error))),
+        }
+    }
+
+    /// Takes out and wakes a poller that is parked at or before `tick`, of one millisecond. True where there was one.
+    pub fn ring(&mut self, tick: u64) -> bool
+        ensures { Rings self.old tick result self.new }
+    {
+        ring(&mut self.parked, tick)
+    }
+}
+
+impl<T: Drop, A: Allocator> LastingQueue<T, A> {
+    /// Polls the shard at a place at `tick`, of one millisecond, for a task: it gives an entry that is due. Where none is it
+    /// is Pending, and its task is parked in the shard, one task a shard.
+    ///
+    /// The task is woken once: where the next wake comes sooner or is gone, by an insert, a reset, a removal, a poll, a sweep
+    /// or a clear; where the shard is closed or opened again; and by `ring` at its tick. Where nothing is linked it waits for
+    /// an insert. A handle's extend or cancel doesn't wake it: the shard learns of it when the entry comes due. `name` is the
+    /// task's own name for the shard.
+    ///
+    /// # Errors
+    /// Unknown out of range, TickTooLarge beyond the last tick, and NoMemory where no waker can be made; nothing is parked
+    /// then.
+    pub fn poll_or_park<R: Wait>(
+        &self,
+        rt: &R,
+        place: usize,
+        tick: u64,
+        name: &Source,
+        cx: &mut Context<'_>,
+    ) -> Poll<Result<Expired<T>, LastingError>>
+        // It waits registered with its context.
+        ensures registered { OnPending result (Covers cx.new (λ s. s ≡ name.now.id)) }
+
+        // All that it answers.
+        ensures polls { PollsOrParksAt T self.now place cx.old cx.new tick result }
+        ensures kept { Keeps cx.old cx.new }
+    {
+        if place >= self.shards() {
+            return Poll::Ready(Err(LastingError::Unknown));
+        }
+        let mut shard = self.lock(rt, place);
+        let answer = shard.poll_or_park(tick, name, cx);
+        shard.law();
+        answer
+    }
+
+    /// Wakes the poller of the shard at a place, where it is parked at or before `tick`, of one millisecond, and tells whether
+    /// it was. Whoever keeps the time calls it.
+    ///
+    /// # Errors
+    /// Unknown out of range.
+    pub fn ring<R: Wait>(&self, rt: &R, place: usize, tick: u64) -> Result<bool, LastingError>
+        ensures { AtPlaceAll {T = T} self.now place
+            (λ old r new. Rings old tick r new) result }
+    {
+        if place >= self.shards() {
+            return Err(LastingError::Unknown);
+        }
+        let mut shard = self.lock(rt, place);
+        let is_rung = shard.ring(tick);
+        shard.law();
+        Ok(is_rung)
+    }
+}

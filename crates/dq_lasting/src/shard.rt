@@ -1,0 +1,338 @@
+//! One shard: a queue that is closed, drained and opened again.
+ghost use Rattle.std.specs.Prelude.{◌≡◌, ◌↔◌, ◌+◌, ◌<◌, true, false, None, OnOk, OnErr, IfErr, IfSome, IsErrAnd, length};
+ghost use Rattle.std.specs.List.{count_by};
+ghost use Rattle.dq_core.specs.Calls.{TellsWake};
+ghost use Rattle.dq_core.specs.Renewals.{OldAreMissing};
+ghost use Rattle.dq_core.specs.Slots.{is_held, is_worn};
+ghost use Rattle.dq_lasting.specs.declared.errors.LastingError.TheVariants.{Closed};
+ghost use Rattle.dq_lasting.specs.Shard.{IsLasting, AddsUp};
+ghost use Rattle.dq_lasting.specs.Changes.{LastingInserts, LastingResets, LastingRemoves, Reopens};
+ghost use Rattle.dq_lasting.specs.Changes.{LastingDeadline, LastingPolls, LastingSweeps, Closes};
+ghost use Rattle.dq_lasting.specs.Changes.{LastingClears, LastingTells, LastingIssues, IsWith};
+ghost use Rattle.dq_lasting.specs.Keeping.{ClosesWorn, GoesOnAt};
+
+use crate::ended::{Ended, LastingTally};
+use crate::errors::{LastingError, ReopenError};
+use crate::keeping::Kept;
+use crate::numbered::NumberedCaller;
+use crate::parked::{Parked, keep_or_wake, wake};
+use dq_core::{CoreError, DelayCore, Removed, Tally, Turn};
+use dq_ticks::{EntryId, Key};
+use dq_words::{Keeper, WordsError};
+use std::alloc::{Allocator, Global};
+use std::marker::Model;
+
+/// The value behind a shard's lock: a queue over shared words, whether it takes entries, what became of the entries of its
+/// earlier generations, and the poller that is parked there.
+///
+/// It always keeps the parked law: a poller that is parked waits for a tick that isn't after the next wake, or for an insert
+/// where nothing is linked. A call that would break the law takes the poller out and wakes it.
+#[derive(Drop)]
+pub struct LastingShard<T, A: Allocator = Global> {
+    pub(crate) core: DelayCore<T, Keeper<A>, A>,
+    takes: bool,
+    past: Ended,
+    pub(crate) parked: Option<Parked>,
+}
+
+impl<T, A: Allocator> Model for LastingShard<T, A> {
+    ghost use Rattle.dq_lasting.specs.Shard.{LastingView, AddsUp};
+    ghost use Rattle.dq_lasting.specs.Parking.{IsParked};
+
+    ghost Value = { LastingView T };
+
+    ghost view = { λ s. record { core = s.core; takes = s.takes; past = s.past; parked = s.parked } };
+
+    ghost invariant = { λ s. AddsUp s.past × IsParked s.core s.parked };
+}
+
+// The entries of earlier generations with those of one of which none is linked; none where they are too many to count.
+fn with_ended(past: &Ended, tally: &Tally) -> Option<Ended>
+    requires past { AddsUp past.now }
+    requires tally { tally.now.inserted
+        ≡ tally.now.expired + tally.now.removed + tally.now.cancelled }
+    ensures { IfSome result (λ e. IsWith past.now tally.now e) }
+{
+    let Some(inserted) = past.inserted.checked_add(tally.inserted) else {
+        return None;
+    };
+    Some(Ended {
+        inserted,
+        expired: past.expired + tally.expired,
+        removed: past.removed + tally.removed,
+        cancelled: past.cancelled + tally.cancelled,
+    })
+}
+
+impl<T: Drop, A: Allocator> LastingShard<T, A> {
+    pub(crate) fn new(core: DelayCore<T, Keeper<A>, A>) -> LastingShard<T, A>
+        ensures { (result.core ≡ core) × (result.takes ≡ true) × AddsUp result.past
+            × (result.parked ≡ None) }
+    {
+        let past = Ended {
+            inserted: 0,
+            expired: 0,
+            removed: 0,
+            cancelled: 0,
+        };
+        LastingShard {
+            core,
+            takes: true,
+            past,
+            parked: None,
+        }
+    }
+
+    /// What every shard keeps. The call does nothing, and is for proofs.
+    pub fn law(&self)
+        ensures { IsLasting self.now }
+    {
+        self.core.law();
+        let _ = &self.past;
+        let _ = &self.parked;
+    }
+
+    /// The number of this generation, which its keys carry.
+    #[inline]
+    pub fn number(&self) -> u32
+        ensures { result ≡ self.now.core.shard }
+    {
+        self.core.shard()
+    }
+
+    /// Whether it takes entries.
+    pub fn takes(&self) -> bool
+        ensures { result ≡ self.now.takes }
+    {
+        self.takes
+    }
+
+    /// The number of linked entries, live or cancelled and not yet reaped.
+    pub fn len(&self) -> usize
+        ensures { result ≡ count_by is_held self.now.core.slots.rows }
+    {
+        self.core.len()
+    }
+
+    /// The number of slots.
+    pub fn capacity(&self) -> usize
+        ensures { result ≡ length self.now.core.slots.rows }
+    {
+        self.core.capacity()
+    }
+
+    /// The number of worn slots, which hold nothing and have no stamp left.
+    pub fn worn(&self) -> usize
+        ensures { result
+            ≡ count_by (is_worn self.now.core.slots.last_stamp) self.now.core.slots.rows }
+    {
+        self.core.worn()
+    }
+
+    /// The next wake: the tick of one millisecond at which the queue has something to do, none where nothing is linked.
+    pub fn next_wake(&self) -> Option<u64>
+        ensures { TellsWake self.now.core result }
+    {
+        self.core.next_wake()
+    }
+
+    /// How many entries came and went, in this generation and in those before it.
+    pub fn tally(&self) -> LastingTally
+        ensures { LastingTells self.now result self.now }
+    {
+        LastingTally {
+            past: self.past,
+            present: self.core.tally(),
+        }
+    }
+
+    /// As [`DelayCore::insert`], where the shard takes entries.
+    ///
+    /// # Errors
+    /// Closed exactly where it takes none, then TooFar beyond the last tick, and else Full where no slot is free. The value
+    /// comes back.
+    #[inline]
+    pub fn insert(&mut self, value: T, when: u64) -> Result<Key, (LastingError, T)>
+        // As closed exactly where it takes none. Refused, the value comes back and nothing changes.
+        ensures closed { IsErrAnd result (λ e. e.0 ≡ Closed) ↔ (self.old.takes ≡ false) }
+        ensures refused { IfErr result (λ e. (e.1 ≡ value) × (self.new ≡ self.old)) }
+
+        // All that it does.
+        ensures inserts { LastingInserts self.old value when result self.new }
+    {
+        if !self.takes {
+            return Err((LastingError::Closed, value));
+        }
+        match self.core.insert(value, when) {
+            Ok(key) => {
+                keep_or_wake(&self.core, &mut self.parked);
+                Ok(key)
+            }
+            Err((error, value)) => Err((LastingError::Core(error), value)),
+        }
+    }
+
+    /// As [`DelayCore::reset`].
+    #[inline]
+    pub fn reset(&mut self, entry: &EntryId, when: u64) -> Result<Key, CoreError>
+        ensures { LastingResets self.old entry.now when result self.new }
+    {
+        let answer = self.core.reset(entry, when);
+        keep_or_wake(&self.core, &mut self.parked);
+        answer
+    }
+
+    /// As [`DelayCore::remove`].
+    #[inline]
+    pub fn remove(&mut self, entry: &EntryId) -> Result<Removed<T>, CoreError>
+        ensures { LastingRemoves self.old entry.now result self.new }
+    {
+        let answer = self.core.remove(entry);
+        keep_or_wake(&self.core, &mut self.parked);
+        answer
+    }
+
+    /// As [`DelayCore::deadline`].
+    #[inline]
+    pub fn deadline(&mut self, entry: &EntryId) -> Result<u64, CoreError>
+        ensures { LastingDeadline self.old entry.now result self.new }
+    {
+        let answer = self.core.deadline(entry);
+        keep_or_wake(&self.core, &mut self.parked);
+        answer
+    }
+
+    /// As [`DelayCore::poll`].
+    #[inline]
+    pub fn poll(&mut self, tick: u64) -> Result<Turn<T>, CoreError>
+        ensures { LastingPolls self.old tick result self.new }
+    {
+        let answer = self.core.poll(tick);
+        keep_or_wake(&self.core, &mut self.parked);
+        answer
+    }
+
+    /// As [`DelayCore::sweep`].
+    pub fn sweep(&mut self) -> usize
+        ensures { LastingSweeps self.old result self.new }
+    {
+        let reaped = self.core.sweep();
+        keep_or_wake(&self.core, &mut self.parked);
+        reaped
+    }
+
+    /// As [`DelayCore::clear`].
+    pub fn clear(&mut self) -> usize
+        ensures { LastingClears self.old result self.new }
+    {
+        let removed = self.core.clear();
+        keep_or_wake(&self.core, &mut self.parked);
+        removed
+    }
+
+    /// Takes no more entries until it is opened again. Those that are there stay until they end, and a reset still moves
+    /// them. A poller that is parked is woken.
+    pub fn close(&mut self)
+        ensures { Closes self.old self.new }
+    {
+        self.takes = false;
+        wake(&mut self.parked);
+    }
+
+    // Closes it where it takes entries and half of its slots at the least are worn, and tells whether it did.
+    pub(crate) fn close_worn(&mut self) -> bool
+        ensures { ClosesWorn self.old result self.new }
+    {
+        let worn = self.core.worn();
+        let capacity = self.core.capacity();
+        if !self.takes {
+            return false;
+        }
+        if worn < capacity - capacity / 2 {
+            return false;
+        }
+        self.takes = false;
+        wake(&mut self.parked);
+        true
+    }
+
+    /// One caller more of this generation.
+    ///
+    /// # Errors
+    /// TooManyHandles where 1,024 callers of this generation were issued, given back or not, and else NoMemory.
+    pub fn issue(&mut self) -> Result<NumberedCaller<A>, WordsError>
+        ensures { LastingIssues self.old result self.new }
+    {
+        let number = self.core.shard();
+        match self.core.issue() {
+            Ok(caller) => Ok(NumberedCaller::of(number, caller)),
+            Err(refusal) => Err(refusal),
+        }
+    }
+}
+
+impl<T: Drop, A: Allocator + Clone + Drop> LastingShard<T, A> {
+    /// Goes on with fresh words under a number that is higher by `by`, and takes entries. The tally of this generation
+    /// goes to the past, and a poller that is parked is woken. No slot is worn then, and every key from before is refused for
+    /// good. The old words live on for as long as callers of them do.
+    ///
+    /// It takes memory for the words, and goes over every slot.
+    ///
+    /// # Errors
+    /// StillLinked while an entry is linked, NumbersSpent where no such number is left, and NoMemory. Nothing changes then.
+    pub fn reopen(&mut self, alloc: A, by: u32) -> Result<(), ReopenError>
+        requires { 0 < by }
+        // Its number rises, so each entry from before is missing for good, and it takes entries again.
+        ensures rises { OnOk result (self.new.core.shard ≡ self.old.core.shard + by) }
+        ensures stale { OnOk result (OldAreMissing self.old.core self.new.core) }
+        ensures opened { OnOk result (self.new.takes ≡ true) }
+        ensures refused { OnErr result (self.new ≡ self.old) }
+
+        // All that it does.
+        ensures reopens { Reopens self.old by result self.new }
+    {
+        let linked = self.core.len();
+        if linked > 0 {
+            return Err(ReopenError::StillLinked { linked });
+        }
+        let Some(number) = self.core.shard().checked_add(by) else {
+            return Err(ReopenError::NumbersSpent);
+        };
+        let tally = self.core.tally();
+        let Some(past) = with_ended(&self.past, &tally) else {
+            return Err(ReopenError::NumbersSpent);
+        };
+        let Ok(keeper) = Keeper::new(alloc, self.core.capacity()) else {
+            return Err(ReopenError::NoMemory);
+        };
+        match self.core.renew(number, keeper) {
+            Ok(_old) => {
+                self.takes = true;
+                self.past = past;
+                wake(&mut self.parked);
+                Ok(())
+            }
+            Err(_refused) => unreachable!(),
+        }
+    }
+
+    // Where it is closed: opens it again where nothing is linked, and else reaps what was cancelled. `place` is where it
+    // stands.
+    pub(crate) fn go_on(&mut self, alloc: A, place: usize, by: u32) -> Result<Kept, ReopenError>
+        requires { 0 < by }
+        ensures { GoesOnAt by place self.old result self.new }
+    {
+        if self.takes {
+            return Ok(Kept::Fine);
+        }
+        if self.core.len() > 0 {
+            self.sweep();
+            let linked = self.core.len();
+            return Ok(Kept::Drains { place, linked });
+        }
+        match self.reopen(alloc, by) {
+            Ok(()) => Ok(Kept::Reopened { place }),
+            Err(error) => Err(error),
+        }
+    }
+}

@@ -1,0 +1,97 @@
+//! Each allocation of a lasting queue, of a handle and of a shard's opening is refused in turn, and counted.
+
+use dq_core::CoreError;
+use dq_lasting::{HandleError, Kept, LastingConfig, LastingQueue, ReopenError};
+use linked_list_allocator::LocalHeap;
+use refusing_heap::RefusingHeap;
+use std::process::Abort;
+use std::sync::Wait;
+use std::test::Fail;
+
+type Heap<'all> = RefusingHeap<&'all LocalHeap>;
+
+type Letters<'heap, 'all> = LastingQueue<char, &'heap Heap<'all>>;
+
+// Where memory was refused.
+#[derive(Clone, Copy, Debug, PartialEq, Eq)]
+enum Refused {
+    InNew,
+    InHandle,
+    InReopen,
+    Nowhere,
+}
+
+// A shard that is closed and empty is opened again, once more where memory was refused first, and tells whether it was.
+fn reopens<'heap, 'all, R: Abort + Wait>(
+    rt: &R,
+    heap: &'heap Heap<'all>,
+    queue: &Letters<'heap, 'all>,
+) -> Result<bool, ReopenError> {
+    let mut was_refused = false;
+    for _ in 0..2 {
+        match queue.keep_going(rt, heap) {
+            Ok(kept) => {
+                assert_eq!(rt; kept, Kept::Reopened { place: 0 });
+                return Ok(was_refused);
+            }
+            Err(ReopenError::NoMemory) => was_refused = true,
+            Err(error) => return Err(error),
+        }
+        let refused = queue.insert(rt, 0, 'v', 5).map(|key| key.entry().shard());
+        assert_eq!(rt; refused.ok(), Some(1));
+    }
+    Err(ReopenError::NoMemory)
+}
+
+// A queue is made, and a handle, and a closed shard is opened again, whose new caller the handle takes on.
+fn goes<R: Abort + Wait>(rt: &R, heap: &Heap) -> Result<Refused, Fail> {
+    let queue: Letters = match LastingQueue::new(heap, LastingConfig::of(2, 4)) {
+        Ok(queue) => queue,
+        Err(CoreError::NoMemory) => return Ok(Refused::InNew),
+        Err(error) => return Err(error.into()),
+    };
+    queue.close(rt, 0)?;
+    let mut handle = match queue.handle(rt) {
+        Ok(handle) => handle,
+        Err(HandleError::NoMemory) => return Ok(Refused::InHandle),
+        Err(error) => return Err(error.into()),
+    };
+    let reopened = reopens(rt, heap, &queue);
+    let took = handle.renew(rt, &queue);
+    handle.give_back();
+    if reopened? {
+        return Ok(Refused::InReopen);
+    }
+    match took {
+        Ok(took) => assert_eq!(rt; took, 1),
+        Err(HandleError::NoMemory) => return Ok(Refused::InHandle),
+        Err(error) => return Err(error.into()),
+    }
+    Ok(Refused::Nowhere)
+}
+
+// A queue of two shards takes a row of them, and eight times for each: four for its words, three for its slots, one for its
+// wheel. A handle takes a row of callers, and an opening the words anew.
+#[test]
+fn each_allocation_refused(rt: HostRuntime) -> Result<(), Fail> {
+    let all = LocalHeap::new(rt.alloc(), 1 << 20)?;
+    let mut counts = [0u64; 4];
+    for grants in 0..64u64 {
+        let heap = RefusingHeap::new(&all, grants);
+        let refused = goes(&rt, &heap)?;
+        let at = match refused {
+            Refused::InNew => 0,
+            Refused::InHandle => 1,
+            Refused::InReopen => 2,
+            Refused::Nowhere => 3,
+        };
+        counts[at] = counts[at].wrapping_add(1);
+        assert_eq!(rt; heap.has_refused(), refused != Refused::Nowhere);
+        if refused == Refused::Nowhere {
+            break;
+        }
+    }
+    assert_eq!(rt; all.used(), 0);
+    assert_eq!(rt; counts, [17, 1, 4, 1]);
+    Ok(())
+}

@@ -1,0 +1,120 @@
+//! Polls in pieces, with every other call between two of them: the queue and the slow model of it agree after each.
+
+use super::model::LAST;
+use super::same_calls::Both;
+use dq_core::{Piece, Turn};
+use draws::Draw;
+use std::alloc::Global;
+use std::process::Abort;
+use std::test::Fail;
+
+impl Both {
+    // The model is told which entries were reaped, and where the others are filed.
+    fn tell(&mut self) -> bool {
+        let mut is_same = true;
+        for place in (0..self.slow.len()).rev() {
+            if let Some(entry) = self.slow.nth(place) {
+                let is_lawful = match self.core.filed(&entry.id) {
+                    Some(filed) => self.slow.file(entry.id, filed),
+                    None => self.slow.reap(entry.id),
+                };
+                is_same = is_same && is_lawful;
+            }
+        }
+        is_same
+    }
+
+    // What an answer says is what the model has, which was told how far the wheel came.
+    fn is_answer(&mut self, turn: Turn<u64>) -> bool {
+        let noted = self.slow.noted;
+        let due = self.slow.least_deadline();
+        match turn {
+            Turn::Out(out) => {
+                due == Some(out.deadline)
+                    && out.noted == noted
+                    && self.slow.take_out(&out.key) == Some(out.value)
+            }
+            Turn::Waiting { next } => {
+                due.is_none_or(|least| least > noted)
+                    && self.core.tick() == noted
+                    && self.core.next_wake() == Some(next)
+                    && next > noted
+            }
+            Turn::Idle => due.is_none() && self.core.tick() == noted && self.core.is_empty(),
+        }
+    }
+
+    // A piece of a poll. One of no step moves nothing.
+    fn poll_some(&mut self, tick: u64, most: u32) -> bool {
+        let (before, len) = (self.core.tick(), self.core.len());
+        let noted = self.slow.note(tick);
+        let piece = match (self.core.poll_some(tick, most), noted) {
+            (Ok(piece), Ok(())) => piece,
+            (Err(error), Err(expected)) => return error == expected,
+            _ => return false,
+        };
+        let is_on_the_way = self.slow.come_to(self.core.tick());
+        let is_same = match piece {
+            Piece::Answer(turn) => most > 0 && self.is_answer(turn),
+            Piece::Working => { most > 0 || (self.core.tick() == before && self.core.len() == len) }
+        };
+        is_on_the_way && is_same
+    }
+
+    // A sweep of some slots: as many entries leave as it tells.
+    fn sweep_some(&mut self, from: usize, count: usize) -> bool {
+        let before = self.core.len();
+        let swept = self.core.sweep_some(from, count);
+        before.saturating_sub(self.core.len()) == swept.reaped
+    }
+
+    // A piece of a poll, or another call.
+    fn piece_or_call(&mut self, turn: u64, draw: &mut Draw) -> bool {
+        let tick = self.some_tick(draw);
+        let is_same = match draw.below(12) {
+            0 => self.poll_some(tick, 0),
+            1..3 => self.poll_some(tick, 1),
+            3..5 => self.poll_some(self.slow.noted, 2),
+            5 => self.poll_some(tick, 16),
+            6 => self.sweep_some((draw.below(70) & 127) as usize, 8),
+            _ => self.call(turn, draw),
+        };
+        is_same && self.tell()
+    }
+
+    // Pieces to the last tick, until nothing is linked.
+    fn is_drained(&mut self) -> bool {
+        for _piece in 0..1000u64 {
+            if !(self.poll_some(LAST, 16) && self.tell() && self.agree()) {
+                return false;
+            }
+            if self.slow.len() == 0 && self.slow.tick == LAST {
+                return true;
+            }
+        }
+        false
+    }
+}
+
+// 2,000 calls on a fresh queue and on its model, and then pieces until it is empty.
+fn agree_at(rt: &impl Abort, alloc: Global, capacity: usize, last_stamp: u32) -> Result<(), Fail> {
+    let mut both = Both::new(alloc, capacity, last_stamp)?;
+    let mut draw = Draw::new(13);
+    for turn in 0..2000u64 {
+        assert!(rt;
+            both.piece_or_call(turn, &mut draw),
+            "call {turn} at capacity {capacity}"
+        );
+        assert!(rt; both.agree(), "after call {turn} at capacity {capacity}");
+    }
+    assert!(rt; both.is_drained(), "at capacity {capacity}");
+    Ok(())
+}
+
+#[test]
+fn pieces_agree_with_the_model(rt: HostRuntime) -> Result<(), Fail> {
+    for (capacity, last_stamp) in [(1, 3), (3, 1048575), (64, 3), (64, 1048575)] {
+        agree_at(&rt, rt.alloc(), capacity, last_stamp)?;
+    }
+    Ok(())
+}

@@ -1,0 +1,101 @@
+//! Cancelled entries are reaped a piece of a shard at a time, or one by its name: their values are dropped, and their slots are
+//! free at once.
+
+use dq_core::{CoreError, ReapError, Swept};
+use dq_shards::{QueueConfig, QueueError, SharedDelayQueue};
+use dq_ticks::{EntryId, Key};
+use linked_list_allocator::LocalHeap;
+use std::sync::Wait;
+use std::test::Fail;
+
+type Boxes<'heap> = SharedDelayQueue<Box<u64, &'heap LocalHeap>>;
+
+// Puts a box into shard 1, which may be full.
+fn put<'heap, R: Wait>(
+    rt: &R,
+    queue: &Boxes<'heap>,
+    heap: &'heap LocalHeap,
+    value: u64,
+) -> Result<Result<Key, QueueError>, Fail> {
+    Ok(queue.insert_or_drop(rt, 1, Box::new(heap, value)?, 100 + value % 8))
+}
+
+fn full(linked: usize) -> QueueError {
+    QueueError::Core(CoreError::Full { linked, worn: 0 })
+}
+
+// A cancelled entry keeps its slot and its value until it is reaped.
+#[test]
+fn a_shard_is_swept_in_pieces(rt: HostRuntime) -> Result<(), Fail> {
+    let heap = LocalHeap::new(rt.alloc(), 1 << 12)?;
+    let queue: Boxes = SharedDelayQueue::new(rt.alloc(), QueueConfig::of(2, 4))?;
+    let mut handle = queue.handle(&rt)?;
+    let mut live = None;
+    for value in 0..4u64 {
+        let key = put(&rt, &queue, &heap, value)??;
+        if key.entry().index() == 2 {
+            live = Some(key);
+        } else {
+            handle.cancel(&key)?;
+        }
+    }
+    let of_four = heap.used();
+    assert_eq!(rt; put(&rt, &queue, &heap, 4)?, Err(full(4)));
+    for (from, count, reaped, next) in [
+        (2, 1, 0, Some(3)),
+        (0, 2, 2, Some(2)),
+        (0, 3, 0, Some(3)),
+        (3, usize::MAX, 1, None),
+        (4, 0, 0, None),
+        (usize::MAX, usize::MAX, 0, None),
+    ] {
+        let swept = queue.sweep_some(&rt, 1, from, count);
+        assert_eq!(rt; swept, Ok(Swept { reaped, next }), "{count} from {from}");
+    }
+    assert_eq!(rt; heap.used().saturating_mul(4), of_four);
+    let unknown = queue.sweep_some(&rt, 2, 0, 4);
+    assert_eq!(rt; unknown, Err(QueueError::Unknown));
+    for value in 5..8u64 {
+        assert_eq!(rt; put(&rt, &queue, &heap, value)?.is_ok(), true);
+    }
+    assert_eq!(rt; put(&rt, &queue, &heap, 8)?, Err(full(4)));
+    let Some(key) = live else {
+        return Err(Fail::new("no slot 2"));
+    };
+    assert_eq!(rt; (handle.look(&key).is_ok(), handle.give_back()), (true, 3));
+    assert_eq!(rt; queue.audit(&rt)?.live, 4);
+    drop(queue);
+    assert_eq!(rt; heap.used(), 0);
+    Ok(())
+}
+
+#[test]
+fn an_entry_is_reaped_by_its_name(rt: HostRuntime) -> Result<(), Fail> {
+    let heap = LocalHeap::new(rt.alloc(), 1 << 12)?;
+    let queue: Boxes = SharedDelayQueue::new(rt.alloc(), QueueConfig::of(2, 1))?;
+    let mut handle = queue.handle(&rt)?;
+    let key = put(&rt, &queue, &heap, 1)??;
+    let entry = key.entry();
+    assert_eq!(rt;
+        queue.lend(&rt, 1, |state| state.reap(&entry))?,
+        Err(ReapError::Live)
+    );
+    assert_eq!(rt; queue.reap(&rt, &entry)?, Err(ReapError::Live));
+    assert_eq!(rt; handle.cancel(&key), Ok(101));
+    assert_eq!(rt; put(&rt, &queue, &heap, 2)?, Err(full(1)));
+    assert_eq!(rt; queue.reap(&rt, &entry)?, Ok(()));
+    assert_eq!(rt; heap.used(), 0);
+    let next = put(&rt, &queue, &heap, 3)??;
+    assert_eq!(rt; (next.entry().index(), next.stamp()), (0, 2));
+    for named in [entry, EntryId::new(0, 0, 2), EntryId::new(1, 1, 2)] {
+        assert_eq!(rt; queue.reap(&rt, &named)?, Err(ReapError::Missing));
+    }
+    let unknown = queue.reap(&rt, &EntryId::new(2, 0, 2));
+    assert_eq!(rt; unknown, Err(QueueError::Unknown));
+    assert_eq!(rt;
+        (queue.deadline(&rt, &next.entry())?, handle.give_back()),
+        (103, 1)
+    );
+    assert_eq!(rt; queue.audit(&rt)?.live, 1);
+    Ok(())
+}

@@ -1,0 +1,26 @@
+use Rattle.std.proofs.Common.{arith, refl}
+use Rattle.std.proofs.lemmas.List.{with_items_is}
+use Rattle.dq_wheel.proofs.Shown.{first_below, hang_now, last_below}
+use Rattle.dq_wheel.proofs.circles.Circles.hang.Goals as goal
+
+pub hang-requires-clause-first_in : goal.hang-requires-clause-first_in
+hang-requires-clause-first_in g c = rw c.deref_mut.ensures.value (first_below _ _ _ c.self.invariant c.args.list c.requires.list_in)
+
+pub hang-requires-clause-last_in : goal.hang-requires-clause-last_in
+hang-requires-clause-last_in g c = rw c.deref_mut.ensures.value (last_below _ _ _ c.self.invariant c.args.list c.requires.list_in)
+
+pub invariant_of-self : goal.invariant_of-self
+invariant_of-self g c =
+    let new = c.hang.ensures in
+    (hang_now _ _ _ _ c.self.invariant _ c.self.view_is _ _ _ c.deref_mut.ensures.value
+    (with_items_is c.self.inside.rows c.hang.new.rows (omega arith)) c.args.list c.args.tick _ (omega arith) c.requires.list_in c.requires.above c.requires.shut
+    c.requires.free c.requires.filled new.next new.prev new.home new.filed new.moves).0
+
+pub returns : goal.returns
+returns g c =
+    let new = c.hang.ensures in
+    let now =
+    hang_now _ _ _ _ c.self.invariant _ c.self.view_is _ _ _ c.deref_mut.ensures.value
+    (with_items_is c.self.inside.rows c.hang.new.rows (omega arith)) c.args.list c.args.tick _ (omega arith) c.requires.list_in c.requires.above c.requires.shut
+    c.requires.free c.requires.filled new.next new.prev new.home new.filed new.moves in
+    record { homes = now.1; filed = now.2; moves = now.3; opened = refl }

@@ -1,0 +1,111 @@
+//! Jobs that failed, and when each is tried again. One thread takes from a stream what is due, and another tells it the time.
+//!
+//! Without arguments the ticks are handed in, so that each run prints the same. `stream_example live` goes by the real clock.
+#![tactic(auto)]
+
+mod live;
+
+use anyhow::Result;
+use dq_core::Turn;
+use dq_shards::{QueueConfig, SharedDelayQueue};
+use dq_stream::{ExpiredStream, TickSource};
+use dq_ticks::Key;
+use example_mode::{Mode, asked};
+use futures::StreamExt;
+use futures::executor::block_on;
+use std::process::ExitCode;
+use std::random::RandomSource;
+use std::sync::Wait;
+use std::sync::atomic::AtomicU64;
+use std::sync::atomic::Ordering::SeqCst;
+use std::thread;
+use std::thread::Threads;
+
+// What the command line may say.
+const USAGE: &str = "usage: stream_example [live] (live: by the real clock, some four seconds)";
+
+// How many jobs a shard may have at once. All memory but that of names is taken when the queue is made.
+const ROOM: usize = 64;
+
+// The shard that is streamed, which is also the route of each job.
+const SHARD: usize = 0;
+
+// Jobs by the tick at which each is tried again: a millisecond of the server's own clock.
+type Jobs = SharedDelayQueue<String>;
+
+// The time that one thread tells, for a stream in another.
+#[derive(Drop)]
+struct TickOf<'t>(&'t AtomicU64);
+
+impl TickSource for TickOf<'_> {
+    fn now(&mut self) -> u64 {
+        self.0.load(SeqCst)
+    }
+}
+
+// Puts three jobs off, one of them twice, and tries each when it is due.
+fn walk<R>(rt: &R) -> Result<()>
+where
+    R: Print + AllocGlobal + RandomSource + Threads + Wait + Sync,
+{
+    let jobs = Jobs::new(rt.alloc(), QueueConfig::of(4, ROOM))?;
+    let mail = put_off(rt, &jobs, "the mail", 5_000)?;
+    put_off(rt, &jobs, "the backup", 20_000)?;
+    put_off(rt, &jobs, "the report", 30_000)?;
+    let mut handle = jobs.handle(rt)?; // takes no lock: any thread may extend while others poll
+    handle.extend(&mail, 45_000)?;
+    if let Turn::Waiting { next } = jobs.poll(rt, SHARD, 5_000)? {
+        println!(rt; "5000: nothing is due before {next}")?;
+    }
+    let time = AtomicU64::new(5_000);
+    let source = TickOf(&time);
+    let (tried, rung) = thread::join(rt, || try_due(rt, &jobs, source), || ring(rt, &jobs, &time));
+    tried?;
+    rung?;
+    let _cancels = handle.give_back();
+    let totals = jobs.audit(rt)?;
+    println!(rt; "{} jobs were tried again", totals.expired)?;
+    Ok(())
+}
+
+// Puts a job off until a tick.
+fn put_off<R: AllocGlobal + Wait>(rt: &R, jobs: &Jobs, name: &str, until: u64) -> Result<Key> {
+    let name = String::from_str(rt.alloc(), name)?;
+    Ok(jobs.insert_or_drop(rt, SHARD as u64, name, until)?)
+}
+
+// Tries each job again once it is due, until none is left.
+fn try_due<R, S>(rt: &R, jobs: &Jobs, ticks: S) -> Result<()>
+where
+    R: Print + AllocGlobal + RandomSource + Wait,
+    S: TickSource,
+{
+    let stream = ExpiredStream::new(rt, jobs, SHARD, ticks);
+    let mut due = stream.map_err(|refused| refused.0)?;
+    for _ in rt.forever() {
+        let Some(job) = block_on(rt, due.next())? else {
+            return Ok(());
+        };
+        let job = job?;
+        println!(rt; "{}: {} is tried again", job.deadline, job.value)?;
+    }
+    unreachable!()
+}
+
+// Tells the shard the time, second by second: a stream that waits there is woken when its time has come.
+fn ring<R: Wait>(rt: &R, jobs: &Jobs, time: &AtomicU64) -> Result<()> {
+    for second in 5..=60 {
+        time.store(1_000 * second, SeqCst);
+        jobs.ring(rt, SHARD, 1_000 * second)?;
+    }
+    Ok(())
+}
+
+fn main(rt: HostRuntime) -> Result<ExitCode> {
+    match asked(&rt, USAGE)? {
+        Ok(Mode::Walk) => walk(&rt)?,
+        Ok(Mode::Live) => live::run(&rt)?,
+        Err(status) => return Ok(status),
+    }
+    Ok(ExitCode::SUCCESS)
+}

@@ -1,0 +1,55 @@
+//! How entries come down the wheels: where each one stands at each wake of its queue.
+//!
+//! `docs/figures/wheel_at_work` draws what this prints.
+#![tactic(auto)]
+
+use anyhow::Result;
+use dq_core::{DelayCore, Turn, VecWords};
+use dq_ticks::EntryId;
+use dq_wheel::Place;
+use std::io;
+
+// The queue's entries, each a letter.
+type Letters = DelayCore<char, VecWords>;
+
+// Each entry, and the tick at which it is due.
+const DUE: [(char, u64); 4] = [('a', 40), ('b', 150), ('c', 5_000), ('d', 5_003)];
+
+// At most so many wakes come: five for an entry that goes down from the top level, and that at which it is out.
+const WAKES: usize = 6 * DUE.len();
+
+fn main(rt: HostRuntime) -> Result<()> {
+    let mut queue = Letters::with_capacity(rt.alloc(), DUE.len())?;
+    let mut entries = Vec::new(rt.alloc());
+    for (letter, when) in DUE {
+        let key = queue.insert_or_drop(letter, when)?;
+        entries.push((letter, key.entry()))?;
+    }
+    let mut now = 0;
+    for _ in 0..WAKES {
+        tell_places(&rt, now, &queue, entries.as_slice())?;
+        let Some(next) = queue.next_wake() else {
+            return Ok(());
+        };
+        if let Turn::Out(out) = queue.poll(next)? {
+            println!(rt; "{next}: {} is out", out.value)?;
+        }
+        now = next;
+    }
+    Ok(())
+}
+
+// Prints where each entry that is still there stands.
+fn tell_places<R: Print>(
+    rt: &R,
+    now: u64,
+    queue: &Letters,
+    entries: &[(char, EntryId)],
+) -> io::Result<()> {
+    for (letter, entry) in entries {
+        if let Some(Place::InSlot { level, slot }) = queue.place(entry) {
+            println!(rt; "{now}: {letter} stands in slot {slot} of level {level}")?;
+        }
+    }
+    Ok(())
+}
