@@ -186,7 +186,11 @@ mod tests {
             assert_eq!(rt; field(word), when, "word {word}");
             assert_eq!(rt; is_live(word), live, "word {word}");
             for asked in [0, 1, 2, LAST_STAMP] {
-                let found = if live && asked == of { Some(when) } else { None };
+                let found = if live && asked == of {
+                    Some(when)
+                } else {
+                    None
+                };
                 assert_eq!(rt; live_at(word, asked), found, "word {word}, stamp {asked}");
             }
         }
