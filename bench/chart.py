@@ -35,7 +35,7 @@ COLOURS = {
 WIDTH, MARGIN, HEAD = 900, 14, 66
 BAR, STEP, TITLE, GAP = 11, 15, 22, 12
 # Room for the names on the left of a panel, and for the number on the right of its longest bar.
-NAME, NUMBER = 120, 44
+NAME, NUMBER = 140, 52
 # What the front chart shows of each row: ours, the best heap that several threads can call, and what servers use now.
 FRONT = [["ours"], ["heap-best-locked", "heap-tight-locked", "heap-note-locked"], ["delay-queue-locked"]]
 
@@ -221,7 +221,7 @@ def front_chart(cases, about):
             bars += [Bar("", COLOURS[peer], case.median(peer), told(case, peer)) for peer in series]
             legend.update((("ours, words that threads share" if peer == "ours" else name_of(peer)), COLOURS[peer]) for peer in series)
         panels.append(Panel(title, bars))
-    return drawn("Nanoseconds, medians at 10,000 entries: shorter is faster", [panels], about, 3, legend.items(), name_room=8)
+    return drawn("Nanoseconds, medians of 10,000 entries where no other number stands: shorter is faster", [panels], about, 3, legend.items(), name_room=8)
 
 
 def charts(cases, about):

@@ -94,6 +94,7 @@ FIGURES = {
     "least": runs.least,
     "most": runs.most,
     "longest": runs.longest,
+    "longest-us": lambda *which: runs.longest(*which) / 1000,
     "lost": lost,
     "lost-cells": lost_cells,
     "lost-whole-cells": lambda peer, ours: lost_cells(peer, ours, WHOLE),
