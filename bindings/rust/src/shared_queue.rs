@@ -458,13 +458,7 @@ impl<T> SharedDelayQueue<T> {
     ///
     /// # Errors
     /// As `poll_or_park`.
-    pub fn poll_some_or_park(
-        &self,
-        seat: &Seat,
-        tick: u64,
-        most: u32,
-        waker: &Waker,
-    ) -> Result<Piece<T>, SharedError> {
+    pub fn poll_some_or_park(&self, seat: &Seat, tick: u64, most: u32, waker: &Waker) -> Result<Piece<T>, SharedError> {
         let mut held = self.enter_by_seat(seat)?;
         let mut lent = held.lent();
         let piece = lent.poll_some(tick, most)?;

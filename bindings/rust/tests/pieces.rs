@@ -1,9 +1,7 @@
 //! A poll in pieces beside a whole one, a sweep of some slots, and a reap of one entry: through the binding, with values that
 //! count their drops.
 
-use hontkhale::{
-    Caller, DelayQueue, Expired, Key, Piece, QueueError, SharedDelayQueue, SharedError, Turn, LAST_TICK,
-};
+use hontkhale::{Caller, DelayQueue, Expired, Key, Piece, QueueError, SharedDelayQueue, SharedError, Turn, LAST_TICK};
 use std::collections::BTreeSet;
 use std::panic::{catch_unwind, AssertUnwindSafe};
 use std::rc::Rc;
@@ -238,7 +236,10 @@ fn a_reap_takes_one_entry_out() {
     assert_eq!((queue.reap(&keys[1]), Rc::strong_count(&value), queue.len()), (Ok(()), 3, 2));
     assert_eq!(queue.reap(&keys[1]), Err(QueueError::Missing));
     let again = queue.insert_at(Held(1, value.clone()), 50).unwrap();
-    assert_eq!((again.index(), queue.reap(&keys[1]), queue.reap(&again)), (1, Err(QueueError::Missing), Err(QueueError::Live)));
+    assert_eq!(
+        (again.index(), queue.reap(&keys[1]), queue.reap(&again)),
+        (1, Err(QueueError::Missing), Err(QueueError::Live))
+    );
     // The note of the old cancel lies at the slot of a live entry now.
     assert!(matches!(queue.poll_expired(0), Ok(Turn::Waiting { .. })));
     assert_eq!((queue.get(&again).map(|held| held.0), Rc::strong_count(&value)), (Some(1), 3));
@@ -333,7 +334,8 @@ fn shards_sweep_and_reap_in_pieces() {
     assert_eq!(queue.reap(&keys[3]), Err(SharedError::Shard(QueueError::Missing)));
     let swept = queue.sweep_some(1, 0, 64).unwrap();
     assert_eq!((swept.reaped, swept.next, queue.tally(1).unwrap().linked), (63, Some(64), 36));
-    let lent = queue.lend(1, |mut shard| (shard.sweep_some(64, 30).reaped, shard.reap(&keys[99]), shard.len())).unwrap();
+    let lent =
+        queue.lend(1, |mut shard| (shard.sweep_some(64, 30).reaped, shard.reap(&keys[99]), shard.len())).unwrap();
     assert_eq!(lent, (30, Ok(()), 5));
     assert_eq!(queue.sweep_some(0, 0, 64).unwrap().reaped, 0);
     let unknown = SharedError::Unknown;
