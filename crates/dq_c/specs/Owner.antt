@@ -1,7 +1,7 @@
 -- What the calls of a queue's owner say that change it. Each is a call on the queue that the handle
 -- holds, or is refused where the handle is empty.
-use Rattle.std.specs.Prelude.{◌≡◌, ℕ, ◌+◌, nat_lt, if◌then◌else◌, length, Option, Some, None, Result}
-use Rattle.std.specs.Prelude.{Ok, Err, true}
+use Rattle.std.specs.Prelude.{◌≡◌, ℕ, ◌+◌, nat_lt, if◌then◌else◌, length, Option, Some, None}
+use Rattle.std.specs.Prelude.{Result, Ok, Err, true}
 use Rattle.dq_ticks.specs.Keys.{KeyName}
 use Rattle.dq_core.specs.Calls.{SameCore, Inserts, Resets, Removes, Polls}
 use Rattle.dq_core.specs.Pieces.{PollsSome}
