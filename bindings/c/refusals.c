@@ -116,6 +116,8 @@ static void empty_handles(dq_queue *queue, dq_caller *caller) {
     WANT(is_code(dq_insert(queue, 1, 2, &key), DQ_EMPTY) && is_code(dq_reset(queue, &key, 2), DQ_EMPTY));
     WANT(is_code(dq_remove(queue, &key, &removed), DQ_EMPTY) && is_code(dq_deadline(queue, &key), DQ_EMPTY));
     WANT(is_code(dq_poll(queue, 1, expired), DQ_EMPTY) && is_code(dq_poll_many(queue, 1, expired, 2), DQ_EMPTY));
+    WANT(is_code(dq_poll_some(queue, 1, 9, expired), DQ_EMPTY) && is_code(dq_sweep_some(queue, 0, 9), DQ_EMPTY));
+    WANT(is_code(dq_reap(queue, &key), DQ_EMPTY));
     WANT(is_code(dq_next_wake(queue), DQ_EMPTY) && is_code(dq_len(queue), DQ_EMPTY) && is_code(dq_peek(queue, &key), DQ_EMPTY));
     WANT(is_code(dq_sweep(queue), DQ_EMPTY) && is_code(dq_clear(queue), DQ_EMPTY) && is_code(dq_tally(queue, &tally), DQ_EMPTY));
     WANT(is_code(dq_renew(queue, 1), DQ_EMPTY) && is_code(dq_issue(queue, caller), DQ_EMPTY) && is_code(dq_returned(queue), DQ_EMPTY));

@@ -35,7 +35,7 @@ extern "C" {
 #define DQ_LAST_TICK 4398046511103
 #define DQ_CALLER_LIMIT 1024
 /* The form of the library that this header is written for: dq_form tells that of the one that is linked. */
-#define DQ_FORM 3
+#define DQ_FORM 4
 
 /* What a call answers. `first` and `second` are 0 where a code carries no number. */
 enum {
@@ -59,7 +59,9 @@ enum {
     DQ_CALLERS_OUT = 17,      /* `first` callers are out */
     DQ_NO_PLACE = 18,         /* the row has no place to write to */
     DQ_STILL_LINKED = 19,     /* `first` entries are linked */
-    DQ_USED_NUMBER = 20       /* the number isn't higher than the queue's, `first` */
+    DQ_USED_NUMBER = 20,      /* the number isn't higher than the queue's, `first` */
+    DQ_WORKING = 21,          /* the call did as much as it may, and more may be left: call again */
+    DQ_STILL_LIVE = 22        /* the entry is live, so it isn't reaped */
 };
 
 /* How an entry stands, where an answer says it in `first`. */
@@ -153,6 +155,11 @@ dq_answer dq_poll(dq_queue *queue, uint64_t tick, dq_expired *expired);
  * tick is noted then. */
 dq_answer dq_poll_many(dq_queue *queue, uint64_t tick, dq_expired *expired, size_t places);
 
+/* As dq_poll, but it makes at most `most` steps, each in constant time: for an owner who can't wait where many entries are due
+ * or move at once. DQ_WORKING where it made all of its steps: call again, with `expired` as it was. Each such call leaves at
+ * least so many steps fewer, so one of 0 steps only notes the tick. Any other call may be made between. Else as dq_poll. */
+dq_answer dq_poll_some(dq_queue *queue, uint64_t tick, uint32_t most, dq_expired *expired);
+
 /* DQ_WAITING with the next tick with something to do, DQ_IDLE, DQ_EMPTY. */
 dq_answer dq_next_wake(dq_queue *queue);
 
@@ -165,6 +172,13 @@ dq_answer dq_len(dq_queue *queue);
 
 /* Reaps what was cancelled. DQ_OK with how many, DQ_EMPTY. */
 dq_answer dq_sweep(dq_queue *queue);
+
+/* Reaps what was cancelled at `count` slots from `from` on, and looks at no other slot. DQ_WORKING with how many and, in
+ * `second`, the slot to go on from; DQ_OK with how many where no slot is left behind them. DQ_EMPTY. */
+dq_answer dq_sweep_some(dq_queue *queue, size_t from, size_t count);
+
+/* Reaps one entry that was cancelled, in constant time. DQ_OK, DQ_EMPTY, DQ_MISSING, DQ_STILL_LIVE. */
+dq_answer dq_reap(dq_queue *queue, const dq_key *key);
 
 /* Ends every entry. DQ_OK with how many it removed, DQ_EMPTY. */
 dq_answer dq_clear(dq_queue *queue);

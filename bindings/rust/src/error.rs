@@ -64,6 +64,8 @@ pub enum QueueError {
         /// The last tick.
         limit: u64,
     },
+    /// The entry is live, so it isn't reaped.
+    Live,
 }
 
 /// An insert that was refused, with the value that wasn't put in.
@@ -165,6 +167,7 @@ impl QueueError {
             ffi::WAS_CANCELLED => QueueError::WasCancelled,
             ffi::WORN => QueueError::Worn,
             ffi::TICK_TOO_LARGE => QueueError::TickTooLarge { limit: answer.first },
+            ffi::STILL_LIVE => QueueError::Live,
             code => unknown(code),
         }
     }
@@ -231,6 +234,7 @@ impl fmt::Display for QueueError {
             QueueError::WasCancelled => write!(f, "the entry was cancelled"),
             QueueError::Worn => write!(f, "the entry's slot has no stamp left"),
             QueueError::TickTooLarge { limit } => write!(f, "the tick is beyond the last tick, {}", limit),
+            QueueError::Live => write!(f, "the entry is live"),
         }
     }
 }

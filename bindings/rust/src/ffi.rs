@@ -6,7 +6,7 @@ use std::ffi::c_void;
 use std::ptr;
 
 /// The form of the library that this module is written for.
-pub const FORM: u32 = 3;
+pub const FORM: u32 = 4;
 
 pub const OK: u32 = 0;
 pub const TOO_FAR: u32 = 3;
@@ -25,6 +25,8 @@ pub const ENDED: u32 = 15;
 pub const TOO_MANY_CALLERS: u32 = 16;
 pub const STILL_LINKED: u32 = 19;
 pub const USED_NUMBER: u32 = 20;
+pub const WORKING: u32 = 21;
+pub const STILL_LIVE: u32 = 22;
 
 pub const LIVE: u64 = 0;
 pub const CANCELLED: u64 = 1;
@@ -126,6 +128,8 @@ extern "C" {
     fn dq_poll(queue: &mut RawHandle, tick: u64, expired: &mut RawExpired) -> Answer;
     #[cfg_attr(not(hontkhale_archive), link_name = "hontkhale_poll_many")]
     fn dq_poll_many(queue: &mut RawHandle, tick: u64, expired: *mut RawExpired, places: usize) -> Answer;
+    #[cfg_attr(not(hontkhale_archive), link_name = "hontkhale_poll_some")]
+    fn dq_poll_some(queue: &mut RawHandle, tick: u64, most: u32, expired: &mut RawExpired) -> Answer;
     #[cfg_attr(not(hontkhale_archive), link_name = "hontkhale_next_wake")]
     fn dq_next_wake(queue: &mut RawHandle) -> Answer;
     #[cfg_attr(not(hontkhale_archive), link_name = "hontkhale_peek")]
@@ -134,6 +138,10 @@ extern "C" {
     fn dq_len(queue: &mut RawHandle) -> Answer;
     #[cfg_attr(not(hontkhale_archive), link_name = "hontkhale_sweep")]
     fn dq_sweep(queue: &mut RawHandle) -> Answer;
+    #[cfg_attr(not(hontkhale_archive), link_name = "hontkhale_sweep_some")]
+    fn dq_sweep_some(queue: &mut RawHandle, from: usize, count: usize) -> Answer;
+    #[cfg_attr(not(hontkhale_archive), link_name = "hontkhale_reap")]
+    fn dq_reap(queue: &mut RawHandle, key: &RawKey) -> Answer;
     #[cfg_attr(not(hontkhale_archive), link_name = "hontkhale_clear")]
     fn dq_clear(queue: &mut RawHandle) -> Answer;
     #[cfg_attr(not(hontkhale_archive), link_name = "hontkhale_tally")]
@@ -218,6 +226,11 @@ impl QueueHandle {
         unsafe { dq_poll_many(&mut self.0, tick, row.as_mut_ptr(), row.len()) }
     }
 
+    #[inline]
+    pub fn poll_some(&mut self, tick: u64, most: u32, expired: &mut RawExpired) -> Answer {
+        unsafe { dq_poll_some(&mut self.0, tick, most, expired) }
+    }
+
     pub fn next_wake(&mut self) -> Answer {
         unsafe { dq_next_wake(&mut self.0) }
     }
@@ -232,6 +245,14 @@ impl QueueHandle {
 
     pub fn sweep(&mut self) -> Answer {
         unsafe { dq_sweep(&mut self.0) }
+    }
+
+    pub fn sweep_some(&mut self, from: usize, count: usize) -> Answer {
+        unsafe { dq_sweep_some(&mut self.0, from, count) }
+    }
+
+    pub fn reap(&mut self, key: &RawKey) -> Answer {
+        unsafe { dq_reap(&mut self.0, key) }
     }
 
     pub fn clear(&mut self) -> Answer {

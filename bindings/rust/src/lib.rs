@@ -15,7 +15,7 @@ mod walks;
 pub use caller::Caller;
 pub use error::{CallError, InsertError, IssueError, Look, NewError, QueueError, RenewError};
 pub use key::Key;
-pub use queue::{Config, DelayQueue, Expired, Tally, Turn};
+pub use queue::{Config, DelayQueue, Expired, Piece, Swept, Tally, Turn};
 pub use shared_queue::SHARD_LIMIT;
 pub use shared_queue::{
     Batch, Batched, Handle, HandlesOut, LentShard, Seat, SharedConfig, SharedDelayQueue, SharedError, Totals,

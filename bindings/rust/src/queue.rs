@@ -1,6 +1,6 @@
 use crate::caller::Caller;
 use crate::error::{InsertError, IssueError, NewError, QueueError, RenewError};
-use crate::ffi::{self, CallerHandle, QueueHandle, RawExpired, RawKey, RawRemoved, RawTally};
+use crate::ffi::{self, Answer, CallerHandle, QueueHandle, RawExpired, RawKey, RawRemoved, RawTally};
 use crate::key::Key;
 use crate::shared::{Callers, Shared};
 use crate::walks::{Drain, Iter};
@@ -59,7 +59,8 @@ impl Config {
 /// slots.
 ///
 /// The value of an entry that a caller cancelled is dropped by the first poll or sweep after the cancel, or with the
-/// queue. A queue that is dropped is closed for its callers: its entries have ended for them.
+/// queue; a poll or a sweep in pieces drops it in its turn. A queue that is dropped is closed for its callers: its entries
+/// have ended for them.
 ///
 /// A call that reads takes `&self`, and a short lock of the queue's own for the library's sake; a call that changes takes
 /// `&mut self` and no lock.
@@ -110,6 +111,25 @@ pub enum Turn<T> {
     },
     /// The queue is empty.
     Idle,
+}
+
+/// What a poll in pieces answers.
+#[non_exhaustive]
+pub enum Piece<T> {
+    /// The answer of the poll.
+    Answer(Turn<T>),
+    /// The call made all of its steps, and more may be left.
+    Working,
+}
+
+/// What a sweep of some slots came to.
+#[derive(Clone, Copy, Debug, PartialEq, Eq)]
+#[non_exhaustive]
+pub struct Swept {
+    /// How many cancelled entries it reaped.
+    pub reaped: usize,
+    /// The slot to go on from, none behind the last.
+    pub next: Option<usize>,
 }
 
 /// How many entries came and went.
@@ -261,13 +281,56 @@ impl<T> DelayQueue<T> {
         self.drop_cancelled();
         let mut out = RawExpired::default();
         let answer = self.library.own().poll(now, &mut out);
-        let turn = match answer.code {
-            ffi::OK => Turn::Out(taken_from(&mut self.slots, &out.key, out.deadline)),
-            ffi::WAITING => Turn::Waiting { next: answer.first },
-            ffi::IDLE => Turn::Idle,
-            _ => return Err(QueueError::of(answer)),
-        };
-        Ok(turn)
+        self.turn_of(answer, &out)
+    }
+
+    /// Does of a [`poll_expired`](DelayQueue::poll_expired) at most `most` steps, for an owner who can't wait where many
+    /// entries are due, move or were cancelled at once. A step takes constant time, but for a value's drop. Call it again
+    /// while it answers [`Piece::Working`]; each such call leaves at least so many steps fewer, and one of no step notes the
+    /// tick alone. Every other call may be made between.
+    ///
+    /// The value of an entry that a caller cancelled is dropped by a step too.
+    ///
+    /// # Errors
+    /// `TickTooLarge` beyond the last tick.
+    ///
+    /// ```
+    /// # fn main() -> Result<(), Box<dyn std::error::Error>> {
+    /// use hontkhale::{DelayQueue, Piece, Turn};
+    /// let mut queue = DelayQueue::with_capacity(1_000)?;
+    /// for entry in 0..1_000 {
+    ///     queue.insert_at(entry, 5_000 + entry % 60)?;
+    /// }
+    /// let (mut outs, mut pieces) = (0, 0);
+    /// loop {
+    ///     match queue.poll_some(5_100, 64)? {
+    ///         Piece::Answer(Turn::Out(_)) => outs += 1,
+    ///         Piece::Working => pieces += 1, // time for something else
+    ///         _ => break,
+    ///     }
+    /// }
+    /// assert_eq!((outs, pieces > 10), (1_000, true));
+    /// # Ok(()) }
+    /// ```
+    pub fn poll_some(&mut self, now: u64, most: u32) -> Result<Piece<T>, QueueError> {
+        let left = most - self.drop_some_cancelled(most);
+        let mut out = RawExpired::default();
+        let answer = self.library.own().poll_some(now, left, &mut out);
+        if answer.code == ffi::WORKING {
+            return Ok(Piece::Working);
+        }
+        self.turn_of(answer, &out).map(Piece::Answer)
+    }
+
+    /// What the library answers to a poll.
+    #[inline]
+    fn turn_of(&mut self, answer: Answer, out: &RawExpired) -> Result<Turn<T>, QueueError> {
+        match answer.code {
+            ffi::OK => Ok(Turn::Out(taken_from(&mut self.slots, &out.key, out.deadline))),
+            ffi::WAITING => Ok(Turn::Waiting { next: answer.first }),
+            ffi::IDLE => Ok(Turn::Idle),
+            _ => Err(QueueError::of(answer)),
+        }
     }
 
     /// Notes how late it is, and takes every entry out whose deadline is reached, onto `outs`. Answers the next tick at
@@ -608,6 +671,59 @@ impl<T> DelayQueue<T> {
         reaped
     }
 
+    /// Reaps the entries that were cancelled at `count` slots from `from` on, drops their values, and looks at no other slot.
+    ///
+    /// ```
+    /// # fn main() -> Result<(), Box<dyn std::error::Error>> {
+    /// let mut queue = hontkhale::DelayQueue::with_capacity(1_000)?;
+    /// let keys: Vec<_> = (0..1_000).map(|when| queue.insert_at("a", when)).collect::<Result<_, _>>()?;
+    /// let mut caller = queue.caller()?;
+    /// keys.iter().try_for_each(|key| caller.cancel(key).map(drop))?;
+    /// let (mut from, mut reaped) = (Some(0), 0);
+    /// while let Some(slot) = from {
+    ///     let swept = queue.sweep_some(slot, 64);
+    ///     reaped += swept.reaped;
+    ///     from = swept.next;
+    /// }
+    /// assert_eq!((reaped, queue.len()), (1_000, 0));
+    /// # Ok(()) }
+    /// ```
+    pub fn sweep_some(&mut self, from: usize, count: usize) -> Swept {
+        let answer = self.library.own().sweep_some(from, count);
+        let first = from.min(self.capacity());
+        let end = first + count.min(self.capacity() - first);
+        let shared = self.library.shared.clone();
+        shared.take_cancelled_in(first..end, u32::MAX, |index| self.drop_if_cancelled(index));
+        let next = if answer.code == ffi::WORKING { Some(answer.second as usize) } else { None };
+        Swept { reaped: answer.first as usize, next }
+    }
+
+    /// Reaps one entry that was cancelled, and drops its value: its slot is free for another then. Constant time.
+    ///
+    /// # Errors
+    /// `Missing`, `Live`.
+    ///
+    /// ```
+    /// # fn main() -> Result<(), Box<dyn std::error::Error>> {
+    /// use hontkhale::{DelayQueue, QueueError};
+    /// let mut queue = DelayQueue::with_capacity(10)?;
+    /// let key = queue.insert_at("a", 10)?;
+    /// assert_eq!(queue.reap(&key), Err(QueueError::Live));
+    /// queue.caller()?.cancel(&key)?;
+    /// assert_eq!((queue.reap(&key), queue.len()), (Ok(()), 0));
+    /// assert_eq!(queue.reap(&key), Err(QueueError::Missing));
+    /// # Ok(()) }
+    /// ```
+    pub fn reap(&mut self, key: &Key) -> Result<(), QueueError> {
+        let answer = self.library.own().reap(&key.0);
+        if answer.code != ffi::OK {
+            return Err(QueueError::of(answer));
+        }
+        // Nothing else can have gone into the slot yet.
+        drop(mem::replace(&mut self.slots[key.slot()], Slot::Empty));
+        Ok(())
+    }
+
     /// An empty queue goes on with all its stamps, under a number that no other queue of the program has: no slot is worn
     /// then. The ticks go on. The queue refuses each key from before for good. Callers from before stay at the old number:
     /// to them a new key is `Unknown`, and an old one has ended. Issue new ones. It goes over every slot.
@@ -748,24 +864,34 @@ impl<T> DelayQueue<T> {
     /// Drops the values of the entries that callers cancelled.
     #[inline]
     fn drop_cancelled(&mut self) {
+        self.drop_some_cancelled(u32::MAX);
+    }
+
+    /// The same at no more than so many slots, and answers at how many it looked.
+    #[inline]
+    fn drop_some_cancelled(&mut self, most: u32) -> u32 {
         if self.library.shared.has_news() {
-            self.look_at_cancelled();
+            self.look_at_cancelled(most)
+        } else {
+            0
         }
     }
 
     #[cold]
-    fn look_at_cancelled(&mut self) {
+    fn look_at_cancelled(&mut self, most: u32) -> u32 {
         let shared = self.library.shared.clone();
-        shared.take_cancelled(|index| {
-            let key = match self.slots.get(index) {
-                Some(Slot::Filled { key, .. }) => *key,
-                _ => return,
-            };
-            // The slot may have gone on to another entry, which is live.
-            if self.library.own().deadline(&key).code != ffi::OK {
-                drop(mem::replace(&mut self.slots[index], Slot::Empty));
-            }
-        });
+        shared.take_cancelled(most, |index| self.drop_if_cancelled(index))
+    }
+
+    /// Drops the value at a slot where a caller cancelled an entry. The slot may have gone on to another, which is live.
+    fn drop_if_cancelled(&mut self, index: usize) {
+        let key = match self.slots.get(index) {
+            Some(Slot::Filled { key, .. }) => *key,
+            _ => return,
+        };
+        if self.library.own().deadline(&key).code != ffi::OK {
+            drop(mem::replace(&mut self.slots[index], Slot::Empty));
+        }
     }
 
     pub(crate) fn take_at(&mut self, index: usize) -> Option<Expired<T>> {
@@ -824,6 +950,15 @@ impl<T> fmt::Debug for Turn<T> {
             Turn::Out(expired) => f.debug_tuple("Out").field(expired).finish(),
             Turn::Waiting { next } => f.debug_struct("Waiting").field("next", next).finish(),
             Turn::Idle => write!(f, "Idle"),
+        }
+    }
+}
+
+impl<T> fmt::Debug for Piece<T> {
+    fn fmt(&self, f: &mut fmt::Formatter<'_>) -> fmt::Result {
+        match self {
+            Piece::Answer(turn) => f.debug_tuple("Answer").field(turn).finish(),
+            Piece::Working => write!(f, "Working"),
         }
     }
 }

@@ -1,9 +1,9 @@
 //! What a queue and its callers share beside the library's own words.
 
 use crate::ffi::CallerHandle;
+use std::ops::Range;
 use std::sync::atomic::{AtomicBool, AtomicU64, Ordering::SeqCst};
 use std::sync::{Mutex, MutexGuard, PoisonError};
-use std::thread;
 
 /// The bits of a word.
 const BITS: usize = 64;
@@ -63,32 +63,59 @@ impl Shared {
         self.has_news.load(SeqCst)
     }
 
-    /// Hands each slot over in which an entry was cancelled since the last time. Where `look` panics, the rest is handed
-    /// over the next time.
-    pub fn take_cancelled(&self, mut look: impl FnMut(usize)) {
+    /// Hands the slots over in which an entry was cancelled since the last time, at most so many, and answers how many. The
+    /// rest is handed over the next time, also where `look` panics.
+    pub fn take_cancelled(&self, most: u32, look: impl FnMut(usize)) -> u32 {
         self.has_news.store(false, SeqCst);
-        let _again = LookAgain(&self.has_news);
-        for (at, word) in self.cancelled.iter().enumerate() {
+        let mut again = LookAgain { has_news: &self.has_news, is_done: false };
+        let taken = self.take_cancelled_in(0..BITS * self.cancelled.len(), most, look);
+        again.is_done = taken < most;
+        taken
+    }
+
+    /// As [`take_cancelled`](Shared::take_cancelled), of those slots alone.
+    pub fn take_cancelled_in(&self, slots: Range<usize>, most: u32, mut look: impl FnMut(usize)) -> u32 {
+        let mut taken = 0;
+        for at in slots.start / BITS..(slots.end + BITS - 1) / BITS {
+            let (word, within) = (&self.cancelled[at], bits_within(at, &slots));
             loop {
-                let bits = word.load(SeqCst);
+                let bits = word.load(SeqCst) & within;
                 if bits == 0 {
                     break;
+                }
+                if taken == most {
+                    return taken;
                 }
                 let bit = bits.trailing_zeros() as usize;
                 word.fetch_and(!(1 << bit), SeqCst);
                 look(at * BITS + bit);
+                taken += 1;
             }
         }
+        taken
     }
 }
 
-/// Has the owner look again after a panic.
-struct LookAgain<'a>(&'a AtomicBool);
+/// The bits of a word that are those of slots in a range.
+fn bits_within(at: usize, slots: &Range<usize>) -> u64 {
+    let (first, end) = (slots.start.saturating_sub(at * BITS), slots.end.saturating_sub(at * BITS).min(BITS));
+    if first < end {
+        u64::MAX >> (BITS - (end - first)) << first
+    } else {
+        0
+    }
+}
+
+/// Has the owner look again where it didn't come to the end, also by a panic.
+struct LookAgain<'a> {
+    has_news: &'a AtomicBool,
+    is_done: bool,
+}
 
 impl Drop for LookAgain<'_> {
     fn drop(&mut self) {
-        if thread::panicking() {
-            self.0.store(true, SeqCst);
+        if !self.is_done {
+            self.has_news.store(true, SeqCst);
         }
     }
 }

@@ -3,7 +3,7 @@
 use crate::caller::Caller;
 use crate::error::{CallError, InsertError, IssueError, Look, NewError, QueueError};
 use crate::key::Key;
-use crate::queue::{Config, DelayQueue, Expired, Tally, Turn};
+use crate::queue::{Config, DelayQueue, Expired, Piece, Swept, Tally, Turn};
 use crate::LAST_STAMP;
 use std::collections::VecDeque;
 use std::error::Error;
@@ -115,7 +115,7 @@ pub struct Batched {
 /// the entry goes; a key knows its shard, and is refused by every other queue.
 ///
 /// Values are dropped under the lock of their shard by [`clear`](SharedDelayQueue::clear) and
-/// [`sweep`](SharedDelayQueue::sweep), and by a poll that reaps what was cancelled: a value whose drop calls the same
+/// [`sweep`](SharedDelayQueue::sweep), by a reap, and by a poll that reaps what was cancelled: a value whose drop calls the same
 /// shard waits for ever, as a closure of [`lend`](SharedDelayQueue::lend) does that names its own shard. A panic under a
 /// lock leaves the shard whole, and the lock good.
 ///
@@ -282,6 +282,15 @@ impl<T> SharedDelayQueue<T> {
         self.enter(self.shard_of(key).ok_or(SharedError::Unknown)?)
     }
 
+    /// The shard of a seat that nobody took over.
+    fn enter_by_seat(&self, seat: &Seat) -> Result<Held<'_, T>, SharedError> {
+        let mut held = self.enter(self.numbers.place(seat.shard).ok_or(SharedError::Unknown)?)?;
+        if held.lent().shard.seat != seat.number {
+            return Err(SharedError::Replaced);
+        }
+        Ok(held)
+    }
+
     /// Puts a value into the shard of the route, which comes out at the tick `when`, or at the next poll where `when` is
     /// over. Constant time.
     ///
@@ -361,6 +370,34 @@ impl<T> SharedDelayQueue<T> {
         Ok(self.enter(shard)?.lent().poll(tick)?)
     }
 
+    /// Does of a [`poll`](SharedDelayQueue::poll) at most `most` steps, as [`DelayQueue::poll_some`], and lets the lock go:
+    /// other threads come in between the pieces. Call it again while it answers [`Piece::Working`].
+    ///
+    /// # Errors
+    /// `Unknown`; `TickTooLarge` of the shard, beyond the last tick.
+    ///
+    /// ```
+    /// # fn main() -> Result<(), Box<dyn std::error::Error>> {
+    /// use hontkhale::{Piece, SharedDelayQueue, Turn};
+    /// let queue = SharedDelayQueue::with_capacity(2, 1_000)?;
+    /// for entry in 0..1_000 {
+    ///     queue.insert(1, entry, 5_000)?;
+    /// }
+    /// let mut outs = Vec::new();
+    /// loop {
+    ///     match queue.poll_some(1, 5_000, 64)? {
+    ///         Piece::Answer(Turn::Out(out)) => outs.push(out.into_inner()),
+    ///         Piece::Working => {}
+    ///         _ => break,
+    ///     }
+    /// }
+    /// assert_eq!(outs.len(), 1_000);
+    /// # Ok(()) }
+    /// ```
+    pub fn poll_some(&self, shard: usize, tick: u64, most: u32) -> Result<Piece<T>, SharedError> {
+        Ok(self.enter(shard)?.lent().poll_some(tick, most)?)
+    }
+
     /// A seat in a shard, for one who polls it and waits there: a task that an insert wakes. Who had the seat before is
     /// woken, and [`Replaced`](SharedError::Replaced).
     ///
@@ -409,18 +446,26 @@ impl<T> SharedDelayQueue<T> {
     /// # Ok(()) }
     /// ```
     pub fn poll_or_park(&self, seat: &Seat, tick: u64, waker: &Waker) -> Result<Turn<T>, SharedError> {
-        let mut held = self.enter(self.numbers.place(seat.shard).ok_or(SharedError::Unknown)?)?;
+        let mut held = self.enter_by_seat(seat)?;
         let mut lent = held.lent();
-        if lent.shard.seat != seat.number {
-            return Err(SharedError::Replaced);
-        }
         let turn = lent.poll(tick)?;
-        match turn {
-            Turn::Out(_) => {}
-            Turn::Waiting { next } => lent.park(waker, next),
-            Turn::Idle => lent.park(waker, NEVER),
-        }
+        lent.park_by(&turn, waker);
         Ok(turn)
+    }
+
+    /// As [`poll_or_park`](SharedDelayQueue::poll_or_park), by at most `most` steps, after which it lets the lock go. Where it
+    /// answers [`Piece::Working`] the waker isn't parked: come again.
+    ///
+    /// # Errors
+    /// As `poll_or_park`.
+    pub fn poll_some_or_park(&self, seat: &Seat, tick: u64, most: u32, waker: &Waker) -> Result<Piece<T>, SharedError> {
+        let mut held = self.enter_by_seat(seat)?;
+        let mut lent = held.lent();
+        let piece = lent.poll_some(tick, most)?;
+        if let Piece::Answer(turn) = &piece {
+            lent.park_by(turn, waker);
+        }
+        Ok(piece)
     }
 
     /// Wakes who waits in any shard.
@@ -500,6 +545,43 @@ impl<T> SharedDelayQueue<T> {
     /// `Unknown`.
     pub fn sweep(&self, shard: usize) -> Result<usize, SharedError> {
         Ok(self.enter(shard)?.lent().sweep())
+    }
+
+    /// Reaps the entries that were cancelled at `count` slots of a shard from `from` on, as [`DelayQueue::sweep_some`], and
+    /// lets the lock go.
+    ///
+    /// # Errors
+    /// `Unknown`.
+    ///
+    /// ```
+    /// # fn main() -> Result<(), Box<dyn std::error::Error>> {
+    /// let queue = hontkhale::SharedDelayQueue::with_capacity(2, 100)?;
+    /// let key = queue.insert(0, "a", 100)?;
+    /// queue.handle()?.cancel(&key)?;
+    /// let swept = queue.sweep_some(0, 0, 64)?;
+    /// assert_eq!((swept.reaped, swept.next), (1, Some(64)));
+    /// assert_eq!(queue.sweep_some(0, 64, 64)?.next, None);
+    /// # Ok(()) }
+    /// ```
+    pub fn sweep_some(&self, shard: usize, from: usize, count: usize) -> Result<Swept, SharedError> {
+        Ok(self.enter(shard)?.lent().sweep_some(from, count))
+    }
+
+    /// Reaps one entry that was cancelled, and drops its value. Constant time.
+    ///
+    /// # Errors
+    /// `Unknown`; `Missing`, `Live` of the shard.
+    ///
+    /// ```
+    /// # fn main() -> Result<(), Box<dyn std::error::Error>> {
+    /// let queue = hontkhale::SharedDelayQueue::with_capacity(2, 10)?;
+    /// let key = queue.insert(0, "a", 100)?;
+    /// queue.handle()?.cancel(&key)?;
+    /// assert_eq!((queue.reap(&key), queue.tally(0)?.linked), (Ok(()), 0));
+    /// # Ok(()) }
+    /// ```
+    pub fn reap(&self, key: &Key) -> Result<(), SharedError> {
+        Ok(self.enter_by(key)?.lent().reap(key)?)
     }
 
     /// Takes every entry out of a shard, drops its value, and answers how many were live. Goes over every slot.
@@ -658,6 +740,15 @@ impl<T> LentShard<'_, T> {
         }
     }
 
+    /// Parks a poller for whom nothing came out.
+    fn park_by(&mut self, turn: &Turn<T>, waker: &Waker) {
+        match turn {
+            Turn::Out(_) => {}
+            Turn::Waiting { next } => self.park(waker, *next),
+            Turn::Idle => self.park(waker, NEVER),
+        }
+    }
+
     /// As [`DelayQueue::insert_at`].
     ///
     /// # Errors
@@ -707,9 +798,30 @@ impl<T> LentShard<'_, T> {
         self.shard.queue.poll_many(tick, outs)
     }
 
+    /// As [`DelayQueue::poll_some`].
+    ///
+    /// # Errors
+    /// `TickTooLarge`.
+    pub fn poll_some(&mut self, tick: u64, most: u32) -> Result<Piece<T>, QueueError> {
+        self.shard.queue.poll_some(tick, most)
+    }
+
     /// As [`DelayQueue::sweep`].
     pub fn sweep(&mut self) -> usize {
         self.shard.queue.sweep()
+    }
+
+    /// As [`DelayQueue::sweep_some`].
+    pub fn sweep_some(&mut self, from: usize, count: usize) -> Swept {
+        self.shard.queue.sweep_some(from, count)
+    }
+
+    /// As [`DelayQueue::reap`].
+    ///
+    /// # Errors
+    /// `Missing`, `Live`.
+    pub fn reap(&mut self, key: &Key) -> Result<(), QueueError> {
+        self.shard.queue.reap(key)
     }
 
     /// As [`DelayQueue::clear`].

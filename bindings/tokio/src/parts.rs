@@ -3,11 +3,12 @@
 //! An entry stays in its part until it ends, but that `compact` or a worn slot moves it. What comes out is merged by the
 //! parts' wakes: no part is polled beyond the tick at which another may have something.
 
+use crate::budget::Budget;
 use crate::key::Key;
 use crate::moves::Moves;
 use crate::part::{Part, FIRST_SLOTS};
 use crate::shared::{Links, Shared};
-use hontkhale::{QueueError, Turn, CAPACITY_LIMIT, LAST_TICK};
+use hontkhale::{Piece, QueueError, Turn, CAPACITY_LIMIT, LAST_TICK};
 use std::mem;
 use std::ops::Deref;
 use std::sync::Arc;
@@ -43,6 +44,8 @@ pub(crate) enum Found<T> {
     /// Nothing before that tick.
     Waiting(u64),
     Idle,
+    /// The budget is spent, and there is more to do.
+    Working,
 }
 
 /// An entry that came out or was removed.
@@ -275,9 +278,9 @@ impl<T> Parts<T> {
         Ok(())
     }
 
-    /// Notes how late it is, and takes out what is due first.
+    /// Notes how late it is, and takes out what is due first, within a budget.
     #[inline]
-    pub fn poll(&mut self, reached: u64) -> Found<T> {
+    pub fn poll(&mut self, reached: u64, budget: &mut Budget) -> Found<T> {
         if self.shared.has_news() {
             self.heed();
         }
@@ -292,11 +295,15 @@ impl<T> Parts<T> {
                 self.tick = self.tick.max(reached);
                 return Found::Waiting(wake);
             }
+            let most = match budget.piece() {
+                Some(most) => most,
+                None => return Found::Working,
+            };
             let limit = reached.min(second);
             part.noted = part.noted.max(limit);
             part.is_stale = false;
-            match part.queue.poll_expired(limit) {
-                Ok(Turn::Out(taken)) => {
+            match part.queue.poll_some(limit, most) {
+                Ok(Piece::Answer(Turn::Out(taken))) => {
                     part.note_left_slot();
                     self.left = spot;
                     let place = Key::of(spot, taken.key());
@@ -305,8 +312,10 @@ impl<T> Parts<T> {
                     self.tick = deadline;
                     return Found::Out(self.ended(place, deadline, taken.into_inner()));
                 }
-                Ok(Turn::Waiting { next }) => self.wakes[spot] = wake.max(next),
-                Ok(_) => self.wakes[spot] = NEVER,
+                Ok(Piece::Answer(Turn::Waiting { next })) => self.wakes[spot] = wake.max(next),
+                Ok(Piece::Answer(_)) => self.wakes[spot] = NEVER,
+                // Nothing is known of it yet, so it is polled on.
+                Ok(_) => part.is_stale = true,
                 Err(error) => panic!("the clock is beyond the last tick: {}", error),
             }
         }

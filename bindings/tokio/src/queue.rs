@@ -1,3 +1,4 @@
+use crate::budget::{Budget, DEFAULT_BUDGET};
 use crate::handle::{EntryError, Handle};
 use crate::key::{Expired, Key};
 use crate::parts::{Found, Out, Parts, NEVER};
@@ -15,8 +16,9 @@ use tokio::time::{sleep_until, Instant, Sleep};
 ///
 /// Deadlines are rounded up to milliseconds from the queue's making. Entries come out in the order of their deadlines; those
 /// of one millisecond in any order. Where nothing is due, [`poll_expired`](DelayQueue::poll_expired) is pending, and its
-/// task is woken by the runtime's timer, or by an insert or reset that comes sooner. The queue grows as it fills, and is
-/// used within a runtime with time.
+/// task is woken by the runtime's timer, or by an insert or reset that comes sooner. A poll makes so many steps at most and
+/// wakes its task for the rest: see [`set_budget`](DelayQueue::set_budget). The queue grows as it fills, and is used within a
+/// runtime with time.
 ///
 /// Beside that, a [`Handle`] extends and cancels entries from any thread, without a lock.
 ///
@@ -47,6 +49,8 @@ pub struct DelayQueue<T> {
     has_resets: bool,
     /// Whether the clock was looked at since the task was woken. Where more came due meanwhile, the timer tells it.
     has_looked: bool,
+    /// The most steps of a poll.
+    budget: u32,
 }
 
 // No value is ever pinned.
@@ -85,7 +89,45 @@ impl<T> DelayQueue<T> {
     /// A queue whose slots wear out sooner than they have to.
     pub(crate) fn with_last_stamp(capacity: usize, last_stamp: u32) -> DelayQueue<T> {
         let parts = Parts::new(capacity, last_stamp, Shared::new());
-        DelayQueue { parts, reached: 0, sleep: None, waker: None, armed: 0, has_resets: false, has_looked: false }
+        DelayQueue {
+            parts,
+            reached: 0,
+            sleep: None,
+            waker: None,
+            armed: 0,
+            has_resets: false,
+            has_looked: false,
+            budget: DEFAULT_BUDGET,
+        }
+    }
+
+    /// The most steps that a poll makes.
+    pub fn budget(&self) -> u32 {
+        self.budget
+    }
+
+    /// Sets the most steps that a poll makes, 128 at first. A step moves or takes out one entry, drops the value of one that a
+    /// [`Handle`] cancelled, or brings the wheels to where there is one, in constant time but for a value's drop. A poll that
+    /// has more to do is pending, and wakes its task at once, so that other tasks have their turn in between. 0 is taken as 1.
+    ///
+    /// ```
+    /// # #[tokio::main(flavor = "current_thread", start_paused = true)]
+    /// # async fn main() {
+    /// use std::{future::poll_fn, time::Duration};
+    /// let mut queue = hontkhale_tokio::DelayQueue::new();
+    /// queue.set_budget(32);
+    /// for session in 0..1_000 {
+    ///     queue.insert(session, Duration::from_secs(30));
+    /// }
+    /// let mut ended = 0;
+    /// while let Some(_) = poll_fn(|cx| queue.poll_expired(cx)).await {
+    ///     ended += 1;
+    /// }
+    /// assert_eq!((ended, queue.budget()), (1_000, 32));
+    /// # }
+    /// ```
+    pub fn set_budget(&mut self, steps: u32) {
+        self.budget = steps;
     }
 
     /// Puts a value in that comes out at `when`, or at once where `when` is over. Constant time, but that the queue may grow.
@@ -124,11 +166,13 @@ impl<T> DelayQueue<T> {
         self.insert_at(value, Instant::now() + timeout)
     }
 
-    /// Takes out the first entry whose deadline is reached. Pending where none is, and the task is woken for the next;
-    /// none where the queue is empty, and the task is woken by an insert.
+    /// Takes out the first entry whose deadline is reached. Pending where none is, and the task is woken for the next, and
+    /// where the [budget](DelayQueue::set_budget) is spent, and the task is woken at once; none where the queue is empty, and
+    /// the task is woken by an insert.
     pub fn poll_expired(&mut self, cx: &mut Context<'_>) -> Poll<Option<Expired<T>>> {
+        let mut budget = Budget::of(self.budget);
         loop {
-            match self.parts.poll(self.reached) {
+            match self.parts.poll(self.reached, &mut budget) {
                 Found::Out(out) => {
                     self.armed = 0;
                     return Poll::Ready(Some(self.expired(out)));
@@ -136,6 +180,12 @@ impl<T> DelayQueue<T> {
                 Found::Idle => {
                     self.arm(NEVER, cx);
                     return Poll::Ready(None);
+                }
+                Found::Working => {
+                    // It is woken already, so nothing that comes sooner has to.
+                    self.armed = 0;
+                    cx.waker().wake_by_ref();
+                    return Poll::Pending;
                 }
                 Found::Waiting(wake) if self.has_looked => ready!(self.poll_sleep(wake, cx)),
                 Found::Waiting(_) => {

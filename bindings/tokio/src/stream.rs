@@ -1,7 +1,8 @@
+use crate::budget::{Budget, DEFAULT_BUDGET};
 use crate::sharded::{expired, Inner};
 use crate::shared_queue::Expired;
 use futures_core::{ready, Stream};
-use hontkhale::{Seat, SharedError, Turn, LAST_TICK};
+use hontkhale::{Piece, Seat, SharedError, Turn, LAST_TICK};
 use std::fmt;
 use std::future::Future;
 use std::ops::Range;
@@ -20,6 +21,9 @@ const NEVER: u64 = u64::MAX;
 /// moment that is over, comes out next. Where none is due the task sleeps, and is woken by tokio's timer, or by an insert or
 /// a reset that comes sooner, from any thread. A handle's extend or cancel wakes nobody.
 ///
+/// A poll makes so many steps at most, and wakes its task for the rest: see [`set_budget`](ExpiredStream::set_budget). No
+/// lock is held for more than eight of them.
+///
 /// Each entry comes out once, under the lock of its shard, and no earlier than its deadline. Nothing is taken out ahead: a
 /// stream that is dropped leaves all entries where they are, and a new stream gives them.
 ///
@@ -36,6 +40,8 @@ pub struct ExpiredStream<T> {
     /// The greatest tick that is known to be over.
     reached: u64,
     sleep: Option<Pin<Box<Sleep>>>,
+    /// The most steps of a poll.
+    budget: u32,
 }
 
 /// The stream's place in a shard.
@@ -69,6 +75,8 @@ enum Found<T> {
     /// Nothing before that tick.
     Waiting(u64),
     Idle,
+    /// The budget is spent, and there is more to do.
+    Working,
 }
 
 // No value is ever pinned.
@@ -85,16 +93,28 @@ impl<T> ExpiredStream<T> {
                 Place { seat: Some(seat), wake: 0, waker: Waker::from(Arc::new(bell)) }
             })
             .collect();
-        ExpiredStream { inner, places, bells, reached: 0, sleep: None }
+        ExpiredStream { inner, places, bells, reached: 0, sleep: None, budget: DEFAULT_BUDGET }
     }
 
-    /// Takes out the entry whose deadline is reached first. Pending where none is, and the task is woken for the next; none
-    /// where nothing comes any more.
+    /// The most steps that a poll makes.
+    pub fn budget(&self) -> u32 {
+        self.budget
+    }
+
+    /// Sets the most steps that a poll makes, 128 at first, as [`DelayQueue::set_budget`](crate::DelayQueue::set_budget) does:
+    /// one that has more to do is pending and wakes its task at once. 0 is taken as 1.
+    pub fn set_budget(&mut self, steps: u32) {
+        self.budget = steps;
+    }
+
+    /// Takes out the entry whose deadline is reached first. Pending where none is, and the task is woken for the next, and
+    /// where the [budget](ExpiredStream::set_budget) is spent, and the task is woken at once; none where nothing comes any more.
     pub fn poll_expired(&mut self, cx: &mut Context<'_>) -> Poll<Option<Expired<T>>> {
         self.bells.listen(cx.waker());
         let mut has_looked = false;
+        let mut budget = Budget::of(self.budget);
         loop {
-            match self.turn() {
+            match self.turn(&mut budget) {
                 Found::Out(out) => return Poll::Ready(Some(out)),
                 Found::Waiting(wake) => {
                     if !has_looked {
@@ -104,6 +124,10 @@ impl<T> ExpiredStream<T> {
                     if wake > self.reached {
                         ready!(self.poll_sleep(wake, cx));
                     }
+                }
+                Found::Working => {
+                    cx.waker().wake_by_ref();
+                    return Poll::Pending;
                 }
                 // The places are parked by now, so a hold that is dropped from here on wakes the task.
                 Found::Idle if self.inner.may_be_filled() && !self.is_replaced() => return Poll::Pending,
@@ -123,7 +147,7 @@ impl<T> ExpiredStream<T> {
     }
 
     /// What the shards have at the tick that is reached.
-    fn turn(&mut self) -> Found<T> {
+    fn turn(&mut self, budget: &mut Budget) -> Found<T> {
         loop {
             self.heed();
             let (at, wake, second) = self.soonest();
@@ -133,8 +157,12 @@ impl<T> ExpiredStream<T> {
             if wake > self.reached {
                 return Found::Waiting(wake);
             }
+            let most = match budget.piece() {
+                Some(most) => most,
+                None => return Found::Working,
+            };
             let limit = self.reached.min(second).min(LAST_TICK);
-            if let Some(out) = self.places[at].poll(&self.inner, limit) {
+            if let Some(out) = self.places[at].poll(&self.inner, limit, most) {
                 return Found::Out(out);
             }
         }
@@ -179,16 +207,17 @@ impl<T> ExpiredStream<T> {
 }
 
 impl Place {
-    /// Takes one entry out of the shard that is due at a tick.
-    fn poll<T>(&mut self, inner: &Inner<T>, tick: u64) -> Option<Expired<T>> {
+    /// Takes one entry out of the shard that is due at a tick, by at most so many steps. Where these don't do, the wake stays.
+    fn poll<T>(&mut self, inner: &Inner<T>, tick: u64, most: u32) -> Option<Expired<T>> {
         let seat = self.seat.as_ref()?;
-        match inner.queue.poll_or_park(seat, tick, &self.waker) {
-            Ok(Turn::Out(out)) => {
+        match inner.queue.poll_some_or_park(seat, tick, most, &self.waker) {
+            Ok(Piece::Answer(Turn::Out(out))) => {
                 self.wake = out.deadline();
                 return Some(expired(out, inner.clock));
             }
-            Ok(Turn::Waiting { next }) => self.wake = next,
-            Ok(_) => self.wake = NEVER,
+            Ok(Piece::Answer(Turn::Waiting { next })) => self.wake = next,
+            Ok(Piece::Answer(_)) => self.wake = NEVER,
+            Ok(_) => {}
             Err(SharedError::Replaced) => (self.seat, self.wake) = (None, NEVER),
             Err(error) => unreachable!("a seat of the queue, and a tick up to the last: {}", error),
         }

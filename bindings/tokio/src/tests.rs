@@ -1,5 +1,6 @@
 //! The parts beside a plain model, with slots that wear out after a few stamps, so that entries move all the time.
 
+use crate::budget::Budget;
 use crate::handle::{EntryError, Handle};
 use crate::key::Key;
 use crate::parts::{Found, Parts};
@@ -132,7 +133,8 @@ impl Twin {
         self.now += [0, 1, 5, 64, 1_000, 40_000][self.dice.below(6) as usize];
         loop {
             let least = self.entries.values().map(|entry| entry.0).min();
-            match self.parts.poll(self.now) {
+            let mut budget = Budget::of(self.dice.below(40) as u32);
+            match self.parts.poll(self.now, &mut budget) {
                 Found::Out(out) => {
                     let (deadline, value) = self.end(out.key);
                     assert_eq!((Some(out.deadline), out.deadline, &out.value), (least, deadline, &value));
@@ -147,6 +149,7 @@ impl Twin {
                     assert_eq!(least, None);
                     break;
                 }
+                Found::Working => {}
             }
         }
         self.tick = self.tick.max(self.now);

@@ -4,6 +4,8 @@ use Rattle.dq_core.specs.declared.errors.CoreError.{CoreError}
 use Rattle.dq_core.specs.declared.errors.CoreError.TheVariants.{TooFar, Full, Missing, WasCancelled}
 use Rattle.dq_core.specs.declared.errors.CoreError.TheVariants.{Worn, TickTooLarge, BadConfig}
 use Rattle.dq_core.specs.declared.errors.CoreError.TheVariants.{NoMemory}
+use Rattle.dq_core.specs.declared.errors.ReapError.{ReapError}
+use Rattle.dq_core.specs.declared.errors.ReapError.TheVariants.{Missing as NoneToReap, Live}
 use Rattle.dq_core.specs.declared.words.CallError.{CallError}
 use Rattle.dq_core.specs.declared.words.CallError.TheVariants.{TooFar as TooFarOff, Unknown, Stale}
 use Rattle.dq_core.specs.declared.words.CallError.TheVariants.{Ended}
@@ -21,6 +23,7 @@ use Rattle.dq_c.specs.declared.answers.TheConstants.{DQ_TICK_TOO_LARGE, DQ_BAD_C
 use Rattle.dq_c.specs.declared.answers.TheConstants.{DQ_UNKNOWN, DQ_STALE, DQ_ENDED}
 use Rattle.dq_c.specs.declared.answers.TheConstants.{DQ_TOO_MANY_CALLERS, DQ_LIVE, DQ_CANCELLED}
 use Rattle.dq_c.specs.declared.answers.TheConstants.{DQ_EXPIRED, DQ_REMOVED, DQ_NO_PLACE}
+use Rattle.dq_c.specs.declared.answers.TheConstants.{DQ_STILL_LIVE}
 
 -- a code with its two numbers
 abbrev pub two_numbers : ℕ → ℕ → ℕ → DqAnswer
@@ -64,6 +67,11 @@ core_answer Worn = no_numbers DQ_WORN
 core_answer (TickTooLarge limit) = with_number DQ_TICK_TOO_LARGE limit
 core_answer BadConfig = no_numbers DQ_BAD_CONFIG
 core_answer NoMemory = no_numbers DQ_NO_MEMORY
+
+-- why no entry is reaped
+abbrev pub reap_answer : ReapError → DqAnswer
+reap_answer NoneToReap = no_numbers DQ_MISSING
+reap_answer Live = no_numbers DQ_STILL_LIVE
 
 -- why no caller is issued
 abbrev pub words_answer : WordsError → DqAnswer

@@ -1,9 +1,9 @@
 //! What a call answers: a code, and two numbers that some codes carry.
 ghost use Rattle.std.specs.Prelude.{◌≡◌};
 ghost use Rattle.dq_c.specs.Answers.{two_numbers, with_number, no_numbers, tells, core_answer, words_answer};
-ghost use Rattle.dq_c.specs.Answers.{look_answer, call_answer};
+ghost use Rattle.dq_c.specs.Answers.{look_answer, call_answer, reap_answer};
 
-use dq_core::{CallError, CoreError, Look};
+use dq_core::{CallError, CoreError, Look, ReapError};
 use dq_words::WordsError;
 
 /// The call did what it says.
@@ -49,6 +49,10 @@ pub const DQ_NO_PLACE: u32 = 18;
 pub const DQ_STILL_LINKED: u32 = 19;
 /// The number isn't higher than the queue's, which is the first number.
 pub const DQ_USED_NUMBER: u32 = 20;
+/// The call did as much as it may, and more may be left: call again.
+pub const DQ_WORKING: u32 = 21;
+/// The entry is live, so it isn't reaped.
+pub const DQ_STILL_LIVE: u32 = 22;
 
 /// The entry is live, and the number beside this is its deadline in force.
 pub const DQ_LIVE: u64 = 0;
@@ -60,7 +64,7 @@ pub const DQ_EXPIRED: u64 = 2;
 pub const DQ_REMOVED: u64 = 3;
 
 /// The number of the library's form, which changes with the arguments, the answers or the meaning of any call.
-pub const DQ_FORM: u32 = 3;
+pub const DQ_FORM: u32 = 4;
 
 /// What a call answers.
 #[repr(C)]
@@ -119,6 +123,16 @@ pub(crate) fn of_core(error: CoreError) -> DqAnswer
         CoreError::TickTooLarge { limit } => with_one(DQ_TICK_TOO_LARGE, limit),
         CoreError::BadConfig => only(DQ_BAD_CONFIG),
         CoreError::NoMemory => only(DQ_NO_MEMORY),
+    }
+}
+
+// Why no entry is reaped.
+pub(crate) fn of_reap(error: ReapError) -> DqAnswer
+    ensures { result ≡ reap_answer error }
+{
+    match error {
+        ReapError::Missing => only(DQ_MISSING),
+        ReapError::Live => only(DQ_STILL_LIVE),
     }
 }
 

@@ -1,0 +1,31 @@
+//! How much a poll of a task may do: so many steps of the wheels, each in constant time but for a value's drop.
+
+/// The steps of a poll where no other number is set, as many as tokio lets a task have of its own resources.
+pub(crate) const DEFAULT_BUDGET: u32 = 128;
+
+/// The most steps that a call of the library is given. It doesn't tell how many it made, so all of them are counted.
+const PIECE: u32 = 8;
+
+/// The steps that are left of a task's poll.
+pub(crate) struct Budget {
+    left: u32,
+}
+
+impl Budget {
+    /// So many steps, at least one: with none a task would come again for ever.
+    pub fn of(steps: u32) -> Budget {
+        Budget { left: steps.max(1) }
+    }
+
+    /// The steps of the next call, none where all are given.
+    #[inline]
+    pub fn piece(&mut self) -> Option<u32> {
+        let piece = self.left.min(PIECE);
+        self.left -= piece;
+        if piece > 0 {
+            Some(piece)
+        } else {
+            None
+        }
+    }
+}
