@@ -1,6 +1,6 @@
 //! The addresses of hosts, remembered for a while.
 
-use dq_apps::TtlCache;
+use dq_apps::{CountedCache, TtlCache};
 use dq_core::CoreError;
 use std::alloc::Global;
 
@@ -19,52 +19,59 @@ fn ask(host: &str) -> &'static str {
 /// Addresses of hosts, each asked for at most once while it is remembered.
 #[derive(Drop)]
 pub struct Addresses {
-    known: TtlCache<String, &'static str>,
+    known: CountedCache<String, &'static str>,
     /// How long an address is remembered, in ticks of one millisecond.
     time_to_live: u64,
-    /// How many were remembered.
-    pub hits: u64,
-    /// How many were asked for.
-    pub misses: u64,
 }
 
 impl Addresses {
     /// No address yet.
     pub fn new(alloc: Global, time_to_live: u64) -> Result<Addresses, CoreError> {
         Ok(Addresses {
-            known: TtlCache::with_capacity(alloc, HOSTS)?,
+            known: CountedCache::new(TtlCache::with_capacity(alloc, HOSTS)?),
             time_to_live,
-            hits: 0,
-            misses: 0,
         })
     }
 
+    /// How many addresses were remembered.
+    pub fn hits(&self) -> u64 {
+        self.known.hits()
+    }
+
+    /// How many were asked for.
+    pub fn misses(&self) -> u64 {
+        self.known.misses()
+    }
+
     /// The address of a host, remembered or asked for. Where there is no room for it, it isn't remembered.
-    pub fn address(&mut self, host: String, now: u64) -> Result<&'static str, CoreError> {
-        if let Some(address) = self.known.get(&host, now) {
-            self.hits = self.hits.saturating_add(1);
-            return Ok(*address);
-        }
-        self.misses = self.misses.saturating_add(1);
-        let address = ask(host.as_str());
-        match self.known.set(host, address, self.time_to_live, now) {
-            Ok(_) | Err((CoreError::Full { .. }, _, _)) => Ok(address),
-            Err((error, _, _)) => Err(error),
+    pub fn address(
+        &mut self,
+        alloc: Global,
+        host: &str,
+        now: u64,
+    ) -> Result<&'static str, CoreError> {
+        let key = String::from_str(alloc, host)?;
+        let answer = self
+            .known
+            .get_or_insert_with(key, self.time_to_live, now, || ask(host));
+        match answer {
+            Ok(address) | Err((CoreError::Full { .. }, Some(address))) => Ok(address),
+            Err((error, _)) => Err(error),
         }
     }
 
     /// When the next address is to be forgotten, if one is remembered.
     pub fn next_forgotten(&self) -> Option<u64> {
-        self.known.next_deadline()
+        self.known.cache.next_deadline()
     }
 
     /// Forgets what is due by now, and answers how many.
     pub fn forget(&mut self, now: u64) -> Result<usize, CoreError> {
-        self.known.purge(now)
+        self.known.cache.purge(now)
     }
 
     /// How many are remembered.
     pub fn len(&self) -> usize {
-        self.known.len()
+        self.known.cache.len()
     }
 }

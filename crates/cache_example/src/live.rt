@@ -20,8 +20,8 @@ where
     for line in rt.lines(rt.alloc()) {
         let line = line?;
         let (host, now) = (line.trim(), ticks.now());
-        let address = addresses.address(String::from_str(rt.alloc(), host)?, now)?;
-        let (hits, misses) = (addresses.hits, addresses.misses);
+        let address = addresses.address(rt.alloc(), host, now)?;
+        let (hits, misses) = (addresses.hits(), addresses.misses());
         println!(rt; "{now}: {host} is {address} (hits {hits}, misses {misses})")?;
     }
     forget_all(rt, &mut ticks, &mut addresses)

@@ -19,8 +19,8 @@ pub fn run<R: Print + AllocGlobal>(rt: &R) -> Result<()> {
         (31_000, "mail"),
         (40_000, "mail"),
     ] {
-        let address = addresses.address(String::from_str(rt.alloc(), host)?, now)?;
-        let (hits, misses) = (addresses.hits, addresses.misses);
+        let address = addresses.address(rt.alloc(), host, now)?;
+        let (hits, misses) = (addresses.hits(), addresses.misses());
         println!(rt; "{now}: {host} is {address} (hits {hits}, misses {misses})")?;
     }
     if let Some(next) = addresses.next_forgotten() {

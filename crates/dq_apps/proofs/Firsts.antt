@@ -16,7 +16,7 @@ use Rattle.dq_core.specs.KeyCalls.{Shows}
 use Rattle.dq_apps.specs.TimerTable.{timer_at, running, AreInRange, IsFirst}
 use Rattle.dq_apps.proofs.TimerRows.{slot_is, inside_slots, length-slots}
 
-due_live : (m : Mark) (d e : ℕ) → due_by m d ≡ Some e → (m ≡ LiveMark) × (d ≡ e)
+pub due_live : (m : Mark) (d e : ℕ) → due_by m d ≡ Some e → (m ≡ LiveMark) × (d ≡ e)
 due_live LiveMark d e is = (refl, cc)
 due_live CancelledMark d e is = absurd (cc)
 due_live ExpiredMark d e is = absurd (cc)
@@ -64,7 +64,7 @@ module _ {K W : Type 0} (b : Core K W) (law : IsLawfulCore b) where
       (placed.0, placed.1, placed.2, parts.2)
 
   -- a timer is filed no later than its deadline
-  filed_within : (i born : ℕ) (key : K) (d : ℕ) → (timer_at (machine b).table i).entry ≡ running born key d → (f : ℕ) × (get_or b.wheel.filing.filed i None ≡ Some f) × (f ≤ d)
+  pub filed_within : (i born : ℕ) (key : K) (d : ℕ) → (timer_at (machine b).table i).entry ≡ running born key d → (f : ℕ) × (get_or b.wheel.filing.filed i None ≡ Some f) × (f ≤ d)
   filed_within i born key d is =
       let at = at_slot i (record { born = born; value = key; due = Some d }) is in
       let live = due_live (word_at b.known i).mark (word_at b.known i).field d (sym at.3) in

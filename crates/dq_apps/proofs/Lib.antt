@@ -1,5 +1,6 @@
 pub mod CacheReads
 pub mod CacheSteps
+pub mod Filings
 pub mod Firsts
 pub mod Fronts
 pub mod Leasts
@@ -18,3 +19,4 @@ pub mod Ties
 pub mod Timed
 pub mod TimerRows
 pub mod TimerRuns
+pub mod Wakings

@@ -1,7 +1,9 @@
 pub mod AtTheCall
 pub mod Cache
 pub mod Calls
+pub mod Memos
 pub mod Moves
+pub mod NextWake
 pub mod Refreshes
 pub mod Sessions
 pub mod Setting

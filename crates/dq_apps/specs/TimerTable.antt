@@ -5,11 +5,14 @@ use Rattle.std.specs.Prelude.{Ok}
 use Rattle.std.specs.Prelude.{Err, replicate, slice_index_or, slice_set, length, nat_lt, ◌&&◌}
 use Rattle.std.specs.Prelude.{not, is_some, is_none}
 use Rattle.std.specs.List.{count_by}
+use Rattle.dq_wheel.specs.State.{filed_at}
+use Rattle.dq_wheel.specs.Wakes.{wake_for}
 use Rattle.dq_ticks.specs.Keys.{KeyName}
 use Rattle.dq_ticks.specs.declared.TheConstants.{LAST_TICK}
 use Rattle.dq_core.specs.declared.errors.CoreError.{CoreError}
 use Rattle.dq_core.specs.Machine.{Entry, TableRow}
-use Rattle.dq_core.specs.Core.{Core, machine}
+use Rattle.dq_core.specs.Words.{word_at}
+use Rattle.dq_core.specs.Core.{Core, machine, filing_for}
 use Rattle.dq_apps.specs.Setting.{IsSetting, SettingRefused}
 
 -- the last stamp of a slot, the greatest noted tick, and the slots: each with its present stamp and
@@ -147,3 +150,24 @@ timers_of c =
 -- a queue that only holds timers: it is shard 0, and nothing in it is cancelled
 abbrev pub AreTimers : {K W : Type 0} → Core K W → Type 0
 AreTimers c = (c.shard ≡ 0) × AllRun (machine c).table
+
+-- each timer is filed by its deadline, at the wheel's tick or at an earlier one
+abbrev pub AreFiled : {K W : Type 0} → Core K W → Type 0
+AreFiled c =
+    (i f : ℕ) → filed_at c.wheel.filing.filed i ≡ Some f
+    → (s : ℕ) × (s ≤ c.wheel.filing.tick) × (f ≡ filing_for s (word_at c.known i).field)
+
+-- w is when a wheel that stands at a tick looks at a timer: it filed the deadline at that tick or
+-- at an earlier one, and the tick isn't after the noted one; and no timer is due before w
+pub record IsTimersWake {K : Type 0} (t : TimerTable K) (w : ℕ) : Type 0 where
+  pub some :
+      (i : ℕ) × (born : ℕ) × (key : K) × (d : ℕ) × (filed : ℕ) × (tick : ℕ)
+      × ((timer_at t.slots i).entry ≡ running born key d) × (filed ≤ tick) × (tick ≤ t.noted)
+      × (w ≡ wake_for tick (filing_for filed d))
+  pub least :
+      (i born : ℕ) (key : K) (d : ℕ) → (timer_at t.slots i).entry ≡ running born key d → w ≤ d
+
+-- when the timers wake next, none exactly where none is set
+abbrev pub TellsTimersWake : {K : Type 0} → TimerTable K → Option ℕ → Type 0
+TellsTimersWake t None = (i : ℕ) → (timer_at t.slots i).entry ≡ None
+TellsTimersWake t (Some w) = IsTimersWake t w

@@ -1,11 +1,12 @@
 //! An expiring cache of one owner: values that are seen until their deadline.
-ghost use Rattle.std.specs.Prelude.{◌≡◌, ◌≤◌, ◌↔◌, IsTrue, IfOk, length, is_some};
+ghost use Rattle.std.specs.Prelude.{◌≡◌, ◌≤◌, ◌↔◌, IsTrue, IsNone, IfOk, IfSome, length, is_some};
 ghost use Rattle.std.specs.Option.{option_copied};
 ghost use Rattle.std.specs.List.{count_by};
 ghost use Rattle.dq_apps.specs.Cache.{is_kept, value_seen, IsCache};
 ghost use Rattle.dq_ticks.specs.declared.TheConstants.{LAST_STAMP};
 ghost use Rattle.dq_apps.specs.Calls.{MakesCache, IsAllSeen, TellsNextDeadline, is_used_up};
 ghost use Rattle.dq_apps.specs.AtTheCall.{ShowsNothing, kept_count};
+ghost use Rattle.dq_apps.specs.NextWake.{NoneDueBefore, TellsNextWake};
 
 use crate::kept::Kept;
 use crate::seen::Seen;
@@ -214,5 +215,22 @@ impl<K: Eq + Hash + Drop, V: Drop, A: Allocator, S: BuildHasher> TtlCache<K, V, 
             Some(deadline) => Some(deadline),
             None => least_deadline(&self.stock),
         }
+    }
+
+    /// A tick to purge at next: before it nothing that is kept is due. None where nothing is kept. Constant time, however many
+    /// deadlines there are.
+    ///
+    /// It isn't after the least deadline, but may lie before it: then a purge there drops nothing, and the next wake after that
+    /// purge is nearer. Whoever purges at each wake purges at most six times for one deadline less than two years ahead. It may
+    /// lie before the moment where the moment was set by a renewal, or where the cache was refreshed.
+    pub fn next_wake(&self) -> Option<u64>
+        ensures tells { TellsNextWake self.now result }
+
+        // Nothing is due before it; there is none exactly where nothing is kept.
+        ensures early { IfSome result (λ w. NoneDueBefore self.now w) }
+        ensures none { IsNone result ↔ (kept_count self.now ≡ 0) }
+    {
+        let _ = &self.moment;
+        self.timers.next_wake()
     }
 }

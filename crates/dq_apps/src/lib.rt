@@ -3,7 +3,9 @@
 
 mod cache;
 mod calls;
+mod counted;
 mod kept;
+mod memo;
 mod moves;
 mod name;
 mod refresh;
@@ -14,6 +16,7 @@ mod stock;
 mod timers;
 
 pub use cache::TtlCache;
+pub use counted::CountedCache;
 pub use name::Name;
 pub use seen::Seen;
 pub use sessions::IdleSessions;

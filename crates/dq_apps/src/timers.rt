@@ -5,7 +5,7 @@ ghost use Rattle.dq_apps.specs.TimerTable.{is_set, is_spent, timers_of, HasRoom}
 ghost use Rattle.dq_apps.specs.Setting.{IsSetting};
 ghost use Rattle.dq_apps.specs.TimerTable.{MakesTimers, AreTimers, IsTimer};
 ghost use Rattle.dq_apps.specs.TimerTable.{StopsDue, Stops, Starts, Restarts, IsFirst};
-ghost use Rattle.dq_apps.specs.TimerTable.{AreWithin, AreInRange};
+ghost use Rattle.dq_apps.specs.TimerTable.{AreWithin, AreInRange, TellsTimersWake};
 ghost use Rattle.dq_apps.specs.Moves.{MakesAnew};
 
 use dq_core::{CoreConfig, CoreError, DelayCore, Look, Turn, VecWords};
@@ -32,13 +32,14 @@ pub(crate) struct Timers<K, A: Allocator = Global> {
 
 impl<K, A: Allocator> Model for Timers<K, A> {
     ghost use Rattle.std.specs.Prelude.{◌≡◌};
-    ghost use Rattle.dq_apps.specs.TimerTable.{TimerTable, timers_of, AreTimers};
+    ghost use Rattle.dq_apps.specs.TimerTable.{TimerTable, timers_of, AreTimers, AreFiled};
 
     ghost Value = { TimerTable K };
 
     ghost view = { λ a. timers_of a.queue };
 
-    ghost invariant = { λ a. AreTimers a.queue × (a.queue.slots.last_stamp ≡ a.last_stamp) };
+    ghost invariant = { λ a. AreTimers a.queue × (a.queue.slots.last_stamp ≡ a.last_stamp)
+        × AreFiled a.queue };
 }
 
 impl<K: Drop, A: Allocator + Clone> Timers<K, A> {
@@ -133,6 +134,14 @@ impl<K: Drop, A: Allocator> Timers<K, A> {
             Ok(Look::StillLive(deadline)) if deadline == filed => Some(deadline),
             _ => None,
         }
+    }
+
+    // When the queue looks at a timer next; none where none is set. Constant time.
+    pub(crate) fn next_wake(&self) -> Option<u64>
+        ensures { TellsTimersWake self.now result }
+    {
+        self.queue.law();
+        self.queue.next_wake()
     }
 
     // Stops one timer that is due at `now`, and answers its key; none where none is due.

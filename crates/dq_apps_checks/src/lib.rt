@@ -5,6 +5,8 @@
 #[cfg(test)]
 mod many;
 #[cfg(test)]
+mod memo;
+#[cfg(test)]
 mod memory;
 #[cfg(test)]
 mod model;
@@ -20,3 +22,5 @@ mod same_calls;
 mod sessions;
 #[cfg(test)]
 mod sessions_memory;
+#[cfg(test)]
+mod wakes;

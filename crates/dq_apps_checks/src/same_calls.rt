@@ -30,8 +30,17 @@ impl Both {
             && self.cache.is_empty() == self.slow.entries.is_empty()
             && self.cache.moment() == self.slow.moment
             && self.cache.next_deadline() == self.slow.next_deadline()
+            && self.wakes_in_time()
             && self.gets_agree(now)
             && self.seen_agree(now)
+    }
+
+    // Whether the next wake isn't after the least deadline, and is none exactly where nothing is kept.
+    fn wakes_in_time(&self) -> bool {
+        match (self.cache.next_wake(), self.slow.next_deadline()) {
+            (Some(wake), Some(deadline)) => wake <= deadline,
+            (wake, deadline) => wake.is_none() && deadline.is_none(),
+        }
     }
 
     fn gets_agree(&self, now: u64) -> bool {

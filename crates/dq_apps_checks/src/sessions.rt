@@ -182,3 +182,29 @@ fn sessions_refuse_as_their_queue(rt: HostRuntime) -> Result<(), Fail> {
     );
     Ok(())
 }
+
+// Where slots are worn, new sessions take over: who is active moves by a logout and a login, and who is idle ends in the old.
+#[test]
+fn sessions_move_to_new_ones(rt: HostRuntime) -> Result<(), Fail> {
+    let config = QueueConfig {
+        last_stamp: 1,
+        ..QueueConfig::of(1, 2)
+    };
+    let old = IdleSessions::new(rt.alloc(), config, IDLE)?;
+    let mut held = old.handle(&rt)?;
+    let ann = old.login(&rt, 0, "ann", 10)?;
+    old.login(&rt, 0, "bob", 0)?;
+    ends(&rt, &old, IDLE, "bob", IDLE);
+    let worn = QueueError::Core(CoreError::Full { linked: 1, worn: 1 });
+    assert_eq!(rt; old.login(&rt, 0, "cy", 100), Err(worn));
+    let new = IdleSessions::new(rt.alloc(), config, IDLE)?;
+    let mut handle = new.handle(&rt)?;
+    new.login(&rt, 0, "cy", 100)?;
+    assert_eq!(rt; old.logout(&mut held, &ann), Ok(110));
+    let moved = new.login(&rt, 0, "ann", 105)?;
+    assert_eq!(rt; new.touch(&mut handle, &moved, 120), Ok(220));
+    waits(&rt, &old, 220, None);
+    ends(&rt, &new, 220, "cy", 200);
+    ends(&rt, &new, 220, "ann", 220);
+    Ok(())
+}

@@ -1,5 +1,6 @@
 use Rattle.std.proofs.Common.{◌∙◌}
 use Rattle.dq_apps.proofs.TimerRuns.{out_stops, waiting_stops, idle_stops, turn_timers}
+use Rattle.dq_apps.proofs.Filings.{polled_filed}
 use Rattle.dq_apps.proofs.timers.Timers.stop_due.Goals as goal
 use Rattle.dq_apps.proofs.timers.Timers.stop_due.Goals.{in-Out, in-Waiting, in-Idle}
 
@@ -7,6 +8,7 @@ pub invariant_of-self : goal.invariant_of-self
 invariant_of-self g c = (
   turn_timers c.self.inside.queue c.poll.new.self c.args.now c.poll.ensures.same c.self.invariant.0 (rw (← c.self.view_is) at c.requires.later) _ c.in-Ok.ensures.polls,
   c.poll.ensures.same.1 ∙ c.self.invariant.1,
+  polled_filed c.self.inside.queue c.poll.new.self c.self.invariant.2 c.args.now _ c.in-Ok.ensures.polls,
 )
 
 pub returns : goal.returns

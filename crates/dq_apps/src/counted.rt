@@ -1,0 +1,114 @@
+//! A cache that counts how often it saw what it was asked for.
+ghost use Rattle.std.specs.Prelude.{◌≡◌, true, is_some};
+ghost use Rattle.dq_apps.specs.Cache.{value_seen};
+ghost use Rattle.dq_apps.specs.Memos.{GetsOrSets, CountsOne};
+
+use crate::cache::TtlCache;
+use dq_core::CoreError;
+use std::alloc::{Allocator, Global};
+use std::hash::{BuildHasher, BuildHasherDefault, FoldHasher, Hash};
+
+/// A cache whose look-ups are counted: as a hit where a value was seen, and else as a miss.
+///
+/// A count stays at the greatest `u64` where it came so far. What goes by the cache itself isn't counted.
+#[derive(Drop)]
+pub struct CountedCache<
+    K: Eq + Hash,
+    V,
+    A: Allocator = Global,
+    S: BuildHasher = BuildHasherDefault<FoldHasher>,
+> {
+    /// The cache.
+    pub cache: TtlCache<K, V, A, S>,
+    hits: u64,
+    misses: u64,
+}
+
+impl<K: Eq + Hash, V, A: Allocator, S: BuildHasher> CountedCache<K, V, A, S> {
+    /// A cache of which no look-up was counted yet.
+    pub fn new(cache: TtlCache<K, V, A, S>) -> CountedCache<K, V, A, S>
+        ensures cache { result.cache ≡ cache }
+        ensures hits { result.hits ≡ 0 }
+        ensures misses { result.misses ≡ 0 }
+    {
+        CountedCache {
+            cache,
+            hits: 0,
+            misses: 0,
+        }
+    }
+
+    /// How many look-ups saw a value, at most the greatest `u64`.
+    pub fn hits(&self) -> u64
+        ensures { result ≡ self.now.hits }
+    {
+        self.hits
+    }
+
+    /// How many look-ups saw none, at most the greatest `u64`.
+    pub fn misses(&self) -> u64
+        ensures { result ≡ self.now.misses }
+    {
+        self.misses
+    }
+
+    // Counts a look-up.
+    fn count(&mut self, hit: bool)
+        ensures counts { CountsOne hit self.old.hits self.old.misses self.new.hits
+            self.new.misses }
+        ensures cache { self.new.cache ≡ self.old.cache }
+    {
+        if hit {
+            self.hits = self.hits.saturating_add(1);
+        } else {
+            self.misses = self.misses.saturating_add(1);
+        }
+    }
+}
+
+impl<K: Eq + Hash + Drop, V: Drop, A: Allocator, S: BuildHasher> CountedCache<K, V, A, S> {
+    /// Whether a value is seen at a key, as [`TtlCache::contains`], counted.
+    pub fn sees(&mut self, key: &K, now: u64) -> bool
+        ensures seen { result ≡ is_some (value_seen K.eq self.old.cache key.now now) }
+        ensures counts { CountsOne result self.old.hits self.old.misses self.new.hits
+            self.new.misses }
+        ensures cache { self.new.cache ≡ self.old.cache }
+    {
+        let hit = self.cache.contains(key, now);
+        self.count(hit);
+        hit
+    }
+}
+
+impl<K, V, A, S> CountedCache<K, V, A, S>
+where
+    K: Eq + Hash + Drop,
+    V: Drop,
+    A: Allocator + Clone,
+    S: BuildHasher,
+{
+    /// As [`TtlCache::get_or_insert_with`], counted: as a hit exactly where `make` isn't called.
+    ///
+    /// # Errors
+    /// As [`TtlCache::get_or_insert_with`]; it is counted then too.
+    pub fn get_or_insert_with<F: FnOnce() -> V + Drop>(
+        &mut self,
+        key: K,
+        ttl: u64,
+        now: u64,
+        make: F,
+    ) -> Result<V, (CoreError, Option<V>)>
+    where
+        K: Clone,
+        V: Clone,
+        requires clones { (k : K) → K.is_clone key k → K.eq key k ≡ true }
+        requires callable { F.pre make }
+        ensures gets { GetsOrSets K.eq V.is_clone (F.post make) self.old.cache key ttl now result
+            self.new.cache }
+        ensures counts { CountsOne (is_some (value_seen K.eq self.old.cache key now)) self.old.hits
+            self.old.misses self.new.hits self.new.misses }
+    {
+        self.sees(&key, now);
+        self.cache.get_or_insert_with(key, ttl, now, make)
+    }
+}

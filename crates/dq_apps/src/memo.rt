@@ -1,0 +1,64 @@
+//! A cache as a memo of what is slow to make.
+ghost use Rattle.std.specs.Prelude.{◌≡◌, ◌≤◌, true, IsSome, IfErr, OnErr};
+ghost use Rattle.dq_apps.specs.Cache.{value_seen};
+ghost use Rattle.dq_apps.specs.AtTheCall.{KeepsSeen, KeepsOthers};
+ghost use Rattle.dq_apps.specs.Refreshes.{WantsStamps};
+ghost use Rattle.dq_apps.specs.Memos.{GetsOrSets};
+
+use crate::cache::TtlCache;
+use dq_core::CoreError;
+use std::alloc::Allocator;
+use std::hash::{BuildHasher, Hash};
+
+impl<K, V, A, S> TtlCache<K, V, A, S>
+where
+    K: Eq + Hash + Drop,
+    V: Drop,
+    A: Allocator + Clone,
+    S: BuildHasher,
+{
+    /// A copy of the value that is seen at a key. Where none is, the one that `make` makes, of which a copy is put there until
+    /// `now + ttl`, as [`TtlCache::set`] does. Where one is seen `make` isn't called, and nothing changes.
+    ///
+    /// # Errors
+    /// As [`TtlCache::set`], and NoMemory where a copy is refused. What was made comes back; none was where a value is seen.
+    pub fn get_or_insert_with<F: FnOnce() -> V + Drop>(
+        &mut self,
+        key: K,
+        ttl: u64,
+        now: u64,
+        make: F,
+    ) -> Result<V, (CoreError, Option<V>)>
+    where
+        K: Clone,
+        V: Clone,
+        requires clones { (k : K) → K.is_clone key k → K.eq key k ≡ true }
+        requires callable { F.pre make }
+        ensures gets { GetsOrSets K.eq V.is_clone (F.post make) self.old key ttl now result
+            self.new }
+
+        // Where a value is seen nothing changes. At other keys the same is seen; and at all keys,
+        // where it is refused.
+        ensures hit { IsSome (value_seen K.eq self.old key now) → self.new ≡ self.old }
+        ensures others { KeepsOthers K.eq self.old self.new key now }
+        ensures refused { OnErr result (KeepsSeen K.eq self.old self.new now) }
+
+        // It is not refused for want of stamps, where there are two.
+        ensures worn { IfErr result (λ e. WantsStamps e.0 → self.old.last_stamp ≤ 1) }
+    {
+        if let Some(value) = self.get(&key, now) {
+            return match value.clone() {
+                Ok(copy) => Ok(copy),
+                Err(_) => Err((CoreError::NoMemory, None)),
+            };
+        }
+        let value = make();
+        let Ok(copy) = value.clone() else {
+            return Err((CoreError::NoMemory, Some(value)));
+        };
+        match self.set(key, copy, ttl, now) {
+            Ok(_) => Ok(value),
+            Err((error, _, _)) => Err((error, Some(value))),
+        }
+    }
+}

@@ -1,0 +1,169 @@
+//! A cache as a memo: what is made where nothing is seen, each copy that is refused, and what is counted.
+
+use dq_apps::{CountedCache, TtlCache};
+use dq_core::CoreError;
+use dq_ticks::LAST_STAMP;
+use linked_list_allocator::LocalHeap;
+use refusing_heap::RefusingHeap;
+use std::alloc::AllocError;
+use std::process::Abort;
+use std::test::Fail;
+
+// A value is made where none is seen, and else a copy of the one that is comes, and none is made.
+#[test]
+fn made_where_none_is_seen(rt: HostRuntime) -> Result<(), Fail> {
+    let mut cache: TtlCache<char, u32> = TtlCache::with_capacity(rt.alloc(), 2)?;
+    let mut times = 0u32;
+    for (now, made, answer, count) in [
+        (0, 1, 1, 1),
+        (9, 2, 1, 1),
+        (10, 3, 3, 2),
+        (19, 4, 3, 2),
+        (20, 5, 5, 3),
+    ] {
+        let value = cache.get_or_insert_with('a', 10, now, || {
+            times = times.saturating_add(1);
+            made
+        });
+        assert_eq!(rt; (value, times), (Ok(answer), count), "at {now}");
+        assert_eq!(rt; cache.get(&'a', now).copied(), Some(answer), "at {now}");
+    }
+
+    // What is due at once is made, and isn't seen.
+    assert_eq!(rt; cache.get_or_insert_with('b', 0, 20, || 6), Ok(6));
+    assert_eq!(rt; (cache.get(&'b', 20).copied(), cache.len()), (None, 2));
+    Ok(())
+}
+
+// What was made comes back where it can't be set.
+#[test]
+fn what_was_made_comes_back(rt: HostRuntime) -> Result<(), Fail> {
+    let mut cache: TtlCache<char, u32> = TtlCache::new(rt.alloc(), 1, 2)?;
+    assert_eq!(rt; cache.get_or_insert_with('a', 10, 0, || 1), Ok(1));
+    let full = CoreError::Full { linked: 1, worn: 0 };
+    let refused = cache.get_or_insert_with('b', 10, 5, || 2);
+    assert_eq!(rt; refused, Err((full, Some(2))));
+    let too_far = CoreError::TooFar {
+        limit: 4398046511103,
+    };
+    let refused = cache.get_or_insert_with('b', u64::MAX, 5, || 2);
+    assert_eq!(rt; refused, Err((too_far, Some(2))));
+    assert_eq!(rt; cache.get_or_insert_with('a', u64::MAX, 5, || 2), Ok(1));
+
+    // Slots that are worn are no reason to refuse.
+    for now in 10..300 {
+        let made = cache.get_or_insert_with('c', 1, now, move || now as u32);
+        assert_eq!(rt; made, Ok(now as u32), "at {now}");
+    }
+    Ok(())
+}
+
+// A look-up is a hit where a value was seen, and else a miss, also where it is refused.
+#[test]
+fn hits_and_misses(rt: HostRuntime) -> Result<(), Fail> {
+    let mut counted: CountedCache<char, u32> = CountedCache::new(TtlCache::with_capacity(
+        rt.alloc(),
+        1,
+    )?);
+    assert_eq!(rt; (counted.hits(), counted.misses()), (0, 0));
+    for (key, now, hits, misses) in [
+        ('a', 0, 0, 1),
+        ('a', 9, 1, 1),
+        ('b', 9, 1, 2),
+        ('a', 9, 2, 2),
+        ('a', 10, 2, 3),
+        ('a', 11, 3, 3),
+    ] {
+        let _made = counted.get_or_insert_with(key, 10, now, || 1);
+        assert_eq!(rt;
+            (counted.hits(), counted.misses()),
+            (hits, misses),
+            "{key} at {now}"
+        );
+    }
+    assert!(rt; counted.sees(&'a', 19) && !counted.sees(&'a', 20));
+    assert!(rt; counted.cache.contains(&'a', 19));
+    assert_eq!(rt; (counted.hits(), counted.misses()), (4, 4));
+    Ok(())
+}
+
+// A heap that refuses one allocation.
+type Heap<'all> = RefusingHeap<&'all LocalHeap>;
+
+type Text<'heap, 'all> = String<&'heap Heap<'all>>;
+
+type Cache<'heap, 'all> = TtlCache<Text<'heap, 'all>, Text<'heap, 'all>, &'heap Heap<'all>>;
+
+// Where the allocation was that was refused.
+#[derive(Clone, Copy, PartialEq, Eq, Debug)]
+enum Refused {
+    // In the test's own texts, or in the making of the cache.
+    Before,
+    // Where a value was made: in a copy of it, in the map's growth and in a copy of the key.
+    Made,
+    // In a copy of what is seen.
+    Seen,
+    Nowhere,
+}
+
+fn text<'heap, 'all>(heap: &'heap Heap<'all>, text: &str) -> Result<Text<'heap, 'all>, AllocError> {
+    String::from_str(heap, text)
+}
+
+// A value is made and put, and a copy of it is asked for.
+fn walk(rt: &impl Abort, heap: &Heap) -> Refused {
+    let (Ok(first), Ok(again)) = (text(heap, "key"), text(heap, "key")) else {
+        return Refused::Before;
+    };
+    let (Ok(made), Ok(other)) = (text(heap, "made"), text(heap, "other")) else {
+        return Refused::Before;
+    };
+    let Ok(mut cache): Result<Cache, CoreError> = TtlCache::new(heap, 2, LAST_STAMP) else {
+        return Refused::Before;
+    };
+    match cache.get_or_insert_with(first, 5, 0, move || made) {
+        Ok(value) => assert_eq!(rt; value.as_str(), "made"),
+        Err((error, back)) => {
+            assert_eq!(rt; (error, cache.len()), (CoreError::NoMemory, 0));
+            assert!(rt; back.is_some_and(|value| value.as_str() == "made"));
+            return Refused::Made;
+        }
+    }
+    match cache.get_or_insert_with(again, 5, 4, move || other) {
+        Ok(value) => assert_eq!(rt; value.as_str(), "made"),
+        Err((error, back)) => {
+            assert_eq!(rt; (error, cache.len()), (CoreError::NoMemory, 1));
+            assert!(rt; back.is_none());
+            return Refused::Seen;
+        }
+    }
+    Refused::Nowhere
+}
+
+#[test]
+fn each_allocation_of_a_memo_is_refused(rt: HostRuntime) -> Result<(), Fail> {
+    let (mut made, mut seen) = (0usize, 0usize);
+    for grants in 0..100u64 {
+        let all = LocalHeap::new(rt.alloc(), 1 << 16)?;
+        let heap = RefusingHeap::new(&all, grants);
+        let refused = walk(&rt, &heap);
+        assert_eq!(rt; all.used(), 0);
+        assert_eq!(rt;
+            heap.has_refused(),
+            refused != Refused::Nowhere,
+            "allocation {grants}"
+        );
+        match refused {
+            Refused::Before => {}
+            Refused::Made => made = made.saturating_add(1),
+            Refused::Seen => seen = seen.saturating_add(1),
+            Refused::Nowhere => {
+                // A copy of what was made, room in the map, a copy of the key; and a copy of what is seen.
+                assert!(rt; made >= 3 && seen == 1);
+                return Ok(());
+            }
+        }
+    }
+    assert!(rt; false, "each run was refused");
+    Ok(())
+}
