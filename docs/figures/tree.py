@@ -14,6 +14,8 @@ CLAUSE = re.compile(r"(requires|ensures|ghost)\b")
 FUNCTION = re.compile(r"^\s*(pub(?:\([a-z]+\))? )?(?:const |unsafe )*fn (\w+)", re.M)
 TEST = re.compile(r"#\[test\]\s*(?:(?:#\[.*\]|//.*)\s*)*(?:pub )?fn (\w+)")
 DEFINITION = re.compile(r"^(?:pub (?:record|data) |(?:abbrev|unfoldable) pub )(\S+)", re.M)
+# one in a module with parameters is indented
+ANY_DEFINITION = re.compile(r"^ *(?:pub (?:record|data) |(?:abbrev|unfoldable) pub )(\S+)", re.M)
 CONSTANT = re.compile(r"^\s*(?:pub(?:\([a-z]+\))? )?const (\w+): \w+ = ([0-9_]+);", re.M)
 
 
@@ -215,6 +217,16 @@ def found(path, pattern):
     if not texts:
         raise LookupError(f"{path} has nothing like {pattern}")
     return [int(it.replace("_", "")) for it in texts]
+
+
+def shared_definitions():
+    """The names that the specs of more than one crate define, each with its crates."""
+    homes = collections.defaultdict(set)
+    for crate in crates():
+        for path in files(crate.folder / "specs", ".antt"):
+            for name in ANY_DEFINITION.findall(text_of(path)):
+                homes[name].add(crate.name)
+    return {name: sorted(found) for name, found in sorted(homes.items()) if len(found) > 1}
 
 
 def wide_spec_lines(limit=100):

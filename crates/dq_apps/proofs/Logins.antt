@@ -7,7 +7,7 @@ use Rattle.dq_core.specs.declared.outcomes.Turn.{Turn}
 use Rattle.dq_core.specs.declared.outcomes.Turn.TheVariants.{Out, Waiting, Idle}
 use Rattle.dq_shards.specs.declared.errors.QueueError.{QueueError}
 use Rattle.dq_shards.specs.declared.errors.QueueError.TheVariants.{Core}
-use Rattle.dq_shards.specs.Answers.{with_value_back, QueueInserts, OnShardOr}
+use Rattle.dq_shards.specs.Answers.{with_value_handed_back, QueueInserts, OnShardOr}
 use Rattle.dq_shards.specs.Changes.{ShardPolls}
 use Rattle.dq_shards.specs.Endings.{OutsAreInForce}
 use Rattle.dq_apps.specs.Sessions.{Sessions, Text, deadline_from, LogsIn, IfComesOut, WasIdle}
@@ -15,7 +15,7 @@ use Rattle.dq_apps.specs.Sessions.{Sessions, Text, deadline_from, LogsIn, IfCome
 -- what the queue's insert answers to a name at a deadline is what the login answers
 pub logged_in : (s : Sessions) (route now d : ℕ) (name text : Text) (r : Result Key QueueError)
     → name ≡ text → d ≡ deadline_from s now → d ≤ LAST_TICK
-    → QueueInserts s.shards route name d (with_value_back name r) → LogsIn s route text now r
+    → QueueInserts s.shards route name d (with_value_handed_back name r) → LogsIn s route text now r
 logged_in s route now d name text (Ok key) same is small does =
     let named = subst (λ n. QueueInserts s.shards route n d (Ok key)) same does in
     subst (λ e. QueueInserts s.shards route text e (Ok key)) is named

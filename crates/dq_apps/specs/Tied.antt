@@ -66,9 +66,9 @@ module _ {K V : Type 0} where
       × IsDistinct eq (keys_of fs)
 
   -- a map that has another deadline and timer at a key, with its value
-  abbrev pub IsRenewedAt : (K → K → Bool) → List (K × Kept V) → K → ℕ → KeyName
+  abbrev pub IsRenewedKey : (K → K → Bool) → List (K × Kept V) → K → ℕ → KeyName
       → List (K × Kept V) → Type 0
-  IsRenewedAt eq es key deadline k fs =
+  IsRenewedKey eq es key deadline k fs =
       (s : Kept V) → lookup (eq key) es ≡ Some s
       → IsWritten eq es key (Some (record { value = s.value; deadline = deadline; key = k })) fs
 

@@ -1,7 +1,7 @@
 //! The map of a cache: what is read there, and what is written at a key.
 ghost use Rattle.std.specs.Prelude.{◌≡◌, ◌<◌, IsSome, Some, None};
 ghost use Rattle.std.specs.Map.{lookup};
-ghost use Rattle.dq_apps.specs.Tied.{IsRenewedAt, IsReplacedAt, HadValue, TellsTimer};
+ghost use Rattle.dq_apps.specs.Tied.{IsRenewedKey, IsReplacedAt, HadValue, TellsTimer};
 ghost use Rattle.dq_apps.specs.Tied.{TellsFirstDeadline, lesser_of};
 
 use crate::kept::{Kept, Timer};
@@ -38,7 +38,7 @@ pub(crate) fn renew_at<K: Eq + Hash, V, A: Allocator, S: BuildHasher>(
     next: Key,
 )
     requires { IsSome (lookup (K.eq key.now) stock.old.entries) }
-    ensures { IsRenewedAt K.eq stock.old.entries key.now deadline next stock.new.entries }
+    ensures { IsRenewedKey K.eq stock.old.entries key.now deadline next stock.new.entries }
 {
     if let Some(kept) = stock.get_mut(key) {
         kept.deadline = deadline;

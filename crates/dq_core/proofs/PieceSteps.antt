@@ -24,7 +24,7 @@ use Rattle.dq_core.specs.Slots.{row_at, vacated, vacated_row}
 use Rattle.dq_core.specs.Machine.{Machine, Pass, RunOf, IsOnTheWay, NoneLiveBefore}
 use Rattle.dq_core.specs.Core.{Core, machine, IsPlaced, IsLawfulCore, filing_for}
 use Rattle.dq_core.specs.TableRows.{machine_of}
-use Rattle.dq_core.specs.Calls.{SameCore, LooksOver, IsFiledOver, IsUnderWay, IsAnswered, IsOut, IsTurn, TurnRow, turn_counts, TellsWake, WakesAhead, noting}
+use Rattle.dq_core.specs.Calls.{SameCore, LooksOver, IsFiledOver, IsUnderWay, IsAnswered, IsOut, IsTurn, TurnRow, turn_counts, TellsWake, WakesAhead, work, noting}
 use Rattle.dq_core.specs.Pieces.{ArrivesOn, PieceStep, ComesThrough, WheelComes, IsFiledByThen, IsComing, IsAnsweredBy, due_step, steps_left, IsPolledSome}
 use Rattle.dq_core.proofs.Looks.{looks_none, looks_more, learned_more}
 use Rattle.dq_core.proofs.Law.{filed_is}
@@ -68,9 +68,6 @@ pub arrives_on : (reached : Bool) (limit : ℕ) (v mid w : Filing) → mid ≡ v
 arrives_on reached limit v mid w same less none way =
     let P : Filing → Type 0 = λ x. ArrivesAtWake x limit w ⊎ ReachesLimit x limit w in
     (less, none, subst P same (went reached limit mid w way))
-
-pub earlier_from : (v mid w : Filing) → mid ≡ v → AreFiledByThen mid.filed w.filed → AreFiledByThen v.filed w.filed
-earlier_from v mid w same way = let P : Filing → Type 0 = λ x. AreFiledByThen x.filed w.filed in subst P same way
 
 -- as many indexes are filed or not as before
 arrived_size : (limit : ℕ) (v w : Filing) → ArrivesAtWake v limit w ⊎ ReachesLimit v limit w → length w.filed ≡ length v.filed
@@ -144,7 +141,7 @@ coming_by shared b c step x =
       counts = x.counts;
     }
 
-pub answered_by : {T W : Type 0} (shared : Bool) (b c : Core T W) (turn : Turn T) → PieceStep shared b.known b.noted b.wheel.filing c.wheel.filing → IsAnswered shared b turn c → IsAnsweredBy shared b turn c
+answered_by : {T W : Type 0} (shared : Bool) (b c : Core T W) (turn : Turn T) → PieceStep shared b.known b.noted b.wheel.filing c.wheel.filing → IsAnswered shared b turn c → IsAnsweredBy shared b turn c
 answered_by shared b c turn step x =
     record {
       run = x.run;
@@ -203,7 +200,7 @@ module _ {T W : Type 0} (shared : Bool) (b c : Core T W) (l : IsLawfulCore b) (i
       omega arith
 
   -- a due entry that is live at a later deadline is filed again
-  pub piece_later : (d : ℕ) → IsSettled shared (row_at b.slots.rows i).stamp b.wheel.filing.tick (word_at b.known i) (Later d) (word_at c.known i) → c.wheel.filing ≡ linked (unlinked b.wheel.filing i) i (filing_for b.wheel.filing.tick d) → c.slots ≡ b.slots → c.known ≡ set b.known i (word_at c.known i) → c.counts ≡ b.counts →
+  piece_later : (d : ℕ) → IsSettled shared (row_at b.slots.rows i).stamp b.wheel.filing.tick (word_at b.known i) (Later d) (word_at c.known i) → c.wheel.filing ≡ linked (unlinked b.wheel.filing i) i (filing_for b.wheel.filing.tick d) → c.slots ≡ b.slots → c.known ≡ set b.known i (word_at c.known i) → c.counts ≡ b.counts →
       IsComing shared b c × (steps_left c < steps_left b)
   piece_later d settled ew es ek ec =
       let t = b.wheel.filing.tick in
@@ -217,7 +214,7 @@ module _ {T W : Type 0} (shared : Bool) (b c : Core T W) (l : IsLawfulCore b) (i
       )
 
   -- a due entry that is found cancelled is reaped
-  pub piece_cancelled : IsSettled shared (row_at b.slots.rows i).stamp b.wheel.filing.tick (word_at b.known i) SettledCancelled (word_at c.known i) → c.wheel.filing ≡ unlinked b.wheel.filing i → c.slots ≡ vacated b.slots i → c.known ≡ set b.known i (word_at c.known i) → c.counts ≡ b.counts →
+  piece_cancelled : IsSettled shared (row_at b.slots.rows i).stamp b.wheel.filing.tick (word_at b.known i) SettledCancelled (word_at c.known i) → c.wheel.filing ≡ unlinked b.wheel.filing i → c.slots ≡ vacated b.slots i → c.known ≡ set b.known i (word_at c.known i) → c.counts ≡ b.counts →
       IsComing shared b c × (steps_left c < steps_left b)
   piece_cancelled settled ew es ek ec =
       let way = step_cancelled shared b c l i due en settled ew es ek ec in (
@@ -225,6 +222,20 @@ module _ {T W : Type 0} (shared : Bool) (b c : Core T W) (l : IsLawfulCore b) (i
         steps_fewer b c i None inside_filed due refl (ap (λ f. f.filed) ew) (ap (λ f. f.tick) ew) en
             (ap (λ x. length x.rows) es ∙ length-set b.slots.rows i (vacated_row (row_at b.slots.rows i))),
       )
+
+  -- each of both is a step of a poll too
+  pub both_later : (d : ℕ) → IsSettled shared (row_at b.slots.rows i).stamp b.wheel.filing.tick (word_at b.known i) (Later d) (word_at c.known i) → c.wheel.filing ≡ linked (unlinked b.wheel.filing i) i (filing_for b.wheel.filing.tick d) → c.slots ≡ b.slots → c.known ≡ set b.known i (word_at c.known i) → c.counts ≡ b.counts →
+      (IsUnderWay shared b c × (work c < work b)) × (IsComing shared b c × (steps_left c < steps_left b))
+  both_later d settled ew es ek ec = (step_later shared b c l i due en d settled ew es ek ec, piece_later d settled ew es ek ec)
+
+  pub both_cancelled : IsSettled shared (row_at b.slots.rows i).stamp b.wheel.filing.tick (word_at b.known i) SettledCancelled (word_at c.known i) → c.wheel.filing ≡ unlinked b.wheel.filing i → c.slots ≡ vacated b.slots i → c.known ≡ set b.known i (word_at c.known i) → c.counts ≡ b.counts →
+      (IsUnderWay shared b c × (work c < work b)) × (IsComing shared b c × (steps_left c < steps_left b))
+  both_cancelled settled ew es ek ec = (step_cancelled shared b c l i due en settled ew es ek ec, piece_cancelled settled ew es ek ec)
+
+-- a due entry that expires, by a step of a poll
+pub both_expired : {T W : Type 0} (shared : Bool) (b c : Core T W) (i : ℕ) {x : Expired T} → filed_at b.wheel.filing.filed i ≡ Some b.wheel.filing.tick → c.wheel.filing ≡ unlinked b.wheel.filing i → IsAnswered shared b (Out x) c →
+    IsAnswered shared b (Out x) c × IsAnsweredBy shared b (Out x) c
+both_expired shared b c i {x} due ew ans = (ans, answered_by shared b c (Out x) (inl (i, due, ew)) ans)
 
 -- the shard law where indexes are filed earlier
 force_earlier : (s f g : ℕ) (w : Parts) → g ≤ f → IsInForce s f w → IsInForce s g w

@@ -10,7 +10,7 @@ use Rattle.dq_ticks.specs.declared.keys.Key.{Key}
 use Rattle.dq_ticks.specs.declared.keys.EntryId.{EntryId}
 use Rattle.dq_ticks.specs.declared.TheConstants.{LAST_TICK}
 use Rattle.dq_ticks.specs.Units.{lap}
-use Rattle.dq_wheel.specs.State.{Filing, WheelState, filed_at, linked, unlinked}
+use Rattle.dq_wheel.specs.State.{Filing, filed_at, linked, unlinked}
 use Rattle.dq_core.specs.declared.slots.Held.{Held}
 use Rattle.dq_core.specs.declared.outcomes.Expired.{Expired}
 use Rattle.dq_core.specs.declared.outcomes.Turn.{Turn}
@@ -29,7 +29,7 @@ use Rattle.dq_core.proofs.Law.{Filed, filed_is, held_filed, law_kept, law_vacate
 use Rattle.dq_core.specs.WheelWays.{GoesOn}
 use Rattle.dq_core.proofs.Looks.{looks_none, looks_one, looks_more}
 use Rattle.dq_core.proofs.WheelSteps.{goes_more, goes_one, goes_none}
-use Rattle.dq_core.proofs.Ways.{run_of_more, run_of_into, run_of_none, run_of_one, callers_on_the_way, learning, machine_is, vacated_of, none_before, none_due, table_row_is, core_of}
+use Rattle.dq_core.proofs.Ways.{run_of_more, run_of_into, run_of_none, run_of_one, callers_on_the_way, learning, machine_is, vacated_of, none_before, none_due, table_row_is}
 
 -- filed anew where it was filed before
 pub relinked : (w : Filing) (i f : ℕ) → linked (unlinked w i) i f ≡ linked w i f
@@ -289,7 +289,7 @@ step_advanced {T} {W} shared b c l goes ef small up before es ek ec en =
     )
 
 -- at rest the wheel stands at the noted tick, and none is due there
-pub rests : {T W : Type 0} (b : Core T W) → IsLawfulCore b → b.noted ≤ b.wheel.filing.tick → ((i : ℕ) → filed_at b.wheel.filing.filed i ≢ Some b.wheel.filing.tick) → (b.wheel.filing.tick ≡ b.noted) × NoneLiveBefore (machine b) (b.noted + 1) × ((i : ℕ) → filed_at b.wheel.filing.filed i ≢ Some b.wheel.filing.tick)
+rests : {T W : Type 0} (b : Core T W) → IsLawfulCore b → b.noted ≤ b.wheel.filing.tick → ((i : ℕ) → filed_at b.wheel.filing.filed i ≢ Some b.wheel.filing.tick) → (b.wheel.filing.tick ≡ b.noted) × NoneLiveBefore (machine b) (b.noted + 1) × ((i : ℕ) → filed_at b.wheel.filing.filed i ≢ Some b.wheel.filing.tick)
 rests b l up none =
     let tick = l.tick in
     let same : b.wheel.filing.tick ≡ b.noted = omega arith in (
@@ -301,10 +301,6 @@ rests b l up none =
           omega (arith, same, after)),
       none,
     )
-
--- a queue whose wheel is as it was
-pub same_wheel : {T W : Type 0} (b : Core T W) (wheel : WheelState) → wheel ≡ b.wheel → ◌≡◌ {A = Core T W} (record { shard = b.shard; noted = b.noted; wheel = wheel; slots = b.slots; known = b.known; counts = b.counts; words = b.words }) b
-same_wheel {T} {W} b wheel e = ap (λ w. let c : Core T W = record { shard = b.shard; noted = b.noted; wheel = w; slots = b.slots; known = b.known; counts = b.counts; words = b.words } in c) e
 
 pub entry_none : {T : Type 0} (o : Option (Held T)) (w : Parts) → ((h : Held T) → o ≡ Some h → ⊥) → entry_of o w ≡ None
 entry_none None w h = refl
@@ -403,11 +399,8 @@ IsAtRest b c =
     × ((i : ℕ) → filed_at c.wheel.filing.filed i ≢ Some c.wheel.filing.tick)
 
 -- a step that rests leaves the queue as it was
-pub rests_at : {T W : Type 0} (b : Core T W) (wheel : WheelState) → wheel ≡ b.wheel → IsLawfulCore b → b.noted ≤ b.wheel.filing.tick → ((i : ℕ) → filed_at b.wheel.filing.filed i ≢ Some b.wheel.filing.tick) → IsAtRest b (core_of b.shard b.noted wheel b.slots b.known b.counts b.words)
-rests_at {T} {W} b wheel e l up none =
-    let P : WheelState → Type 0 = λ w. IsAtRest b (core_of b.shard b.noted w b.slots b.known b.counts b.words) in
-    let r = rests b l up none in
-    subst P (sym e) (refl, r.0, r.1, r.2)
+pub rests_at : {T W : Type 0} (b c : Core T W) → c ≡ b → IsLawfulCore c → c.noted ≤ c.wheel.filing.tick → ((i : ℕ) → filed_at c.wheel.filing.filed i ≢ Some c.wheel.filing.tick) → IsAtRest b c
+rests_at b c same l up none = let r = rests c l up none in (same, r.0, r.1, r.2)
 
 -- the next wake, by what the wheel tells
 pub tells_wake : {T W : Type 0} (b : Core T W) → IsLawfulCore b → (o : Option ℕ) → MatchOption o ((i f : ℕ) → filed_at b.wheel.filing.filed i ≡ Some f → ⊥) (λ w. IsNextWake b.wheel.filing.tick b.wheel.filing.filed w) → TellsWake b o

@@ -20,7 +20,7 @@ use Rattle.dq_core.specs.declared.outcomes.Progress.TheVariants.{Gave, Went, Res
 use Rattle.dq_core.specs.Machine.{Machine, Note, Step, RunOf, IsOnTheWay, NoneLiveBefore}
 use Rattle.dq_core.specs.Words.{word_at}
 use Rattle.dq_core.specs.Core.{Core, machine, filing_for}
-use Rattle.dq_core.specs.Calls.{LooksOver, IsTurn, TurnRow, turn_counts, noting}
+use Rattle.dq_core.specs.Calls.{LooksOver, IsTurn, TurnRow, turn_counts, IsProgress, noting}
 use Rattle.dq_core.specs.WheelWays.{TakesOut, FilesLater}
 
 -- where none is filed at the tick, the wheel goes on: it arrives at its next wake, or goes to the
@@ -95,6 +95,13 @@ IsPieceStep shared b Went c = IsComing shared b c × (steps_left c < steps_left 
 IsPieceStep shared b Rests c =
     (c ≡ b) × (c.wheel.filing.tick ≡ c.noted) × NoneLiveBefore (machine c) (c.noted + 1)
     × ((i : ℕ) → filed_at c.wheel.filing.filed i ≢ Some c.wheel.filing.tick)
+
+-- an index that is due is settled, by a step of a poll that is one of a poll in pieces too; where
+-- none is due nothing changes
+abbrev pub SettlesDue : {T W : Type 0} →
+    Bool → Core T W → Option (Progress T) → Core T W → Type 0
+SettlesDue shared b (Some made) c = IsProgress shared b made c × IsPieceStep shared b made c
+SettlesDue shared b None c = (c ≡ b) × NoneFiledAt b.wheel.filing.filed b.wheel.filing.tick
 
 -- what is left of a queue after a piece: its answer, or so many steps fewer
 abbrev pub IsPieceOf : {T W : Type 0} → Bool → Core T W → ℕ → Piece T → Core T W → Type 0

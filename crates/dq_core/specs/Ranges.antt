@@ -11,8 +11,8 @@ abbrev pub IsLastStamp : ℕ → Type 0
 IsLastStamp n = (0 < n) × (n ≤ LAST_STAMP)
 
 -- each number is in its range
-abbrev pub IsInRange : CoreConfig → Type 0
-IsInRange c = IsCapacity c.capacity × IsLastStamp c.last_stamp
+abbrev pub IsConfigInRange : CoreConfig → Type 0
+IsConfigInRange c = IsCapacity c.capacity × IsLastStamp c.last_stamp
 
 -- the number is the first of a configuration's that is out of its range
 abbrev pub IsBadNumber : CoreConfig → BadNumber → Type 0

@@ -43,21 +43,21 @@ OldAreMissing b c = (id : EntryId) → id.shard ≤ b.shard → IsMissing c id
 
 -- why a queue isn't renewed: first while an entry is linked, then for a number that isn't higher,
 -- and then for words that aren't as many as the slots
-abbrev pub RenewRefused : {T W : Type 0} → Core T W → ℕ → ℕ → RenewError → Type 0
-RenewRefused b shard rows (StillLinked linked) =
+abbrev pub QueueRenewRefused : {T W : Type 0} → Core T W → ℕ → ℕ → RenewError → Type 0
+QueueRenewRefused b shard rows (StillLinked linked) =
     (linked ≡ count_by is_held b.slots.rows) × (0 < linked)
-RenewRefused b shard rows (UsedNumber number) =
+QueueRenewRefused b shard rows (UsedNumber number) =
     (count_by is_held b.slots.rows ≡ 0) × (number ≡ b.shard) × (shard ≤ b.shard)
-RenewRefused b shard rows WrongRows =
+QueueRenewRefused b shard rows WrongRows =
     (count_by is_held b.slots.rows ≡ 0) × (b.shard < shard) × (rows ≢ length b.slots.rows)
 
 -- a queue is renewed and its old words come back, or it is refused, which hands the new words back
 -- and changes nothing
-abbrev pub Renews : {T W : Type 0} →
+abbrev pub RenewsQueue : {T W : Type 0} →
     Core T W → ℕ → W → List Parts → Counts → Result W (RenewError × W) → Core T W → Type 0
-Renews b shard words known counts (Ok old) c =
+RenewsQueue b shard words known counts (Ok old) c =
     (count_by is_held b.slots.rows ≡ 0) × (b.shard < shard)
     × (length known ≡ length b.slots.rows) × (old ≡ b.words)
     × (c ≡ renewed_core b shard known counts words)
-Renews b shard words known counts (Err e) c =
-    RenewRefused b shard (length known) e.0 × (e.1 ≡ words) × (c ≡ b)
+RenewsQueue b shard words known counts (Err e) c =
+    QueueRenewRefused b shard (length known) e.0 × (e.1 ≡ words) × (c ≡ b)

@@ -3,7 +3,7 @@
 ghost use Rattle.std.specs.Prelude.{◌≡◌, IfOk, IfErr, MatchResult, length};
 ghost use Rattle.dq_ticks.specs.declared.TheConstants.{LAST_STAMP};
 ghost use Rattle.dq_core.specs.AtTheCall.{config_of, with_value_back};
-ghost use Rattle.dq_core.specs.Ranges.{IsInRange, IsBadNumber};
+ghost use Rattle.dq_core.specs.Ranges.{IsConfigInRange, IsBadNumber};
 
 use crate::errors::{BadNumber, CoreConfig, CoreError};
 use crate::queue::DelayCore;
@@ -31,7 +31,7 @@ impl CoreConfig {
     /// The first number that is out of its range: the capacity, and then the last stamp.
     pub fn check(&self) -> Result<(), BadNumber>
         ensures { MatchResult result
-            (λ _. IsInRange self.now) (λ number. IsBadNumber self.now number) }
+            (λ _. IsConfigInRange self.now) (λ number. IsBadNumber self.now number) }
     {
         if self.capacity == 0 || self.capacity > CAPACITY_LIMIT {
             return Err(BadNumber::BadCapacity(self.capacity));

@@ -13,10 +13,10 @@ ghost use Rattle.dq_core.specs.Pieces.{IfAnswer, IsPieceStep, PollsSome};
 ghost use Rattle.dq_core.specs.Words.{StillBegun};
 
 use crate::errors::CoreError;
-use crate::outcomes::{Expired, Piece, Progress, Turn};
-use crate::queue::{DelayCore, filing_tick};
-use crate::words::{Settled, Words};
-use dq_ticks::{EntryId, Key, LAST_TICK};
+use crate::outcomes::{Piece, Progress, Turn};
+use crate::queue::DelayCore;
+use crate::words::Words;
+use dq_ticks::LAST_TICK;
 use std::alloc::Allocator;
 
 impl<T: Drop, W: Words, A: Allocator> DelayCore<T, W, A> {
@@ -29,36 +29,15 @@ impl<T: Drop, W: Words, A: Allocator> DelayCore<T, W, A> {
         ensures noted { self.new.noted ≡ self.old.noted }
         ensures progress { IsPieceStep W.shared self.old result self.new }
     {
-        let tick = self.wheel.tick();
-        let Some(index) = self.wheel.pop_due() else {
-            if tick < self.noted {
-                self.wheel.arrive(self.noted);
-                return Progress::Went;
-            }
-            return Progress::Rests;
-        };
-        let stamp = self.slots.stamp(index);
-        match self.words.settle(index, stamp, tick) {
-            Settled::SettledExpired => {
-                let gone = self.slots.vacate(index);
-                self.expired += 1;
-                let entry = EntryId::new(self.shard, index as u32, gone.born);
-                Progress::Gave(Expired {
-                    key: Key::new(entry, stamp),
-                    deadline: tick,
-                    noted: self.noted,
-                    value: gone.value,
-                })
-            }
-            Settled::Later(deadline) => {
-                self.wheel.link(index, filing_tick(tick, deadline));
-                Progress::Went
-            }
-            Settled::SettledCancelled => {
-                self.slots.vacate(index);
-                Progress::Went
-            }
+        if let Some(made) = self.settle_due() {
+            return made;
         }
+        let tick = self.wheel.tick();
+        if tick < self.noted {
+            self.wheel.arrive(self.noted);
+            return Progress::Went;
+        }
+        Progress::Rests
     }
 
     /// Does of a [`Self::poll`] at most `most` steps, each in constant time but for a value's drop. Call again while it

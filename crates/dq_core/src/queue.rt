@@ -166,6 +166,7 @@ impl<T: Drop, W: Words, A: Allocator> DelayCore<T, W, A> {
     ghost use Rattle.dq_core.specs.AtTheCall.{IfOut, IfRests, linked_in, IsLinkedAs, HoldsValue, OthersStay, KeepsSlots};
     ghost use Rattle.dq_core.specs.declared.errors.CoreError.TheVariants.{TooFar, Missing, WasCancelled};
     ghost use Rattle.dq_core.specs.Calls.{SameCore, base_for, IsMissing, IsLiveEntry, IsCancelledEntry, Inserts, IsProgress, noting, Polls, TellsWake, WakesAhead, IsFind, TellsDeadline, Removes, Resets};
+    ghost use Rattle.dq_core.specs.Pieces.{SettlesDue};
 
     /// The shard law, what the wheel's own law says of this queue's wheel, and that what is known and counted is what
     /// the words' keeper knows and has counted.
@@ -245,6 +246,44 @@ impl<T: Drop, W: Words, A: Allocator> DelayCore<T, W, A> {
         }
     }
 
+    // Takes an index that is due, if one is, and does with it what its word says: its entry expires, is filed again at a later
+    // tick, or is reaped. Of both kinds of poll this is the same step.
+    #[inline(always)]
+    pub(crate) fn settle_due(&mut self) -> Option<Progress<T>>
+        ensures same { SameCore self.old self.new }
+        ensures origin { W.origin self.new.words ≡ W.origin self.old.words }
+        ensures begun { StillBegun W.begun self.old.words self.new.words }
+        ensures noted { self.new.noted ≡ self.old.noted }
+        ensures settles { SettlesDue W.shared self.old result self.new }
+    {
+        let tick = self.wheel.tick();
+        let Some(index) = self.wheel.pop_due() else {
+            return None;
+        };
+        let stamp = self.slots.stamp(index);
+        match self.words.settle(index, stamp, tick) {
+            Settled::SettledExpired => {
+                let gone = self.slots.vacate(index);
+                self.expired += 1;
+                let entry = EntryId::new(self.shard, index as u32, gone.born);
+                Some(Progress::Gave(Expired {
+                    key: Key::new(entry, stamp),
+                    deadline: tick,
+                    noted: self.noted,
+                    value: gone.value,
+                }))
+            }
+            Settled::Later(deadline) => {
+                self.wheel.link(index, filing_tick(tick, deadline));
+                Some(Progress::Went)
+            }
+            Settled::SettledCancelled => {
+                self.slots.vacate(index);
+                Some(Progress::Went)
+            }
+        }
+    }
+
     // One step of a poll: settles an index that is due, or goes on to a later tick.
     #[inline]
     fn step(&mut self) -> Progress<T>
@@ -254,36 +293,15 @@ impl<T: Drop, W: Words, A: Allocator> DelayCore<T, W, A> {
         ensures noted { self.new.noted ≡ self.old.noted }
         ensures progress { IsProgress W.shared self.old result self.new }
     {
-        let tick = self.wheel.tick();
-        let Some(index) = self.wheel.pop_due() else {
-            if tick < self.noted {
-                self.wheel.advance(self.noted);
-                return Progress::Went;
-            }
-            return Progress::Rests;
-        };
-        let stamp = self.slots.stamp(index);
-        match self.words.settle(index, stamp, tick) {
-            Settled::SettledExpired => {
-                let gone = self.slots.vacate(index);
-                self.expired += 1;
-                let entry = EntryId::new(self.shard, index as u32, gone.born);
-                Progress::Gave(Expired {
-                    key: Key::new(entry, stamp),
-                    deadline: tick,
-                    noted: self.noted,
-                    value: gone.value,
-                })
-            }
-            Settled::Later(deadline) => {
-                self.wheel.link(index, filing_tick(tick, deadline));
-                Progress::Went
-            }
-            Settled::SettledCancelled => {
-                self.slots.vacate(index);
-                Progress::Went
-            }
+        if let Some(made) = self.settle_due() {
+            return made;
         }
+        let tick = self.wheel.tick();
+        if tick < self.noted {
+            self.wheel.advance(self.noted);
+            return Progress::Went;
+        }
+        Progress::Rests
     }
 
     /// The next wake: the tick at which the queue has something to do, none where nothing is linked. It is after the

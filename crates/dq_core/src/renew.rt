@@ -37,7 +37,7 @@ pub enum RenewError {
 impl<T: Drop, W: Words, A: Allocator> DelayCore<T, W, A> {
     ghost use Rattle.dq_core.specs.Core.{machine};
     ghost use Rattle.dq_core.specs.Machine.{NoneLinked};
-    ghost use Rattle.dq_core.specs.Renewals.{fresh_machine, OldAreMissing, Renews};
+    ghost use Rattle.dq_core.specs.Renewals.{fresh_machine, OldAreMissing, RenewsQueue};
 
     /// Goes on over fresh words, under the number `shard`, and answers the words that it had. No slot is worn then, and
     /// each has all its stamps again. The ticks go on. Every key from before has a lower number, so the queue's calls
@@ -76,7 +76,7 @@ impl<T: Drop, W: Words, A: Allocator> DelayCore<T, W, A> {
         ensures refused { IfErr result (λ e. (e.1 ≡ words) × (self.new ≡ self.old)) }
 
         // Exactly: the whole queue after it, or which refusal comes first.
-        ensures renews { Renews self.old shard words (W.known words) (W.counts words) result self.new }
+        ensures renews { RenewsQueue self.old shard words (W.known words) (W.counts words) result self.new }
     {
         let linked = self.slots.linked();
         if linked > 0 {

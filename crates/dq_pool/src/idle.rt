@@ -1,6 +1,6 @@
 //! The handles that nobody uses.
 ghost use Rattle.std.specs.Prelude.{◌≡◌, length, IfOk};
-ghost use Rattle.dq_pool.specs.Idle.{Puts, Takes};
+ghost use Rattle.dq_pool.specs.Idle.{PutsHandle, TakesHandle};
 
 use std::alloc::{AllocError, Allocator};
 use std::marker::Model;
@@ -42,14 +42,14 @@ impl<H: Drop, A: Allocator> Idle<H, A> {
 
     /// Takes the one that was put last; none exactly where there is none.
     pub fn take(&mut self) -> Option<H>
-        ensures { Takes self.old result self.new }
+        ensures { TakesHandle self.old result self.new }
     {
         self.handles.pop()
     }
 
     /// Puts one in; hands it back exactly where there is no room.
     pub fn put(&mut self, handle: H) -> Result<(), H>
-        ensures { Puts self.old handle result self.new }
+        ensures { PutsHandle self.old handle result self.new }
     {
         if self.handles.len() == self.most {
             return Err(handle);

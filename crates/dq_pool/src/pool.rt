@@ -1,7 +1,7 @@
 //! The pool, which any number of threads share.
 ghost use Rattle.std.specs.Prelude.{◌≡◌, IfErr};
-ghost use Rattle.dq_pool.specs.Idle.{Puts, Takes};
-ghost use Rattle.dq_pool.specs.Pool.{OnSome};
+ghost use Rattle.dq_pool.specs.Idle.{PutsHandle, TakesHandle};
+ghost use Rattle.dq_pool.specs.Pool.{OnSomeHandles};
 
 use crate::idle::Idle;
 use crate::lent::Lent;
@@ -32,7 +32,7 @@ impl<H: Drop, A: Allocator> HandlePool<H, A> {
     /// Takes a handle that nobody uses; none where there is none. Whoever takes one puts it back, or it is lost to the
     /// pool. Constant time.
     pub fn take<R: Wait>(&self, rt: &R) -> Option<H>
-        ensures { OnSome {H = H} Takes result }
+        ensures { OnSomeHandles {H = H} TakesHandle result }
     {
         let mut idle = self.idle.lock(rt);
         idle.take()
@@ -44,7 +44,7 @@ impl<H: Drop, A: Allocator> HandlePool<H, A> {
     /// The handle itself, where as many are there as there is room for.
     pub fn put<R: Wait>(&self, rt: &R, handle: H) -> Result<(), H>
         ensures back { IfErr result (λ h. h ≡ handle) }
-        ensures puts { OnSome {H = H} (λ old r new. Puts old handle r new) result }
+        ensures puts { OnSomeHandles {H = H} (λ old r new. PutsHandle old handle r new) result }
     {
         let mut idle = self.idle.lock(rt);
         idle.put(handle)

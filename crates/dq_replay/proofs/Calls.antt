@@ -14,7 +14,7 @@ use Rattle.dq_core.specs.Calls.{SameCore}
 use Rattle.dq_core.specs.Sweeps.{Clears}
 use Rattle.dq_replay.specs.declared.session.Lease.{Lease}
 use Rattle.dq_replay.specs.Script.{with_lease, deadline_of}
-use Rattle.dq_replay.specs.Leases.{lease_of, with_lease_if, live_of, vacant, live_entry, key_at, AreKeyed, NameTable, found_in, IsPutIn, one_if}
+use Rattle.dq_replay.specs.Leases.{lease_of, with_lease_if, live_of, vacant, live_lease, key_at, AreKeyed, NameTable, found_in, IsPutIn, one_if}
 use Rattle.dq_replay.specs.LeasesState.{leases_state, AreLeases, IsLiveKey, OfLiveKey, IsSameQueue, IsResetTo, IsExtendedTo, IsEndedLease, IsToldOf, NoLeaseDue, IsLeaseOut, IsResting, moved_lease, without_lease, ResetsLease, ExtendsLease, EndsLease, ExpiresLease}
 use Rattle.dq_replay.proofs.Ordered.{length-with_lease}
 use Rattle.dq_replay.proofs.LiveSlots.{put_here, put_there, inside_slots, live_set, live_here}
@@ -35,7 +35,7 @@ module _ {W : Type 0} (b c : Core (List ℕ) W) (t u : NameTable) (given : ℕ) 
   reset_stamp = (table_at (machine b) k.entry.index).stamp + 1
 
   abbrev reset_entry : Option (Entry (List ℕ))
-  reset_entry = Some (live_entry k.entry.born name (max when (machine b).tick))
+  reset_entry = Some (live_lease k.entry.born name (max when (machine b).tick))
 
   pub reset_tied : IsPutIn t name (Some new) u → length u.entries + one_if (found_in t name) ≡ length t.entries + 1 → AreLeases c u (given + 1)
   reset_tied put_in size =
@@ -63,7 +63,7 @@ module _ {W : Type 0} (b c : Core (List ℕ) W) (t u : NameTable) (given : ℕ) 
             (changed_tick b c k.entry.index reset_stamp reset_entry reset.0)
             (changed_noted b c k.entry.index reset_stamp reset_entry reset.0) refl
             (key_moved b c t u given (given + 1) reset_stamp reset_entry name alive.0 k l at alive.1 reset.0 when
-            (ap (λ z. Some (live_entry k.entry.born name z)) here)),
+            (ap (λ z. Some (live_lease k.entry.born name z)) here)),
       )
 
 -- extend
@@ -73,7 +73,7 @@ module _ {W : Type 0} (b c : Core (List ℕ) W) (t : NameTable) (given : ℕ) (n
   extend_stamp = (table_at (machine b) k.entry.index).stamp
 
   abbrev extend_entry : Option (Entry (List ℕ))
-  extend_entry = Some (live_entry k.entry.born name x)
+  extend_entry = Some (live_lease k.entry.born name x)
 
   pub extend_tied : AreLeases c t given
   extend_tied =
@@ -170,7 +170,7 @@ no_names t empty name = ap (λ es. found_in (record { entries = es; spare = 0 })
 
 empty_keyed : (shard : ℕ) (m : Machine (List ℕ)) (t : NameTable) → ((i : ℕ) → (table_at m i).entry ≡ None) → t.entries ≡ [] → AreKeyed shard m (found_in t)
 empty_keyed shard m t none empty = record {
-  found = λ i born name d is. absurd (none_some (live_entry born name d) (sym (none i) ∙ is));
+  found = λ i born name d is. absurd (none_some (live_lease born name d) (sym (none i) ∙ is));
   live = λ name k is. absurd (none_some k (sym (no_names t empty name) ∙ is));
 }
 
@@ -239,7 +239,7 @@ module _ {W : Type 0} (b c : Core (List ℕ) W) (t : NameTable) (given now : ℕ
   gone_at = gone_keyed.found gone.way.1 gone.way.2 x.name x.deadline gone.way.4
 
   gone_inside : gone.way.1 < length gone.way.0.table
-  gone_inside = inside_slots gone.way.0 gone.way.1 (live_entry gone.way.2 x.name x.deadline) gone.way.4
+  gone_inside = inside_slots gone.way.0 gone.way.1 (live_lease gone.way.2 x.name x.deadline) gone.way.4
 
   gone_rest : live_of (machine c).table ≡ live_of (set gone.way.0.table gone.way.1 vacant)
   gone_rest = ap (λ m. live_of m.table) gone.way.5 ∙ live_set gone.way.0.table gone.way.1 (record { stamp = (table_at gone.way.0 gone.way.1).stamp; entry = None }) gone_inside
@@ -275,8 +275,8 @@ module _ {W : Type 0} (b c : Core (List ℕ) W) (t : NameTable) (given now : ℕ
         stamps = λ j. subst (λ z. (table_at z j).stamp ≤ given) (sym gone.way.5) (subst (λ z. z ≤ given) (sym (put_stamp m i j gone_inside)) (subst (λ z. z ≤ given) (sym (gone.way.3.stamps j)) (l.stamps j)));
       }
     where
-      name_of : (a e : ℕ) (o n : List ℕ) (d f : ℕ) → ◌≡◌ {A = Option (Entry (List ℕ))} (Some (live_entry a o d)) (Some (live_entry e n f)) → n ≡ o
-      name_of a e o n d f h = let same : live_entry a o d ≡ live_entry e n f = cc in sym (ap (λ y. y.value) same)
+      name_of : (a e : ℕ) (o n : List ℕ) (d f : ℕ) → ◌≡◌ {A = Option (Entry (List ℕ))} (Some (live_lease a o d)) (Some (live_lease e n f)) → n ≡ o
+      name_of a e o n d f h = let same : live_lease a o d ≡ live_lease e n f = cc in sym (ap (λ y. y.value) same)
 
       key_same : (a e : KeyName) → ◌≡◌ {A = Option KeyName} (Some a) (Some e) → a ≡ e
       key_same a e h = cc

@@ -7,13 +7,13 @@ use Rattle.dq_core.specs.declared.words.CallError.TheVariants.{TooFar, Unknown, 
 use Rattle.dq_core.specs.WordRows.{CallRefused}
 use Rattle.dq_core.specs.Core.{Core, IsLawfulCore}
 use Rattle.dq_core.specs.KeyCalls.{KeyRefused, ExtendingRefused}
-use Rattle.dq_replay.specs.Leases.{live_entry}
+use Rattle.dq_replay.specs.Leases.{live_lease}
 use Rattle.dq_replay.specs.LeasesState.{IsSomeKey}
 use Rattle.dq_replay.proofs.Refused.{inside_rows, word_live, word_stamp, stamp_some}
 
 pub call_live : {W : Type 0} (b : Core (List ℕ) W) (k : KeyName) (e : CallError) → IsLawfulCore b → IsSomeKey b k → CallRefused b.known k e → ⊥
 call_live b k Unknown law (name, d, live) (inl past) =
-    let inside = inside_rows b law k.entry.index (live_entry k.entry.born name d) live.0 in
+    let inside = inside_rows b law k.entry.index (live_lease k.entry.born name d) live.0 in
     let same = law.as_known in
     absurd (omega (arith, inside, past, same))
 call_live b k Unknown law (name, d, live) (inr (inl zero_stamp)) = let some = stamp_some b k name d law live in absurd (omega (arith, zero_stamp, some))

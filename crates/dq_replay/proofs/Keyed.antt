@@ -6,10 +6,10 @@ use Rattle.dq_ticks.specs.Keys.{KeyName}
 use Rattle.dq_core.specs.Machine.{Machine, table_at, put}
 use Rattle.dq_core.specs.Machine.{Entry}
 use Rattle.dq_replay.specs.declared.session.Lease.{Lease}
-use Rattle.dq_replay.specs.Leases.{lease_of, live_entry, key_at, AreKeyed}
+use Rattle.dq_replay.specs.Leases.{lease_of, live_lease, key_at, AreKeyed}
 use Rattle.dq_replay.proofs.LiveSlots.{put_here, put_there, name_is, name_same}
 
-no_lease : (born : ℕ) (name : List ℕ) (d : ℕ) → ◌≡◌ {A = Option Lease} (lease_of (Some (live_entry born name d))) None → ⊥
+no_lease : (born : ℕ) (name : List ℕ) (d : ℕ) → ◌≡◌ {A = Option Lease} (lease_of (Some (live_lease born name d))) None → ⊥
 no_lease born name d e = cc
 
 -- two keys of one name stand at one slot
@@ -20,37 +20,37 @@ key_place o a b p q = let same : Some a ≡ Some b = sym p ∙ q in let twin : a
 abbrev pub IsPut : ℕ → Machine (List ℕ) → ℕ → List ℕ → Option (Entry (List ℕ)) → Option KeyName → Type 0
 IsPut shard m i n e key =
     ((lease_of e ≡ None) × (key ≡ None))
-    ⊎ ((born : ℕ) × (d : ℕ) × (e ≡ Some (live_entry born n d)) × (key ≡ Some (key_at shard m i born)))
+    ⊎ ((born : ℕ) × (d : ℕ) × (e ≡ Some (live_lease born n d)) × (key ≡ Some (key_at shard m i born)))
 
 -- slot i changes; only the name n was there, or nothing; and n was nowhere else
 module _ (shard : ℕ) (m : Machine (List ℕ)) (keys news : List ℕ → Option KeyName) (i s : ℕ) (e : Option (Entry (List ℕ))) (n : List ℕ)
     (inside : i < length m.table) (tied : AreKeyed shard m keys)
-    (only : (born : ℕ) (name : List ℕ) (d : ℕ) → (table_at m i).entry ≡ Some (live_entry born name d) → name ≡ n)
+    (only : (born : ℕ) (name : List ℕ) (d : ℕ) → (table_at m i).entry ≡ Some (live_lease born name d) → name ≡ n)
     (nowhere : (k : KeyName) → keys n ≡ Some k → k.entry.index ≡ i)
     (here : IsPut shard (put m i s e) i n e (news n))
     (others : (q : List ℕ) → (q ≡ n → ⊥) → news q ≡ keys q) where
   put_entry : (table_at (put m i s e) i).entry ≡ e
   put_entry = ap (λ x. x.entry) (put_here m i s e inside)
 
-  put_found_here : (born : ℕ) (name : List ℕ) (d : ℕ) → e ≡ Some (live_entry born name d) → IsPut shard (put m i s e) i n e (news n) → news name ≡ Some (key_at shard (put m i s e) i born)
+  put_found_here : (born : ℕ) (name : List ℕ) (d : ℕ) → e ≡ Some (live_lease born name d) → IsPut shard (put m i s e) i n e (news n) → news name ≡ Some (key_at shard (put m i s e) i born)
   put_found_here born name d is (inl nothing) = absurd (no_lease born name d (ap lease_of (sym is) ∙ nothing.0))
   put_found_here born name d is (inr (b, x, was, key)) =
-      let both : Some (live_entry b n x) ≡ Some (live_entry born name d) = sym was ∙ is in
-      let same : live_entry b n x ≡ live_entry born name d = cc in
+      let both : Some (live_lease b n x) ≡ Some (live_lease born name d) = sym was ∙ is in
+      let same : live_lease b n x ≡ live_lease born name d = cc in
       let names : n ≡ name = ap (λ y. y.value) same in
       let births : b ≡ born = ap (λ y. y.born) same in
       ap news (sym names) ∙ (key ∙ ap (λ z. Some (key_at shard (put m i s e) i z)) births)
 
-  put_found_there : (j born : ℕ) (name : List ℕ) (d : ℕ) → (j ≡ i → ⊥) → (table_at (put m i s e) j).entry ≡ Some (live_entry born name d) → news name ≡ Some (key_at shard (put m i s e) j born)
+  put_found_there : (j born : ℕ) (name : List ℕ) (d : ℕ) → (j ≡ i → ⊥) → (table_at (put m i s e) j).entry ≡ Some (live_lease born name d) → news name ≡ Some (key_at shard (put m i s e) j born)
   put_found_there j born name d away is =
       let slot : table_at (put m i s e) j ≡ table_at m j = put_there m i s e j away in
-      let was : (table_at m j).entry ≡ Some (live_entry born name d) = ap (λ x. x.entry) (sym slot) ∙ is in
+      let was : (table_at m j).entry ≡ Some (live_lease born name d) = ap (λ x. x.entry) (sym slot) ∙ is in
       let key : keys name ≡ Some (key_at shard m j born) = tied.found j born name d was in
       let other : name ≡ n → ⊥ = λ q. away (nowhere (key_at shard m j born) (ap keys (sym q) ∙ key)) in
       others name other ∙ (key ∙ ap (λ x. Some (record { entry = record { shard = shard; index = j; born = born }; stamp = x.stamp })) (sym slot))
 
   put_live_here : (name : List ℕ) (k : KeyName) → name ≡ n → news name ≡ Some k → IsPut shard (put m i s e) i n e (news n)
-      → (d : ℕ) × ((table_at (put m i s e) k.entry.index).entry ≡ Some (live_entry k.entry.born name d)) × (k ≡ key_at shard (put m i s e) k.entry.index k.entry.born)
+      → (d : ℕ) × ((table_at (put m i s e) k.entry.index).entry ≡ Some (live_lease k.entry.born name d)) × (k ≡ key_at shard (put m i s e) k.entry.index k.entry.born)
   put_live_here name k is at (inl nothing) =
       let gone : None ≡ Some k = sym nothing.1 ∙ (ap news (sym is) ∙ at) in absurd (none_key k gone)
     where
@@ -59,11 +59,11 @@ module _ (shard : ℕ) (m : Machine (List ℕ)) (keys news : List ℕ → Option
   put_live_here name k is at (inr (b, x, was, key)) =
       let same : Some (key_at shard (put m i s e) i b) ≡ Some k = sym key ∙ (ap news (sym is) ∙ at) in
       let twin : key_at shard (put m i s e) i b ≡ k = cc in
-      subst (λ z. (d : ℕ) × ((table_at (put m i s e) z.entry.index).entry ≡ Some (live_entry z.entry.born name d)) × (z ≡ key_at shard (put m i s e) z.entry.index z.entry.born)) twin
-      (x, put_entry ∙ (was ∙ ap (λ q. Some (live_entry b q x)) (sym is)), refl)
+      subst (λ z. (d : ℕ) × ((table_at (put m i s e) z.entry.index).entry ≡ Some (live_lease z.entry.born name d)) × (z ≡ key_at shard (put m i s e) z.entry.index z.entry.born)) twin
+      (x, put_entry ∙ (was ∙ ap (λ q. Some (live_lease b q x)) (sym is)), refl)
 
   put_live_there : (name : List ℕ) (k : KeyName) → (name ≡ n → ⊥) → news name ≡ Some k
-      → (d : ℕ) × ((table_at (put m i s e) k.entry.index).entry ≡ Some (live_entry k.entry.born name d)) × (k ≡ key_at shard (put m i s e) k.entry.index k.entry.born)
+      → (d : ℕ) × ((table_at (put m i s e) k.entry.index).entry ≡ Some (live_lease k.entry.born name d)) × (k ≡ key_at shard (put m i s e) k.entry.index k.entry.born)
   put_live_there name k other at =
       let was = tied.live name k (sym (others name other) ∙ at) in
       let away : k.entry.index ≡ i → ⊥ = λ q. other (only k.entry.born name was.0 (ap (λ z. (table_at m z).entry) (sym q) ∙ was.1)) in

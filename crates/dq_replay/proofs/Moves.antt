@@ -10,7 +10,7 @@ use Rattle.dq_replay.specs.declared.session.Lease.{Lease}
 use Rattle.dq_replay.specs.declared.leases.Refusal.{Refusal}
 use Rattle.dq_replay.specs.declared.leases.Refusal.TheVariants.{Missing, TooFar}
 use Rattle.dq_replay.specs.Script.{with_lease, has_name, deadline_of, without, moved}
-use Rattle.dq_replay.specs.Leases.{lease_of, with_lease_if, live_of, vacant, live_entry, key_at, NameTable, found_in, IsPutIn, one_if}
+use Rattle.dq_replay.specs.Leases.{lease_of, with_lease_if, live_of, vacant, live_lease, key_at, NameTable, found_in, IsPutIn, one_if}
 use Rattle.dq_replay.specs.LeasesState.{leases_state, AreLeases, IsLiveKey, IsSomeKey, IsChangedAt, IsRoomy, IsNewLease, with_lease_at, FindsWithin, RefusesLease}
 use Rattle.dq_replay.proofs.Ordered.{length-with_lease}
 use Rattle.dq_replay.proofs.LiveSlots.{live_here, IsLease, without_is, deadline_is, no_deadline}
@@ -20,8 +20,8 @@ use Rattle.dq_replay.proofs.Tied.{lease_at, no_key, not_live_no_key, leases_path
 none_some : {T : Type 0} (x : T) → ◌≡◌ {A = Option T} None (Some x) → ⊥
 none_some x e = cc
 
-name_of_entry : (a b : ℕ) (m n : List ℕ) (d e : ℕ) → ◌≡◌ {A = Option (Entry (List ℕ))} (Some (live_entry a m d)) (Some (live_entry b n e)) → n ≡ m
-name_of_entry a b m n d e h = let same : live_entry a m d ≡ live_entry b n e = cc in sym (ap (λ x. x.value) same)
+name_of_entry : (a b : ℕ) (m n : List ℕ) (d e : ℕ) → ◌≡◌ {A = Option (Entry (List ℕ))} (Some (live_lease a m d)) (Some (live_lease b n e)) → n ≡ m
+name_of_entry a b m n d e h = let same : live_lease a m d ≡ live_lease b n e = cc in sym (ap (λ x. x.value) same)
 
 key_same : (a b : KeyName) → ◌≡◌ {A = Option KeyName} (Some a) (Some b) → a ≡ b
 key_same a b h = cc
@@ -37,7 +37,7 @@ pub new_leased : {W : Type 0} (b c : Core (List ℕ) W) (t u : NameTable) (given
 new_leased b c t u given name when k l free_name new put_in size =
     let i : ℕ = k.entry.index in
     let s : ℕ = (table_at (machine b) i).stamp + 1 in
-    let e : Option (Entry (List ℕ)) = Some (live_entry k.entry.born name (max when (machine b).tick)) in
+    let e : Option (Entry (List ℕ)) = Some (live_lease k.entry.born name (max when (machine b).tick)) in
     let none : found_in t name ≡ None = not_live_no_key b.shard (machine b) (found_in t) l.keyed name free_name in
     let below = l.stamps i in
     let one : one_if (found_in t name) ≡ 0 = ap one_if none in
@@ -47,7 +47,7 @@ new_leased b c t u given name when k l free_name new put_in size =
     let longer : length (live_of (machine c).table) ≡ suc (length (live_of (machine b).table)) = ap length live ∙ length-with_lease (record { name = name; deadline = max when (machine b).tick }) (live_of (machine b).table) in
     let count = l.count in
     put_leased b c t u given (given + 1) i s e name l new.changed (omega arith) (omega (arith, below))
-    (λ born other d is. absurd (none_some (live_entry born other d) (sym new.free ∙ is)))
+    (λ born other d is. absurd (none_some (live_lease born other d) (sym new.free ∙ is)))
     (λ z at. absurd (none_some z (sym none ∙ at)))
     (inr (k.entry.born, max when (machine b).tick, refl, put_in_same t u name (Some k) put_in ∙ ap Some (new.key ∙ ap (λ m. key_at b.shard m i k.entry.born) new.changed.machine_is)))
     (put_in_other t u name (Some k) put_in)
@@ -55,7 +55,7 @@ new_leased b c t u given name when k l free_name new put_in size =
 
 pub new_live : {W : Type 0} (b c : Core (List ℕ) W) (name : List ℕ) (when : ℕ) (k : KeyName) → IsNewLease b name when k c → live_of (machine c).table ≡ with_lease (record { name = name; deadline = max when b.wheel.filing.tick }) (live_of (machine b).table)
 new_live b c name when k new =
-    put_live b c k.entry.index ((table_at (machine b) k.entry.index).stamp + 1) (Some (live_entry k.entry.born name (max when (machine b).tick))) new.changed
+    put_live b c k.entry.index ((table_at (machine b) k.entry.index).stamp + 1) (Some (live_lease k.entry.born name (max when (machine b).tick))) new.changed
     ∙ ap (with_lease (record { name = name; deadline = max when (machine b).tick }))
     (sym (live_here (machine b).table k.entry.index new.changed.inside ∙ ap (λ o. with_lease_if (lease_of o) (live_of (set (machine b).table k.entry.index vacant))) new.free))
 
@@ -70,7 +70,7 @@ pub new_shown : {W : Type 0} (a b c : Core (List ℕ) W) (given : ℕ) (name : L
 new_shown a b c given name when d k roomy new is =
     let i : ℕ = k.entry.index in
     let s : ℕ = (table_at (machine b) i).stamp + 1 in
-    let e : Option (Entry (List ℕ)) = Some (live_entry k.entry.born name (max when (machine b).tick)) in
+    let e : Option (Entry (List ℕ)) = Some (live_lease k.entry.born name (max when (machine b).tick)) in
     leases_path c (given + 1) (with_lease_at (leases_state a given) name d)
     (new.changed.same.rows ∙ roomy.same.rows) (changed_tick b c i s e new.changed ∙ roomy.tick) (changed_noted b c i s e new.changed ∙ roomy.noted) refl
     (new_live b c name when k new ∙ (λ j. with_lease (record { name = name; deadline = (ap (max when) roomy.tick ∙ sym is) j }) (roomy.kept.live j)))
@@ -121,12 +121,12 @@ module _ {W : Type 0} (b c : Core (List ℕ) W) (t u : NameTable) (given more s 
       here others size
 
   -- another deadline
-  pub key_moved : (x : ℕ) → e ≡ Some (live_entry k.entry.born name x) → live_of (machine c).table ≡ moved name x (live_of (machine b).table)
+  pub key_moved : (x : ℕ) → e ≡ Some (live_lease k.entry.born name x) → live_of (machine c).table ≡ moved name x (live_of (machine b).table)
   key_moved x is =
       put_live b c k.entry.index s e changed ∙ (ap (λ o. with_lease_if (lease_of o) (live_of (set (machine b).table k.entry.index vacant))) is
       ∙ ap (with_lease (record { name = name; deadline = x })) (sym (without_is (live_of (machine b).table) name d (live_of (set (machine b).table k.entry.index vacant)) lease)))
 
-  pub key_moved_size : (x : ℕ) → e ≡ Some (live_entry k.entry.born name x) → length (live_of (machine c).table) ≡ length (live_of (machine b).table)
+  pub key_moved_size : (x : ℕ) → e ≡ Some (live_lease k.entry.born name x) → length (live_of (machine c).table) ≡ length (live_of (machine b).table)
   key_moved_size x is =
       let there = ap length (put_live b c k.entry.index s e changed ∙ ap (λ o. with_lease_if (lease_of o) (live_of (set (machine b).table k.entry.index vacant))) is) in
       there ∙ (length-with_lease (record { name = name; deadline = x }) (live_of (set (machine b).table k.entry.index vacant)) ∙ sym one_more)

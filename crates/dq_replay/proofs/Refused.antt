@@ -18,7 +18,7 @@ use Rattle.dq_core.specs.Machine.{Entry}
 use Rattle.dq_core.specs.Core.{Core, machine, entry_of, due_by, IsLawfulCore, IsPlaced}
 use Rattle.dq_core.specs.TableRows.{table_row_of}
 use Rattle.dq_core.specs.Calls.{InsertRefused, FindRefused, ResetRefused, IsMissing, IsFoundCancelled}
-use Rattle.dq_replay.specs.Leases.{live_entry}
+use Rattle.dq_replay.specs.Leases.{live_lease}
 use Rattle.dq_replay.specs.LeasesState.{IsLiveKey, IsSomeKey}
 use Rattle.dq_replay.proofs.LiveSlots.{inside_slots}
 use Rattle.dq_replay.proofs.Runs.{slot_is, length-slots, count_none, alone}
@@ -55,12 +55,12 @@ insert_room b when NoMemory law far room stamps r = r
 
 -- a live name's entry is there
 there : {W : Type 0} (b : Core (List ℕ) W) (k : KeyName) (name : List ℕ) (d : ℕ) → IsLiveKey b k name d → IsMissing b k.entry → ⊥
-there b k name d live missing = missing (ap (λ z. z.entry.shard) live.1) (live_entry k.entry.born name d) live.0 refl
+there b k name d live missing = missing (ap (λ z. z.entry.shard) live.1) (live_lease k.entry.born name d) live.0 refl
 
 -- and it isn't cancelled
-due_two : (x : Entry (List ℕ)) (born : ℕ) (name : List ℕ) (d : ℕ) → ◌≡◌ {A = Option (Entry (List ℕ))} (Some x) (Some (live_entry born name d)) → x.due ≡ None → ⊥
+due_two : (x : Entry (List ℕ)) (born : ℕ) (name : List ℕ) (d : ℕ) → ◌≡◌ {A = Option (Entry (List ℕ))} (Some x) (Some (live_lease born name d)) → x.due ≡ None → ⊥
 due_two x born name d is none =
-    let same : x ≡ live_entry born name d = cc in
+    let same : x ≡ live_lease born name d = cc in
     let gone : ◌≡◌ {A = Option ℕ} None (Some d) = sym none ∙ ap (λ y. y.due) same in
     cc
 
@@ -102,13 +102,13 @@ due_mark CancelledMark field d h = cc
 due_mark ExpiredMark field d h = cc
 due_mark RemovedMark field d h = cc
 
-held_due : (held : Option (Held (List ℕ))) (w : Parts) (born : ℕ) (name : List ℕ) (d : ℕ) → entry_of held w ≡ Some (live_entry born name d) → (w.mark ≡ LiveMark) × (w.field ≡ d)
-held_due None w born name d h = absurd (none_entry (live_entry born name d) h)
+held_due : (held : Option (Held (List ℕ))) (w : Parts) (born : ℕ) (name : List ℕ) (d : ℕ) → entry_of held w ≡ Some (live_lease born name d) → (w.mark ≡ LiveMark) × (w.field ≡ d)
+held_due None w born name d h = absurd (none_entry (live_lease born name d) h)
   where
     none_entry : (x : Entry (List ℕ)) → ◌≡◌ {A = Option (Entry (List ℕ))} None (Some x) → ⊥
     none_entry x q = cc
 held_due (Some x) w born name d h =
-    let same : record { born = x.born; value = x.value; due = due_by w.mark w.field } ≡ live_entry born name d = some_same (record { born = x.born; value = x.value; due = due_by w.mark w.field }) (live_entry born name d) h in
+    let same : record { born = x.born; value = x.value; due = due_by w.mark w.field } ≡ live_lease born name d = some_same (record { born = x.born; value = x.value; due = due_by w.mark w.field }) (live_lease born name d) h in
     due_mark w.mark w.field d (ap (λ e. e.due) same)
   where
     some_same : (a b : Entry (List ℕ)) → ◌≡◌ {A = Option (Entry (List ℕ))} (Some a) (Some b) → a ≡ b
@@ -120,7 +120,7 @@ word_live b k name d law live =
 
 pub word_stamp : {W : Type 0} (b : Core (List ℕ) W) (k : KeyName) (name : List ℕ) (d : ℕ) → IsLawfulCore b → IsLiveKey b k name d → (word_at b.known k.entry.index).stamp ≡ k.stamp
 word_stamp b k name d law live =
-    let inside = inside_rows b law k.entry.index (live_entry k.entry.born name d) live.0 in
+    let inside = inside_rows b law k.entry.index (live_lease k.entry.born name d) live.0 in
     (law.each k.entry.index inside).stamp ∙ (ap (λ s. s.stamp) (sym (slot_here b law k.entry.index)) ∙ ap (λ z. z.stamp) (sym live.1))
 
 force_some : (tick noted stamp : ℕ) (held : Option (Held (List ℕ))) (w : Parts) (f : Option ℕ) (e : Entry (List ℕ)) → IsPlaced tick noted stamp held w f → entry_of held w ≡ Some e → 0 < stamp
@@ -133,11 +133,11 @@ force_some tick noted stamp (Some h) w (Some f) e p is = p.0.0
 
 pub stamp_some : {W : Type 0} (b : Core (List ℕ) W) (k : KeyName) (name : List ℕ) (d : ℕ) → IsLawfulCore b → IsLiveKey b k name d → 0 < k.stamp
 stamp_some b k name d law live =
-    let inside = inside_rows b law k.entry.index (live_entry k.entry.born name d) live.0 in
+    let inside = inside_rows b law k.entry.index (live_lease k.entry.born name d) live.0 in
     let at = law.each k.entry.index inside in
     let some : 0 < (row_at b.slots.rows k.entry.index).stamp =
     force_some b.wheel.filing.tick b.noted (row_at b.slots.rows k.entry.index).stamp (row_at b.slots.rows k.entry.index).held (word_at b.known k.entry.index) _
-    (live_entry k.entry.born name d) at.placed (ap (λ s. s.entry) (sym (slot_here b law k.entry.index)) ∙ live.0)
+    (live_lease k.entry.born name d) at.placed (ap (λ s. s.entry) (sym (slot_here b law k.entry.index)) ∙ live.0)
     in
     let same = word_stamp b k name d law live in
     let known = at.stamp in

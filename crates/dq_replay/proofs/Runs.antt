@@ -13,7 +13,7 @@ use Rattle.dq_core.specs.Machine.{Entry}
 use Rattle.dq_core.specs.Core.{table_of, entry_of, due_by}
 use Rattle.dq_core.specs.TableRows.{table_row_of}
 use Rattle.dq_replay.specs.declared.session.Lease.{Lease}
-use Rattle.dq_replay.specs.Leases.{lease_by, lease_of, with_lease_if, live_of, vacant, live_entry}
+use Rattle.dq_replay.specs.Leases.{lease_by, lease_of, with_lease_if, live_of, vacant, live_lease}
 use Rattle.dq_replay.specs.LeasesState.{KeepsLive, NoLeaseDue}
 use Rattle.dq_replay.proofs.Ordered.{filter-with_lease_no, length-with_lease}
 use Rattle.dq_replay.proofs.LiveSlots.{put_here, put_there, live_set, live_here}
@@ -54,9 +54,9 @@ kept_then shard a b c p q = record {
   stamps = λ i. q.stamps i ∙ p.stamps i;
 }
 
-not_live : (e : Entry (List ℕ)) (born : ℕ) (name : List ℕ) (d : ℕ) → e.due ≡ None → ◌≡◌ {A = Option (Entry (List ℕ))} (Some e) (Some (live_entry born name d)) → ⊥
+not_live : (e : Entry (List ℕ)) (born : ℕ) (name : List ℕ) (d : ℕ) → e.due ≡ None → ◌≡◌ {A = Option (Entry (List ℕ))} (Some e) (Some (live_lease born name d)) → ⊥
 not_live e born name d none is =
-    let same : e ≡ live_entry born name d = cc in
+    let same : e ≡ live_lease born name d = cc in
     let gone : ◌≡◌ {A = Option ℕ} None (Some d) = sym none ∙ ap (λ x. x.due) same in
     cc
 
@@ -75,8 +75,8 @@ kept_reap shard m i e has none =
       keyed = λ keys tied. record {
         found = λ j born name d is. elim (cases_eq j i) [
           | inl q ↦
-              let gone : ◌≡◌ {A = Option (Entry (List ℕ))} None (Some (live_entry born name d)) = ap (λ s. s.entry) (sym here) ∙ (ap (λ z. (table_at n z).entry) (sym q) ∙ is) in
-              absurd (none_entry (live_entry born name d) gone)
+              let gone : ◌≡◌ {A = Option (Entry (List ℕ))} None (Some (live_lease born name d)) = ap (λ s. s.entry) (sym here) ∙ (ap (λ z. (table_at n z).entry) (sym q) ∙ is) in
+              absurd (none_entry (live_lease born name d) gone)
           | inr away ↦ tied.found j born name d (ap (λ s. s.entry) (sym (there j away)) ∙ is)
               ∙ ap (λ s. Some (record { entry = record { shard = shard; index = j; born = born }; stamp = s.stamp })) (sym (there j away))
         ];

@@ -9,7 +9,7 @@ use Rattle.dq_core.specs.Machine.{Entry}
 use Rattle.dq_core.specs.Core.{Core, machine}
 use Rattle.dq_replay.specs.declared.session.Lease.{Lease}
 use Rattle.dq_replay.specs.Script.{has_name}
-use Rattle.dq_replay.specs.Leases.{lease_by, lease_of, with_lease_if, live_of, vacant, live_entry, key_at, AreKeyed, NameTable, found_in, IsPutIn}
+use Rattle.dq_replay.specs.Leases.{lease_by, lease_of, with_lease_if, live_of, vacant, live_lease, key_at, AreKeyed, NameTable, found_in, IsPutIn}
 use Rattle.dq_replay.specs.LeasesState.{LeasesState, leases_state, AreLeases, IsChangedAt, IsRoomy}
 use Rattle.dq_replay.proofs.LiveSlots.{put_here, put_there, inside_slots, live_set, live_here, none_live, name_same, name_other, IsLease, live_is}
 use Rattle.dq_replay.proofs.Keyed.{IsPut, keyed_put}
@@ -19,11 +19,11 @@ use Rattle.dq_replay.proofs.Keyed.{IsPut, keyed_put}
 none_some : {T : Type 0} (x : T) → ◌≡◌ {A = Option T} None (Some x) → ⊥
 none_some x e = cc
 
-lease_entry : (o : Option (Entry (List ℕ))) (x : Lease) → lease_of o ≡ Some x → (born : ℕ) × (o ≡ Some (live_entry born x.name x.deadline))
+lease_entry : (o : Option (Entry (List ℕ))) (x : Lease) → lease_of o ≡ Some x → (born : ℕ) × (o ≡ Some (live_lease born x.name x.deadline))
 lease_entry None x h = absurd (none_some x h)
 lease_entry (Some e) x h = by e.due refl
   where
-    by : (o : Option ℕ) → e.due ≡ o → (born : ℕ) × (Some e ≡ Some (live_entry born x.name x.deadline))
+    by : (o : Option ℕ) → e.due ≡ o → (born : ℕ) × (Some e ≡ Some (live_lease born x.name x.deadline))
     by None is = absurd (none_some x (sym (ap (lease_by e.value) is) ∙ h))
     by (Some d) is =
         let same : Some (record { name = e.value; deadline = d }) ≡ Some x = sym (ap (lease_by e.value) is) ∙ h in
@@ -40,10 +40,10 @@ index_same : (a b : KeyName) → ◌≡◌ {A = Option KeyName} (Some a) (Some b
 index_same a b q = let same : a ≡ b = cc in ap (λ k. k.entry.index) same
 
 -- a live name stands once
-pub lease_at : (shard : ℕ) (m : Machine (List ℕ)) (keys : List ℕ → Option KeyName) → AreKeyed shard m keys → (i born : ℕ) (name : List ℕ) (d : ℕ) → (table_at m i).entry ≡ Some (live_entry born name d)
+pub lease_at : (shard : ℕ) (m : Machine (List ℕ)) (keys : List ℕ → Option KeyName) → AreKeyed shard m keys → (i born : ℕ) (name : List ℕ) (d : ℕ) → (table_at m i).entry ≡ Some (live_lease born name d)
     → IsLease (live_of m.table) name d (live_of (set m.table i vacant))
 lease_at shard m keys tied i born name d is =
-    let inside : i < length m.table = inside_slots m i (live_entry born name d) is in
+    let inside : i < length m.table = inside_slots m i (live_lease born name d) is in
     record {
       is = live_here m.table i inside ∙ ap (λ o. with_lease_if (lease_of o) (live_of (set m.table i vacant))) is;
       once = none_live (λ e. bytes_eq e.name name) (set m.table i vacant) (λ j x at. elim (cases_eq j i) [
@@ -109,7 +109,7 @@ roomy_leased b c t given r l = record {
 
 -- one slot changed, for one name
 pub put_leased : {W : Type 0} (b c : Core (List ℕ) W) (t u : NameTable) (given more i s : ℕ) (e : Option (Entry (List ℕ))) (n : List ℕ) → AreLeases b t given → IsChangedAt b i s e c → given ≤ more → s ≤ more
-    → ((born : ℕ) (name : List ℕ) (d : ℕ) → (table_at (machine b) i).entry ≡ Some (live_entry born name d) → name ≡ n)
+    → ((born : ℕ) (name : List ℕ) (d : ℕ) → (table_at (machine b) i).entry ≡ Some (live_lease born name d) → name ≡ n)
     → ((k : KeyName) → found_in t n ≡ Some k → k.entry.index ≡ i)
     → IsPut b.shard (put (machine b) i s e) i n e (found_in u n)
     → ((q : List ℕ) → (q ≡ n → ⊥) → found_in u q ≡ found_in t q)

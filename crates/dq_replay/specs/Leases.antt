@@ -32,8 +32,8 @@ abbrev pub vacant : TableRow (List ℕ)
 vacant = record { stamp = 0; entry = None }
 
 -- an entry that is linked and live
-abbrev pub live_entry : ℕ → List ℕ → ℕ → Entry (List ℕ)
-live_entry born name deadline = record { born = born; value = name; due = Some deadline }
+abbrev pub live_lease : ℕ → List ℕ → ℕ → Entry (List ℕ)
+live_lease born name deadline = record { born = born; value = name; due = Some deadline }
 
 -- the key of the entry that was born at that stamp at slot i, at the slot's present stamp
 abbrev pub key_at : ℕ → Machine (List ℕ) → ℕ → ℕ → KeyName
@@ -50,10 +50,10 @@ key_of names name = lookup (bytes_eq name) names
 pub record AreKeyed (shard : ℕ) (m : Machine (List ℕ)) (keys : List ℕ → Option KeyName)
     : Type 0 where
   pub found : (i born : ℕ) (name : List ℕ) (d : ℕ)
-      → (table_at m i).entry ≡ Some (live_entry born name d)
+      → (table_at m i).entry ≡ Some (live_lease born name d)
       → keys name ≡ Some (key_at shard m i born)
   pub live : (name : List ℕ) (k : KeyName) → keys name ≡ Some k
-      → (d : ℕ) × ((table_at m k.entry.index).entry ≡ Some (live_entry k.entry.born name d))
+      → (d : ℕ) × ((table_at m k.entry.index).entry ≡ Some (live_lease k.entry.born name d))
       × (k ≡ key_at shard m k.entry.index k.entry.born)
 
 -- names with their keys, and for how many more there is room

@@ -13,7 +13,7 @@ use Rattle.dq_replay.specs.declared.session.Lease.{Lease}
 use Rattle.dq_replay.specs.declared.leases.Refusal.{Refusal}
 use Rattle.dq_replay.specs.declared.leases.Refusal.TheVariants.{Missing, TooFar}
 use Rattle.dq_replay.specs.Script.{lease, with_lease, deadline_of, without, moved}
-use Rattle.dq_replay.specs.Leases.{lease_of, live_of, live_entry, key_at, AreKeyed, NameTable}
+use Rattle.dq_replay.specs.Leases.{lease_of, live_of, live_lease, key_at, AreKeyed, NameTable}
 use Rattle.dq_replay.specs.Leases.{found_in}
 
 -- the number of slots, the wheel's tick and the noted one, a bound on the stamps that were given,
@@ -47,7 +47,7 @@ pub record AreLeases {W : Type 0} (c : Core (List ℕ) W) (names : NameTable) (g
 -- the key of a live name, whose deadline in force is d
 abbrev pub IsLiveKey : {W : Type 0} → Core (List ℕ) W → KeyName → List ℕ → ℕ → Type 0
 IsLiveKey c k name d =
-    ((table_at (machine c) k.entry.index).entry ≡ Some (live_entry k.entry.born name d))
+    ((table_at (machine c) k.entry.index).entry ≡ Some (live_lease k.entry.born name d))
     × (k ≡ key_at c.shard (machine c) k.entry.index k.entry.born)
 
 -- a key of some live name
@@ -76,7 +76,7 @@ pub record IsNewLease {W : Type 0} (b : Core (List ℕ) W) (name : List ℕ) (wh
     (c : Core (List ℕ) W) : Type 0 where
   pub free : (table_at (machine b) k.entry.index).entry ≡ None
   pub changed : IsChangedAt b k.entry.index ((table_at (machine b) k.entry.index).stamp + 1)
-      (Some (live_entry k.entry.born name (max when (machine b).tick))) c
+      (Some (live_lease k.entry.born name (max when (machine b).tick))) c
   pub key : k ≡ key_at b.shard (machine c) k.entry.index k.entry.born
 
 -- a live name's entry has the next stamp, and the greater of what was asked and the tick as its
@@ -85,7 +85,7 @@ abbrev pub IsResetTo : {W : Type 0} → Core (List ℕ) W → KeyName → ℕ �
     → List ℕ → Type 0
 IsResetTo b k when new c name =
     IsChangedAt b k.entry.index ((table_at (machine b) k.entry.index).stamp + 1)
-    (Some (live_entry k.entry.born name (max when (machine b).tick))) c
+    (Some (live_lease k.entry.born name (max when (machine b).tick))) c
     × (new ≡ key_at b.shard (machine c) k.entry.index k.entry.born)
 
 -- a live name's entry is live at the greater of what was asked and its deadline
@@ -94,7 +94,7 @@ abbrev pub IsExtendedTo : {W : Type 0} → Core (List ℕ) W → KeyName → ℕ
 IsExtendedTo b k when result c name d =
     (result ≡ max when d)
     × IsChangedAt b k.entry.index (table_at (machine b) k.entry.index).stamp
-    (Some (live_entry k.entry.born name result)) c
+    (Some (live_lease k.entry.born name result)) c
 
 -- a live name's entry is cancelled or leaves the queue, and its deadline is told
 pub record IsEndedLease {W : Type 0} (b : Core (List ℕ) W) (k : KeyName) (result : ℕ)
@@ -132,7 +132,7 @@ pub record IsLeaseOut {W : Type 0} (b : Core (List ℕ) W) (now : ℕ) (x : Leas
     : Type 0 where
   pub same : IsSameQueue b c
   pub way : (m : Machine (List ℕ)) × (i : ℕ) × (born : ℕ) × KeepsLive b.shard (machine b) m
-      × ((table_at m i).entry ≡ Some (live_entry born x.name x.deadline))
+      × ((table_at m i).entry ≡ Some (live_lease born x.name x.deadline))
       × (machine c ≡ put m i (table_at m i).stamp None)
   pub due : x.deadline ≤ now
   pub noted : c.noted ≡ now

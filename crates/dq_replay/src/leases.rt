@@ -6,7 +6,7 @@ ghost use Rattle.dq_core.specs.Machine.{table_at};
 ghost use Rattle.dq_core.specs.Core.{machine};
 ghost use Rattle.dq_core.specs.Calls.{IsInserted};
 ghost use Rattle.dq_replay.specs.Script.{has_name, deadline_of};
-ghost use Rattle.dq_replay.specs.Leases.{live_of, live_entry};
+ghost use Rattle.dq_replay.specs.Leases.{live_of, live_lease};
 ghost use Rattle.dq_replay.specs.Order.{IsLined};
 ghost use Rattle.dq_replay.specs.LeasesState.{Ticks, LeasesState, IsLiveKey, IsSomeKey, OfLiveKey, IsNewLease, IsResetTo, IsExtendedTo, IsEndedLease, FindsWithin, IsToldOf, IsChangedAt, IsSameQueue, IsRoomy, IsPolledTo, no_leases, with_lease_at, ResetsLease, ExtendsLease, EndsLease, ExpiresLease};
 

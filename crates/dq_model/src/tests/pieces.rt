@@ -75,11 +75,28 @@ impl Both {
             0 => self.poll_some(tick, 0),
             1..3 => self.poll_some(tick, 1),
             3..5 => self.poll_some(self.slow.noted, 2),
-            5 => self.poll_some(tick, 16),
+            5 => self.poll_some(tick, some_steps(draw)),
             6 => self.sweep_some((draw.below(70) & 127) as usize, 8),
             _ => self.call(turn, draw),
         };
         is_same && self.tell()
+    }
+
+    // Pieces at the noted tick with no call between them come to an answer: each entry is settled, reaped or filed anew, and
+    // the wheel arrives on its way to it, at most so often.
+    fn comes_to_an_answer(&mut self, most: u32) -> bool {
+        let (noted, pieces) = (self.slow.noted, self.slow.len().saturating_add(1));
+        for _piece in 0..pieces.saturating_mul(600) {
+            let outs = self.slow.totals.expired;
+            if !(self.poll_some(noted, most) && self.tell()) {
+                return false;
+            }
+            let is_done = self.slow.least().is_none_or(|filed| filed > noted);
+            if outs < self.slow.totals.expired || (is_done && self.core.tick() == noted) {
+                return true;
+            }
+        }
+        false
     }
 
     // Pieces to the last tick, until nothing is linked.
@@ -96,14 +113,24 @@ impl Both {
     }
 }
 
-// 2,000 calls on a fresh queue and on its model, and then pieces until it is empty.
+// The steps of a piece: 1 to 17.
+fn some_steps(draw: &mut Draw) -> u32 {
+    (draw.below(17) & 31) as u32 + 1
+}
+
+// 5,000 calls on a fresh queue and on its model, and then pieces until it is empty.
 fn agree_at(rt: &impl Abort, alloc: Global, capacity: usize, last_stamp: u32) -> Result<(), Fail> {
     let mut both = Both::new(alloc, capacity, last_stamp)?;
     let mut draw = Draw::new(13);
-    for turn in 0..2000u64 {
+    for turn in 0..5000u64 {
         assert!(rt;
             both.piece_or_call(turn, &mut draw),
             "call {turn} at capacity {capacity}"
+        );
+        let is_answered = turn % 16 != 0 || both.comes_to_an_answer(some_steps(&mut draw));
+        assert!(rt;
+            is_answered,
+            "Working after call {turn} at capacity {capacity}"
         );
         assert!(rt; both.agree(), "after call {turn} at capacity {capacity}");
     }

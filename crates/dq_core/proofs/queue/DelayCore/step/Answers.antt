@@ -1,57 +1,20 @@
-use Rattle.std.proofs.Common.{ap, ◌∙◌, refl, arith}
-use Rattle.dq_core.specs.Words.{settled_counts}
-use Rattle.dq_core.specs.declared.words.Settled.TheVariants.{SettledExpired}
-use Rattle.dq_core.proofs.Ways.{core_of}
+use Rattle.std.proofs.Common.{◌∙◌, refl, arith}
 use Rattle.dq_core.proofs.WheelSteps.{goes_on}
-use Rattle.dq_core.proofs.Steps.{step_advanced, advanced_on, rests_at, step_expired, expired_lawful, step_later, step_cancelled, cancelled_lawful, refiled, key_at}
+use Rattle.dq_core.proofs.Steps.{step_advanced, advanced_on, rests_at}
 use Rattle.dq_core.proofs.queue.DelayCore.step.Goals as goal
 
 pub returns-then-tick-self-clause-progress : goal.returns-then-tick-self-clause-progress
 returns-then-tick-self-clause-progress g c =
-    let same = c.in_default.ensures.exact.0 in
+    let same = c.self.view_is ∙ c.in_default.ensures.settles.0 in
+    let none = rw (← same) at c.in_default.ensures.settles.1 in
     let tick = c.tick-tick.ensures.value in
-    let goes = goes_on _ _ c.self.inside.wheel.filing _ _ (ap (λ w. w.filing) same) (omega (arith, tick, c.if-tick-self.true)) c.in_default.ensures.exact.1 c.advance.ensures.way in
-    rw (← c.self.view_is)
-    (step_advanced g.W.Words.shared _ _ c.self.invariant.0 goes (c.advance.ensures.filed ∙ ap (λ w. w.filing.filed) same) c.advance.ensures.within (advanced_on _ _ c.pop_due.new.self.filing.tick _ c.tick-tick.ensures.value (ap (λ w. w.filing.tick) same) c.if-tick-self.true c.advance.ensures.onward) c.advance.ensures.none_before refl refl refl refl)
+    let goes = goes_on _ _ c.self.inside.wheel.filing _ _ refl (omega (arith, tick, c.if-tick-self.true)) none c.advance.ensures.way in
+    rw (← same)
+    (step_advanced g.W.Words.shared _ _ c.self.invariant.0 goes c.advance.ensures.filed c.advance.ensures.within (advanced_on _ _ c.self.inside.wheel.filing.tick _ c.tick-tick.ensures.value refl c.if-tick-self.true c.advance.ensures.onward) c.advance.ensures.none_before refl refl refl refl)
 
-pub returns-in_default-clause-progress : goal.returns-in_default-clause-progress
-returns-in_default-clause-progress g c =
-    let s = c.self.inside in
-    let b = core_of s.shard s.noted s.wheel s.slots (g.W.Words.known s.words) (g.W.Words.counts s.words) s.words in
+pub returns-clause-progress : goal.returns-clause-progress
+returns-clause-progress g c =
+    let same = c.self.view_is ∙ c.in_default.ensures.settles.0 in
+    let none = rw (← same) at c.in_default.ensures.settles.1 in
     let tick = c.tick-tick.ensures.value in
-    rw (← c.self.view_is)
-    (rests_at b c.pop_due.new.self c.in_default.ensures.exact.0 c.self.invariant.0 (omega (arith, tick, c.if-tick-self.false)) c.in_default.ensures.exact.1)
-
-pub invariant_of-self-in-SettledExpired : goal.invariant_of-self-in-SettledExpired
-invariant_of-self-in-SettledExpired g c =
-    let s = c.self.inside in
-    let b = core_of s.shard s.noted s.wheel s.slots (g.W.Words.known s.words) (g.W.Words.counts s.words) s.words in
-    let n = core_of s.shard s.noted c.pop_due.new.self c.vacate-gone.new.self (g.W.Words.known c.settle.new.self) (g.W.Words.counts c.settle.new.self) c.settle.new.self in
-    let settled = rw (c.stamp-stamp.ensures, c.tick-tick.ensures.value) at c.in-SettledExpired.ensures.settled in
-    (expired_lawful g.W.Words.shared b n c.self.invariant.0 c.in-Some.index c.in-Some.ensures.exact.1 refl settled c.in-Some.ensures.exact.2 c.vacate-gone.ensures.vacated c.in-SettledExpired.ensures.known c.in-SettledExpired.ensures.counts, c.in-SettledExpired.ensures.counts ∙ ap (λ x. settled_counts x SettledExpired) c.self.invariant.1)
-
-pub invariant_of-self-in-SettledCancelled : goal.invariant_of-self-in-SettledCancelled
-invariant_of-self-in-SettledCancelled g c =
-    let s = c.self.inside in
-    let b = core_of s.shard s.noted s.wheel s.slots (g.W.Words.known s.words) (g.W.Words.counts s.words) s.words in
-    let n = core_of s.shard s.noted c.pop_due.new.self c.vacate.new.self (g.W.Words.known c.settle.new.self) (g.W.Words.counts c.settle.new.self) c.settle.new.self in
-    let settled = rw c.stamp-stamp.ensures at c.in-SettledCancelled.ensures.settled in
-    (cancelled_lawful g.W.Words.shared b n c.self.invariant.0 c.in-Some.index c.in-Some.ensures.exact.1 refl settled c.in-Some.ensures.exact.2 c.vacate.ensures.vacated c.in-SettledCancelled.ensures.known c.in-SettledCancelled.ensures.counts, c.in-SettledCancelled.ensures.counts ∙ c.self.invariant.1)
-
-pub returns-in-SettledExpired-clause-progress : goal.returns-in-SettledExpired-clause-progress
-returns-in-SettledExpired-clause-progress g c =
-    let settled = rw (c.stamp-stamp.ensures, c.tick-tick.ensures.value) at c.in-SettledExpired.ensures.settled in
-    rw (← c.self.view_is)
-    (step_expired g.W.Words.shared _ _ c.self.invariant.0 c.in-Some.index c.in-Some.ensures.exact.1 refl c.vacate-gone.result c.new-entry.result _ settled c.vacate-gone.ensures.held c.in-Some.ensures.exact.2 c.vacate-gone.ensures.vacated c.in-SettledExpired.ensures.known c.in-SettledExpired.ensures.counts c.new-entry.ensures (key_at _ _ _ _ c.new.ensures c.stamp-stamp.ensures) c.tick-tick.ensures.value refl refl)
-
-pub returns-in-Later-clause-progress : goal.returns-in-Later-clause-progress
-returns-in-Later-clause-progress g c =
-    let settled = rw (c.stamp-stamp.ensures, c.tick-tick.ensures.value) at c.in-Later.ensures.settled in
-    rw (← c.self.view_is)
-    (step_later g.W.Words.shared _ _ c.self.invariant.0 c.in-Some.index c.in-Some.ensures.exact.1 refl _ settled (refiled _ c.pop_due.new.self.filing _ _ c.filing_tick.result _ _ c.link.ensures.exact c.in-Some.ensures.exact.2 c.filing_tick.ensures c.tick-tick.ensures.value) refl c.in-Later.ensures.known c.in-Later.ensures.counts)
-
-pub returns-in-SettledCancelled-clause-progress : goal.returns-in-SettledCancelled-clause-progress
-returns-in-SettledCancelled-clause-progress g c =
-    let settled = rw c.stamp-stamp.ensures at c.in-SettledCancelled.ensures.settled in
-    rw (← c.self.view_is)
-    (step_cancelled g.W.Words.shared _ _ c.self.invariant.0 c.in-Some.index c.in-Some.ensures.exact.1 refl settled c.in-Some.ensures.exact.2 c.vacate.ensures.vacated c.in-SettledCancelled.ensures.known c.in-SettledCancelled.ensures.counts)
+    rw (← c.self.view_is) (rests_at _ _ same c.self.invariant.0 (omega (arith, tick, c.if-tick-self.false)) none)
