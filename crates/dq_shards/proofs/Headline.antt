@@ -1,5 +1,5 @@
 -- What the shard law and an answer say of the true words.
-use Rattle.std.proofs.Common.{◌≡◌, ℕ, zero, suc, ◌+◌, ◌<◌, ◌≤◌, List, [], ◌∷◌, length, get_or, set, sym, refl, ap, ◌∙◌, subst, ⊎_elim, length-set, get_or-set_same, arith}
+use Rattle.std.proofs.Common.{true, ◌≡◌, ℕ, zero, suc, ◌+◌, ◌<◌, ◌≤◌, List, [], ◌∷◌, length, get_or, set, sym, refl, ap, ◌∙◌, subst, ⊎_elim, length-set, get_or-set_same, arith}
 use Rattle.atomic_table.specs.Table.{State}
 use mathlib.Core.Option.{some}
 use lib.ListN.{get_elem?}
@@ -8,15 +8,19 @@ use Rattle.dq_ticks.specs.declared.words.Parts.{Parts}
 use Rattle.dq_ticks.specs.Word.{word, stamp_of, mark_of, field_of, mark_number, mark_by, packed, parts_of}
 use Rattle.dq_core.specs.Words.{never, word_at, expired}
 use Rattle.dq_core.specs.Slots.{Row}
-use Rattle.dq_core.specs.Core.{table_of, machine}
-use Rattle.dq_core.specs.Machine.{table_at}
+use Rattle.dq_core.specs.declared.outcomes.Expired.{Expired}
+use Rattle.dq_core.specs.declared.outcomes.Turn.TheVariants.{Out}
+use Rattle.dq_core.specs.Core.{Core, table_of, machine}
+use Rattle.dq_core.specs.Calls.{IsTurn, TurnRow, noting}
+use Rattle.dq_core.specs.Machine.{Machine, RunOf, IsOnTheWay, table_at}
 use Rattle.dq_words.specs.declared.views.View.{View}
 use Rattle.dq_words.specs.Word.{parts_row}
 use Rattle.dq_words.specs.Files.{file, IsIn, Among}
 use Rattle.dq_words.specs.Rule.{Ruled, Had, HadAt}
 use Rattle.dq_words.specs.Endings.{StampsEndOnce, EndsAreInForce}
-use Rattle.dq_shards.specs.Shard.{keeper_of}
-use Rattle.dq_shards.specs.Endings.{OutsAreInForce, InsertsAreGiven, ExpiresInForce, IsGivenOnce}
+use Rattle.dq_words.specs.Seats.{Sat}
+use Rattle.dq_shards.specs.Shard.{ShardView, IsShard, keeper_of}
+use Rattle.dq_shards.specs.Endings.{OutsAreInForce, PieceOutsAreInForce, IsOutInForce, InsertsAreGiven, ExpiresInForce, IsGivenOnce}
 use Rattle.dq_shards.specs.Endings.{InEveryTable, EveryEntryEndsOnce, InsertedEntriesEndOnce, endings_of}
 
 -- words and parts
@@ -91,13 +95,15 @@ module _ (w : View) (t : State ℕ View) (r : Ruled (length w.seen) t) (at : get
       let below = (r.kept.sees 0 w at).below k.entry.index inside in
       once _ t r k.entry.index k.stamp inside positive (omega (arith, below, seen))
 
-pub outs : (T : Type 0) → EndsAreInForce → OutsAreInForce T
-outs T in_force old new tick x law polled =
-    let answered = polled.0.2 in
-    let m = answered.run.0 in
-    let step = answered.run.2.0.0 in
-    let held = answered.run.2.0.1 in
-    let row = answered.row in
+-- an entry that comes out, of a run to that turn and its row of words
+out_of : (T : Type 0) → EndsAreInForce → (b : Core T Sat) (new : ShardView T) (x : Expired T) → IsShard new
+    → (m : Machine T) × RunOf (IsOnTheWay true) b.slots.last_stamp (machine b) m
+    × IsTurn b.shard b.slots.last_stamp m (Out x) (machine new.core) new.core.wheel.filing
+    → TurnRow true b.known (Out x) new.core.known → IsOutInForce new x
+out_of T in_force b new x law run row =
+    let m = run.0 in
+    let step = run.2.0.0 in
+    let held = run.2.0.1 in
     let i = x.key.entry.index in
     let table : length (machine new.core).table ≡ length m.table =
     ap (λ n. length n.table) step.7 ∙ length-set m.table i _ in
@@ -115,6 +121,14 @@ outs T in_force old new tick x law polled =
       expires = λ t r at. out_in_force (keeper_of new) t r at in_force x.key x.deadline (omega arith) seen (omega arith);
       noted = at_noted;
     }
+
+pub outs : (T : Type 0) → EndsAreInForce → OutsAreInForce T
+outs T in_force old new tick x law polled =
+    let answered = polled.0.2 in out_of T in_force (noting old.core tick) new x law answered.run answered.row
+
+pub piece_outs : (T : Type 0) → EndsAreInForce → PieceOutsAreInForce T
+piece_outs T in_force old new tick most x law polled =
+    let answered = polled.0.2 in out_of T in_force (noting old.core tick) new x law answered.run answered.row
 
 pub given : (T : Type 0) → StampsEndOnce → InsertsAreGiven T
 given T once old new value when k before law inserted =

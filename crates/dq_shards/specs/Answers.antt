@@ -27,10 +27,10 @@ QueueIsMade config (Err e) =
     ⊎ ((e ≡ Core NoMemory) × IsQueueConfig config)
 
 -- an answer whose refusal dropped the value, with the value put back
-abbrev pub with_value_back :
+abbrev pub with_value_handed_back :
     {T : Type 0} → T → Result Key QueueError → Result Key (QueueError × T)
-with_value_back value (Ok k) = Ok k
-with_value_back value (Err e) = Err (e, value)
+with_value_handed_back value (Ok k) = Ok k
+with_value_handed_back value (Err e) = Err (e, value)
 
 -- a shard that was made by a configuration
 abbrev pub IsNewShard : {T : Type 0} → QueueConfig → ℕ → ShardView T → Type 0

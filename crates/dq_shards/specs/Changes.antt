@@ -1,15 +1,18 @@
 -- What the calls of a shard's state do, as relations between its states.
 use Rattle.std.specs.Prelude.{◌≡◌, ℕ, ◌+◌, Bool, true, is_some, Option, Some, None, Result, IfOk}
-use Rattle.std.specs.Prelude.{length, nat_lt, if◌then◌else◌}
+use Rattle.std.specs.Prelude.{Ok, length, nat_lt, if◌then◌else◌}
 use Rattle.dq_ticks.specs.declared.keys.Key.{Key}
 use Rattle.dq_ticks.specs.declared.keys.EntryId.{EntryId}
 use Rattle.dq_core.specs.declared.errors.CoreError.{CoreError}
 use Rattle.dq_core.specs.declared.errors.ReapError.{ReapError}
+use Rattle.dq_core.specs.declared.outcomes.Piece.{Piece}
+use Rattle.dq_core.specs.declared.outcomes.Piece.TheVariants.{Working}
 use Rattle.dq_core.specs.declared.outcomes.Removed.{Removed}
 use Rattle.dq_core.specs.declared.outcomes.Swept.{Swept}
 use Rattle.dq_core.specs.declared.outcomes.Turn.{Turn}
 use Rattle.dq_core.specs.Calls.{SameCore, Inserts, Resets, Removes, Polls, TellsDeadline}
 use Rattle.dq_core.specs.Calls.{base_for}
+use Rattle.dq_core.specs.Pieces.{PollsSome}
 use Rattle.dq_core.specs.Sweeps.{Sweeps, SweepsSome, Reaps, Clears}
 use Rattle.dq_core.specs.Readers.{with_words}
 use Rattle.dq_words.specs.Seats.{Sat}
@@ -22,6 +25,11 @@ use Rattle.dq_shards.specs.Shard.{ShardView, IsShard, KeepsOrWakes, keeper_of}
 -- the slot to go on from behind a piece that ends at one, none behind the last slot
 abbrev pub going_on : ℕ → ℕ → Option ℕ
 going_on end capacity = if nat_lt end capacity then Some end else None
+
+-- where a poll in pieces has more to do
+abbrev pub IfWorking : {T : Type 0} → Result (Piece T) CoreError → Type 0 → Type 0
+IfWorking (Ok Working) P = P
+IfWorking r P = Unit {0}
 
 module _ {T : Type 0} where
   -- the keeper sits at the same table
@@ -51,6 +59,12 @@ module _ {T : Type 0} where
 
   abbrev pub ShardPolls : ShardView T → ℕ → Result (Turn T) CoreError → ShardView T → Type 0
   ShardPolls old tick result new = Polls true old.core tick result new.core × Changes old new
+
+  -- a poll in pieces, by at most so many steps
+  abbrev pub ShardPollsSome :
+      ShardView T → ℕ → ℕ → Result (Piece T) CoreError → ShardView T → Type 0
+  ShardPollsSome old tick most result new =
+      PollsSome true old.core tick most result new.core × Changes old new
 
   abbrev pub ShardSweeps : ShardView T → ℕ → ShardView T → Type 0
   ShardSweeps old n new = Sweeps true old.core n new.core × Changes old new

@@ -7,13 +7,14 @@ use Rattle.dq_ticks.specs.declared.keys.Key.{Key}
 use Rattle.dq_ticks.specs.Word.{stamp_of}
 use Rattle.dq_core.specs.declared.outcomes.Expired.{Expired}
 use Rattle.dq_core.specs.declared.outcomes.Turn.TheVariants.{Out}
+use Rattle.dq_core.specs.declared.outcomes.Piece.TheVariants.{Answer}
 use Rattle.dq_words.specs.declared.views.View.{View}
 use Rattle.dq_words.specs.declared.views.Write.TheVariants.{Begin}
 use Rattle.dq_words.specs.Files.{File, file, IsIn, IsDeadline}
 use Rattle.dq_words.specs.Rule.{Ruled}
 use Rattle.dq_words.specs.Endings.{lives_at, fates_at, over_life, WritesStay}
 use Rattle.dq_shards.specs.Shard.{ShardView, IsShard, keeper_of}
-use Rattle.dq_shards.specs.Changes.{ShardInserts, ShardPolls}
+use Rattle.dq_shards.specs.Changes.{ShardInserts, ShardPolls, ShardPollsSome}
 
 -- It holds whatever the table of the words is, where it meets the rule and the keeper has this
 -- view. The true table of that moment is one of them.
@@ -45,6 +46,12 @@ abbrev pub OutsAreInForce : Type 0 → Type 0
 OutsAreInForce T =
     (old new : ShardView T) (tick : ℕ) (x : Expired T)
     → IsShard new → ShardPolls old tick (Ok (Out x)) new → IsOutInForce new x
+
+-- whatever a poll in pieces gives out is so
+abbrev pub PieceOutsAreInForce : Type 0 → Type 0
+PieceOutsAreInForce T =
+    (old new : ShardView T) (tick most : ℕ) (x : Expired T)
+    → IsShard new → ShardPollsSome old tick most (Ok (Answer (Out x))) new → IsOutInForce new x
 
 -- Of an entry that the keeper began at the slot i with the stamp b: how often it ended as expired,
 -- as removed or by an accepted cancel, over all stamps that its resets gave it, or is live.

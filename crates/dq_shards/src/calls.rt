@@ -5,13 +5,14 @@ ghost use Rattle.dq_core.specs.declared.errors.CoreError.TheVariants.{TooFar, Ti
 ghost use Rattle.dq_shards.specs.declared.errors.QueueError.TheVariants.{Core, Unknown};
 ghost use Rattle.dq_core.specs.Calls.{TellsWake};
 ghost use Rattle.dq_core.specs.Readers.{IsTally};
-ghost use Rattle.dq_shards.specs.Answers.{with_value_back, OnShard, OnShardOr, QueueInserts};
+ghost use Rattle.dq_shards.specs.Answers.{with_value_handed_back, OnShard, OnShardOr, QueueInserts};
 ghost use Rattle.dq_shards.specs.Changes.{ShardResets, ShardRemoves, ShardDeadline};
-ghost use Rattle.dq_shards.specs.Changes.{ShardPolls, ShardSweeps, ShardSweepsSome, ShardReaps, ShardClears, Rings};
+ghost use Rattle.dq_shards.specs.Changes.{ShardPolls, ShardPollsSome, ShardSweeps, ShardSweepsSome, ShardReaps};
+ghost use Rattle.dq_shards.specs.Changes.{ShardClears, Rings};
 
 use crate::errors::QueueError;
 use crate::queue::SharedDelayQueue;
-use dq_core::{ReapError, Removed, Swept, Tally, Turn};
+use dq_core::{Piece, ReapError, Removed, Swept, Tally, Turn};
 use dq_ticks::{EntryId, Key};
 use std::alloc::Allocator;
 use std::sync::Wait;
@@ -76,7 +77,7 @@ impl<T: Drop, A: Allocator> SharedDelayQueue<T, A> {
 
         // All that it answers.
         ensures inserts { QueueInserts self.now route value when
-            (with_value_back value result) }
+            (with_value_handed_back value result) }
     {
         match self.insert(rt, route, value, when) {
             Ok(key) => Ok(key),
@@ -159,6 +160,41 @@ impl<T: Drop, A: Allocator> SharedDelayQueue<T, A> {
     {
         let mut shard = self.enter(rt, shard)?;
         let answer = shard.poll(tick);
+        shard.law();
+        Ok(answer?)
+    }
+
+    /// As [`ShardState::poll_some`], `tick` of one millisecond. Refused as Unknown for a shard out of range, before all
+    /// else, and then as TickTooLarge beyond the last tick.
+    ///
+    /// The shard's lock is held for this piece alone: other threads may take it between two pieces.
+    ///
+    /// ```ignore
+    /// let turn = loop {
+    ///     match queue.poll_some(&rt, shard, tick, 64)? {
+    ///         Piece::Answer(turn) => break turn,
+    ///         Piece::Working => {}
+    ///     }
+    /// };
+    /// ```
+    pub fn poll_some<R: Wait>(
+        &self,
+        rt: &R,
+        shard: usize,
+        tick: u64,
+        most: u32,
+    ) -> Result<Piece<T>, QueueError>
+        // As unknown exactly out of range; else as too large exactly beyond the last tick.
+        ensures unknown { IsErrOf result Unknown ↔ (self.now ≤ shard) }
+        ensures too_large { IsErrOf result (Core (TickTooLarge LAST_TICK))
+            ↔ (shard < self.now) × (LAST_TICK < tick) }
+
+        // All that it answers.
+        ensures answers { OnShardOr {T = T} self.now shard
+            (λ old r new. ShardPollsSome old tick most r new) result }
+    {
+        let mut shard = self.enter(rt, shard)?;
+        let answer = shard.poll_some(tick, most);
         shard.law();
         Ok(answer?)
     }

@@ -1,14 +1,21 @@
 //! The headline of the shards: each inserted entry ends exactly once or is still queued, and expires only at its
 //! deadline in force, at a tick already noted.
 ghost use Rattle.dq_words.specs.declared.views.View.{View};
-ghost use Rattle.dq_shards.specs.Endings.{OutsAreInForce, EveryEntryEndsOnce, InsertsAreGiven};
-ghost use Rattle.dq_shards.specs.Endings.{InsertedEntriesEndOnce};
+ghost use Rattle.dq_shards.specs.Endings.{OutsAreInForce, PieceOutsAreInForce, EveryEntryEndsOnce};
+ghost use Rattle.dq_shards.specs.Endings.{InsertsAreGiven, InsertedEntriesEndOnce};
 
 use dq_words::endings;
 
 /// Whatever a poll of a shard's state gives out ended as expired at its deadline in force, at a tick already noted.
 pub fn outs_are_in_force<T>()
     ensures { OutsAreInForce T }
+{
+    endings::ends_are_in_force();
+}
+
+/// Whatever a poll in pieces of a shard's state gives out ended so too.
+pub fn piece_outs_are_in_force<T>()
+    ensures { PieceOutsAreInForce T }
 {
     endings::ends_are_in_force();
 }

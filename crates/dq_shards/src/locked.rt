@@ -4,12 +4,12 @@ ghost use Rattle.dq_shards.specs.Parking.{poller};
 ghost use Rattle.dq_shards.specs.Shard.{IsParked, IsShard};
 ghost use Rattle.dq_shards.specs.Audits.{ShardAudits};
 ghost use Rattle.dq_shards.specs.Changes.{ShardInserts, ShardResets, ShardRemoves, ShardDeadline};
-ghost use Rattle.dq_shards.specs.Changes.{ShardPolls, ShardSweeps, ShardSweepsSome, ShardReaps, ShardClears};
-ghost use Rattle.dq_shards.specs.Changes.{Unparks, Rings, ShardIssues, ShardTells};
+ghost use Rattle.dq_shards.specs.Changes.{ShardPolls, ShardPollsSome, ShardSweeps, ShardSweepsSome, ShardReaps};
+ghost use Rattle.dq_shards.specs.Changes.{ShardClears, Unparks, Rings, ShardIssues, ShardTells};
 
 use crate::state::ShardState;
 use crate::totals::{HandlesOut, Totals};
-use dq_core::{CoreError, ReapError, Removed, Swept, Turn};
+use dq_core::{CoreError, Piece, ReapError, Removed, Swept, Turn};
 use dq_ticks::{EntryId, Key};
 use dq_words::{Caller, WordsError};
 use futures::task::Waker;
@@ -92,6 +92,13 @@ impl<'q, T: Drop, A: Allocator> LockedShard<'q, T, A> {
         ensures { ShardPolls self.old tick result self.new }
     {
         self.state.poll(tick)
+    }
+
+    /// As [`ShardState::poll_some`].
+    pub fn poll_some(&mut self, tick: u64, most: u32) -> Result<Piece<T>, CoreError>
+        ensures { ShardPollsSome self.old tick most result self.new }
+    {
+        self.state.poll_some(tick, most)
     }
 
     /// As [`ShardState::sweep`].

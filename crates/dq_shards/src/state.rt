@@ -5,15 +5,17 @@ ghost use Rattle.dq_ticks.specs.declared.TheConstants.{LAST_TICK};
 ghost use Rattle.dq_core.specs.declared.errors.CoreError.TheVariants.{TooFar, Missing, WasCancelled};
 ghost use Rattle.dq_core.specs.Core.{machine};
 ghost use Rattle.dq_core.specs.Machine.{NoneLiveBefore, NoneLinked, table_at};
-ghost use Rattle.dq_core.specs.Calls.{base_for, IsMissing, IsLiveEntry, IsCancelledEntry};
+ghost use Rattle.dq_core.specs.Calls.{base_for, noting, IsMissing, IsLiveEntry, IsCancelledEntry};
+ghost use Rattle.dq_core.specs.Pieces.{IfAnswer, steps_left};
 ghost use Rattle.dq_core.specs.Sweeps.{NoneCancelled, NotCancelled};
 ghost use Rattle.dq_core.specs.AtTheCall.{IfOut, IfRests, linked_in, IsLinkedAs, HoldsValue, OthersStay, KeepsSlots};
 ghost use Rattle.dq_shards.specs.Shard.{IsShard, IsParked, KeepsOrWakes};
 ghost use Rattle.dq_shards.specs.Changes.{ShardInserts, ShardResets, ShardRemoves, ShardDeadline};
-ghost use Rattle.dq_shards.specs.Changes.{ShardPolls, ShardSweeps, ShardSweepsSome, ShardReaps, ShardClears, going_on};
+ghost use Rattle.dq_shards.specs.Changes.{ShardPolls, ShardPollsSome, IfWorking};
+ghost use Rattle.dq_shards.specs.Changes.{ShardSweeps, ShardSweepsSome, ShardReaps, ShardClears, going_on};
 
 use crate::parked::{Parked, keep_until};
-use dq_core::{CoreError, DelayCore, ReapError, Removed, Swept, Turn};
+use dq_core::{CoreError, DelayCore, Piece, ReapError, Removed, Swept, Turn};
 use dq_ticks::{EntryId, Key};
 use dq_words::Keeper;
 use std::alloc::{Allocator, Global};
@@ -198,6 +200,45 @@ impl<T: Drop, A: Allocator> ShardState<T, A> {
         ensures polls { ShardPolls self.old tick result self.new }
     {
         let answer = self.core.poll(tick);
+        keep_or_wake(&self.core, &mut self.parked);
+        answer
+    }
+
+    /// Does of a [`ShardState::poll`] at most `most` steps, each in constant time but for a value's drop. Call again while
+    /// it answers Working: each such call leaves at least so many steps fewer. Between the calls the lock may be let go,
+    /// and every other call may be made.
+    ///
+    /// Whoever is told Working by a call of no step at all learns nothing. Refused as TickTooLarge beyond the last tick,
+    /// which is not noted then.
+    pub fn poll_some(&mut self, tick: u64, most: u32) -> Result<Piece<T>, CoreError>
+        // The greater of the two ticks is noted. A tick is refused exactly beyond the last one.
+        ensures noted { OnOk result (self.new.core.noted ≡ max self.old.core.noted tick) }
+        ensures refused { IsErr result ↔ (LAST_TICK < tick) }
+
+        // An answer is one of poll: what comes out is due, and no live entry has an earlier deadline.
+        ensures out { IfAnswer result (λ turn. IfOut turn (λ x. (x.deadline ≤ self.new.core.noted)
+            × NoneLiveBefore (machine self.new.core) x.deadline)) }
+
+        // Else no live entry is due, and the tick to wait for is after the noted one. There is none
+        // exactly where nothing is linked.
+        ensures none_due { IfAnswer result (λ turn. IfRests turn
+            (λ next. NoneLiveBefore (machine self.new.core) (self.new.core.noted + 1))) }
+        ensures waiting { IfAnswer result (λ turn. IfRests turn
+            (λ next. IfSome next (λ tick. self.new.core.noted < tick))) }
+        ensures idle { IfAnswer result (λ turn. IfRests turn
+            (λ next. (next ≡ None) ↔ NoneLinked (machine self.new.core))) }
+
+        // Where more is to do, so many steps fewer are left than when the tick was noted.
+        ensures fewer { IfWorking result
+            (steps_left self.new.core + most ≤ steps_left (noting self.old.core tick)) }
+
+        // The poller is woken where it waits for a tick after the next wake.
+        ensures poller { KeepsOrWakes self.new.core self.old.parked self.new.parked }
+
+        // All that it does.
+        ensures polls { ShardPollsSome self.old tick most result self.new }
+    {
+        let answer = self.core.poll_some(tick, most);
         keep_or_wake(&self.core, &mut self.parked);
         answer
     }

@@ -1,0 +1,140 @@
+//! Two queues are given the same calls; one is polled whole, the other in pieces. Each gives the same entries out, in the same
+//! order. No two deadlines are the same, so the order is one.
+
+use dq_core::{Piece, Turn};
+use dq_shards::{Handle, QueueConfig, QueueError, SharedDelayQueue};
+use dq_ticks::Key;
+use draws::Draw;
+use linked_list_allocator::LocalHeap;
+use std::alloc::Global;
+use std::process::Abort;
+use std::sync::Wait;
+use std::test::Fail;
+
+type Boxes<'heap> = SharedDelayQueue<Box<u64, &'heap LocalHeap>>;
+
+const TURNS: u64 = 400;
+
+// A queue of 1 shard, a handle of it, and the key of each value.
+#[derive(Drop)]
+struct Side<'heap> {
+    queue: Boxes<'heap>,
+    handle: Handle,
+    keys: Vec<Key>,
+}
+
+impl<'heap> Side<'heap> {
+    fn new<R: Wait>(rt: &R, alloc: Global) -> Result<Side<'heap>, QueueError> {
+        let queue = SharedDelayQueue::new(alloc, QueueConfig::of(1, 512))?;
+        let handle = queue.handle(rt)?;
+        Ok(Side {
+            queue,
+            handle,
+            keys: Vec::new(alloc),
+        })
+    }
+
+    fn key(&self, value: u64) -> Option<Key> {
+        self.keys.get((value & 1023) as usize).copied()
+    }
+
+    // Makes the call of that kind: answers whether it was accepted.
+    fn call<R: Wait>(
+        &mut self,
+        rt: &R,
+        heap: &'heap LocalHeap,
+        kind: u64,
+        value: u64,
+        when: u64,
+    ) -> Result<bool, Fail> {
+        if kind < 3 {
+            let boxed = Box::new(heap, self.keys.len() as u64)?;
+            let key = self.queue.insert_or_drop(rt, 0, boxed, when)?;
+            self.keys.push(key)?;
+            return Ok(true);
+        }
+        let Some(key) = self.key(value) else {
+            return Ok(false);
+        };
+        Ok(match kind {
+            3 => self.handle.extend(&key, when).is_ok(),
+            4 => self.handle.cancel(&key).is_ok(),
+            _ => self.queue.remove(rt, &key.entry()).is_ok(),
+        })
+    }
+
+    // The next entry that is out at a tick: its value and its deadline.
+    fn whole<R: Wait>(&mut self, rt: &R, tick: u64) -> Result<Option<(u64, u64)>, QueueError> {
+        match self.queue.poll(rt, 0, tick)? {
+            Turn::Out(out) => Ok(Some((*out.value, out.deadline))),
+            _ => Ok(None),
+        }
+    }
+
+    // The same in pieces of so many steps.
+    fn in_pieces<R: Wait>(
+        &mut self,
+        rt: &R,
+        tick: u64,
+        most: u32,
+    ) -> Result<Option<(u64, u64)>, Fail> {
+        for _ in 0..100_000u64 {
+            match self.queue.poll_some(rt, 0, tick, most)? {
+                Piece::Working => {}
+                Piece::Answer(Turn::Out(out)) => return Ok(Some((*out.value, out.deadline))),
+                Piece::Answer(_) => return Ok(None),
+            }
+        }
+        Err(Fail::new("working for ever"))
+    }
+}
+
+// Polls both until nothing is due, and answers how many came out of each.
+fn drain<R: Abort + Wait>(
+    rt: &R,
+    one: &mut Side,
+    other: &mut Side,
+    tick: u64,
+    most: u32,
+) -> Result<u64, Fail> {
+    for came in 0..10_000u64 {
+        let (whole, pieces) = (one.whole(rt, tick)?, other.in_pieces(rt, tick, most)?);
+        assert_eq!(rt; whole, pieces, "at tick {tick}, by {most}");
+        if whole.is_none() {
+            return Ok(came);
+        }
+    }
+    Err(Fail::new("too many came out"))
+}
+
+#[test]
+fn pieces_give_what_whole_polls_give(rt: HostRuntime) -> Result<(), Fail> {
+    let heap = LocalHeap::new(rt.alloc(), 1 << 16)?;
+    let mut one = Side::new(&rt, rt.alloc())?;
+    let mut other = Side::new(&rt, rt.alloc())?;
+    let mut draw = Draw::new(5);
+    let (mut tick, mut came) = (0u64, 0u64);
+    for turn in 0..TURNS {
+        let (kind, value) = (draw.below(6), draw.below(turn));
+        // After the noted tick, and the deadline of this turn alone.
+        let blocks = (tick / 512 + 1).saturating_add(draw.below(1 << (turn % 14)));
+        let when = blocks.saturating_mul(512).saturating_add(turn);
+        let accepted = one.call(&rt, &heap, kind, value, when)?;
+        assert_eq!(rt;
+            other.call(&rt, &heap, kind, value, when)?,
+            accepted,
+            "turn {turn}"
+        );
+        if turn & 7 == 7 {
+            tick = tick.saturating_add(draw.below(1 << 16));
+            let most = 1 + (draw.below(17) & 31) as u32;
+            came = came.saturating_add(drain(&rt, &mut one, &mut other, tick, most)?);
+        }
+    }
+    came = came.saturating_add(drain(&rt, &mut one, &mut other, 1 << 40, 3)?);
+    assert!(rt; came >= 100, "{came} came");
+    assert_eq!(rt; one.handle.give_back(), other.handle.give_back());
+    assert_eq!(rt; one.queue.audit(&rt)?, other.queue.audit(&rt)?);
+    assert_eq!(rt; heap.used(), 0);
+    Ok(())
+}
