@@ -15,7 +15,7 @@ none_some : {A : Type 0} (o : Option A) (a : A) → o ≡ None → o ≡ Some a 
 none_some o a none some = cc
 
 -- no live entry is earlier where one entry less is linked
-none_live_left : {T : Type 0} (m : Machine T) (i s t : ℕ) → i < length m.table → NoneLiveBefore m t → NoneLiveBefore (put m i s None) t
+pub none_live_left : {T : Type 0} (m : Machine T) (i s t : ℕ) → i < length m.table → NoneLiveBefore m t → NoneLiveBefore (put m i s None) t
 none_live_left {T} m i s t inside none j e d is live =
     let unused : TableRow T = record { stamp = 0; entry = None } in
     let left : TableRow T = record { stamp = s; entry = None } in

@@ -1,3 +1,4 @@
 pub mod Giving
 pub mod Least
 pub mod Parked
+pub mod Piecewise

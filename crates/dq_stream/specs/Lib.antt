@@ -2,6 +2,8 @@ pub mod Answers
 pub mod Endings
 pub mod Gives
 pub mod Items
+pub mod PacedGives
+pub mod Paces
 pub mod Polls
 pub mod Refusals
 pub mod Wakers

@@ -1,5 +1,6 @@
 //! How the entries that a stream gives ended.
 ghost use Rattle.dq_stream.specs.Endings.{ItemsAreInForce};
+ghost use Rattle.dq_stream.specs.PacedGives.{PacedItemsAreInForce};
 
 use dq_shards::endings;
 
@@ -9,4 +10,11 @@ pub fn items_are_in_force<T>()
     ensures { ItemsAreInForce T }
 {
     endings::outs_are_in_force::<T>();
+}
+
+/// Whatever entry a paced stream gives ended so too.
+pub fn paced_items_are_in_force<T>()
+    ensures { PacedItemsAreInForce T }
+{
+    endings::piece_outs_are_in_force::<T>();
 }

@@ -30,10 +30,12 @@
 
 pub mod endings;
 mod fault;
+mod paced;
 pub mod parking;
 mod source;
 mod stream;
 
 pub use fault::StreamFault;
+pub use paced::PacedStream;
 pub use source::{MillisecondTicks, TickSource};
 pub use stream::ExpiredStream;

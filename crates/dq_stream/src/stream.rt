@@ -31,12 +31,12 @@ use std::sync::Wait;
 /// After a tick that is refused it has ended for good: its polls take no lock, and its source is asked no more.
 #[derive(Drop)]
 pub struct ExpiredStream<'q, T, S, R: Wait, A: Allocator = Global> {
-    rt: &'q R,
-    queue: &'q SharedDelayQueue<T, A>,
-    shard: usize,
-    source: S,
-    name: Source,
-    ended: bool,
+    pub(crate) rt: &'q R,
+    pub(crate) queue: &'q SharedDelayQueue<T, A>,
+    pub(crate) shard: usize,
+    pub(crate) source: S,
+    pub(crate) name: Source,
+    pub(crate) ended: bool,
     ghost in_range: { shard < queue.now },
 }
 
@@ -170,7 +170,7 @@ impl<'q, T: Drop, S: TickSource, R: Wait, A: Allocator> Stream for ExpiredStream
 }
 
 // Whether a stream has ended for good after this answer.
-fn ends<T>(answer: &Poll<Option<Result<Expired<T>, StreamFault>>>) -> bool
+pub(crate) fn ends<T>(answer: &Poll<Option<Result<Expired<T>, StreamFault>>>) -> bool
     ensures { result ≡ is_over answer.now }
 {
     let Poll::Ready(Some(item)) = answer else {

@@ -2,6 +2,7 @@ mod beside;
 mod clocks;
 mod executors;
 mod handles;
+mod paced;
 mod parked;
 mod parkers;
 mod refusals;
