@@ -6,7 +6,7 @@ use Rattle.dq_lasting.specs.declared.ended.LastingTotals.{LastingTotals}
 use Rattle.dq_lasting.specs.Shard.{AddsUp}
 use Rattle.dq_lasting.specs.Answers.{AtPlace}
 use Rattle.dq_lasting.specs.Changes.{LastingTells}
-use Rattle.dq_lasting.specs.Audits.{AllAddUp, TallyAddsUp, FewInserted, IsOneMore, AreSums, OnePerPlace, most_tallied}
+use Rattle.dq_lasting.specs.Audits.{AllAddUp, TallyAddsUp, FewEverInserted, IsOneMore, AreLastingSums, OnePerPlace, most_tallied}
 
 -- what a shard tells adds up
 pub tally_adds_up : (T : Type 0) (n p : ℕ) (t : LastingTally) → AtPlace {T = T} n p LastingTells t → TallyAddsUp t
@@ -16,8 +16,8 @@ tally_adds_up T n p t at =
 -- the totals of the shards at the places below one
 abbrev pub SumsOf : (T : Type 0) → ℕ → ℕ → LastingTotals → Type 0
 SumsOf T n place t =
-    FewInserted place t × AllAddUp t
-    × ((parts : List LastingTally) × (length parts ≡ place) × OnePerPlace T n parts × AreSums parts t)
+    FewEverInserted place t × AllAddUp t
+    × ((parts : List LastingTally) × (length parts ≡ place) × OnePerPlace T n parts × AreLastingSums parts t)
 
 -- one shard more
 pub one_place_more : (T : Type 0) (n place : ℕ) (t s : LastingTotals) (p : LastingTally) → SumsOf T n place t

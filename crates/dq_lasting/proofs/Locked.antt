@@ -8,15 +8,15 @@ use Rattle.dq_lasting.specs.declared.errors.ReopenError.{ReopenError}
 use Rattle.dq_lasting.specs.declared.keeping.Kept.{Kept}
 use Rattle.dq_lasting.specs.declared.keeping.Kept.TheVariants as Step
 use Rattle.dq_lasting.specs.Shard.{LastingView, IsLasting}
-use Rattle.dq_lasting.specs.Answers.{IsAt, AtPlace, InsertsAt, ClosedFrom}
+use Rattle.dq_lasting.specs.Answers.{IsOfPlace, AtPlace, InsertsAtPlace, ClosedFrom}
 use Rattle.dq_lasting.specs.Handles.{IssuedAt, IssuedFrom, TakesOn}
 use Rattle.dq_lasting.specs.Keeping.{KeepsGoing, GoesOnAt, AtEach}
 use Rattle.dq_lasting.specs.Numbered.{Numbered}
 
 -- a call that goes by the guard of a lock
-pub at_place : {T R : Type 0} (n p : ℕ) (gives : LastingView T → R → LastingView T → Type 0) (result : R) (held was now read : LastingView T) → IsAt n p held → was ≡ held → IsLasting read → read ≡ now → gives was result now → AtPlace n p gives result
+pub at_place : {T R : Type 0} (n p : ℕ) (gives : LastingView T → R → LastingView T → Type 0) (result : R) (held was now read : LastingView T) → IsOfPlace n p held → was ≡ held → IsLasting read → read ≡ now → gives was result now → AtPlace n p gives result
 at_place {T} n p gives result held was now read at e l f g =
-    (was, now, subst (λ (s : LastingView T). IsAt n p s) (sym e) at, subst (λ (s : LastingView T). IsLasting s) f l, g)
+    (was, now, subst (λ (s : LastingView T). IsOfPlace n p s) (sym e) at, subst (λ (s : LastingView T). IsLasting s) f l, g)
 
 -- one place more
 pub each_more : {T R : Type 0} (n p : ℕ) (gives : LastingView T → R → LastingView T → Type 0) (result : R) → AtEach n p gives result → AtPlace n p gives result → AtEach n (p + 1) gives result
@@ -27,10 +27,10 @@ each_more {T} n p gives result before one t below =
     (cases_eq t p)
 
 -- one closed shard more
-pub closed_more : {T : Type 0} (n p many when : ℕ) (value v : T) → ClosedFrom n p many value when → v ≡ value → InsertsAt n ((p + many) % n) value when (Err (Closed, v)) → ClosedFrom n p (many + 1) value when
+pub closed_more : {T : Type 0} (n p many when : ℕ) (value v : T) → ClosedFrom n p many value when → v ≡ value → InsertsAtPlace n ((p + many) % n) value when (Err (Closed, v)) → ClosedFrom n p (many + 1) value when
 closed_more {T} n p many when value v before same one t below =
-    let P : T → Type 0 = λ x. InsertsAt n ((p + many) % n) value when (Err (Closed, x)) in
-    let Q : ℕ → Type 0 = λ m. InsertsAt n ((p + m) % n) value when (Err (Closed, value)) in
+    let P : T → Type 0 = λ x. InsertsAtPlace n ((p + many) % n) value when (Err (Closed, x)) in
+    let Q : ℕ → Type 0 = λ m. InsertsAtPlace n ((p + m) % n) value when (Err (Closed, value)) in
     ⊎_elim
     (λ eq. subst Q (sym eq) (subst P same one))
     (λ ne. before t (⊎_elim (λ b. b) (λ a. absurd (ne (omega arith))) (cases_lt t many)))

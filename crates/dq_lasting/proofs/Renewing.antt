@@ -2,7 +2,7 @@
 use Rattle.std.proofs.Common.{◌≡◌, ◌≢◌, ℕ, zero, suc, ◌+◌, ◌<◌, ◌≤◌, List, [], ◌∷◌, length, Bool, true, false, Some, Ok, refl, sym, ap, ◌∙◌, subst, inl, inr, ⊎_elim, arith}
 use Rattle.std.specs.Prelude.{slice_get, slice_set}
 use Rattle.std.proofs.lemmas.Bool.{cases_eq}
-use Rattle.dq_lasting.specs.Handles.{IssuedAt, NumberAt, TakesOn, IsRenewedAt, AreRenewed}
+use Rattle.dq_lasting.specs.Handles.{IssuedAt, NumberAt, TakesOn, IsTakenOnAt, AreRenewed}
 use Rattle.dq_lasting.specs.Numbered.{Numbered}
 
 -- what is read after a write, there and elsewhere
@@ -24,18 +24,18 @@ Untouched p first now = (q : ℕ) → p ≤ q → slice_get now q ≡ slice_get 
 
 module _ (T : Type 0) (n : ℕ) (first : List Numbered) where
   carry : (old new : List Numbered) (q : ℕ) → slice_get new q ≡ slice_get old q
-      → IsRenewedAt T n first old q → IsRenewedAt T n first new q
+      → IsTakenOnAt T n first old q → IsTakenOnAt T n first new q
   carry old new q same (inl (c, at, issued)) = inl (c, same ∙ at, issued)
   carry old new q same (inr (c, at, was, number)) = inr (c, same ∙ at, was, number)
 
   -- one place more, of which the caller is renewed and the others stay
   more : (p : ℕ) (old new : List Numbered) → AreRenewed T n first old p → Untouched p first old
-      → IsRenewedAt T n first new p → ((q : ℕ) → q ≢ p → slice_get new q ≡ slice_get old q)
+      → IsTakenOnAt T n first new p → ((q : ℕ) → q ≢ p → slice_get new q ≡ slice_get old q)
       → AreRenewed T n first new (p + 1) × Untouched (p + 1) first new
   more p old new before rest here others = (
     λ q inside.
         ⊎_elim
-        (λ eq. subst (λ (k : ℕ). IsRenewedAt T n first new k) (sym eq) here)
+        (λ eq. subst (λ (k : ℕ). IsTakenOnAt T n first new k) (sym eq) here)
         (λ ne. carry old new q (others q ne) (before q (omega (arith, inside, ne))))
         (cases_eq q p),
     λ q from. others q (λ eq. absurd (omega (arith, eq, from))) ∙ rest q (omega (arith, from)),

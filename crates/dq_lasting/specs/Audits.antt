@@ -23,8 +23,8 @@ abbrev pub most_tallied : ℕ
 most_tallied = 36893488147419103230
 
 -- no more was inserted than so many shards count
-abbrev pub FewInserted : ℕ → LastingTotals → Type 0
-FewInserted shards t = t.inserted ≤ shards * most_tallied
+abbrev pub FewEverInserted : ℕ → LastingTotals → Type 0
+FewEverInserted shards t = t.inserted ≤ shards * most_tallied
 
 -- what a shard counted, in this generation and in those before it
 abbrev pub inserted_of : LastingTally → ℕ
@@ -52,17 +52,17 @@ pub record IsOneMore (one : LastingTotals) (p : LastingTally) (t : LastingTotals
   pub linked : t.linked ≡ one.linked + linked_of p
 
 -- a number of each of a list, added up
-abbrev pub total_of : (LastingTally → ℕ) → List LastingTally → ℕ
-total_of f [] = 0
-total_of f (p ∷ ps) = f p + total_of f ps
+abbrev pub total_tallied : (LastingTally → ℕ) → List LastingTally → ℕ
+total_tallied f [] = 0
+total_tallied f (p ∷ ps) = f p + total_tallied f ps
 
 -- the sums of what some shards counted
-pub record AreSums (parts : List LastingTally) (t : LastingTotals) : Type 0 where
-  pub inserted : t.inserted ≡ total_of inserted_of parts
-  pub expired : t.expired ≡ total_of expired_of parts
-  pub removed : t.removed ≡ total_of removed_of parts
-  pub cancelled : t.cancelled ≡ total_of cancelled_of parts
-  pub linked : t.linked ≡ total_of linked_of parts
+pub record AreLastingSums (parts : List LastingTally) (t : LastingTotals) : Type 0 where
+  pub inserted : t.inserted ≡ total_tallied inserted_of parts
+  pub expired : t.expired ≡ total_tallied expired_of parts
+  pub removed : t.removed ≡ total_tallied removed_of parts
+  pub cancelled : t.cancelled ≡ total_tallied cancelled_of parts
+  pub linked : t.linked ≡ total_tallied linked_of parts
 
 -- what shards tell, one at each place and none twice: the last in the list is that of place 0
 abbrev pub OnePerPlace : (T : Type 0) → ℕ → List LastingTally → Type 0
@@ -71,7 +71,7 @@ OnePerPlace T shards (p ∷ ps) =
     AtPlace {T = T} shards (length ps) LastingTells p × OnePerPlace T shards ps
 
 -- Audit of a queue of so many shards: the sums of what the shards of its places tell.
-abbrev pub QueueAudits : (T : Type 0) → ℕ → LastingTotals → Type 0
-QueueAudits T shards t =
+abbrev pub LastingQueueAudits : (T : Type 0) → ℕ → LastingTotals → Type 0
+LastingQueueAudits T shards t =
     (parts : List LastingTally) × (length parts ≡ shards) × OnePerPlace T shards parts
-    × AreSums parts t × AllAddUp t
+    × AreLastingSums parts t × AllAddUp t

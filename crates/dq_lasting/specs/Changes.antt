@@ -4,10 +4,13 @@ use Rattle.std.specs.List.{count_by}
 use Rattle.dq_ticks.specs.declared.keys.Key.{Key}
 use Rattle.dq_ticks.specs.declared.keys.EntryId.{EntryId}
 use Rattle.dq_core.specs.declared.errors.CoreError.{CoreError}
+use Rattle.dq_core.specs.declared.outcomes.Piece.{Piece}
+use Rattle.dq_core.specs.declared.outcomes.Piece.TheVariants.{Answer, Working}
 use Rattle.dq_core.specs.declared.outcomes.Removed.{Removed}
 use Rattle.dq_core.specs.declared.outcomes.Tally.{Tally}
 use Rattle.dq_core.specs.declared.outcomes.Turn.{Turn}
 use Rattle.dq_core.specs.Calls.{SameCore, Inserts, Resets, Removes, Polls, TellsDeadline}
+use Rattle.dq_core.specs.Pieces.{PollsSome}
 use Rattle.dq_core.specs.Readers.{IsTally, with_words}
 use Rattle.dq_core.specs.Renewals.{renewed_core}
 use Rattle.dq_core.specs.Slots.{is_held}
@@ -24,7 +27,7 @@ use Rattle.dq_lasting.specs.declared.errors.LastingError.TheVariants.{Core, Clos
 use Rattle.dq_lasting.specs.declared.errors.ReopenError.{ReopenError}
 use Rattle.dq_lasting.specs.declared.errors.ReopenError.TheVariants.{StillLinked, NumbersSpent}
 use Rattle.dq_lasting.specs.declared.errors.ReopenError.TheVariants.{NoMemory}
-use Rattle.dq_lasting.specs.Parking.{KeepsOrWakes}
+use Rattle.dq_lasting.specs.Parking.{WaitsOnOrWakes}
 use Rattle.dq_lasting.specs.Shard.{LastingView, AddsUp}
 
 -- the entries that ended earlier, with those of a tally
@@ -36,11 +39,17 @@ pub record IsWith (past : Ended) (t : Tally) (e : Ended) : Type 0 where
 
 -- The entries that ended earlier, with all that the keeper of a generation began and ended. What it
 -- neither expired nor removed was cancelled.
-pub record IsPast {T : Type 0} (old : LastingView T) (e : Ended) : Type 0 where
+pub record IsEndedBefore {T : Type 0} (old : LastingView T) (e : Ended) : Type 0 where
   pub inserted : e.inserted ≡ old.past.inserted + old.core.counts.begins
   pub expired : e.expired ≡ old.past.expired + old.core.counts.expiries
   pub removed : e.removed ≡ old.past.removed + old.core.counts.removals
   pub sum : AddsUp e
+
+-- where a poll in pieces has more to do
+abbrev pub IfLastingWorks : {T : Type 0} → Result (Piece T) CoreError → Type 0 → Type 0
+IfLastingWorks (Ok Working) P = P
+IfLastingWorks (Ok (Answer turn)) P = Unit {0}
+IfLastingWorks (Err e) P = Unit {0}
 
 module _ {T : Type 0} where
   -- a call of the queue: its number stays, and whether it takes entries, and its past; the poller
@@ -48,7 +57,7 @@ module _ {T : Type 0} where
   abbrev pub Keeps : LastingView T → LastingView T → Type 0
   Keeps old new =
       SameCore old.core new.core × (new.takes ≡ old.takes) × (new.past ≡ old.past)
-      × KeepsOrWakes new.core old.parked new.parked
+      × WaitsOnOrWakes new.core old.parked new.parked
 
   -- An insert is refused as closed exactly where the shard takes none. Then the value comes back
   -- and nothing changes.
@@ -80,6 +89,12 @@ module _ {T : Type 0} where
       LastingView T → ℕ → Result (Turn T) CoreError → LastingView T → Type 0
   LastingPolls old tick result new = Polls true old.core tick result new.core × Keeps old new
 
+  -- a poll in pieces, by at most so many steps
+  abbrev pub LastingPollsSome :
+      LastingView T → ℕ → ℕ → Result (Piece T) CoreError → LastingView T → Type 0
+  LastingPollsSome old tick most result new =
+      PollsSome true old.core tick most result new.core × Keeps old new
+
   abbrev pub LastingSweeps : LastingView T → ℕ → LastingView T → Type 0
   LastingSweeps old n new = Sweeps true old.core n new.core × Keeps old new
 
@@ -102,21 +117,21 @@ module _ {T : Type 0} where
       × (new.core ≡ renewed_core old.core (old.core.shard + by) new.core.known new.core.counts
       new.core.words)
       × AreFresh new.core.known new.core.counts × KnowsNothing new.core.words
-      × (new.takes ≡ true) × IsPast old new.past × (new.parked ≡ None)
+      × (new.takes ≡ true) × IsEndedBefore old new.past × (new.parked ≡ None)
   Reopens old by (Err (StillLinked linked)) new =
       (linked ≡ count_by is_held old.core.slots.rows) × (0 < linked) × (new ≡ old)
   Reopens old by (Err NumbersSpent) new = (count_by is_held old.core.slots.rows ≡ 0) × (new ≡ old)
   Reopens old by (Err NoMemory) new = (count_by is_held old.core.slots.rows ≡ 0) × (new ≡ old)
 
   -- nothing changes but what the keeper knows, by a step that tells nothing of the entries
-  abbrev pub OnlyKeeperGoesOn : LastingView T → LastingView T → Type 0
-  OnlyKeeperGoesOn old new = new ≡ record old { core = with_words old.core new.core.words }
+  abbrev pub OnlyWordsGoOn : LastingView T → LastingView T → Type 0
+  OnlyWordsGoOn old new = new ≡ record old { core = with_words old.core new.core.words }
 
   -- one caller more, of this generation's number, or its refusal
   abbrev pub LastingIssues :
       LastingView T → Result Numbered WordsError → LastingView T → Type 0
   LastingIssues old (Ok c) new =
       (c.number ≡ old.core.shard) × Issues old.core.words (Ok c.seat) new.core.words
-      × OnlyKeeperGoesOn old new
+      × OnlyWordsGoOn old new
   LastingIssues old (Err e) new =
-      Issues old.core.words (Err e) new.core.words × OnlyKeeperGoesOn old new
+      Issues old.core.words (Err e) new.core.words × OnlyWordsGoOn old new

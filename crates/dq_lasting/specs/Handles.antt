@@ -16,8 +16,8 @@ IssuedFrom T shards p [] = Unit {0}
 IssuedFrom T shards p (c ∷ cs) = IssuedAt T shards p c × IssuedFrom T shards (p + 1) cs
 
 -- a handle has a caller of each place
-abbrev pub QueueHandles : (T : Type 0) → ℕ → List Numbered → Type 0
-QueueHandles T shards cs = (length cs ≡ shards) × IssuedFrom T shards 0 cs
+abbrev pub LastingQueueHandles : (T : Type 0) → ℕ → List Numbered → Type 0
+LastingQueueHandles T shards cs = (length cs ≡ shards) × IssuedFrom T shards 0 cs
 
 -- the number of a shard of that place
 abbrev pub NumberAt : (T : Type 0) → ℕ → ℕ → ℕ → Type 0
@@ -37,12 +37,12 @@ TakesOn T shards place old (Err e) new = new ≡ old
 
 -- A handle has at a place a caller that a shard of that place issued since; or the caller that it
 -- had there, under the number of a shard of that place.
-abbrev pub IsRenewedAt : (T : Type 0) → ℕ → List Numbered → List Numbered → ℕ → Type 0
-IsRenewedAt T shards old new place =
+abbrev pub IsTakenOnAt : (T : Type 0) → ℕ → List Numbered → List Numbered → ℕ → Type 0
+IsTakenOnAt T shards old new place =
     ((c : Numbered) × (slice_get new place ≡ Some c) × IssuedAt T shards place c)
     ⊎ ((c : Numbered) × (slice_get new place ≡ Some c) × (slice_get old place ≡ Some c)
     × NumberAt T shards place c.number)
 
 -- the same at each of so many places
 abbrev pub AreRenewed : (T : Type 0) → ℕ → List Numbered → List Numbered → ℕ → Type 0
-AreRenewed T shards old new many = (p : ℕ) → p < many → IsRenewedAt T shards old new p
+AreRenewed T shards old new many = (p : ℕ) → p < many → IsTakenOnAt T shards old new p

@@ -7,3 +7,4 @@ pub mod Numbered
 pub mod Parking
 pub mod Polling
 pub mod Shard
+pub mod Streams

@@ -7,8 +7,8 @@ use Rattle.dq_words.specs.Seats.{Sat}
 use Rattle.dq_lasting.specs.declared.parked.Parked.{Parked}
 
 -- a poller that waits until a tick, or for an insert where there is none
-abbrev pub poller : Option ℕ → Waker → Parked
-poller next waker = record { next = next; waker = waker }
+abbrev pub waiting : Option ℕ → Waker → Parked
+waiting next waker = record { next = next; waker = waker }
 
 -- Whether one that waits so may go on waiting at a next wake: its tick isn't after it. Without a
 -- tick it waits while nothing is linked.
@@ -19,9 +19,9 @@ waits_on None (Some wake) = false
 waits_on None None = true
 
 -- the poller that the parked law leaves, at a next wake
-abbrev pub still_parked : Option Parked → Option ℕ → Option Parked
-still_parked None wake = None
-still_parked (Some p) wake = if waits_on p.next wake then Some p else None
+abbrev pub still_waiting : Option Parked → Option ℕ → Option Parked
+still_waiting None wake = None
+still_waiting (Some p) wake = if waits_on p.next wake then Some p else None
 
 -- whether a wait ends at a tick
 abbrev pub is_until : Option ℕ → ℕ → Bool
@@ -29,23 +29,23 @@ is_until (Some next) tick = nat_le next tick
 is_until None tick = false
 
 -- whether a poller is parked at or before a tick
-abbrev pub is_rung : Option Parked → ℕ → Bool
-is_rung None tick = false
-is_rung (Some p) tick = is_until p.next tick
+abbrev pub is_rung_at : Option Parked → ℕ → Bool
+is_rung_at None tick = false
+is_rung_at (Some p) tick = is_until p.next tick
 
 -- the poller that a ring at a tick leaves parked
-abbrev pub after_ring : Option Parked → ℕ → Option Parked
-after_ring None tick = None
-after_ring (Some p) tick = if is_until p.next tick then None else Some p
+abbrev pub waiting_after_ring : Option Parked → ℕ → Option Parked
+waiting_after_ring None tick = None
+waiting_after_ring (Some p) tick = if is_until p.next tick then None else Some p
 
 -- the parked law: where a poller is parked it may wait on, at the next wake as it is now
-abbrev pub IsParked : {T : Type 0} → Core T Sat → Option Parked → Type 0
-IsParked c None = Unit {0}
-IsParked c (Some p) =
+abbrev pub IsWaitingLawfully : {T : Type 0} → Core T Sat → Option Parked → Type 0
+IsWaitingLawfully c None = Unit {0}
+IsWaitingLawfully c (Some p) =
     (wake : Option ℕ) × TellsWake c wake × (waits_on p.next wake ≡ true)
 
 -- the poller stays parked exactly where the parked law holds with the queue as it is now
-abbrev pub KeepsOrWakes : {T : Type 0} → Core T Sat → Option Parked → Option Parked → Type 0
-KeepsOrWakes c None new = new ≡ None
-KeepsOrWakes c (Some p) new =
-    (wake : Option ℕ) × TellsWake c wake × (new ≡ still_parked (Some p) wake)
+abbrev pub WaitsOnOrWakes : {T : Type 0} → Core T Sat → Option Parked → Option Parked → Type 0
+WaitsOnOrWakes c None new = new ≡ None
+WaitsOnOrWakes c (Some p) new =
+    (wake : Option ℕ) × TellsWake c wake × (new ≡ still_waiting (Some p) wake)

@@ -14,21 +14,21 @@ use Rattle.dq_core.specs.declared.outcomes.Turn.TheVariants.{Out, Waiting, Idle}
 use Rattle.dq_lasting.specs.declared.errors.LastingError.{LastingError}
 use Rattle.dq_lasting.specs.declared.errors.LastingError.TheVariants.{Core, Closed, Unknown}
 use Rattle.dq_lasting.specs.Shard.{LastingView}
-use Rattle.dq_lasting.specs.Parking.{poller, is_rung, after_ring}
+use Rattle.dq_lasting.specs.Parking.{waiting, is_rung_at, waiting_after_ring}
 use Rattle.dq_lasting.specs.Changes.{LastingPolls}
 use Rattle.dq_lasting.specs.Answers.{AtPlace}
 
 -- no waker could be made for want of memory, and the task has asked for another poll
-abbrev pub LacksWaker : Context → Type 0
-LacksWaker cx = cx.lacks_waker ≡ true
+abbrev pub HasNoWaker : Context → Type 0
+HasNoWaker cx = cx.lacks_waker ≡ true
 
 -- the waker wakes the task that is polled from one context to the other
-abbrev pub IsOwn : Waker → Context → Context → Type 0
-IsOwn waker old new = LacksWaker new ⊎ Wakes waker old
+abbrev pub IsOwnWaker : Waker → Context → Context → Type 0
+IsOwnWaker waker old new = HasNoWaker new ⊎ Wakes waker old
 
 -- what a poll of a shard gives, or why it gives none
-abbrev pub Answer : Type 0 → Type 0
-Answer T = Poll (Result (Expired T) LastingError)
+abbrev pub LastingAnswer : Type 0 → Type 0
+LastingAnswer T = Poll (Result (Expired T) LastingError)
 
 -- no waker could be made
 abbrev pub no_memory : LastingError
@@ -36,22 +36,22 @@ no_memory = Core NoMemory
 
 module _ {T : Type 0} where
   -- the shard with no poller parked
-  abbrev pub unparked : LastingView T → LastingView T
-  unparked s = record s { parked = None }
+  abbrev pub with_none_parked : LastingView T → LastingView T
+  with_none_parked s = record s { parked = None }
 
   -- the shard with a poller that waits so
-  abbrev pub parked_at : LastingView T → Option ℕ → Waker → LastingView T
-  parked_at s next waker = record s { parked = Some (poller next waker) }
+  abbrev pub with_parked : LastingView T → Option ℕ → Waker → LastingView T
+  with_parked s next waker = record s { parked = Some (waiting next waker) }
 
   -- the task that is polled is parked in a shard, until a tick or for an insert
-  abbrev pub Parks : Context → Context → LastingView T → Option ℕ → LastingView T → Type 0
-  Parks cx cy old next new = (waker : Waker) × IsOwn waker cx cy × (new ≡ parked_at old next waker)
+  abbrev pub ParksTask : Context → Context → LastingView T → Option ℕ → LastingView T → Type 0
+  ParksTask cx cy old next new = (waker : Waker) × IsOwnWaker waker cx cy × (new ≡ with_parked old next waker)
 
   -- a ring at a tick takes out a poller that is parked at or before it
-  abbrev pub Rings : LastingView T → ℕ → Bool → LastingView T → Type 0
-  Rings old tick result new =
-      (result ≡ is_rung old.parked tick)
-      × (new ≡ record old { parked = after_ring old.parked tick })
+  abbrev pub RingsParked : LastingView T → ℕ → Bool → LastingView T → Type 0
+  RingsParked old tick result new =
+      (result ≡ is_rung_at old.parked tick)
+      × (new ≡ record old { parked = waiting_after_ring old.parked tick })
 
   -- where nothing is due: the next wake, or nothing is linked
   abbrev pub rest_of : Option ℕ → Turn T
@@ -59,28 +59,28 @@ module _ {T : Type 0} where
   rest_of None = Idle
 
   -- the poller is taken out, and then the shard is polled
-  abbrev pub PollsUnparked : LastingView T → ℕ → Result (Turn T) CoreError → LastingView T → Type 0
-  PollsUnparked old tick turn new = LastingPolls (unparked old) tick turn new
+  abbrev pub UnparksAndPolls : LastingView T → ℕ → Result (Turn T) CoreError → LastingView T → Type 0
+  UnparksAndPolls old tick turn new = LastingPolls (with_none_parked old) tick turn new
 
   -- One poll under one lock, at a tick. What comes out is given. Else the polled task is parked at
   -- the next wake, or where nothing is linked for the next insert; but for want of memory nothing
   -- is parked.
   abbrev pub PollsOrParks :
-      Context → Context → LastingView T → ℕ → Answer T → LastingView T → Type 0
-  PollsOrParks cx cy old tick (Ready (Ok x)) new = PollsUnparked old tick (Ok (Out x)) new
+      Context → Context → LastingView T → ℕ → LastingAnswer T → LastingView T → Type 0
+  PollsOrParks cx cy old tick (Ready (Ok x)) new = UnparksAndPolls old tick (Ok (Out x)) new
   PollsOrParks cx cy old tick (Ready (Err (Core e))) new =
-      PollsUnparked old tick (Err e) new
-      ⊎ ((e ≡ NoMemory) × LacksWaker cy
-      × ((next : Option ℕ) × PollsUnparked old tick (Ok (rest_of next)) new))
+      UnparksAndPolls old tick (Err e) new
+      ⊎ ((e ≡ NoMemory) × HasNoWaker cy
+      × ((next : Option ℕ) × UnparksAndPolls old tick (Ok (rest_of next)) new))
   PollsOrParks cx cy old tick (Ready (Err Closed)) new = ⊥
   PollsOrParks cx cy old tick (Ready (Err Unknown)) new = ⊥
   PollsOrParks cx cy old tick Pending new =
       (next : Option ℕ) × (left : LastingView T)
-      × PollsUnparked old tick (Ok (rest_of next)) left × Parks cx cy left next new
+      × UnparksAndPolls old tick (Ok (rest_of next)) left × ParksTask cx cy left next new
 
 -- the same at the shard of a place, which may be out of range
 abbrev pub PollsOrParksAt :
-    (T : Type 0) → ℕ → ℕ → Context → Context → ℕ → Answer T → Type 0
+    (T : Type 0) → ℕ → ℕ → Context → Context → ℕ → LastingAnswer T → Type 0
 PollsOrParksAt T shards place cx cy tick answer =
     ((shards ≤ place) × (answer ≡ Ready (Err Unknown)))
     ⊎ ((place < shards)

@@ -6,7 +6,7 @@ use Rattle.dq_words.specs.Seats.{Sat}
 use Rattle.dq_words.specs.Keeping.{IsKeeper, Stood}
 use Rattle.dq_lasting.specs.declared.ended.Ended.{Ended}
 use Rattle.dq_lasting.specs.declared.parked.Parked.{Parked}
-use Rattle.dq_lasting.specs.Parking.{IsParked}
+use Rattle.dq_lasting.specs.Parking.{IsWaitingLawfully}
 
 -- a shard: its queue over the keeper's words, whether it takes entries, what became of those of its
 -- earlier generations, and the poller that is parked
@@ -27,4 +27,4 @@ pub record IsLasting {T : Type 0} (s : LastingView T) : Type 0 where
   pub keeper : IsKeeper s.core.words.view
   pub stood : Stood s.core.words.view
   pub past : AddsUp s.past
-  pub parked : IsParked s.core s.parked
+  pub parked : IsWaitingLawfully s.core s.parked

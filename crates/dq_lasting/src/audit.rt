@@ -1,7 +1,7 @@
 //! The totals of all shards, over all of their generations.
 ghost use Rattle.std.specs.Prelude.{◌+◌, ◌≤◌};
-ghost use Rattle.dq_lasting.specs.declared.errors.TheConstants.{SHARD_LIMIT};
-ghost use Rattle.dq_lasting.specs.Audits.{AllAddUp, FewInserted, IsOneMore, QueueAudits, TallyAddsUp, most_tallied};
+ghost use Rattle.dq_lasting.specs.declared.config.TheConstants.{SHARD_LIMIT};
+ghost use Rattle.dq_lasting.specs.Audits.{AllAddUp, FewEverInserted, IsOneMore, LastingQueueAudits, TallyAddsUp, most_tallied};
 
 use crate::ended::{LastingTally, LastingTotals};
 use crate::queue::LastingQueue;
@@ -19,7 +19,7 @@ const NOTHING: LastingTotals = LastingTotals {
 // The totals of some shards with those of one more.
 fn one_more(totals: LastingTotals, tally: LastingTally) -> LastingTotals
     requires sums { AllAddUp totals × TallyAddsUp tally }
-    requires few { FewInserted SHARD_LIMIT totals }
+    requires few { FewEverInserted SHARD_LIMIT totals }
     ensures sum { IsOneMore totals tally result }
     ensures few { result.inserted ≤ totals.inserted + most_tallied }
 {
@@ -41,7 +41,7 @@ impl<T: Drop, A: Allocator> LastingQueue<T, A> {
         ensures adds_up { AllAddUp result }
 
         // All that it answers: the sums of one tally of each place.
-        ensures audits { QueueAudits T self.now result }
+        ensures audits { LastingQueueAudits T self.now result }
     {
         let mut totals = NOTHING;
         for place in 0..self.shards() {

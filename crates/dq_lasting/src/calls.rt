@@ -2,7 +2,7 @@
 ghost use Rattle.std.specs.Prelude.{◌≡◌, ◌%◌, ◌<◌, ◌≤◌, ◌↔◌, IfErr, IsErrOf, IsErrAnd};
 ghost use Rattle.dq_core.specs.Calls.{TellsWake};
 ghost use Rattle.dq_lasting.specs.declared.errors.LastingError.TheVariants.{Unknown};
-ghost use Rattle.dq_lasting.specs.Answers.{AtPlace, AtPlaceOr, AtPlaceAll, InsertsAt, QueueInserts};
+ghost use Rattle.dq_lasting.specs.Answers.{AtPlace, AtPlaceOr, AtPlaceAll, InsertsAtPlace, LastingQueueInserts};
 ghost use Rattle.dq_lasting.specs.Changes.{LastingResets, LastingRemoves, LastingDeadline};
 ghost use Rattle.dq_lasting.specs.Changes.{LastingPolls, LastingSweeps, LastingClears};
 ghost use Rattle.dq_lasting.specs.Changes.{LastingTells};
@@ -34,7 +34,7 @@ impl<T: Drop, A: Allocator> LastingQueue<T, A> {
         when: u64,
     ) -> Result<Key, (LastingError, T)>
         requires { place < self.now }
-        ensures { InsertsAt self.now place value when result }
+        ensures { InsertsAtPlace self.now place value when result }
     {
         let mut shard = self.lock(rt, place);
         let answer = shard.insert(value, when);
@@ -56,7 +56,7 @@ impl<T: Drop, A: Allocator> LastingQueue<T, A> {
         when: u64,
     ) -> Result<Key, (LastingError, T)>
         ensures back { IfErr result (λ e. e.1 ≡ value) }
-        ensures inserts { QueueInserts self.now route value when result }
+        ensures inserts { LastingQueueInserts self.now route value when result }
     {
         let shards = self.shards();
         let first = (route % shards as u64) as usize;

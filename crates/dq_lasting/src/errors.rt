@@ -1,38 +1,7 @@
-//! Why a call of a lasting queue is refused, and what one is made by.
-ghost use Rattle.std.specs.Prelude.{◌≡◌};
-ghost use Rattle.dq_ticks.specs.declared.TheConstants.{LAST_STAMP};
+//! Why a call of a lasting queue is refused.
 
 use dq_core::CoreError;
-use dq_ticks::LAST_STAMP;
 use thiserror::Error;
-
-/// The most shards of a queue. Two is the least: while one is being renewed another takes the entries.
-pub const SHARD_LIMIT: usize = 64;
-
-/// What a lasting queue is made by.
-#[derive(Clone, Copy, Debug, PartialEq, Eq)]
-pub struct LastingConfig {
-    /// The number of shards, from 2 to [`SHARD_LIMIT`].
-    pub shards: usize,
-    /// The number of slots of each shard, from 1 to [`dq_ticks::CAPACITY_LIMIT`].
-    pub capacity: usize,
-    /// The stamp after which a slot is worn, from 1 to [`LAST_STAMP`].
-    pub last_stamp: u32,
-}
-
-impl LastingConfig {
-    /// So many shards of that capacity, whose slots are worn as late as may be.
-    pub const fn of(shards: usize, capacity: usize) -> LastingConfig
-        ensures { result
-            ≡ record { shards = shards; capacity = capacity; last_stamp = LAST_STAMP } }
-    {
-        LastingConfig {
-            shards,
-            capacity,
-            last_stamp: LAST_STAMP,
-        }
-    }
-}
 
 /// Why a call of a lasting queue is refused.
 #[derive(Clone, Copy, Debug, PartialEq, Eq, Error)]

@@ -4,7 +4,7 @@ ghost use Rattle.dq_words.specs.declared.keeper.WordsError.TheVariants.{BadConfi
 ghost use Rattle.dq_lasting.specs.Answers.{AtPlace};
 ghost use Rattle.dq_lasting.specs.Changes.{LastingIssues};
 ghost use Rattle.dq_lasting.specs.Numbered.{NumberedExtends, NumberedCancels, NumberedLooks, OfPlace};
-ghost use Rattle.dq_lasting.specs.Handles.{QueueHandles, NumberAt, TakesOn, AreRenewed};
+ghost use Rattle.dq_lasting.specs.Handles.{LastingQueueHandles, NumberAt, TakesOn, AreRenewed};
 
 use crate::errors::HandleError;
 use crate::numbered::NumberedCaller;
@@ -200,7 +200,7 @@ impl<T: Drop, A: Allocator + Clone + Drop> LastingQueue<T, A> {
     /// generation were issued, given back or not, and NoMemory. The callers that were issued before are given back then.
     #[tactic(auto, using(crate::proofs::Locked::issued_more))]
     pub fn handle<R: Wait>(&self, rt: &R) -> Result<LastingHandle<A>, HandleError>
-        ensures { IfOk result (λ h. QueueHandles T self.now h) }
+        ensures { IfOk result (λ h. LastingQueueHandles T self.now h) }
     {
         let shards = self.shards();
         let Ok(alloc) = self.shards.allocator().clone() else {

@@ -10,21 +10,26 @@
 
 mod audit;
 mod calls;
+mod config;
 mod ended;
 mod errors;
 mod handle;
 mod keeping;
 mod numbered;
 mod parked;
+mod pieces;
 mod poller;
 mod queue;
 mod shard;
+mod stream;
 
+pub use config::{BadLastingNumber, LastingConfig, SHARD_LIMIT};
 pub use ended::{Ended, LastingTally, LastingTotals};
-pub use errors::{HandleError, LastingConfig, LastingError, ReopenError, SHARD_LIMIT};
+pub use errors::{HandleError, LastingError, ReopenError};
 pub use handle::LastingHandle;
 pub use keeping::Kept;
 pub use numbered::NumberedCaller;
 pub use parked::Parked;
 pub use queue::LastingQueue;
 pub use shard::LastingShard;
+pub use stream::{LastingFault, LastingStream, Ticks};

@@ -1,7 +1,7 @@
 //! A poller that waits for a shard's next wake, or for its next insert.
 ghost use Rattle.std.specs.Prelude.{◌≡◌, None};
-ghost use Rattle.dq_lasting.specs.Parking.{waits_on, still_parked, is_rung, after_ring};
-ghost use Rattle.dq_lasting.specs.Parking.{IsParked, KeepsOrWakes};
+ghost use Rattle.dq_lasting.specs.Parking.{waits_on, still_waiting, is_rung_at, waiting_after_ring};
+ghost use Rattle.dq_lasting.specs.Parking.{IsWaitingLawfully, WaitsOnOrWakes};
 
 use dq_core::DelayCore;
 use dq_words::Keeper;
@@ -44,7 +44,7 @@ fn may_wait(next: Option<u64>, next_wake: Option<u64>) -> bool
 
 // Wakes the poller unless it may go on waiting at this next wake.
 fn keep_until(parked: &mut Option<Parked>, next_wake: Option<u64>)
-    ensures { parked.new ≡ still_parked parked.old next_wake }
+    ensures { parked.new ≡ still_waiting parked.old next_wake }
 {
     let Some(poller) = parked else {
         return;
@@ -62,8 +62,8 @@ pub(crate) fn keep_or_wake<T: Drop, A: Allocator>(
     core: &DelayCore<T, Keeper<A>, A>,
     parked: &mut Option<Parked>,
 )
-    ensures keeps_or_wakes { KeepsOrWakes core.now parked.old parked.new }
-    ensures law { IsParked core.now parked.new }
+    ensures keeps_or_wakes { WaitsOnOrWakes core.now parked.old parked.new }
+    ensures law { IsWaitingLawfully core.now parked.new }
 {
     if parked.is_some() {
         keep_until(parked, core.next_wake());
@@ -72,8 +72,8 @@ pub(crate) fn keep_or_wake<T: Drop, A: Allocator>(
 
 // Wakes the poller where it is parked until a tick or an earlier one, and answers whether it was.
 pub(crate) fn ring(parked: &mut Option<Parked>, tick: u64) -> bool
-    ensures is_rung { result ≡ is_rung parked.old tick }
-    ensures left { parked.new ≡ after_ring parked.old tick }
+    ensures is_rung { result ≡ is_rung_at parked.old tick }
+    ensures left { parked.new ≡ waiting_after_ring parked.old tick }
 {
     let Some(poller) = parked else {
         return false;

@@ -4,8 +4,8 @@ ghost use Rattle.futures.specs.Task.{Covers, Keeps};
 ghost use Rattle.futures.specs.Poll.{IfReady, OnPending};
 ghost use Rattle.dq_core.specs.Calls.{TellsWake};
 ghost use Rattle.dq_lasting.specs.Answers.{AtPlaceAll};
-ghost use Rattle.dq_lasting.specs.Polling.{LacksWaker, Parks, Rings, PollsOrParks, PollsOrParksAt};
-ghost use Rattle.dq_lasting.specs.Polling.{no_memory, parked_at, unparked};
+ghost use Rattle.dq_lasting.specs.Polling.{HasNoWaker, ParksTask, RingsParked, PollsOrParks, PollsOrParksAt};
+ghost use Rattle.dq_lasting.specs.Polling.{no_memory, with_parked, with_none_parked};
 
 use crate::errors::LastingError;
 use crate::parked::{Parked, ring};
@@ -20,7 +20,7 @@ use std::sync::Wait;
 impl<T: Drop, A: Allocator> LastingShard<T, A> {
     // Takes the parked poller out and doesn't wake it.
     fn unpark(&mut self)
-        ensures { self.new ≡ unparked self.old }
+        ensures { self.new ≡ with_none_parked self.old }
     {
         if let Some(poller) = self.parked.take() {
             // A waker that is dropped wakes.
@@ -31,7 +31,7 @@ impl<T: Drop, A: Allocator> LastingShard<T, A> {
     // Parks a poller, in the place of one that was parked before, which isn't woken.
     fn park(&mut self, next: Option<u64>, waker: Waker)
         requires { TellsWake self.old.core next }
-        ensures { self.new ≡ parked_at self.old next waker }
+        ensures { self.new ≡ with_parked self.old next waker }
     {
         self.unpark();
         self.parked = Some(Parked { next, waker });
@@ -46,9 +46,9 @@ impl<T: Drop, A: Allocator> LastingShard<T, A> {
         cx: &mut Context<'_>,
     ) -> Poll<Result<Expired<T>, LastingError>>
         requires wake { TellsWake self.old.core next }
-        ensures parks { OnPending result (Parks cx.old cx.new self.old next self.new) }
+        ensures parks { OnPending result (ParksTask cx.old cx.new self.old next self.new) }
         ensures refused { IfReady result (λ r. (r ≡ Err no_memory)
-            × LacksWaker cx.new × (self.new ≡ self.old)) }
+            × HasNoWaker cx.new × (self.new ≡ self.old)) }
         ensures registered { OnPending result (Covers cx.new (λ s. s ≡ name.now.id)) }
         ensures kept { Keeps cx.old cx.new }
     {
@@ -90,7 +90,7 @@ impl<T: Drop, A: Allocator> LastingShard<T, A> {
 
     /// Takes out and wakes a poller that is parked at or before `tick`, of one millisecond. True where there was one.
     pub fn ring(&mut self, tick: u64) -> bool
-        ensures { Rings self.old tick result self.new }
+        ensures { RingsParked self.old tick result self.new }
     {
         ring(&mut self.parked, tick)
     }
@@ -139,7 +139,7 @@ impl<T: Drop, A: Allocator> LastingQueue<T, A> {
     /// Unknown out of range.
     pub fn ring<R: Wait>(&self, rt: &R, place: usize, tick: u64) -> Result<bool, LastingError>
         ensures { AtPlaceAll {T = T} self.now place
-            (λ old r new. Rings old tick r new) result }
+            (λ old r new. RingsParked old tick r new) result }
     {
         if place >= self.shards() {
             return Err(LastingError::Unknown);

@@ -2,10 +2,10 @@
 ghost use Rattle.std.specs.Prelude.{◌≡◌, ◌↔◌, ◌<◌, ◌≤◌, IsTrue, IfOk, length, vec_len, vec_capacity, true};
 ghost use Rattle.std.specs.Sync.Mutex.{mutex_guard_value};
 ghost use Rattle.dq_core.specs.Core.{machine};
-ghost use Rattle.dq_lasting.specs.declared.errors.TheConstants.{SHARD_LIMIT};
-ghost use Rattle.dq_lasting.specs.Answers.{IsLastingConfig, LastingIsMade, IsAt};
+ghost use Rattle.dq_lasting.specs.declared.config.TheConstants.{SHARD_LIMIT};
+ghost use Rattle.dq_lasting.specs.Answers.{IsLastingConfig, LastingIsMade, IsOfPlace};
 
-use crate::errors::{LastingConfig, SHARD_LIMIT};
+use crate::config::{LastingConfig, SHARD_LIMIT};
 use crate::shard::LastingShard;
 use dq_core::{CoreConfig, CoreError, DelayCore};
 use dq_ticks::{CAPACITY_LIMIT, LAST_STAMP};
@@ -25,7 +25,7 @@ pub struct LastingQueue<T, A: Allocator = Global> {
 
 impl<T, A: Allocator> Model for LastingQueue<T, A> {
     ghost use Rattle.std.specs.Prelude.{ℕ, ◌≤◌, vec_len};
-    ghost use Rattle.dq_lasting.specs.declared.errors.TheConstants.{SHARD_LIMIT};
+    ghost use Rattle.dq_lasting.specs.declared.config.TheConstants.{SHARD_LIMIT};
 
     ghost Value = { ℕ };
 
@@ -122,7 +122,7 @@ impl<T: Drop, A: Allocator> LastingQueue<T, A> {
     #[inline]
     pub(crate) fn lock<R: Wait>(&self, rt: &R, place: usize) -> MutexGuard<'_, LastingShard<T, A>>
         requires { place < self.now }
-        ensures { IsAt self.now place (mutex_guard_value result) }
+        ensures { IsOfPlace self.now place (mutex_guard_value result) }
     {
         let shard = self.shards[place].lock(rt);
         if shard.number() as usize % self.shards.len() != place {

@@ -37,13 +37,13 @@ pub struct LastingShard<T, A: Allocator = Global> {
 
 impl<T, A: Allocator> Model for LastingShard<T, A> {
     ghost use Rattle.dq_lasting.specs.Shard.{LastingView, AddsUp};
-    ghost use Rattle.dq_lasting.specs.Parking.{IsParked};
+    ghost use Rattle.dq_lasting.specs.Parking.{IsWaitingLawfully};
 
     ghost Value = { LastingView T };
 
     ghost view = { λ s. record { core = s.core; takes = s.takes; past = s.past; parked = s.parked } };
 
-    ghost invariant = { λ s. AddsUp s.past × IsParked s.core s.parked };
+    ghost invariant = { λ s. AddsUp s.past × IsWaitingLawfully s.core s.parked };
 }
 
 // The entries of earlier generations with those of one of which none is linked; none where they are too many to count.

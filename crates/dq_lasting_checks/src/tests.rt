@@ -1,8 +1,10 @@
-//! Queues that go through many generations, by one owner and by threads, and a pool of handles.
+//! Queues that go through many generations, by one owner and by threads; tasks and streams that wait; a pool of handles.
 
 mod generations;
 mod memory;
 mod parking;
+mod pieces;
 mod pool;
 mod steps;
+mod streams;
 mod work;

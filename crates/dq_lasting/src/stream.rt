@@ -1,0 +1,146 @@
+//! What expires at one place of a lasting queue, as a stream.
+//!
+//! A stream waits in the shard at its place, as the poller that is parked there, through every renewal of it. Where nothing
+//! is linked it waits for an insert, so it never ends. Whoever keeps the time rings the place, as for
+//! [`LastingQueue::poll_or_park`].
+ghost use Rattle.std.specs.Prelude.{◌≡◌, ◌<◌, ◌≤◌, ℕ, ⊤, [], Some, None, IfOk, IfErr, IfSome, OnSome};
+ghost use Rattle.futures.specs.Task.{Covers, Keeps};
+ghost use Rattle.futures.specs.Poll.{IfReady, OnPending};
+ghost use Rattle.futures.specs.Runs.{After, Within};
+ghost use Rattle.dq_lasting.specs.declared.errors.LastingError.TheVariants.{Unknown};
+ghost use Rattle.dq_lasting.specs.Streams.{LastingStreamPolls, LastingGives, NeverEnds};
+ghost use Rattle.dq_lasting.specs.Streams.{IfLastingFault, IsLastingFault};
+
+use crate::errors::LastingError;
+use crate::queue::LastingQueue;
+use dq_core::{CoreError, Expired};
+use futures::Stream;
+use futures::task::{Context, Poll, Source};
+use std::alloc::{Allocator, Global};
+use std::sync::Wait;
+use thiserror::Error;
+
+/// Says which tick it is.
+pub trait Ticks: Drop {
+    /// What it may answer, and what it is after that.
+    ghost tells: { Self → ℕ → Self → Type 0 } = { λ _ _ _. ⊤ };
+
+    /// The tick of this moment, of one millisecond. A stream asks it while it holds no lock.
+    fn now(&mut self) -> u64
+        ensures { tells self.old result self.new };
+}
+
+/// Why a stream gives no entry. It may be polled again.
+#[derive(Clone, Copy, Debug, PartialEq, Eq, Error)]
+pub enum LastingFault {
+    /// The tick that it was told is beyond the last tick. The shard has noted nothing.
+    #[error("the tick is beyond the last tick, {limit}")]
+    TickTooLarge {
+        /// The last tick.
+        limit: u64,
+    },
+    /// Memory for the waker was refused. Nothing is parked.
+    #[error("out of memory")]
+    NoMemory,
+}
+
+/// What expires at one place of a lasting queue, at the ticks that it is told, through every renewal of the shard there.
+///
+/// Each poll takes the shard's lock once. It gives one entry that is due, and else parks in the shard, one poller a place:
+/// until the next wake, or where nothing is linked until an insert. It never ends. It holds no entry, so none is lost where it
+/// is dropped; its poller stays parked until it is woken or another takes its place.
+#[derive(Drop)]
+pub struct LastingStream<'q, T, K, R: Wait, A: Allocator = Global> {
+    rt: &'q R,
+    queue: &'q LastingQueue<T, A>,
+    place: usize,
+    ticks: K,
+    name: Source,
+    ghost in_range: { place < queue.now },
+}
+
+impl<'q, T, K, R: Wait, A: Allocator> LastingStream<'q, T, K, R, A> {
+    /// A stream of a place, at these ticks.
+    ///
+    /// # Errors
+    /// Unknown out of range. The ticks come back.
+    pub fn new(
+        rt: &'q R,
+        queue: &'q LastingQueue<T, A>,
+        place: usize,
+        ticks: K,
+    ) -> Result<LastingStream<'q, T, K, R, A>, (LastingError, K)>
+        ensures opened { IfOk result (λ s. (place < queue.now) × (s.queue ≡ queue.entry)
+            × (s.place ≡ place) × (s.ticks ≡ ticks)) }
+        ensures refused { IfErr result (λ e. (queue.now ≤ place) × (e ≡ (Unknown, ticks))) }
+    {
+        if place >= queue.shards() {
+            return Err((LastingError::Unknown, ticks));
+        }
+        Ok(LastingStream {
+            rt,
+            queue,
+            place,
+            ticks,
+            name: Source::new(),
+        })
+    }
+}
+
+impl<'q, T: Drop, K: Ticks, R: Wait, A: Allocator> Stream for LastingStream<'q, T, K, R, A> {
+    type Item = Result<Expired<T>, LastingFault>;
+
+    ghost needs = { λ stream s. s ≡ stream.name.id };
+
+    ghost yields = { λ stream. LastingGives T stream.queue.now stream.place };
+
+    /// An entry that is due, one of least deadline, or Pending, parked at the next wake or for an insert. Its cost is that of
+    /// one poll of the shard.
+    ///
+    /// A tick beyond the last one gives TickTooLarge, and where no waker can be made it gives NoMemory. It goes on after
+    /// both.
+    fn poll_next(&mut self, cx: &mut Context<'_>) -> Poll<Option<Result<Expired<T>, LastingFault>>>
+        // It never ends, and a fault tells why no entry is given.
+        ensures lasts { NeverEnds result }
+        ensures fault { IfLastingFault result (λ e. IsLastingFault e cx.new) }
+
+        // It waits registered with its context.
+        ensures registered { OnPending result (Covers cx.new (λ s. s ≡ self.new.name.id)) }
+
+        // It stays a stream of its place.
+        ensures stays { (self.new.queue ≡ self.old.queue) × (self.new.place ≡ self.old.place)
+            × (self.new.name ≡ self.old.name) × (self.new.rt ≡ self.old.rt) }
+
+        // All that it does: the poll of its place that parks, at a tick that it was told.
+        ensures polls { (tick : ℕ) × K.tells self.old.ticks tick self.new.ticks
+            × LastingStreamPolls T self.old.queue.now self.old.place cx.old cx.new tick result }
+
+        // What every stream owes. It may be polled at any time: two of these bind nothing here.
+        ensures value { IfReady result (LastingGives T self.old.queue.now self.old.place []) }
+        ensures rest { IfReady result (λ o. IfSome o (λ x.
+            After (LastingGives T self.old.queue.now self.old.place) x
+            (LastingGives T self.new.queue.now self.new.place))) }
+        ensures goes { IfReady result (λ o. OnSome o ⊤) }
+        ensures again { OnPending result ⊤ }
+        ensures same { OnPending result
+            (Within (LastingGives T self.old.queue.now self.old.place)
+            (LastingGives T self.new.queue.now self.new.place)) }
+        ensures kept { Keeps cx.old cx.new }
+    {
+        let tick = self.ticks.now();
+        match self
+            .queue
+            .poll_or_park(self.rt, self.place, tick, &self.name, cx)
+        {
+            Poll::Pending => Poll::Pending,
+            Poll::Ready(Ok(expired)) => Poll::Ready(Some(Ok(expired))),
+            Poll::Ready(Err(LastingError::Core(CoreError::TickTooLarge { limit }))) => {
+                Poll::Ready(Some(Err(LastingFault::TickTooLarge { limit })))
+            }
+            Poll::Ready(Err(LastingError::Core(CoreError::NoMemory))) => {
+                Poll::Ready(Some(Err(LastingFault::NoMemory)))
+            }
+            Poll::Ready(Err(_)) => unreachable!(),
+        }
+    }
+}
