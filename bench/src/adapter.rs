@@ -1,6 +1,8 @@
 //! Our queue by tokio_util's own calls: the crate `hontkhale-tokio`, under a clock that stands until it is moved.
 
-use std::task::{Context, Poll, Waker};
+use std::sync::atomic::{AtomicBool, Ordering};
+use std::sync::Arc;
+use std::task::{Context, Poll, Wake, Waker};
 use std::time::Duration;
 
 use hontkhale_tokio::delay_queue::{Expired, Key};
@@ -19,9 +21,52 @@ pub enum Touching {
     Handle,
 }
 
+/// The task that polls: a poll makes so many steps at most and wakes its task for the rest, so it comes again once woken.
+#[derive(Default)]
+struct Task {
+    is_woken: AtomicBool,
+}
+
+impl Wake for Task {
+    fn wake(self: Arc<Task>) {
+        self.wake_by_ref();
+    }
+
+    fn wake_by_ref(self: &Arc<Task>) {
+        self.is_woken.store(true, Ordering::SeqCst);
+    }
+}
+
+/// The queue under its task.
+struct Polled {
+    queue: DelayQueue<u64>,
+    task: Arc<Task>,
+    waker: Waker,
+}
+
+impl Polled {
+    fn of(queue: DelayQueue<u64>) -> Polled {
+        let task = Arc::new(Task::default());
+        let waker = Waker::from(Arc::clone(&task));
+        Polled { queue, task, waker }
+    }
+
+    /// What is due, as a runtime would poll for it. The clock says the tick.
+    #[inline(always)]
+    fn poll(&mut self) -> Option<Expired<u64>> {
+        loop {
+            match self.queue.poll_expired(&mut Context::from_waker(&self.waker)) {
+                Poll::Ready(out) => return out,
+                Poll::Pending if self.task.is_woken.swap(false, Ordering::SeqCst) => {}
+                Poll::Pending => return None,
+            }
+        }
+    }
+}
+
 /// The queue, and a handle in its owner's hands.
 pub struct Adapter {
-    queue: DelayQueue<u64>,
+    polled: Polled,
     handle: Option<Handle>,
     start: Instant,
 }
@@ -32,7 +77,7 @@ impl Adapter {
         clock.enter(|| {
             let mut queue = DelayQueue::with_capacity(capacity);
             let handle = (touching == Touching::Handle).then(|| queue.handle());
-            Adapter { queue, handle, start: clock.start() }
+            Adapter { polled: Polled::of(queue), handle, start: clock.start() }
         })
     }
 }
@@ -52,51 +97,42 @@ fn extended(handle: &Handle, start: Instant, key: &Key, deadline: u64) -> u64 {
     }
 }
 
-/// The clock says the tick.
-#[inline(always)]
-fn polled(queue: &mut DelayQueue<u64>) -> Option<Expired<u64>> {
-    match queue.poll_expired(&mut Context::from_waker(Waker::noop())) {
-        Poll::Ready(out) => out,
-        Poll::Pending => None,
-    }
-}
-
 impl Queue for Adapter {
     type Key = Key;
     type Out = Expired<u64>;
 
     fn insert(&mut self, value: u64, deadline: u64) -> Key {
-        self.queue.insert_at(value, moment(self.start, deadline))
+        self.polled.queue.insert_at(value, moment(self.start, deadline))
     }
 
     fn extend(&mut self, key: Key, deadline: u64) -> u64 {
         match &self.handle {
             Some(handle) => extended(handle, self.start, &key, deadline),
             None => {
-                self.queue.reset_at(&key, moment(self.start, deadline));
+                self.polled.queue.reset_at(&key, moment(self.start, deadline));
                 deadline
             }
         }
     }
 
     fn reset(&mut self, key: Key, deadline: u64) -> Key {
-        self.queue.reset_at(&key, moment(self.start, deadline));
+        self.polled.queue.reset_at(&key, moment(self.start, deadline));
         key
     }
 
     fn remove(&mut self, key: Key) -> u64 {
-        self.queue.remove(&key).into_inner()
+        self.polled.queue.remove(&key).into_inner()
     }
 
     fn cancel(&mut self, key: Key) {
         match &self.handle {
             Some(handle) => assert!(handle.cancel(&key).is_ok(), "the entry is live"),
-            None => drop(self.queue.remove(&key)),
+            None => drop(self.polled.queue.remove(&key)),
         }
     }
 
     fn poll(&mut self, _tick: u64) -> Option<Expired<u64>> {
-        polled(&mut self.queue)
+        self.polled.poll()
     }
 
     fn value(out: &Expired<u64>) -> u64 {
@@ -110,13 +146,13 @@ impl Queue for Adapter {
 
 impl Shared for Adapter {
     fn share(&mut self, threads: usize) -> Parts<impl Extends<Key>, impl Polls<Expired<u64>>> {
-        let (start, queue) = (self.start, &mut self.queue);
+        let (start, polled) = (self.start, &mut self.polled);
         let extends = (0..threads)
             .map(|_| {
-                let handle = queue.handle();
+                let handle = polled.queue.handle();
                 move |key, deadline| extended(&handle, start, &key, deadline)
             })
             .collect();
-        Parts { extends, poll: move |_| polled(queue) }
+        Parts { extends, poll: move |_| polled.poll() }
     }
 }

@@ -3,6 +3,8 @@
 
 #[cfg(feature = "binding")]
 mod adapter;
+#[cfg(feature = "binding")]
+mod beside;
 mod best;
 #[cfg(feature = "binding")]
 mod binding;
@@ -51,7 +53,8 @@ rows: insert extend reset remove cancel poll insert+poll reset+poll remove+poll 
 longest-extend longest-reset longest-cancel,
 and over 1 to 64 shards insert/SHARDS extend/SHARDS reset/SHARDS remove/SHARDS poll/SHARDS insert-burst/SHARDS poll-burst/SHARDS;
 with own- before the first five, each of as many threads has a shard of its own
-entries: 1 to 65536, of each shard; threads: 1, and 1 to 64 for callers and over shards";
+entries: 1 to 65536, of each shard; threads: 1, and 1 to 64 for callers and over shards
+       peers beside ENTRIES ROUNDS, where it was built with the binding: a poll in pieces beside another thread's inserts";
 
 /// What is timed: a row of one queue, the calls of a row one by one, or a row of shards and their number.
 #[derive(Clone, Copy, Debug, PartialEq, Eq)]
@@ -318,8 +321,23 @@ fn time(asked: &Asked) {
     }
 }
 
+/// The entries and the rounds of a poll beside another thread's inserts, where that is asked for.
+#[cfg(feature = "binding")]
+fn asked_beside(args: &[String]) -> Option<(usize, usize)> {
+    let [beside, entries, rounds] = args else {
+        return None;
+    };
+    let entries = entries.parse().ok().filter(|entries| (2..=65_536).contains(entries))?;
+    (beside == "beside").then_some((entries, rounds.parse().ok()?))
+}
+
 fn main() -> ExitCode {
     let args: Vec<String> = std::env::args().skip(1).collect();
+    #[cfg(feature = "binding")]
+    if let Some((entries, rounds)) = asked_beside(&args) {
+        beside::print_rounds(entries, rounds);
+        return ExitCode::SUCCESS;
+    }
     match Asked::read(&args) {
         Some(asked) => {
             time(&asked);

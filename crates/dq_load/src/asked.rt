@@ -40,16 +40,33 @@ pub const LONGEST: [(&str, Touched); 3] = [
     ("longest-cancel", Touched::Cancel),
 ];
 
+/// The same runs, polled whole and in pieces.
+pub const PIECES: [(&str, Touched); 3] = [
+    ("pieces-extend", Touched::Extend),
+    ("pieces-reset", Touched::Reset),
+    ("pieces-cancel", Touched::Cancel),
+];
+
+/// The steps of a piece, by the names under which the rows of pieces are timed.
+pub const PIECE_STEPS: [(&str, Option<u32>); 4] = [
+    ("whole", None),
+    ("pieces-16", Some(16)),
+    ("pieces-64", Some(64)),
+    ("pieces-256", Some(256)),
+];
+
 // The words of a command that names no peer.
 const COMMAND: usize = 5;
 
-/// What is timed: a row of one owner, the calls of a row one by one, the callers, or a row of the shared queue with its
-/// number of shards.
+/// What is timed: a row of one owner, the calls of a row one by one, whole polls beside those in pieces, the callers, a
+/// lasting queue while it is renewed, or a row of the shared queue with its number of shards.
 #[derive(Clone, Copy, Debug, PartialEq, Eq)]
 pub enum Timed {
     Owned(Row),
     Longest(Touched),
+    Pieces(Touched),
     Callers,
+    Renewing,
     Shards(Call, Route, usize),
 }
 
@@ -118,6 +135,7 @@ impl Timed {
     fn takes(self, threads: u64) -> bool {
         match self {
             Timed::Owned(_) | Timed::Longest(_) => threads == 1,
+            Timed::Pieces(_) | Timed::Renewing => threads == 1,
             Timed::Callers | Timed::Shards(_, Route::Drawn, _) => true,
             Timed::Shards(_, Route::Own, shards) => threads == shards as u64,
         }
@@ -128,7 +146,9 @@ impl Timed {
         match self {
             Timed::Owned(_) => &["ours-owned", "ours", "kit-wheel", "kit-delay-queue"],
             Timed::Longest(_) => &["ours-owned", "ours", "ours-shards"],
+            Timed::Pieces(_) => &["whole", "pieces-16", "pieces-64", "pieces-256"],
             Timed::Callers => &["ours"],
+            Timed::Renewing => &["steady", "renewed"],
             Timed::Shards(..) => &["ours-shards"],
         }
     }
@@ -146,30 +166,30 @@ fn row_of(name: &str) -> Option<Timed> {
     if name == "callers" {
         return Some(Timed::Callers);
     }
+    if name == "renewing" {
+        return Some(Timed::Renewing);
+    }
     if let Some((call, shards)) = name.split_once('/') {
         let shards = number(shards, SHARD_LIMIT as u64)? as usize;
         return match call.strip_prefix("own-") {
             Some(call) => owned_call_of(call, shards),
-            None => Some(Timed::Shards(call_of(call)?, Route::Drawn, shards)),
+            None => Some(Timed::Shards(known(&CALLS, call)?, Route::Drawn, shards)),
         };
     }
-    for (known, touched) in LONGEST {
-        if known == name {
-            return Some(Timed::Longest(touched));
-        }
+    if let Some(touched) = known(&LONGEST, name) {
+        return Some(Timed::Longest(touched));
     }
-    for (known, row) in ROWS {
-        if known == name {
-            return Some(Timed::Owned(row));
-        }
+    if let Some(touched) = known(&PIECES, name) {
+        return Some(Timed::Pieces(touched));
     }
-    None
+    Some(Timed::Owned(known(&ROWS, name)?))
 }
 
-fn call_of(name: &str) -> Option<Call> {
-    for (known, call) in CALLS {
-        if known == name {
-            return Some(call);
+// What stands beside a name in a list.
+fn known<T: Copy>(list: &[(&str, T)], name: &str) -> Option<T> {
+    for (its, found) in list {
+        if *its == name {
+            return Some(*found);
         }
     }
     None
@@ -177,7 +197,7 @@ fn call_of(name: &str) -> Option<Call> {
 
 // A row in which each thread has a shard of its own.
 fn owned_call_of(name: &str, shards: usize) -> Option<Timed> {
-    let call = call_of(name)?;
+    let call = known(&CALLS, name)?;
     if !call.is_by_name() {
         return None;
     }

@@ -2,8 +2,8 @@
 //! that what the machine does beside it is left out. All arithmetic of the plan is modulo 2^64.
 
 use crate::load::Load;
-use crate::plan::{BEAT, IDLE, LONG_BEATS, LONG_PASS, RUNS, places_at};
-use crate::queues::{Queue, Refusal};
+use crate::plan::{BEAT, IDLE, LONG_BEATS, LONG_PASS, RUNS, SEED, SplitMix64, places_at};
+use crate::queues::{Given, Queue, Refusal};
 use crate::sample::Sample;
 use anyhow::{Result, ensure};
 use dq_ticks::Key;
@@ -30,23 +30,23 @@ impl Touched {
     }
 }
 
-// The nanoseconds of the calls of one kind, in their order, each the least over the runs so far.
+/// The nanoseconds of the calls of one kind, in their order, each the least over the runs so far.
 #[derive(Drop)]
-struct Calls {
+pub struct Calls {
     least: Vec<u64>,
     next: usize,
 }
 
 impl Calls {
-    fn new(alloc: Global) -> Calls {
+    pub fn new(alloc: Global) -> Calls {
         Calls {
             least: Vec::new(alloc),
             next: 0,
         }
     }
 
-    // Takes the time of the next call, which began at a moment.
-    fn note(&mut self, rt: &impl Clock, since: Instant) -> Result<()> {
+    /// Takes the time of the next call, which began at a moment.
+    pub fn note(&mut self, rt: &impl Clock, since: Instant) -> Result<()> {
         let spent = u64::try_from(since.elapsed(rt)?.as_nanos())?;
         match self.least.get_mut(self.next) {
             Some(least) => *least = spent.min(*least),
@@ -56,8 +56,8 @@ impl Calls {
         Ok(())
     }
 
-    // Goes to the first call, for another run.
-    fn restart(&mut self) -> Result<()> {
+    /// Goes to the first call, for another run.
+    pub fn restart(&mut self) -> Result<()> {
         ensure!(
             self.next == self.least.len(),
             "the runs make different calls"
@@ -74,7 +74,8 @@ impl Calls {
         total
     }
 
-    fn spread(&mut self, call: &'static str) -> Spread {
+    /// The spread of the calls, after the last run.
+    pub fn spread(&mut self, call: &'static str) -> Spread {
         self.least.sort_unstable();
         let calls = self.least.len();
         let at = |share: usize| {
@@ -87,6 +88,7 @@ impl Calls {
         Spread {
             call,
             calls,
+            total: self.total(),
             at: [at(5_000), at(9_900), at(9_990), at(9_999), at(10_000)],
         }
     }
@@ -98,6 +100,8 @@ impl Calls {
 pub struct Spread {
     call: &'static str,
     calls: usize,
+    /// All of them together.
+    pub total: u64,
     at: [u64; 5],
 }
 
@@ -125,7 +129,13 @@ pub type Spreads = (Spread, Spread, Spread);
 
 impl<Q: Queue> Load<Q> {
     /// Some runs on one queue. Each begins at a multiple of `LONG_PASS`, so the calls of one move what those of another do.
-    pub fn longest(&mut self, rt: &impl Clock, touched: Touched) -> Result<(Sample, Spreads)> {
+    /// Pieces are as many in each run only where each draws the same order.
+    pub fn longest(
+        &mut self,
+        rt: &impl Clock,
+        touched: Touched,
+        is_one_order: bool,
+    ) -> Result<(Sample, Spreads)> {
         self.sample = Sample::default();
         let mut times = Times {
             insert: Calls::new(self.alloc),
@@ -133,6 +143,9 @@ impl<Q: Queue> Load<Q> {
             poll: Calls::new(self.alloc),
         };
         for _ in 0..RUNS {
+            if is_one_order {
+                self.draws = SplitMix64::new(SEED);
+            }
             if touched == Touched::Cancel {
                 self.reaped_run(rt, &mut times)?;
             } else {
@@ -240,14 +253,16 @@ impl<Q: Queue> Load<Q> {
         Ok(())
     }
 
-    // Polls at a tick until nothing is given.
+    // Polls at a tick until nothing is given, whole or in pieces.
     fn poll_timed(&mut self, rt: &impl Clock, tick: u64, times: &mut Times) -> Result<()> {
-        for _ in 0..=self.entries {
+        for _ in 0..u64::MAX {
             let since = Instant::now(rt)?;
-            let out = self.queue.poll(tick)?;
+            let polled = self.queue.poll_piece(tick)?;
             times.poll.note(rt, since)?;
-            let Some((value, deadline)) = out else {
-                break;
+            let (value, deadline) = match polled {
+                Given::Out(value, deadline) => (value, deadline),
+                Given::Working => continue,
+                Given::Rests => break,
             };
             let counts = &mut self.sample.counts;
             counts.outs = counts.outs.wrapping_add(1);

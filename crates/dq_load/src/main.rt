@@ -9,19 +9,23 @@ mod callers;
 mod kit;
 mod load;
 mod longest;
+mod pieces;
 mod plan;
 mod queues;
+mod renewing;
 mod sample;
 mod shards;
 mod work;
 
 use anyhow::{Result, bail};
-use asked::{Asked, CALLS, LONGEST, ROWS, Timed};
+use asked::{Asked, CALLS, LONGEST, PIECE_STEPS, PIECES, ROWS, Timed};
 use kit::{KitQueue, KitWheel};
 use load::{Load, Row};
-use longest::Touched;
+use longest::{Spread, Touched};
+use pieces::InPieces;
 use plan::SplitMix64;
 use queues::{Issues, OneShard, Owned, Queue, Shared};
+use renewing::{Renewed, renewing};
 use sample::Sample;
 use shards::{Call, Route, ShardLoad};
 use std::env;
@@ -39,6 +43,9 @@ const SMALL_CALLERS: u64 = 2;
 const SMALL_SHARDS: usize = 2;
 
 const SMALL_SHARED: usize = 4_000;
+
+// How a lasting queue is timed: by its name, and whether one shard of it is renewed at any time.
+const RENEWING: [(&str, bool); 2] = [("steady", false), ("renewed", true)];
 
 fn main(rt: HostRuntime) -> Result<()> {
     let words: Result<Vec<String>, _> = env::args(&rt)?.skip(1).collect(rt.alloc());
@@ -60,6 +67,8 @@ where
     match asked.timed {
         Timed::Owned(row) => time_row(rt, &asked, row),
         Timed::Longest(touched) => time_longest(rt, &asked, touched),
+        Timed::Pieces(touched) => time_pieces(rt, &asked, touched),
+        Timed::Renewing => time_renewing(rt, &asked),
         Timed::Callers => time_callers(rt, &asked, Shared::new(rt.alloc(), asked.entries)?),
         Timed::Shards(call, route, shards) => time_shards(rt, &asked, call, route, shards),
     }
@@ -96,6 +105,8 @@ where
         let shard = OneShard::new(rt.clone()?, rt.alloc(), SMALL)?;
         small_longest(rt, "ours-shards", name, touched, shard)?;
     }
+    small_pieces(rt)?;
+    small_renewing(rt)?;
     for (name, call) in CALLS {
         small_shards(rt, name, call, Route::Drawn, SMALL, 1)?;
         small_shards(
@@ -119,13 +130,46 @@ where
     Q: Queue + Drop,
 {
     let mut load = Load::new(rt.alloc(), queue, SMALL);
-    let (sample, _spreads) = load.longest(rt, touched)?;
+    let (sample, _spreads) = load.longest(rt, touched, false)?;
     let Sample {
         operations,
         counts,
         ..
     } = sample;
     println!(rt; "{named} {name} {SMALL} 1 {operations} {counts}")?;
+    Ok(())
+}
+
+fn small_pieces<R>(rt: &R) -> Result<()>
+where
+    R: Clock + Print + AllocGlobal,
+{
+    for (name, touched) in PIECES {
+        for (named, steps) in PIECE_STEPS {
+            match steps {
+                None => small_longest(rt, named, name, touched, Owned::new(rt.alloc(), SMALL)?)?,
+                Some(most) => {
+                    let queue = InPieces::new(rt.alloc(), SMALL, most)?;
+                    small_longest(rt, named, name, touched, queue)?
+                }
+            }
+        }
+    }
+    Ok(())
+}
+
+fn small_renewing<R>(rt: &R) -> Result<()>
+where
+    R: Clock + Print + AllocGlobal + Wait,
+{
+    for (named, is_renewed) in RENEWING {
+        let Renewed {
+            counts,
+            reopened,
+            spreads: _spreads,
+        } = renewing(rt, rt.alloc(), SMALL, is_renewed)?;
+        println!(rt; "{named} renewing {SMALL} 1 {reopened} {counts}")?;
+    }
     Ok(())
 }
 
@@ -289,8 +333,72 @@ where
 {
     let mut load = Load::new(rt.alloc(), queue, asked.entries);
     for round in 1..=asked.rounds {
-        let (sample, (insert, touch, poll)) = load.longest(rt, touched)?;
+        let (sample, (insert, touch, poll)) = load.longest(rt, touched, false)?;
         println!(rt; "{name} {asked} {round} {sample} {insert} {touch} {poll}")?;
+    }
+    Ok(())
+}
+
+// Times the calls of the queue of one owner one by one, polled whole and in pieces.
+fn time_pieces<R>(rt: &R, asked: &Asked, touched: Touched) -> Result<()>
+where
+    R: Clock + Print + AllocGlobal,
+{
+    let (alloc, entries) = (rt.alloc(), asked.entries);
+    for (name, steps) in PIECE_STEPS {
+        if asked.wants(name) {
+            match steps {
+                None => time_kinds(rt, asked, touched, name, Owned::new(alloc, entries)?)?,
+                Some(most) => {
+                    let queue = InPieces::new(alloc, entries, most)?;
+                    time_kinds(rt, asked, touched, name, queue)?
+                }
+            }
+        }
+    }
+    Ok(())
+}
+
+fn time_kinds<R, Q>(rt: &R, asked: &Asked, touched: Touched, name: &str, queue: Q) -> Result<()>
+where
+    R: Clock + Print + AllocGlobal,
+    Q: Queue + Drop,
+{
+    let mut load = Load::new(rt.alloc(), queue, asked.entries);
+    for round in 1..=asked.rounds {
+        let (_sample, (insert, touch, poll)) = load.longest(rt, touched, true)?;
+        print_kinds(rt, asked, name, round, &[insert, touch, poll])?;
+    }
+    Ok(())
+}
+
+// A line for each kind of call, with the nanoseconds of all of them together at its end.
+fn print_kinds<R: Print>(
+    rt: &R,
+    asked: &Asked,
+    name: &str,
+    round: u64,
+    kinds: &[Spread],
+) -> Result<()> {
+    for kind in kinds {
+        println!(rt; "{name} {asked} {round} {kind} {}", kind.total)?;
+    }
+    Ok(())
+}
+
+// Times the calls of a lasting queue one by one, where nothing is renewed and where one shard is at any time.
+fn time_renewing<R>(rt: &R, asked: &Asked) -> Result<()>
+where
+    R: Clock + Print + AllocGlobal + Wait,
+{
+    for (name, is_renewed) in RENEWING {
+        if asked.wants(name) {
+            for round in 1..=asked.rounds {
+                let told = renewing(rt, rt.alloc(), asked.entries, is_renewed)?;
+                print_kinds(rt, asked, name, round, &told.spreads)?;
+                println!(rt; "{name} {asked} {round} reopened {}", told.reopened)?;
+            }
+        }
     }
     Ok(())
 }

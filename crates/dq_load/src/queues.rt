@@ -1,7 +1,7 @@
 //! What the rows drive: our queue over plain words of its owner alone, and over words that callers share with it.
 
 use anyhow::Result;
-use dq_core::{CallError, CoreConfig, CoreError, DelayCore, Turn, VecWords, Words};
+use dq_core::{CallError, CoreConfig, CoreError, DelayCore, Piece, Turn, VecWords, Words};
 use dq_shards::{Handle, QueueConfig, QueueError, SharedDelayQueue};
 use dq_ticks::{Key, LAST_STAMP};
 use dq_words::{Caller, Keeper};
@@ -26,6 +26,17 @@ pub enum Refusal {
     NoEntry,
 }
 
+/// What a piece of a poll gave.
+#[derive(Clone, Copy, Debug, PartialEq, Eq)]
+pub enum Given {
+    /// An entry came out: its value and its deadline.
+    Out(u64, u64),
+    /// Nothing more is due.
+    Rests,
+    /// The poll isn't at its end.
+    Working,
+}
+
 /// A queue of values with deadlines. Ticks are of one millisecond.
 pub trait Queue {
     fn insert(&mut self, value: u64, when: u64) -> Result<Key, Refusal>;
@@ -39,6 +50,13 @@ pub trait Queue {
     fn cancel(&mut self, key: &Key) -> Result<u64, Refusal>;
     /// An entry whose deadline is at most `tick`: its value and its deadline.
     fn poll(&mut self, tick: u64) -> Result<Option<(u64, u64)>, Refusal>;
+    /// One call of a poll in pieces; where a queue has no pieces, a whole poll.
+    fn poll_piece(&mut self, tick: u64) -> Result<Given, Refusal> {
+        match self.poll(tick)? {
+            Some((value, deadline)) => Ok(Given::Out(value, deadline)),
+            None => Ok(Given::Rests),
+        }
+    }
 }
 
 /// A queue that callers share.
@@ -91,6 +109,16 @@ impl Owned {
         let words = VecWords::new(alloc, capacity)?;
         let core = DelayCore::new(alloc, config(capacity), words).map_err(|refused| refused.0)?;
         Ok(Owned { core })
+    }
+
+    /// At most so many steps of a poll.
+    pub fn poll_some(&mut self, tick: u64, most: u32) -> Result<Given, Refusal> {
+        match self.core.poll_some(tick, most) {
+            Ok(Piece::Answer(Turn::Out(out))) => Ok(Given::Out(out.value, out.deadline)),
+            Ok(Piece::Answer(_)) => Ok(Given::Rests),
+            Ok(Piece::Working) => Ok(Given::Working),
+            Err(refused) => Err(Refusal::Core(refused)),
+        }
     }
 }
 
