@@ -248,6 +248,7 @@ impl<T> DelayQueue<T> {
     /// assert_eq!(queue.deadline(&key), Ok(2_000));
     /// # Ok(()) }
     /// ```
+    #[inline]
     pub fn insert_at(&mut self, value: T, when: u64) -> Result<Key, InsertError<T>> {
         let mut key = RawKey::default();
         let answer = self.library.own().insert(0, when, &mut key);
@@ -289,7 +290,8 @@ impl<T> DelayQueue<T> {
     /// while it answers [`Piece::Working`]; each such call leaves at least so many steps fewer, and one of no step notes the
     /// tick alone. Every other call may be made between.
     ///
-    /// The value of an entry that a caller cancelled is dropped by a step too.
+    /// The value of an entry that a caller cancelled is dropped by a step too. `u32::MAX` steps are a whole poll, which never answers
+    /// [`Piece::Working`].
     ///
     /// # Errors
     /// `TickTooLarge` beyond the last tick.
@@ -315,7 +317,11 @@ impl<T> DelayQueue<T> {
     pub fn poll_some(&mut self, now: u64, most: u32) -> Result<Piece<T>, QueueError> {
         let left = most - self.drop_some_cancelled(most);
         let mut out = RawExpired::default();
-        let answer = self.library.own().poll_some(now, left, &mut out);
+        // Without a limit the library's whole poll does the same, by fewer instructions for each entry that moves.
+        let answer = match most {
+            u32::MAX => self.library.own().poll(now, &mut out),
+            _ => self.library.own().poll_some(now, left, &mut out),
+        };
         if answer.code == ffi::WORKING {
             return Ok(Piece::Working);
         }
@@ -382,6 +388,7 @@ impl<T> DelayQueue<T> {
     /// assert_eq!(queue.remove(&key).unwrap_err(), QueueError::Missing);
     /// # Ok(()) }
     /// ```
+    #[inline]
     pub fn remove(&mut self, key: &Key) -> Result<Expired<T>, QueueError> {
         let mut out = RawRemoved::default();
         let answer = self.library.own().remove(&key.0, &mut out);
@@ -425,6 +432,7 @@ impl<T> DelayQueue<T> {
     /// assert_eq!(caller.extend(&old, 20), Err(CallError::Stale { seen: new.stamp() }));
     /// # Ok(()) }
     /// ```
+    #[inline]
     pub fn reset_at(&mut self, key: &Key, when: u64) -> Result<Key, QueueError> {
         let mut named = key.0;
         let answer = self.library.own().reset(&mut named, when);

@@ -160,6 +160,26 @@ macro_rules! rows {
 rows!(ours, hontkhale_tokio::delay_queue);
 rows!(peers, tokio_util::time::delay_queue);
 
+/// The row of the polls, where a poll makes all of its steps.
+fn poll_whole(entries: usize, clock: &Clock, dice: &mut Dice, watch: &mut Stopwatch) {
+    let waker = Waker::from(std::sync::Arc::new(NoWake));
+    while watch.calls < CALLS {
+        let (mut queue, _) = ours::filled(entries, dice);
+        queue.set_budget(u32::MAX);
+        while !queue.is_empty() {
+            clock.pass(50);
+            let before = queue.len();
+            let mut cx = Context::from_waker(&waker);
+            watch.time(0, || {
+                while let std::task::Poll::Ready(Some(out)) = queue.poll_expired(&mut cx) {
+                    black_box(out.into_inner());
+                }
+            });
+            watch.calls += before - queue.len();
+        }
+    }
+}
+
 fn extend(entries: usize, _clock: &Clock, dice: &mut Dice, watch: &mut Stopwatch) {
     let (mut queue, keys) = ours::filled(entries, dice);
     let handle = queue.handle();
@@ -248,11 +268,12 @@ fn timed(row: Row, entries: usize, round: usize) -> Stopwatch {
 
 fn main() {
     let asked = Asked::read();
-    let rows: [(&str, Row, Row); 7] = [
+    let rows: [(&str, Row, Row); 8] = [
         ("insert_at", peers::insert, ours::insert),
         ("reset_at", peers::reset, ours::reset),
         ("remove", peers::remove, ours::remove),
         ("poll_expired", peers::poll, ours::poll),
+        ("poll_expired, no limit", peers::poll, poll_whole),
         ("reset_at / handle.extend_at", peers::reset, extend),
         ("idle timeouts by reset", peers::idle, ours::idle),
         ("idle timeouts by handle", peers::idle, idle_by_handle),

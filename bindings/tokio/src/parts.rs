@@ -139,7 +139,7 @@ impl<T> Parts<T> {
     }
 
     /// Puts a value into a part, or gives it back where no slot is free.
-    #[inline]
+    #[inline(always)]
     fn put(&mut self, spot: usize, value: T, when: u64) -> Result<Key, T> {
         let part = match self.row.get_mut(spot) {
             Some(Some(part)) if part.free > 0 => part,
@@ -295,7 +295,7 @@ impl<T> Parts<T> {
                 self.tick = self.tick.max(reached);
                 return Found::Waiting(wake);
             }
-            let most = match budget.piece() {
+            let most = match budget.piece_or_whole() {
                 Some(most) => most,
                 None => return Found::Working,
             };

@@ -110,6 +110,9 @@ impl<T> DelayQueue<T> {
     /// [`Handle`] cancelled, or brings the wheels to where there is one, in constant time but for a value's drop. A poll that
     /// has more to do is pending, and wakes its task at once, so that other tasks have their turn in between. 0 is taken as 1.
     ///
+    /// `u32::MAX` is no limit: a poll makes all of its steps, as the peer's does. It takes fewer instructions for each entry then,
+    /// and the longest poll is as long as what is due, or has to move, at once.
+    ///
     /// ```
     /// # #[tokio::main(flavor = "current_thread", start_paused = true)]
     /// # async fn main() {

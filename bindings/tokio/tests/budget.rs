@@ -11,7 +11,7 @@ use std::task::{Context, Poll, Wake, Waker};
 use std::time::Duration;
 use tokio::time::{advance, timeout, Instant};
 
-const BUDGETS: [u32; 6] = [0, 1, 8, 13, 128, 1_000];
+const BUDGETS: [u32; 7] = [0, 1, 8, 13, 128, 1_000, u32::MAX];
 
 fn ms(millis: u64) -> Duration {
     Duration::from_millis(millis)
@@ -145,7 +145,7 @@ async fn a_streams_order_stays_over_all_shards() {
 
 #[tokio::test(start_paused = true)]
 async fn a_queues_order_stays_over_all_parts() {
-    for budget in [1, 2, 9, 64] {
+    for budget in [1, 2, 9, 64, u32::MAX] {
         let (mut queue, mut dice) = (DelayQueue::new(), Dice(3 + u64::from(budget)));
         queue.set_budget(budget);
         let start = Instant::now();
@@ -172,7 +172,7 @@ async fn a_queues_order_stays_over_all_parts() {
 
 #[tokio::test(start_paused = true)]
 async fn a_poll_in_pieces_forgets_a_deadline_that_has_gone() {
-    for budget in [1, 2, 128] {
+    for budget in [1, 2, 128, u32::MAX] {
         let mut queue = DelayQueue::new();
         queue.set_budget(budget);
         queue.insert(0, ms(40));
