@@ -1,6 +1,7 @@
 """The figures that a mark can name, and the tables that the pages have made for them."""
 
 import re
+import statistics
 import textwrap
 
 import lasting
@@ -95,6 +96,9 @@ FIGURES = {
     "most": runs.most,
     "longest": runs.longest,
     "longest-us": lambda *which: runs.longest(*which) / 1000,
+    "piece-us": lambda way, touched, size: piece_row(way, touched, size)[9] / 1000,
+    "piece-sum": lambda way, touched, size: piece_row(way, touched, size)[10] / piece_row("whole", touched, size)[10],
+    "beside-us": lambda way, size, at: beside_median(way, size, int(at)) / 1000,
     "lost": lost,
     "lost-cells": lost_cells,
     "lost-whole-cells": lambda peer, ours: lost_cells(peer, ours, WHOLE),
@@ -327,7 +331,75 @@ def edit(name):
     return "\n".join([*lines, "```", "", "```text", f"$ rt must-fail {crate}", *told, "```"])
 
 
+PIECE_WAYS = ("whole", "pieces-16", "pieces-64", "pieces-256")
+
+
+def pieces_rows():
+    """The rows of the stored run of bench/pieces; none where it isn't there yet."""
+    return runs.rows_of("pieces") if (runs.RESULTS / "pieces.tsv").exists() else []
+
+
+def piece_row(way, touched, size):
+    """The numbers of the polls of one run in pieces, by the columns of the stored row."""
+    for it in pieces_rows():
+        if it[:4] == [way, f"pieces-{touched}", size, "poll"]:
+            return [0.0] * 4 + [float(number) for number in it[4:]]
+    raise LookupError(f"no run of {way} over pieces-{touched} at {size} is stored")
+
+
+def beside_median(way, size, at):
+    """The median over the rounds of one column of the rows beside another thread."""
+    its = [float(it[at]) for it in pieces_rows() if it[:3] == [way, "beside", size]]
+    if not its:
+        raise LookupError(f"no run of {way} beside another thread at {size} is stored")
+    return statistics.median(its)
+
+
+def pieces():
+    """Polls whole and in pieces: the longest call, and all of them together."""
+    found = {tuple(it[:3]): it for it in pieces_rows() if it[1].startswith("pieces-") and it[3] == "poll"}
+    if not found:
+        return "Not measured yet."
+    heads = ("Touched by", "Entries", *(f"longest, {it}" for it in PIECE_WAYS), "best heap's longest", *(f"all, {it}" for it in PIECE_WAYS[1:]))
+    lines = [row(*heads), "|---" + "|--:" * (len(heads) - 1) + "|"]
+    for call in ("extend", "reset", "cancel"):
+        for size in SIZES:
+            its = [found[way, f"pieces-{call}", size] for way in PIECE_WAYS]
+            heap = runs.longest(f"longest-{call}", "poll", "heap-best", size)
+            sums = [f"{float(it[10]) / float(its[0][10]):.2f}x" for it in its[1:]]
+            lines.append(row(f"{call}s", f"{int(size):,}", *(ns_text(float(it[9])) for it in its), ns_text(heap), *sums))
+    return "\n".join(lines)
+
+
+def beside():
+    """A poll and another thread's inserts: the longest of each, medians over the rounds."""
+    lines = [row("Entries", "Polled", "longest call of the poller", "longest insert or remove beside it"), "|--:|---|--:|--:|"]
+    for size in SIZES:
+        for way in PIECE_WAYS:
+            if any(it[:3] == [way, "beside", size] for it in pieces_rows()):
+                lines.append(row(f"{int(size):,}", way, *(ns_text(beside_median(way, size, at)) for at in (3, 5))))
+    return "\n".join(lines) if len(lines) > 2 else "Not measured yet."
+
+
+def renewing():
+    """The calls of a lasting queue: steady, and while one shard is renewed at any time."""
+    found = {tuple(it[:4]): it for it in pieces_rows() if it[1] == "renewing" and it[3] != "reopened"}
+    if not found:
+        return "Not measured yet."
+    lines = [row("Call", "Entries", "steady: mean", "renewed: mean", "ratio", "steady: longest", "renewed: longest"), "|---" + "|--:" * 6 + "|"]
+    for call in ("insert", "extend", "reset", "remove", "poll", "keep"):
+        for size in SIZES:
+            its = [found[name, "renewing", size, call] for name in ("steady", "renewed")]
+            steady, renewed = (float(it[10]) / float(it[4]) for it in its)
+            longest = [ns_text(float(it[9])) for it in its]
+            lines.append(row(call, f"{int(size):,}", ns_text(steady), ns_text(renewed), f"{renewed / steady:.2f}x", *longest))
+    return "\n".join(lines)
+
+
 TABLES = {
+    "pieces": pieces,
+    "beside": beside,
+    "renewing": renewing,
     "headline": headline,
     "speed": speed,
     "shared-speed": shared_speed,
