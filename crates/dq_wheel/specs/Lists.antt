@@ -2,8 +2,9 @@
 -- What the lists hold, by the home of each index: one more than the number of its list, or 0.
 
 use Rattle.std.specs.Prelude.{◌≡◌, ◌≢◌, ℕ, ◌+◌, ◌<◌, ◌≤◌, List, length, slice_index, ◌==◌}
-use Rattle.std.specs.Prelude.{if◌then◌else◌, Option}
+use Rattle.std.specs.Prelude.{if◌then◌else◌, Option, Some}
 use Rattle.dq_wheel.specs.Walks.{IsWalk, occurrences}
+use Rattle.dq_wheel.specs.declared.TheConstants.{LISTS}
 
 -- the home of each index, the number that says where it is filed, and how often it moved; what
 -- follows each index, and behind them what follows the head of each list; and the list that is open
@@ -26,6 +27,14 @@ pub record ListsState : Type 0 where
 -- index x stands in list p
 abbrev pub StandsIn : List ℕ → ℕ → ℕ → Type 0
 StandsIn homes p x = (x < length homes) × (slice_index homes x ≡ p + 1)
+
+-- index x stands in no list
+abbrev pub IsLoose : List ℕ → ℕ → Type 0
+IsLoose homes x = (x < length homes) × (slice_index homes x ≡ 0)
+
+-- list p is one of the wheel's, and not the open one, so that an index may be put into it
+abbrev pub TakesMore : Option ℕ → ℕ → Type 0
+TakesMore opened p = (p < LISTS) × (opened ≢ Some p)
 
 -- no index stands in list p
 abbrev pub IsListEmpty : List ℕ → ℕ → Type 0

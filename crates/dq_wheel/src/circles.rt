@@ -1,7 +1,7 @@
 //! Lists of indexes, linked both ways, in a fixed row, with what is kept of each index.
 
 ghost use Rattle.std.specs.Prelude.{◌≡◌, ◌≢◌, ◌⊎◌, if◌then◌else◌, ℕ, ◌+◌, ◌<◌, ◌≤◌, length, map, slice_index, slice_set, replicate, IfOk, MatchOption, Option, None, Some};
-ghost use Rattle.dq_wheel.specs.Lists.{IsLeastIn, IsListEmpty, IsListFilled, IsListOf, StandsIn};
+ghost use Rattle.dq_wheel.specs.Lists.{IsLeastIn, IsListEmpty, IsListFilled, IsListOf, IsLoose, StandsIn, TakesMore};
 ghost use Rattle.dq_wheel.specs.Seen.{home_seen, number_seen, numbers_seen};
 ghost use Rattle.dq_wheel.specs.Maps.{IsOccupied};
 ghost use Rattle.dq_wheel.specs.Homes.{CanGo, IsOpened};
@@ -185,10 +185,8 @@ impl<A: Allocator> Circles<A> {
 
     /// Puts a loose index at the end of a list, filed at a tick.
     pub fn link(&mut self, index: usize, list: usize, filed: u64)
-        requires index_in { index < length self.old.homes }
-        requires list_in { list < LISTS }
-        requires loose { slice_index self.old.homes index ≡ 0 }
-        requires shut { self.old.opened ≢ Some list }
+        requires loose { IsLoose self.old.homes index }
+        requires takes { TakesMore self.old.opened list }
         ensures homes { self.new.homes ≡ slice_set self.old.homes index (list + 1) }
         ensures filed { self.new.filed ≡ slice_set self.old.filed index filed }
         ensures moves { self.new.moves ≡ slice_set self.old.moves index 0 }
@@ -219,22 +217,17 @@ impl<A: Allocator> Circles<A> {
         detach(&mut self.rows, index);
     }
 
-    /// Takes the first index out of a list.
-    pub fn take_first(&mut self, list: usize) -> Option<usize>
-        requires { list < LISTS }
-        ensures { MatchOption result
-            (IsListEmpty self.old.homes list × (self.new ≡ self.old))
-            (λ x. StandsIn self.old.homes list x
-            × (self.new.homes ≡ slice_set self.old.homes x 0)
-            × (self.new.filed ≡ slice_set self.old.filed x NOT_FILED)
-            × (self.new.moves ≡ slice_set self.old.moves x 0)
-            × (self.new.opened ≡ self.old.opened)) }
+    /// Takes the first index out of its list.
+    pub fn unlink_first(&mut self, list: usize, first: usize)
+        requires list_in { list < LISTS }
+        requires stands { StandsIn self.old.homes list first }
+        requires first { first ≡ slice_index self.old.next (length self.old.homes + list) }
+        ensures homes { self.new.homes ≡ slice_set self.old.homes first 0 }
+        ensures filed { self.new.filed ≡ slice_set self.old.filed first NOT_FILED }
+        ensures moves { self.new.moves ≡ slice_set self.old.moves first 0 }
+        ensures opened { self.new.opened ≡ self.old.opened }
     {
-        let Some(first) = self.first(list) else {
-            return None;
-        };
         detach_first(&mut self.rows, self.capacity + list, first);
-        Some(first)
     }
 
     /// Opens a list: each of its indexes is placed by the new tick. Gives how many of them aren't due yet.

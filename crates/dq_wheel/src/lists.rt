@@ -2,7 +2,7 @@
 
 ghost use Rattle.std.specs.Prelude.{◌≡◌, ◌≢◌, ℕ, ◌+◌, ◌*◌, ◌<◌, ◌≤◌, ◌↔◌, length, slice_index, slice_set, map, replicate, IfOk, MatchOption, Option, None, Some};
 ghost use Rattle.std.specs.Int.{bit_at};
-ghost use Rattle.dq_wheel.specs.Lists.{IsLeastIn, IsListEmpty, IsListFilled, IsListOf, StandsIn};
+ghost use Rattle.dq_wheel.specs.Lists.{IsLeastIn, IsListEmpty, IsListFilled, IsListOf, IsLoose, StandsIn, TakesMore};
 ghost use Rattle.dq_wheel.specs.Seen.{home_seen, numbers_seen};
 ghost use Rattle.dq_wheel.specs.Walks.{bit_of};
 ghost use Rattle.dq_wheel.specs.Maps.{IsFirstFilled, IsOccupied, IsOccupiedBut};
@@ -162,10 +162,8 @@ impl<A: Allocator> Lists<A> {
 
     /// Puts a loose index at the end of a list, filed at a tick.
     pub fn link(&mut self, index: usize, list: usize, filed: u64)
-        requires index_in { index < length self.old.homes }
-        requires list_in { list < LISTS }
-        requires loose { slice_index self.old.homes index ≡ 0 }
-        requires shut { self.old.opened ≢ Some list }
+        requires loose { IsLoose self.old.homes index }
+        requires takes { TakesMore self.old.opened list }
         ensures homes { self.new.homes ≡ slice_set self.old.homes index (list + 1) }
         ensures filed { self.new.filed ≡ slice_set self.old.filed index filed }
         ensures moves { self.new.moves ≡ slice_set self.old.moves index 0 }
@@ -210,9 +208,10 @@ impl<A: Allocator> Lists<A> {
             × (self.new.moves ≡ slice_set self.old.moves x 0)
             × (self.new.opened ≡ self.old.opened)) }
     {
-        let Some(first) = self.circles.take_first(list) else {
+        let Some(first) = self.circles.first(list) else {
             return None;
         };
+        self.circles.unlink_first(list, first);
         clear_if_empty(&self.circles, &mut self.maps, list);
         Some(first)
     }

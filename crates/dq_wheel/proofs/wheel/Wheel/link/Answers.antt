@@ -12,12 +12,14 @@ invariant_of-self g c =
       c.self.invariant.1,
     )
 
-pub link-requires-clause-shut : goal.link-requires-clause-shut
-link-requires-clause-shut g c =
-    let same = ap (λ w. w.filing.tick) c.self.view_is in
-    unnamed_shut _ _ _ _ c.self.invariant.1
-    (rw same (record { not_before = c.requires.not_before; in_range = omega (arith, c.requires.in_range); near = omega (arith, c.requires.near) }))
-    c.list_of-list.ensures.value
+pub link-requires-clause-takes : goal.link-requires-clause-takes
+link-requires-clause-takes g c =
+    let same = ap (λ w. w.filing.tick) c.self.view_is in (
+      c.list_of-list.ensures.small,
+      unnamed_shut _ _ _ _ c.self.invariant.1
+          (rw same (record { not_before = c.requires.not_before; in_range = omega (arith, c.requires.in_range); near = omega (arith, c.requires.near) }))
+          c.list_of-list.ensures.value,
+    )
 
 pub returns : goal.returns
 returns g c =
