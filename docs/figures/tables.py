@@ -396,7 +396,20 @@ def renewing():
     return "\n".join(lines)
 
 
+def adapter():
+    """The adapter for tokio beside its peer: times and instructions of a call."""
+    its = runs.rows_of("adapter")
+    heads = ("A call of", "Entries", "peer, ns", "here, ns", "ratio", "peer, instructions", "here, instructions", "ratio")
+    lines = [row(*heads), "|---" + "|--:" * (len(heads) - 1) + "|"]
+    for name, entries, *found in its:
+        peer, here, peer_counted, here_counted = map(float, found)
+        cells = (f"{peer:,.0f}", f"{here:,.0f}", f"{peer / here:.1f}", f"{peer_counted:,.0f}", f"{here_counted:,.0f}", f"{peer_counted / here_counted:.1f}")
+        lines.append(row(name, f"{int(entries):,}", *cells))
+    return "\n".join(lines)
+
+
 TABLES = {
+    "adapter": adapter,
     "pieces": pieces,
     "beside": beside,
     "renewing": renewing,
