@@ -7,9 +7,9 @@ ghost use Rattle.dq_lasting.specs.Answers.{IsLastingConfig, LastingIsMade, IsOfP
 
 use crate::config::{LastingConfig, SHARD_LIMIT};
 use crate::shard::LastingShard;
-use dq_core::{CoreConfig, CoreError, DelayCore};
+use dq_core::{CoreConfig, CoreError};
 use dq_ticks::{CAPACITY_LIMIT, LAST_STAMP};
-use dq_words::Keeper;
+use dq_words::numbered_queue;
 use std::alloc::{AllocError, Allocator, Global};
 use std::marker::Model;
 use std::sync::{Mutex, MutexGuard, Wait};
@@ -58,15 +58,12 @@ fn shard_of<T: Drop, A: Allocator + Clone + Drop>(
     ensures stamps { IfOk result (λ s. s.core.slots.last_stamp ≡ config.now.last_stamp) }
     ensures open { IfOk result (λ s. (s.takes ≡ true) × (s.core.noted ≡ 0)) }
 {
-    let Ok(keeper) = Keeper::new(alloc.clone()?, config.capacity) else {
-        return Err(AllocError);
-    };
     let core = CoreConfig {
         shard: number as u32,
         capacity: config.capacity,
         last_stamp: config.last_stamp,
     };
-    match DelayCore::new(alloc, core, keeper) {
+    match numbered_queue(alloc, core) {
         Ok(core) => Ok(LastingShard::new(core)),
         Err(_) => Err(AllocError),
     }
