@@ -1,5 +1,5 @@
 //! Shards behind locks, each renewed by itself.
-ghost use Rattle.std.specs.Prelude.{◌≡◌, ◌↔◌, ◌<◌, ◌≤◌, IsTrue, IfOk, length, vec_len, vec_capacity, true};
+ghost use Rattle.std.specs.Prelude.{◌≡◌, ◌<◌, ◌≤◌, IfOk, length, vec_len, vec_capacity, true};
 ghost use Rattle.std.specs.Sync.Mutex.{mutex_guard_value};
 ghost use Rattle.dq_core.specs.Core.{machine};
 ghost use Rattle.dq_lasting.specs.declared.config.TheConstants.{SHARD_LIMIT};
@@ -8,7 +8,6 @@ ghost use Rattle.dq_lasting.specs.Answers.{IsLastingConfig, LastingIsMade, IsOfP
 use crate::config::{LastingConfig, SHARD_LIMIT};
 use crate::shard::LastingShard;
 use dq_core::{CoreConfig, CoreError};
-use dq_ticks::{CAPACITY_LIMIT, LAST_STAMP};
 use dq_words::numbered_queue;
 use std::alloc::{AllocError, Allocator, Global};
 use std::marker::Model;
@@ -32,17 +31,6 @@ impl<T, A: Allocator> Model for LastingQueue<T, A> {
     ghost view = { λ q. vec_len q.shards };
 
     ghost invariant = { λ q. (2 ≤ vec_len q.shards) × (vec_len q.shards ≤ SHARD_LIMIT) };
-}
-
-fn is_config(config: &LastingConfig) -> bool
-    ensures { IsTrue result ↔ IsLastingConfig config.now }
-{
-    2 <= config.shards
-        && config.shards <= SHARD_LIMIT
-        && 0 < config.capacity
-        && config.capacity <= CAPACITY_LIMIT
-        && 0 < config.last_stamp
-        && config.last_stamp <= LAST_STAMP
 }
 
 // One shard, with nothing in it.
@@ -94,9 +82,9 @@ impl<T: Drop, A: Allocator + Clone + Drop> LastingQueue<T, A> {
     pub fn new(alloc: A, config: LastingConfig) -> Result<LastingQueue<T, A>, CoreError>
         ensures { LastingIsMade config result }
     {
-        if !is_config(&config) {
+        let Ok(()) = config.check() else {
             return Err(CoreError::BadConfig);
-        }
+        };
         match row_of(alloc, &config) {
             Ok(shards) => Ok(LastingQueue { shards }),
             Err(AllocError) => Err(CoreError::NoMemory),
