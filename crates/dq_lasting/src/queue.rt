@@ -1,5 +1,5 @@
 //! Shards behind locks, each renewed by itself.
-ghost use Rattle.std.specs.Prelude.{◌≡◌, ◌↔◌, ◌<◌, ◌≤◌, IsTrue, IfOk, length, vec_len, vec_capacity, true};
+ghost use Rattle.std.specs.Prelude.{◌≡◌, ◌<◌, ◌≤◌, IfOk, length, vec_len, vec_capacity, true};
 ghost use Rattle.std.specs.Sync.Mutex.{mutex_guard_value};
 ghost use Rattle.dq_core.specs.Core.{machine};
 ghost use Rattle.dq_lasting.specs.declared.config.TheConstants.{SHARD_LIMIT};
@@ -7,9 +7,8 @@ ghost use Rattle.dq_lasting.specs.Answers.{IsLastingConfig, LastingIsMade, IsOfP
 
 use crate::config::{LastingConfig, SHARD_LIMIT};
 use crate::shard::LastingShard;
-use dq_core::{CoreConfig, CoreError, DelayCore};
-use dq_ticks::{CAPACITY_LIMIT, LAST_STAMP};
-use dq_words::Keeper;
+use dq_core::{CoreConfig, CoreError};
+use dq_words::numbered_queue;
 use std::alloc::{AllocError, Allocator, Global};
 use std::marker::Model;
 use std::sync::{Mutex, MutexGuard, Wait};
@@ -34,17 +33,6 @@ impl<T, A: Allocator> Model for LastingQueue<T, A> {
     ghost invariant = { λ q. (2 ≤ vec_len q.shards) × (vec_len q.shards ≤ SHARD_LIMIT) };
 }
 
-fn is_config(config: &LastingConfig) -> bool
-    ensures { IsTrue result ↔ IsLastingConfig config.now }
-{
-    2 <= config.shards
-        && config.shards <= SHARD_LIMIT
-        && 0 < config.capacity
-        && config.capacity <= CAPACITY_LIMIT
-        && 0 < config.last_stamp
-        && config.last_stamp <= LAST_STAMP
-}
-
 // One shard, with nothing in it.
 fn shard_of<T: Drop, A: Allocator + Clone + Drop>(
     alloc: A,
@@ -58,15 +46,12 @@ fn shard_of<T: Drop, A: Allocator + Clone + Drop>(
     ensures stamps { IfOk result (λ s. s.core.slots.last_stamp ≡ config.now.last_stamp) }
     ensures open { IfOk result (λ s. (s.takes ≡ true) × (s.core.noted ≡ 0)) }
 {
-    let Ok(keeper) = Keeper::new(alloc.clone()?, config.capacity) else {
-        return Err(AllocError);
-    };
     let core = CoreConfig {
         shard: number as u32,
         capacity: config.capacity,
         last_stamp: config.last_stamp,
     };
-    match DelayCore::new(alloc, core, keeper) {
+    match numbered_queue(alloc, core) {
         Ok(core) => Ok(LastingShard::new(core)),
         Err(_) => Err(AllocError),
     }
@@ -97,9 +82,9 @@ impl<T: Drop, A: Allocator + Clone + Drop> LastingQueue<T, A> {
     pub fn new(alloc: A, config: LastingConfig) -> Result<LastingQueue<T, A>, CoreError>
         ensures { LastingIsMade config result }
     {
-        if !is_config(&config) {
+        let Ok(()) = config.check() else {
             return Err(CoreError::BadConfig);
-        }
+        };
         match row_of(alloc, &config) {
             Ok(shards) => Ok(LastingQueue { shards }),
             Err(AllocError) => Err(CoreError::NoMemory),

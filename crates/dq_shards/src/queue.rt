@@ -10,9 +10,9 @@ ghost use Rattle.dq_shards.specs.Answers.{IsQueueConfig, QueueIsMade, IsNewShard
 use crate::errors::{QueueConfig, QueueError, SHARD_LIMIT};
 use crate::locked::LockedShard;
 use crate::state::ShardState;
-use dq_core::{CoreConfig, CoreError, DelayCore};
+use dq_core::{CoreConfig, CoreError};
 use dq_ticks::{CAPACITY_LIMIT, LAST_STAMP};
-use dq_words::{Caller, Keeper};
+use dq_words::{Caller, numbered_queue};
 use std::alloc::{AllocError, Allocator, Global};
 use std::marker::Model;
 use std::sync::{Mutex, Wait};
@@ -59,15 +59,12 @@ fn shard_of<T: Drop, A: Allocator + Clone + Drop>(
     requires config { IsQueueConfig config.now }
     ensures { IfOk result (λ s. IsNewShard config.now number s) }
 {
-    let Ok(keeper) = Keeper::new(alloc.clone()?, config.capacity) else {
-        return Err(AllocError);
-    };
     let core = CoreConfig {
         shard: number as u32,
         capacity: config.capacity,
         last_stamp: config.last_stamp,
     };
-    match DelayCore::new(alloc, core, keeper) {
+    match numbered_queue(alloc, core) {
         Ok(core) => Ok(ShardState::new(core)),
         Err(_) => Err(AllocError),
     }

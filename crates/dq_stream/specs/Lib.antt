@@ -1,4 +1,5 @@
 pub mod Answers
+pub mod EachPoll
 pub mod Endings
 pub mod Gives
 pub mod Items

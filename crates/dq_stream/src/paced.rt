@@ -1,14 +1,12 @@
 //! The stream of a shard's expired entries that makes at most so many steps a poll.
-ghost use Rattle.std.specs.Prelude.{◌≡◌, ℕ, ⊤, true, false, [], IfSome, OnSome, ◌⊎◌};
-ghost use Rattle.dq_core.specs.Core.{machine};
-ghost use Rattle.dq_core.specs.Machine.{NoneLinked};
+ghost use Rattle.std.specs.Prelude.{◌≡◌, ℕ, ⊤, true, [], IfSome, OnSome, ◌⊎◌};
 ghost use Rattle.futures.specs.Task.{Covers, Keeps};
 ghost use Rattle.futures.specs.Poll.{IfReady, OnPending};
 ghost use Rattle.futures.specs.Runs.{After, Within};
-ghost use Rattle.dq_stream.specs.Items.{is_over};
+ghost use Rattle.dq_stream.specs.EachPoll.{EndsWhereEmpty, StaysOver, EndsByFault, StaysOfShard, AtToldTick};
 ghost use Rattle.dq_stream.specs.Paces.{PacedPolls, PacedAnswersAt, IsAtWork};
 ghost use Rattle.dq_stream.specs.PacedGives.{PacedGives};
-ghost use Rattle.dq_stream.specs.Answers.{IfGiven, IfFault, OnEnd, IsLeastDue, IsParkedAtWake, IsFault};
+ghost use Rattle.dq_stream.specs.Answers.{IfGiven, IsLeastDue, IsParkedAtWake};
 
 use crate::fault::StreamFault;
 use crate::parking::wait;
@@ -76,23 +74,18 @@ impl<'q, T: Drop, S: TickSource, R: Wait, A: Allocator> ExpiredStream<'q, T, S, 
         ensures registered { OnPending result (Covers cx.new (λ s. s ≡ self.new.name.id)) }
 
         // It gives nothing where nothing is linked. Once it has ended for good nothing changes any more.
-        ensures empty { OnEnd result
-            ((self.old.ended ≡ true) ⊎ NoneLinked (machine shard.new.core)) }
-        ensures over { self.old.ended ≡ true
-            → (result ≡ Poll.Ready None) × (self.new ≡ self.old) × (shard.new ≡ shard.old) }
+        ensures empty { EndsWhereEmpty self.old result shard.new }
+        ensures over { StaysOver self.old result self.new shard.old shard.new }
 
         // It ends for good after a refused tick, and only then.
-        ensures fault { IfFault result (λ e. IsFault e cx.new self.new.ended) }
-        ensures ends { self.old.ended ≡ false → self.new.ended ≡ is_over result }
+        ensures ends { EndsByFault cx.new self.old result self.new }
 
         // It stays a stream of its shard.
-        ensures stays { (self.new.queue ≡ self.old.queue) × (self.new.shard ≡ self.old.shard)
-            × (self.new.name ≡ self.old.name) × (self.new.rt ≡ self.old.rt) }
+        ensures stays { StaysOfShard self.old self.new }
 
         // All that it does: the shard's own poll in pieces, at a tick that the source told.
-        ensures polls { self.old.ended ≡ false → (tick : ℕ)
-            × S.tells self.old.source tick self.new.source
-            × PacedPolls cx.old cx.new shard.old tick steps.value result shard.new }
+        ensures polls { AtToldTick S.tells self.old self.new
+            (λ tick. PacedPolls cx.old cx.new shard.old tick steps.value result shard.new) }
         ensures kept { Keeps cx.old cx.new }
     {
         if self.ended {
@@ -121,21 +114,17 @@ impl<'q, T: Drop, S: TickSource, R: Wait, A: Allocator> Stream for PacedStream<'
         ensures registered { OnPending result (Covers cx.new (λ s. s ≡ self.new.stream.name.id)) }
 
         // It ends for good after a refused tick, and only then; nothing of it changes any more then.
-        ensures fault { IfFault result (λ e. IsFault e cx.new self.new.stream.ended) }
-        ensures ends { self.old.stream.ended ≡ false → self.new.stream.ended ≡ is_over result }
+        ensures ends { EndsByFault cx.new self.old.stream result self.new.stream }
         ensures over { self.old.stream.ended ≡ true
             → (result ≡ Poll.Ready None) × (self.new ≡ self.old) }
 
         // It stays a stream of its shard, by so many steps.
-        ensures stays { (self.new.stream.queue ≡ self.old.stream.queue)
-            × (self.new.stream.shard ≡ self.old.stream.shard)
-            × (self.new.stream.name ≡ self.old.stream.name)
-            × (self.new.stream.rt ≡ self.old.stream.rt) × (self.new.steps ≡ self.old.steps) }
+        ensures stays { StaysOfShard self.old.stream self.new.stream }
+        ensures steps { self.new.steps ≡ self.old.steps }
 
         // All that it does: so many steps of the shard of its number, at a tick that the source told.
-        ensures polls { self.old.stream.ended ≡ false → (tick : ℕ)
-            × S.tells self.old.stream.source tick self.new.stream.source
-            × PacedAnswersAt T self.old.stream.shard cx.old cx.new tick self.old.steps.value result }
+        ensures polls { AtToldTick S.tells self.old.stream self.new.stream (λ tick.
+            PacedAnswersAt T self.old.stream.shard cx.old cx.new tick self.old.steps.value result) }
 
         // What every stream owes. It may be polled at any time: two of these bind nothing here.
         ensures value { IfReady result (PacedGives T self.old.stream.shard self.old.stream.ended []) }

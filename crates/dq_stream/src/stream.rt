@@ -1,15 +1,12 @@
 //! The stream of a shard's expired entries.
-ghost use Rattle.std.specs.Prelude.{◌≡◌, ◌<◌, ◌≤◌, ℕ, ⊤, true, false, [], Option, Some, None, Err, IfOk, IfErr, IfSome, OnSome, ◌⊎◌};
-ghost use Rattle.dq_core.specs.Core.{machine};
-ghost use Rattle.dq_core.specs.Machine.{NoneLinked};
+ghost use Rattle.std.specs.Prelude.{◌≡◌, ◌<◌, ◌≤◌, ℕ, ⊤, true, false, [], Option, Some, None, Err, IfOk, IfErr, IfSome, OnSome};
 ghost use Rattle.futures.specs.Task.{Covers, Keeps};
 ghost use Rattle.futures.specs.Poll.{IfReady, OnPending};
 ghost use Rattle.futures.specs.Runs.{After, Within};
 ghost use Rattle.dq_shards.specs.declared.errors.QueueError.TheVariants.{Unknown};
 ghost use Rattle.dq_stream.specs.Items.{is_over};
 ghost use Rattle.dq_stream.specs.Polls.{StreamPolls, AnswersAt};
-ghost use Rattle.dq_stream.specs.Gives.{Gives};
-ghost use Rattle.dq_stream.specs.Answers.{IfGiven, IfFault, OnEnd, IsLeastDue, IsParkedAtWake, IsFault};
+ghost use Rattle.dq_stream.specs.Answers.{IfGiven, IsLeastDue, IsParkedAtWake};
 
 use crate::fault::StreamFault;
 use crate::parking::wait;
@@ -67,6 +64,8 @@ impl<'q, T, S, R: Wait, A: Allocator> ExpiredStream<'q, T, S, R, A> {
 }
 
 impl<'q, T: Drop, S: TickSource, R: Wait, A: Allocator> ExpiredStream<'q, T, S, R, A> {
+    ghost use Rattle.dq_stream.specs.EachPoll.{EndsWhereEmpty, StaysOver, EndsByFault, StaysOfShard, AtToldTick};
+
     /// One poll of the stream on a shard whose lock is held, which [`SharedDelayQueue::enter`] gave: what
     /// [`Stream::poll_next`] does under its lock. The shard that it polls is the one in hand.
     ///
@@ -85,23 +84,18 @@ impl<'q, T: Drop, S: TickSource, R: Wait, A: Allocator> ExpiredStream<'q, T, S, 
         ensures registered { OnPending result (Covers cx.new (λ s. s ≡ self.new.name.id)) }
 
         // It gives nothing where nothing is linked. Once it has ended for good nothing changes any more.
-        ensures empty { OnEnd result
-            ((self.old.ended ≡ true) ⊎ NoneLinked (machine shard.new.core)) }
-        ensures over { self.old.ended ≡ true
-            → (result ≡ Poll.Ready None) × (self.new ≡ self.old) × (shard.new ≡ shard.old) }
+        ensures empty { EndsWhereEmpty self.old result shard.new }
+        ensures over { StaysOver self.old result self.new shard.old shard.new }
 
         // It ends for good after a refused tick, and only then.
-        ensures fault { IfFault result (λ e. IsFault e cx.new self.new.ended) }
-        ensures ends { self.old.ended ≡ false → self.new.ended ≡ is_over result }
+        ensures ends { EndsByFault cx.new self.old result self.new }
 
         // It stays a stream of its shard.
-        ensures stays { (self.new.queue ≡ self.old.queue) × (self.new.shard ≡ self.old.shard)
-            × (self.new.name ≡ self.old.name) × (self.new.rt ≡ self.old.rt) }
+        ensures stays { StaysOfShard self.old self.new }
 
         // All that it does: the shard's own poll, at a tick that the source told.
-        ensures polls { self.old.ended ≡ false → (tick : ℕ)
-            × S.tells self.old.source tick self.new.source
-            × StreamPolls cx.old cx.new shard.old tick result shard.new }
+        ensures polls { AtToldTick S.tells self.old self.new
+            (λ tick. StreamPolls cx.old cx.new shard.old tick result shard.new) }
         ensures kept { Keeps cx.old cx.new }
     {
         if self.ended {
@@ -114,6 +108,10 @@ impl<'q, T: Drop, S: TickSource, R: Wait, A: Allocator> ExpiredStream<'q, T, S, 
 }
 
 impl<'q, T: Drop, S: TickSource, R: Wait, A: Allocator> Stream for ExpiredStream<'q, T, S, R, A> {
+    ghost use Rattle.std.specs.Prelude.{◌≡◌};
+    ghost use Rattle.dq_stream.specs.EachPoll.{EndsByFault, StaysOfShard, AtToldTick};
+    ghost use Rattle.dq_stream.specs.Gives.{Gives};
+
     type Item = Result<Expired<T>, StreamFault>;
 
     ghost needs = { λ stream s. s ≡ stream.name.id };
@@ -130,18 +128,15 @@ impl<'q, T: Drop, S: TickSource, R: Wait, A: Allocator> Stream for ExpiredStream
         ensures registered { OnPending result (Covers cx.new (λ s. s ≡ self.new.name.id)) }
 
         // It ends for good after a refused tick, and only then; nothing of it changes any more then.
-        ensures fault { IfFault result (λ e. IsFault e cx.new self.new.ended) }
-        ensures ends { self.old.ended ≡ false → self.new.ended ≡ is_over result }
+        ensures ends { EndsByFault cx.new self.old result self.new }
         ensures over { self.old.ended ≡ true → (result ≡ Poll.Ready None) × (self.new ≡ self.old) }
 
         // It stays a stream of its shard.
-        ensures stays { (self.new.queue ≡ self.old.queue) × (self.new.shard ≡ self.old.shard)
-            × (self.new.name ≡ self.old.name) × (self.new.rt ≡ self.old.rt) }
+        ensures stays { StaysOfShard self.old self.new }
 
         // All that it does: the poll of the shard of its number, at a tick that the source told.
-        ensures polls { self.old.ended ≡ false → (tick : ℕ)
-            × S.tells self.old.source tick self.new.source
-            × AnswersAt T self.old.shard cx.old cx.new tick result }
+        ensures polls { AtToldTick S.tells self.old self.new
+            (λ tick. AnswersAt T self.old.shard cx.old cx.new tick result) }
 
         // What every stream owes. It may be polled at any time: two of these bind nothing here.
         ensures value { IfReady result (Gives T self.old.shard self.old.ended []) }

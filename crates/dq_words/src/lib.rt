@@ -15,5 +15,5 @@ mod tries;
 pub mod views;
 
 pub use caller::Caller;
-pub use front::shared_queue;
+pub use front::{numbered_queue, shared_queue};
 pub use keeper::{HANDLE_LIMIT, Keeper, WordsError};

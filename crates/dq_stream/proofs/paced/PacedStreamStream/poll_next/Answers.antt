@@ -11,4 +11,4 @@ pub returns-in-Ok-clause-rest : goal.returns-in-Ok-clause-rest
 returns-in-Ok-clause-rest g c =
     let once = c.poll_some_locked-answer.ensures in
     rest c.args.cx.now c.poll_some_locked-answer.new.cx c.in-Ok.shard _ _ _ c.law.ensures c.law-else-self.ensures c.in-Ok.ensures.number
-    _ _ _ _ once.stays.1 (λ over. (once.over over).0) once.ends (λ goes. ((once.polls goes).0, (once.polls goes).2))
+    _ _ _ _ once.stays.1 (λ over. (once.over over).0) once.ends.1 (λ goes. ((once.polls goes).0, (once.polls goes).2))
