@@ -236,8 +236,15 @@ impl Link {
         }
     }
 
-    /// A step of a caller on an entry, under the stamp that it has at the time.
+    /// A step of a caller on an entry, under the stamp that it is seen to have; none where it is refused.
     #[inline]
+    pub fn step_at_once(&self, caller: &mut Caller, key: &Key, step: Step) -> Option<u64> {
+        let stamp = self.stamp(key)?;
+        let deadline = step.make(caller, &key.stamped(stamp)).ok()?;
+        Some(self.made(step, deadline))
+    }
+
+    /// A step of a caller on an entry, under the stamp that it has at the time.
     pub fn step(&self, caller: &mut Caller, key: &Key, step: Step) -> Result<u64, Refusal> {
         let word = self.stamps.get(usize::from(key.slot)).ok_or(Refusal::Ended)?;
         loop {
