@@ -121,7 +121,7 @@ impl Handle {
     fn step_by_links(&self, key: &Key, step: Step) -> Result<u64, EntryError> {
         let links = self.shared.links();
         let place = links.moved.get(key).unwrap_or(key);
-        let link = Arc::clone(links.of(place.shard).ok_or(EntryError::Ended)?);
+        let link = Arc::clone(links.of(place.shard()).ok_or(EntryError::Ended)?);
         let mut callers = link.callers();
         let done = match callers.last_mut() {
             Some(caller) => link.step(caller, place, step),

@@ -33,7 +33,7 @@ pub(crate) fn step_at_once(shared: &Shared, key: &Key, step: Step) -> Option<u64
     SEATS
         .try_with(|seats| {
             let mut seats = seats.try_borrow_mut().ok()?;
-            let Seat { queue, link, caller, .. } = seats.of(key.shard)?;
+            let Seat { queue, link, caller, .. } = seats.of(key.shard())?;
             if *queue != shared.id {
                 return None;
             }
@@ -48,7 +48,7 @@ pub(crate) fn step(shared: &Shared, key: &Key, step: Step) -> Option<Result<u64,
     SEATS
         .try_with(|seats| {
             let mut seats = seats.try_borrow_mut().ok()?;
-            let Seat { queue, link, caller, .. } = seats.of(key.shard)?;
+            let Seat { queue, link, caller, .. } = seats.of(key.shard())?;
             // A handle takes no key of another queue.
             if *queue != shared.id {
                 return Some(Err(Refusal::Ended));
