@@ -10,6 +10,7 @@ const PIECE: u32 = 8;
 const WHOLE: u32 = u32::MAX;
 
 /// The steps that are left of a task's poll.
+#[derive(Clone, Copy)]
 pub(crate) struct Budget {
     left: u32,
     /// The most steps of the next call.

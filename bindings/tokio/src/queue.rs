@@ -49,8 +49,9 @@ pub struct DelayQueue<T> {
     has_resets: bool,
     /// Whether the clock was looked at since the task was woken. Where more came due meanwhile, the timer tells it.
     has_looked: bool,
-    /// The most steps of a poll.
+    /// The most steps of a poll, as they were set, and as a poll begins with them.
     budget: u32,
+    fresh: Budget,
 }
 
 // No value is ever pinned.
@@ -98,6 +99,7 @@ impl<T> DelayQueue<T> {
             has_resets: false,
             has_looked: false,
             budget: DEFAULT_BUDGET,
+            fresh: Budget::of_or_whole(DEFAULT_BUDGET),
         }
     }
 
@@ -131,6 +133,7 @@ impl<T> DelayQueue<T> {
     /// ```
     pub fn set_budget(&mut self, steps: u32) {
         self.budget = steps;
+        self.fresh = Budget::of_or_whole(steps);
     }
 
     /// Puts a value in that comes out at `when`, or at once where `when` is over. Constant time, but that the queue may grow.
@@ -177,7 +180,7 @@ impl<T> DelayQueue<T> {
             // The task waited, so what is due came due since the clock was looked at.
             self.look();
         }
-        let mut budget = Budget::of_or_whole(self.budget);
+        let mut budget = self.fresh;
         loop {
             match self.parts.poll(self.reached, &mut budget) {
                 Found::Out(out) => {
