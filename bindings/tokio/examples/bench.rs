@@ -7,7 +7,9 @@
 //! which are those within `Stopwatch::time`.
 
 use std::hint::black_box;
-use std::task::{Context, Waker};
+use std::sync::atomic::{AtomicBool, Ordering::Relaxed};
+use std::sync::Arc;
+use std::task::{Context, Poll, Wake, Waker};
 use std::time::Duration;
 use tokio::time::Instant;
 
@@ -51,10 +53,37 @@ impl Clock {
     }
 }
 
-struct NoWake;
+/// A task that is polled by hand: whether it was woken.
+struct Task {
+    is_woken: AtomicBool,
+}
 
-impl std::task::Wake for NoWake {
-    fn wake(self: std::sync::Arc<Self>) {}
+impl Wake for Task {
+    fn wake(self: Arc<Self>) {
+        self.wake_by_ref();
+    }
+
+    fn wake_by_ref(self: &Arc<Self>) {
+        self.is_woken.store(true, Relaxed);
+    }
+}
+
+impl Task {
+    fn new() -> Arc<Task> {
+        Arc::new(Task { is_woken: AtomicBool::new(false) })
+    }
+
+    /// Polls as a runtime does: again where the poll itself woke the task, so that no work is left to a later one.
+    fn run(self: &Arc<Self>, mut poll: impl FnMut(&mut Context<'_>)) {
+        let waker = Waker::from(self.clone());
+        loop {
+            self.is_woken.store(false, Relaxed);
+            poll(&mut Context::from_waker(&waker));
+            if !self.is_woken.load(Relaxed) {
+                return;
+            }
+        }
+    }
 }
 
 macro_rules! rows {
@@ -118,27 +147,33 @@ macro_rules! rows {
             }
 
             pub fn poll(entries: usize, clock: &Clock, dice: &mut Dice, watch: &mut Stopwatch) {
-                let waker = Waker::from(std::sync::Arc::new(NoWake));
+                let task = Task::new();
                 while watch.calls < CALLS {
                     let (mut queue, _) = filled(entries, dice);
-                    while !queue.is_empty() {
-                        clock.pass(50);
-                        let before = queue.len();
-                        let mut cx = Context::from_waker(&waker);
-                        watch.time(0, || {
-                            while let std::task::Poll::Ready(Some(out)) = queue.poll_expired(&mut cx) {
+                    drain(&mut queue, &task, clock, watch);
+                }
+            }
+
+            /// Takes out what is due every 50 ms, until nothing is left.
+            pub fn drain(queue: &mut Queue, task: &Arc<Task>, clock: &Clock, watch: &mut Stopwatch) {
+                while !queue.is_empty() {
+                    clock.pass(50);
+                    let before = queue.len();
+                    watch.time(0, || {
+                        task.run(|cx| {
+                            while let Poll::Ready(Some(out)) = queue.poll_expired(cx) {
                                 black_box(out.into_inner());
                             }
-                        });
-                        watch.calls += before - queue.len();
-                    }
+                        })
+                    });
+                    watch.calls += before - queue.len();
                 }
             }
 
             /// Connections with 30 s of idle time: each second a part of them is heard of, and the queue is polled.
             pub fn idle(entries: usize, clock: &Clock, dice: &mut Dice, watch: &mut Stopwatch) {
                 let (mut queue, keys) = filled(entries, dice);
-                let waker = Waker::from(std::sync::Arc::new(NoWake));
+                let task = Task::new();
                 keys.iter().for_each(|key| queue.reset(key, Duration::from_secs(30)));
                 let mut at = 0;
                 while watch.calls < CALLS.max(2 * entries) {
@@ -149,7 +184,7 @@ macro_rules! rows {
                             at = (at + 1) % keys.len();
                             queue.reset(&keys[at], Duration::from_secs(30));
                         }
-                        assert!(queue.poll_expired(&mut Context::from_waker(&waker)).is_pending());
+                        task.run(|cx| assert!(queue.poll_expired(cx).is_pending()));
                     });
                 }
             }
@@ -162,21 +197,11 @@ rows!(peers, tokio_util::time::delay_queue);
 
 /// The row of the polls, where a poll makes all of its steps.
 fn poll_whole(entries: usize, clock: &Clock, dice: &mut Dice, watch: &mut Stopwatch) {
-    let waker = Waker::from(std::sync::Arc::new(NoWake));
+    let task = Task::new();
     while watch.calls < CALLS {
         let (mut queue, _) = ours::filled(entries, dice);
         queue.set_budget(u32::MAX);
-        while !queue.is_empty() {
-            clock.pass(50);
-            let before = queue.len();
-            let mut cx = Context::from_waker(&waker);
-            watch.time(0, || {
-                while let std::task::Poll::Ready(Some(out)) = queue.poll_expired(&mut cx) {
-                    black_box(out.into_inner());
-                }
-            });
-            watch.calls += before - queue.len();
-        }
+        ours::drain(&mut queue, &task, clock, watch);
     }
 }
 
@@ -197,7 +222,7 @@ fn extend(entries: usize, _clock: &Clock, dice: &mut Dice, watch: &mut Stopwatch
 fn idle_by_handle(entries: usize, clock: &Clock, dice: &mut Dice, watch: &mut Stopwatch) {
     let (mut queue, keys) = ours::filled(entries, dice);
     let handle = queue.handle();
-    let waker = Waker::from(std::sync::Arc::new(NoWake));
+    let task = Task::new();
     keys.iter().for_each(|key| assert!(handle.extend(key, Duration::from_secs(30)).is_ok()));
     let mut at = 0;
     while watch.calls < CALLS.max(2 * entries) {
@@ -208,7 +233,7 @@ fn idle_by_handle(entries: usize, clock: &Clock, dice: &mut Dice, watch: &mut St
                 at = (at + 1) % keys.len();
                 black_box(handle.extend(&keys[at], Duration::from_secs(30)).is_ok());
             }
-            assert!(queue.poll_expired(&mut Context::from_waker(&waker)).is_pending());
+            task.run(|cx| assert!(queue.poll_expired(cx).is_pending()));
         });
     }
 }

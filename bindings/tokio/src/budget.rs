@@ -10,34 +10,43 @@ const PIECE: u32 = 8;
 const WHOLE: u32 = u32::MAX;
 
 /// The steps that are left of a task's poll.
+#[derive(Clone, Copy)]
 pub(crate) struct Budget {
     left: u32,
+    /// The most steps of the next call.
+    piece: u32,
 }
 
 impl Budget {
     /// So many steps, at least one: with none a task would come again for ever.
+    #[inline]
     pub fn of(steps: u32) -> Budget {
-        Budget { left: steps.max(1) }
+        Budget { left: steps.max(1), piece: PIECE }
     }
 
-    /// The steps of the next call, none where all are given. A queue's poll takes them so that a whole poll's calls are whole.
+    /// The same, but that without a limit each call is a whole poll.
     #[inline]
-    pub fn piece_or_whole(&mut self) -> Option<u32> {
-        if self.left == WHOLE {
-            return Some(WHOLE);
-        }
-        self.piece()
+    pub fn of_or_whole(steps: u32) -> Budget {
+        let piece = if steps == WHOLE { WHOLE } else { PIECE };
+        Budget { left: steps.max(1), piece }
     }
 
     /// The steps of the next call, none where all are given.
     #[inline]
     pub fn piece(&mut self) -> Option<u32> {
-        let piece = self.left.min(PIECE);
-        self.left -= piece;
-        if piece > 0 {
-            Some(piece)
-        } else {
-            None
+        let piece = self.left.min(self.piece);
+        if piece == 0 {
+            return None;
         }
+        if piece != WHOLE {
+            self.left -= piece;
+        }
+        Some(piece)
+    }
+
+    /// Notes that a call made all of its steps: the next one is given twice as many, so that there are few calls.
+    #[inline]
+    pub fn grow(&mut self) {
+        self.piece = self.piece.saturating_mul(2);
     }
 }

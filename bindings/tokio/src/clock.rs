@@ -1,5 +1,6 @@
 //! Moments of tokio's clock as ticks of one millisecond.
 
+use hontkhale::LAST_TICK;
 use std::time::Duration;
 use tokio::time::Instant;
 
@@ -34,19 +35,20 @@ impl Clock {
     #[inline]
     pub fn tick_over(&self) -> u64 {
         let since = Instant::now().saturating_duration_since(self.start);
-        since.as_secs().saturating_mul(1_000).saturating_add(u64::from(since.subsec_millis()))
+        since.as_secs().min(LAST_TICK) * 1_000 + u64::from(since.subsec_millis())
     }
 
-    /// The moment of a tick.
+    /// The moment of a tick. A queue's ticks are at most 139 years, so there is one; and as it can't panic, it isn't reckoned
+    /// where a caller drops it.
     #[inline]
     pub fn moment(&self, tick: u64) -> Instant {
-        self.start + Duration::from_millis(tick)
+        self.start.checked_add(Duration::from_millis(tick)).unwrap_or(self.start)
     }
 }
 
-/// Whole milliseconds, rounded up.
+/// Whole milliseconds, rounded up; beyond the last tick they may be fewer, and beyond it still.
 #[inline]
 fn millis_up(since: Duration) -> u64 {
     let millis = (since.subsec_nanos() + NANOS_PER_MILLI - 1) / NANOS_PER_MILLI;
-    since.as_secs().saturating_mul(1_000).saturating_add(u64::from(millis))
+    since.as_secs().min(LAST_TICK) * 1_000 + u64::from(millis)
 }

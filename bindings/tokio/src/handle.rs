@@ -99,6 +99,15 @@ impl Handle {
     /// The step from this thread's seat at the entry's part.
     #[inline]
     fn step(&self, key: &Key, step: Step) -> Result<u64, EntryError> {
+        match seats::step_at_once(&self.shared, key, step) {
+            Some(deadline) => Ok(deadline),
+            None => self.step_again(key, step),
+        }
+    }
+
+    /// The step anew, where it wasn't made at once: it may be refused, or the entry is reset or was moved meanwhile.
+    #[cold]
+    fn step_again(&self, key: &Key, step: Step) -> Result<u64, EntryError> {
         match seats::step(&self.shared, key, step) {
             Some(Ok(deadline)) => Ok(deadline),
             Some(Err(Refusal::TooFar)) => Err(EntryError::TooFar),
@@ -112,7 +121,7 @@ impl Handle {
     fn step_by_links(&self, key: &Key, step: Step) -> Result<u64, EntryError> {
         let links = self.shared.links();
         let place = links.moved.get(key).unwrap_or(key);
-        let link = Arc::clone(links.of(place.shard).ok_or(EntryError::Ended)?);
+        let link = Arc::clone(links.of(place.shard()).ok_or(EntryError::Ended)?);
         let mut callers = link.callers();
         let done = match callers.last_mut() {
             Some(caller) => link.step(caller, place, step),

@@ -4,30 +4,65 @@ use tokio::time::Instant;
 
 /// The name of an entry, from its insert to its end: resets, growth and [`compact`](crate::DelayQueue::compact) leave it
 /// good, and no key is ever taken for another entry.
-#[derive(Clone, Copy, Debug, PartialEq, Eq, Hash)]
+#[derive(Clone, Copy, PartialEq, Eq, Hash)]
 pub struct Key {
-    pub(crate) shard: u32,
-    pub(crate) born: u32,
-    pub(crate) part: u16,
-    pub(crate) slot: u16,
+    /// The number of the part in the high half, and the stamp of the entry's birth: a key that was just made is copied from two
+    /// stores, and not from four, for which a wider load would wait.
+    name: u64,
+    /// The part's place in the row in the high half, and the slot.
+    place: u32,
 }
 
 impl Key {
     /// The name of an entry of a part by what the part's own key says. A part has at most 65,536 slots.
+    #[inline]
     pub(crate) fn of(part: usize, key: hontkhale::Key) -> Key {
-        Key { shard: key.shard(), born: key.born(), part: part as u16, slot: key.index() as u16 }
+        let name = u64::from(key.shard()) << 32 | u64::from(key.born());
+        Key { name, place: (part as u32) << 16 | u32::from(key.index() as u16) }
+    }
+
+    #[inline]
+    pub(crate) fn shard(&self) -> u32 {
+        (self.name >> 32) as u32
+    }
+
+    #[inline]
+    pub(crate) fn born(&self) -> u32 {
+        self.name as u32
+    }
+
+    /// The part's place in the row.
+    #[inline]
+    pub(crate) fn part(&self) -> usize {
+        (self.place >> 16) as usize
+    }
+
+    #[inline]
+    pub(crate) fn slot(&self) -> usize {
+        usize::from(self.place as u16)
     }
 
     /// The part's key under which its owner finds the entry: a queue takes the key of birth through all resets.
     #[inline]
     pub(crate) fn inner(&self) -> hontkhale::Key {
-        self.stamped(self.born)
+        self.stamped(self.born())
     }
 
     /// The part's key of a stamp.
     #[inline]
     pub(crate) fn stamped(&self, stamp: u32) -> hontkhale::Key {
-        hontkhale::Key::from_parts(self.shard, u32::from(self.slot), self.born, stamp)
+        hontkhale::Key::from_parts(self.shard(), self.slot() as u32, self.born(), stamp)
+    }
+}
+
+impl fmt::Debug for Key {
+    fn fmt(&self, f: &mut fmt::Formatter<'_>) -> fmt::Result {
+        f.debug_struct("Key")
+            .field("shard", &self.shard())
+            .field("born", &self.born())
+            .field("part", &self.part())
+            .field("slot", &self.slot())
+            .finish()
     }
 }
 

@@ -1,7 +1,7 @@
 //! A part of the queue: a queue of hontkhale's, of a fixed number of slots and with a shard number of its own.
 
 use crate::shared::{Link, Shared};
-use hontkhale::Config;
+use hontkhale::{Config, Piece, Turn};
 use std::sync::Arc;
 
 /// The slots of the first part. Each later one has twice as many, up to hontkhale's limit.
@@ -75,6 +75,21 @@ impl<T> Part<T> {
     pub fn count_free(&mut self) {
         self.free =
             if self.is_left { 0 } else { self.slots - self.worn - self.queue.len().min(self.slots - self.worn) };
+    }
+
+    /// Polls the queue at a tick, by at most so many steps.
+    #[inline]
+    pub fn poll(&mut self, tick: u64, most: u32) -> Piece<T> {
+        self.noted = self.noted.max(tick);
+        // Until there is an answer nothing is known of it, so it is polled on.
+        self.is_stale = true;
+        let piece = self.queue.poll_some(tick, most).expect("a tick that the clock showed");
+        match &piece {
+            Piece::Answer(Turn::Out(_)) => self.note_left_slot(),
+            Piece::Answer(_) => self.is_stale = false,
+            _ => {}
+        }
+        piece
     }
 
     /// Notes that an entry left its slot.

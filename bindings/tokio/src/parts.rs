@@ -292,33 +292,41 @@ impl<T> Parts<T> {
             }
             let part = self.row[spot].as_mut().expect("only a part has a wake");
             if wake > reached && part.noted >= reached && !part.is_stale {
-                self.tick = self.tick.max(reached);
-                return Found::Waiting(wake);
+                return self.waiting(wake, reached);
             }
-            let most = match budget.piece_or_whole() {
+            let most = match budget.piece() {
                 Some(most) => most,
                 None => return Found::Working,
             };
-            let limit = reached.min(second);
-            part.noted = part.noted.max(limit);
-            part.is_stale = false;
-            match part.queue.poll_some(limit, most) {
-                Ok(Piece::Answer(Turn::Out(taken))) => {
-                    part.note_left_slot();
-                    self.left = spot;
-                    let place = Key::of(spot, taken.key());
-                    let deadline = taken.deadline();
-                    self.wakes[spot] = deadline;
-                    self.tick = deadline;
-                    return Found::Out(self.ended(place, deadline, taken.into_inner()));
+            match part.poll(reached.min(second), most) {
+                Piece::Answer(Turn::Out(taken)) => return self.out(spot, taken),
+                Piece::Answer(Turn::Waiting { next }) => {
+                    let wake = wake.max(next);
+                    self.wakes[spot] = wake;
+                    if reached < wake && wake < second {
+                        return self.waiting(wake, reached);
+                    }
                 }
-                Ok(Piece::Answer(Turn::Waiting { next })) => self.wakes[spot] = wake.max(next),
-                Ok(Piece::Answer(_)) => self.wakes[spot] = NEVER,
-                // Nothing is known of it yet, so it is polled on.
-                Ok(_) => part.is_stale = true,
-                Err(error) => panic!("the clock is beyond the last tick: {}", error),
+                Piece::Answer(_) => self.wakes[spot] = NEVER,
+                _ => budget.grow(),
             }
         }
+    }
+
+    #[inline]
+    fn waiting(&mut self, wake: u64, reached: u64) -> Found<T> {
+        self.tick = self.tick.max(reached);
+        Found::Waiting(wake)
+    }
+
+    /// What came out of a part.
+    #[inline]
+    fn out(&mut self, spot: usize, taken: hontkhale::Expired<T>) -> Found<T> {
+        let deadline = taken.deadline();
+        self.left = spot;
+        self.wakes[spot] = deadline;
+        self.tick = deadline;
+        Found::Out(self.ended(Key::of(spot, taken.key()), deadline, taken.into_inner()))
     }
 
     fn idle(&mut self) -> Found<T> {
@@ -390,8 +398,8 @@ impl<T> Parts<T> {
         match reset {
             Ok(new) => {
                 part.is_stale = true;
-                let new = Key::of(usize::from(place.part), new);
-                let wake = &mut self.wakes[usize::from(place.part)];
+                let new = Key::of(place.part(), new);
+                let wake = &mut self.wakes[place.part()];
                 *wake = (*wake).min(when);
                 // The part moved it out of a worn slot.
                 if new != place {
@@ -420,7 +428,7 @@ impl<T> Parts<T> {
         let part = self.part_mut(&place)?;
         let taken = part.queue.try_remove(&place.inner())?;
         part.note_left_slot();
-        self.left = usize::from(place.part);
+        self.left = place.part();
         let deadline = taken.deadline();
         Some(self.ended(place, deadline, taken.into_inner()))
     }
@@ -567,8 +575,8 @@ impl<T> Parts<T> {
     }
 
     fn part(&self, place: &Key) -> Option<&Part<T>> {
-        let part = self.row.get(usize::from(place.part))?.as_ref()?;
-        if part.shard == place.shard {
+        let part = self.row.get(place.part())?.as_ref()?;
+        if part.shard == place.shard() {
             Some(part)
         } else {
             None
@@ -577,8 +585,8 @@ impl<T> Parts<T> {
 
     #[inline]
     fn part_mut(&mut self, place: &Key) -> Option<&mut Part<T>> {
-        let part = self.row.get_mut(usize::from(place.part))?.as_mut()?;
-        if part.shard == place.shard {
+        let part = self.row.get_mut(place.part())?.as_mut()?;
+        if part.shard == place.shard() {
             Some(part)
         } else {
             None

@@ -49,8 +49,9 @@ pub struct DelayQueue<T> {
     has_resets: bool,
     /// Whether the clock was looked at since the task was woken. Where more came due meanwhile, the timer tells it.
     has_looked: bool,
-    /// The most steps of a poll.
+    /// The most steps of a poll, as they were set, and as a poll begins with them.
     budget: u32,
+    fresh: Budget,
 }
 
 // No value is ever pinned.
@@ -98,6 +99,7 @@ impl<T> DelayQueue<T> {
             has_resets: false,
             has_looked: false,
             budget: DEFAULT_BUDGET,
+            fresh: Budget::of_or_whole(DEFAULT_BUDGET),
         }
     }
 
@@ -131,6 +133,7 @@ impl<T> DelayQueue<T> {
     /// ```
     pub fn set_budget(&mut self, steps: u32) {
         self.budget = steps;
+        self.fresh = Budget::of_or_whole(steps);
     }
 
     /// Puts a value in that comes out at `when`, or at once where `when` is over. Constant time, but that the queue may grow.
@@ -173,7 +176,11 @@ impl<T> DelayQueue<T> {
     /// where the [budget](DelayQueue::set_budget) is spent, and the task is woken at once; none where the queue is empty, and
     /// the task is woken by an insert.
     pub fn poll_expired(&mut self, cx: &mut Context<'_>) -> Poll<Option<Expired<T>>> {
-        let mut budget = Budget::of(self.budget);
+        if self.armed > 0 && self.armed < NEVER {
+            // The task waited, so what is due came due since the clock was looked at.
+            self.look();
+        }
+        let mut budget = self.fresh;
         loop {
             match self.parts.poll(self.reached, &mut budget) {
                 Found::Out(out) => {
@@ -185,22 +192,26 @@ impl<T> DelayQueue<T> {
                     return Poll::Ready(None);
                 }
                 Found::Working => {
-                    // It is woken already, so nothing that comes sooner has to.
+                    // It is woken already, so nothing that comes sooner has to. Other tasks run before it comes again.
                     self.armed = 0;
+                    self.has_looked = false;
                     cx.waker().wake_by_ref();
                     return Poll::Pending;
                 }
                 Found::Waiting(wake) if self.has_looked => ready!(self.poll_sleep(wake, cx)),
-                Found::Waiting(_) => {
-                    self.has_looked = true;
-                    self.look();
-                }
+                Found::Waiting(_) => self.look(),
             }
         }
     }
 
-    /// Looks at the clock. The tick that it shows is left to the timer, which rounds a moment within it up.
+    /// Looks at the clock, on behalf of the task.
     fn look(&mut self) {
+        self.has_looked = true;
+        self.note_clock();
+    }
+
+    /// The tick that the clock shows is left to the timer, which rounds a moment within it up.
+    fn note_clock(&mut self) {
         let over = self.parts.shared().clock.tick_over();
         self.reached = self.reached.max(over.saturating_sub(1));
     }
@@ -208,7 +219,7 @@ impl<T> DelayQueue<T> {
     /// Sleeps until a tick. Ready where it is reached.
     fn poll_sleep(&mut self, wake: u64, cx: &mut Context<'_>) -> Poll<()> {
         let moment = self.parts.shared().clock.moment(wake);
-        let sleep = self.sleep.get_or_insert_with(|| Box::pin(sleep_until(moment)));
+        let sleep = self.sleep.get_or_insert_with(|| new_sleep(moment));
         if sleep.deadline() != moment {
             sleep.as_mut().reset(moment);
         }
@@ -246,7 +257,7 @@ impl<T> DelayQueue<T> {
         if self.armed > 0 && !self.has_resets {
             self.has_resets = true;
             if self.parts.has_step_before(self.armed) {
-                self.look();
+                self.note_clock();
                 if self.parts.has_step_before(self.armed.min(self.reached + 1)) {
                     self.wake();
                 }
@@ -467,6 +478,13 @@ impl<T> DelayQueue<T> {
         self.parts.share();
         Handle::of(self.parts.shared().clone())
     }
+}
+
+/// A timer, which is large: it is made where a poll's own frame doesn't hold it.
+#[cold]
+#[inline(never)]
+fn new_sleep(moment: Instant) -> Pin<Box<Sleep>> {
+    Box::pin(sleep_until(moment))
 }
 
 impl<T> Default for DelayQueue<T> {

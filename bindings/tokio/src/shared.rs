@@ -212,8 +212,8 @@ impl Link {
     /// The present stamp of an entry, none where it isn't the slot's.
     #[inline]
     pub fn stamp(&self, key: &Key) -> Option<u32> {
-        let seen = self.stamps.get(usize::from(key.slot))?.load();
-        if seen.born == key.born {
+        let seen = self.stamps.get(key.slot())?.load();
+        if seen.born == key.born() {
             Some(seen.stamp)
         } else {
             None
@@ -222,7 +222,7 @@ impl Link {
 
     /// The owner's note that an entry is about to be moved.
     pub fn note_moved(&self, key: &Key) {
-        self.stamps[usize::from(key.slot)].store(MOVED);
+        self.stamps[key.slot()].store(MOVED);
     }
 
     /// The callers that the owner issued, up to that many: `issue` gives the next, none where memory is refused.
@@ -236,13 +236,20 @@ impl Link {
         }
     }
 
-    /// A step of a caller on an entry, under the stamp that it has at the time.
+    /// A step of a caller on an entry, under the stamp that it is seen to have; none where it is refused.
     #[inline]
+    pub fn step_at_once(&self, caller: &mut Caller, key: &Key, step: Step) -> Option<u64> {
+        let stamp = self.stamp(key)?;
+        let deadline = step.make(caller, &key.stamped(stamp)).ok()?;
+        Some(self.made(step, deadline))
+    }
+
+    /// A step of a caller on an entry, under the stamp that it has at the time.
     pub fn step(&self, caller: &mut Caller, key: &Key, step: Step) -> Result<u64, Refusal> {
-        let word = self.stamps.get(usize::from(key.slot)).ok_or(Refusal::Ended)?;
+        let word = self.stamps.get(key.slot()).ok_or(Refusal::Ended)?;
         loop {
             let seen = word.load();
-            if seen.born != key.born {
+            if seen.born != key.born() {
                 return Err(if seen == MOVED { Refusal::Moved } else { Refusal::Ended });
             }
             let refused = match step.make(caller, &key.stamped(seen.stamp)) {

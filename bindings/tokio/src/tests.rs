@@ -133,10 +133,10 @@ impl Twin {
         self.now += [0, 1, 5, 64, 1_000, 40_000][self.dice.below(6) as usize];
         loop {
             let least = self.entries.values().map(|entry| entry.0).min();
-            let mut budget = match self.dice.below(40) as u32 {
-                0 => Budget::of(u32::MAX),
-                steps => Budget::of(steps),
-            };
+            let mut budget = Budget::of_or_whole(match self.dice.below(40) as u32 {
+                0 => u32::MAX,
+                steps => steps,
+            });
             match self.parts.poll(self.now, &mut budget) {
                 Found::Out(out) => {
                     let (deadline, value) = self.end(out.key);
