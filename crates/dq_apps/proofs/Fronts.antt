@@ -1,13 +1,13 @@
 -- What the calls come to that refresh a cache where a plain call wants stamps.
 use Rattle.std.proofs.Common.{◌≡◌, ℕ, ◌+◌, ◌<◌, ◌≤◌, suc, Bool, true, false, cond, ◌&&◌, not, nat_lt, List, [], ◌∷◌, Option, Some, None, is_none, Result, Ok, Err, refl, sym, ap, ◌∙◌, subst, inl, inr, arith}
-use Rattle.std.specs.Prelude.{IfOk, IfErr, OnOk, OnErr, IsSomeAnd}
+use Rattle.std.specs.Prelude.{IfOk, IfErr, OnErr, IsSomeAnd}
 use Rattle.std.specs.List.{count_by}
 use Rattle.std.proofs.lemmas.Bool.{cases_lt, lt-ltb}
 use Rattle.dq_core.specs.declared.errors.CoreError.{CoreError}
 use Rattle.dq_core.specs.declared.errors.CoreError.TheVariants.{TooFar, Full, Missing, WasCancelled, Worn, TickTooLarge, BadConfig, NoMemory}
 use Rattle.dq_apps.specs.Cache.{Item, CacheSlot, Cache, slot_at, moment_at, value_seen, is_kept}
 use Rattle.dq_apps.specs.Calls.{is_used_up, purged, Renews, Puts}
-use Rattle.dq_apps.specs.AtTheCall.{IsSeenUntil, KeepsSeen, KeepsOthers}
+use Rattle.dq_apps.specs.AtTheCall.{IsSeenUntil, KeepsSeen, KeepsOthers, ShowsPut, HandsBack, ShowsRenewal}
 use Rattle.dq_apps.specs.Refreshes.{IsRefreshed, Refreshes, Touches, WantsStamps, Sets}
 use Rattle.dq_apps.proofs.TimerRows.{count-cons}
 use Rattle.dq_apps.proofs.Sweeps.{swept_at}
@@ -128,12 +128,12 @@ module _ {K V : Type 0} where
       pub touched : Touches eq b key ttl now r c
       touched = inr (worn_first, inr (mid, refreshed_b, renews))
 
-      pub touched_deadline : (o : Result ℕ CoreError) → IfOk o (λ d. d ≡ moment_at mid now + ttl) → IfOk o (λ d. d ≡ moment_at b now + ttl)
-      touched_deadline (Ok d) is = let m = refreshed_b.moment in omega (arith, is, m)
-      touched_deadline (Err x) is = tt
-
-      pub touched_seen : (o : Result ℕ CoreError) → IfOk o (λ d. IsSomeAnd (value_seen eq mid key now) (λ v. IsSeenUntil eq c key v d)) → IfOk o (λ d. IsSomeAnd (value_seen eq b key now) (λ v. IsSeenUntil eq c key v d))
-      touched_seen (Ok d) is = let P : Option V → Type 0 = λ o. IsSomeAnd o (λ v. IsSeenUntil eq c key v d) in subst P (keeps_b key now) is
+      pub touched_seen : (o : Result ℕ CoreError) → IfOk o (ShowsRenewal eq mid key ttl now c) → IfOk o (ShowsRenewal eq b key ttl now c)
+      touched_seen (Ok d) is =
+          let m = refreshed_b.moment in
+          let deadline = is.0 in
+          let P : Option V → Type 0 = λ o. IsSomeAnd o (λ v. IsSeenUntil eq c key v d) in
+          (omega (arith, deadline, m), subst P (keeps_b key now) is.1)
       touched_seen (Err x) is = tt
 
       pub touched_others : KeepsOthers eq mid c key now → KeepsOthers eq b c key now
@@ -207,19 +207,16 @@ module _ {K V : Type 0} where
       keeps_on : KeepsSeen eq b mid now
       keeps_on q t later = keeps q t (omega arith) ∙ before q t later
 
-      pub set_seen : OnOk r (IsSeenUntil eq c k v (moment_at mid now + ttl)) → OnOk r (IsSeenUntil eq c key value (moment_at b now + ttl))
-      set_seen h =
-          let P : K → V → ℕ → Type 0 = λ y z m. OnOk r (IsSeenUntil eq c y z (m + ttl)) in
-          subst (λ m. P key value m) same_when (subst (λ z. P key z (moment_at mid now)) back_value (subst (λ y. P y v (moment_at mid now)) back_key h))
-
-      pub set_old : (o : Result (Option V) (CoreError × K × V)) → IfOk o (λ old. old ≡ value_seen eq mid k now) → IfOk o (λ old. old ≡ value_seen eq b key now)
-      set_old (Ok old) is = is ∙ (ap (λ y. value_seen eq mid y now) back_key ∙ keeps_on key now (omega arith))
-      set_old (Err x) is = tt
+      pub set_seen : (o : Result (Option V) (CoreError × K × V)) → IfOk o (ShowsPut eq mid k v ttl now c) → IfOk o (ShowsPut eq b key value ttl now c)
+      set_seen (Ok old) is =
+          let P : K → V → ℕ → Type 0 = λ y z m. IsSeenUntil eq c y z (m + ttl) in
+          (subst (λ m. P key value m) same_when (subst (λ z. P key z (moment_at mid now)) back_value (subst (λ y. P y v (moment_at mid now)) back_key is.0)), is.1 ∙ (ap (λ y. value_seen eq mid y now) back_key ∙ keeps_on key now (omega arith)))
+      set_seen (Err x) is = tt
 
       pub set_others : KeepsOthers eq mid c k now → KeepsOthers eq b c key now
       set_others others q t apart later = others q t (ap (λ y. eq y q) back_key ∙ apart) later ∙ keeps_on q t later
 
-      pub set_refused : (o : Result (Option V) (CoreError × K × V)) → IfErr o (λ x. (x.1 ≡ k) × (x.2 ≡ v) × KeepsSeen eq mid c now) → IfErr o (λ x. (x.1 ≡ key) × (x.2 ≡ value) × KeepsSeen eq b c now)
+      pub set_refused : (o : Result (Option V) (CoreError × K × V)) → IfErr o (HandsBack eq mid k v now c) → IfErr o (HandsBack eq b key value now c)
       set_refused (Ok old) is = tt
       set_refused (Err x) is = (is.0 ∙ back_key, is.1 ∙ back_value, λ q t later. is.2 q t later ∙ keeps_on q t later)
 

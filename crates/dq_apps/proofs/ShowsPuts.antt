@@ -7,7 +7,7 @@ use Rattle.dq_core.specs.declared.errors.CoreError.{CoreError}
 use Rattle.dq_core.specs.declared.errors.CoreError.TheVariants.{TooFar, Full, Missing, WasCancelled, Worn, TickTooLarge, BadConfig, NoMemory}
 use Rattle.dq_apps.specs.Cache.{Item, Cache, slot_at, moment_at, value_seen, AreDistinct}
 use Rattle.dq_apps.specs.Calls.{at_moment, TakesDue, TakesExpired, purged, IsAbsent, Renews, Replaces, Adds, PutRefused, Puts, Purges}
-use Rattle.dq_apps.specs.AtTheCall.{IsSeenUntil, KeepsSeen, KeepsOthers, kept_count, NoneDueNow}
+use Rattle.dq_apps.specs.AtTheCall.{IsSeenUntil, KeepsSeen, KeepsOthers, ShowsPut, HandsBack, ShowsRenewal, kept_count, NoneDueNow}
 use Rattle.dq_apps.proofs.SeenSlots.{part, part_hidden}
 use Rattle.dq_apps.proofs.Sweeps.{step_moment, step_purged, left_in, distinct_swept, kept_counts}
 use Rattle.dq_apps.proofs.Shows.{seen_kept, absent_none, purge_keeps, others_hidden, renewed_seen, renewed_others, kept_hidden}
@@ -72,14 +72,14 @@ module _ {K V : Type 0} {eq : K → K → Bool} (laws : IsEquivalence eq) (b c :
 
   -- renew
   module _ (key : K) (ttl now : ℕ) where
-    pub renews_seen : AreDistinct eq b.slots → (r : Result ℕ CoreError) → Renews eq b key ttl now r c → IfOk r (λ d. IsSomeAnd (value_seen eq b key now) (λ v. IsSeenUntil eq c key v d))
+    pub renews_seen : AreDistinct eq b.slots → (r : Result ℕ CoreError) → Renews eq b key ttl now r c → IfOk r (ShowsRenewal eq b key ttl now c)
     renews_seen apart (Ok d) r =
         let t = r.2 in
         let x = t.1 in
         let later = lt-ltb (moment_at b now) x.deadline t.3 in
         let was : value_seen eq b key now ≡ Some x.value = seen_kept laws b apart key t.0 x t.2 (moment_at b now) ∙ ap (λ k. cond k (Some x.value) None) later in
         let P : Option V → Type 0 = λ o. IsSomeAnd o (λ v. IsSeenUntil eq c key v d) in
-        subst P (sym was) (renewed_seen laws b c key (moment_at b now) t.0 (record { key = x.key; value = x.value; deadline = d }) t.2.inside t.2.same t.5 (others_hidden laws b c key now apart t.0 x t.2))
+        (r.1, subst P (sym was) (renewed_seen laws b c key (moment_at b now) t.0 (record { key = x.key; value = x.value; deadline = d }) t.2.inside t.2.same t.5 (others_hidden laws b c key now apart t.0 x t.2)))
     renews_seen apart (Err e) r = tt
 
     pub renews_others : (r : Result ℕ CoreError) → Renews eq b key ttl now r c → KeepsOthers eq b c key now
@@ -88,10 +88,6 @@ module _ {K V : Type 0} {eq : K → K → Bool} (laws : IsEquivalence eq) (b c :
         let x = t.1 in
         renewed_others laws b c key (moment_at b now) t.0 (record { key = x.key; value = x.value; deadline = d }) t.2.inside t.2.same t.5 now refl (kept_hidden laws b key t.0 x t.2)
     renews_others (Err e) r = λ q t apart later. same_seen r.1 q t
-
-    pub renews_deadline : (r : Result ℕ CoreError) → Renews eq b key ttl now r c → IfOk r (λ d. d ≡ moment_at b now + ttl)
-    renews_deadline (Ok d) r = r.1
-    renews_deadline (Err e) r = tt
 
     pub renews_refused : (r : Result ℕ CoreError) → Renews eq b key ttl now r c → OnErr r (c ≡ b)
     renews_refused (Ok d) r = tt
@@ -153,15 +149,10 @@ module _ {K V : Type 0} {eq : K → K → Bool} (laws : IsEquivalence eq) (b c :
       added_old : None ≡ value_seen eq b key now
       added_old = sym (absent_none laws p key (moment_at p now) absent) ∙ purge_keeps laws b now key now (omega arith)
 
-    pub puts_seen : (r : Result (Option V) (CoreError × K × V)) → Puts eq b key value ttl now r c → OnOk r (IsSeenUntil eq c key value when)
-    puts_seen (Ok (Some old)) r = replaced_seen old r.1
-    puts_seen (Ok None) r = added_seen r.1 r.2
+    pub puts_seen : (r : Result (Option V) (CoreError × K × V)) → Puts eq b key value ttl now r c → IfOk r (ShowsPut eq b key value ttl now c)
+    puts_seen (Ok (Some old)) r = (replaced_seen old r.1, replaced_old old r.1)
+    puts_seen (Ok None) r = (added_seen r.1 r.2, added_old r.1 r.2)
     puts_seen (Err e) r = tt
-
-    pub puts_old : (r : Result (Option V) (CoreError × K × V)) → Puts eq b key value ttl now r c → IfOk r (λ old. old ≡ value_seen eq b key now)
-    puts_old (Ok (Some old)) r = replaced_old old r.1
-    puts_old (Ok None) r = added_old r.1 r.2
-    puts_old (Err e) r = tt
 
     refused_seen : (e : CoreError) → PutRefused eq b key ttl now p e c → KeepsSeen eq b c now
     refused_seen (TickTooLarge limit) r = λ q t later. same_seen r.2 q t
@@ -178,6 +169,6 @@ module _ {K V : Type 0} {eq : K → K → Bool} (laws : IsEquivalence eq) (b c :
     puts_others (Ok None) r = added_others r.1 r.2
     puts_others (Err e) r = λ q t other later. refused_seen e.0 r.0 q t later
 
-    pub puts_refused : (r : Result (Option V) (CoreError × K × V)) → Puts eq b key value ttl now r c → IfErr r (λ e. (e.1 ≡ key) × (e.2 ≡ value) × KeepsSeen eq b c now)
+    pub puts_refused : (r : Result (Option V) (CoreError × K × V)) → Puts eq b key value ttl now r c → IfErr r (HandsBack eq b key value now c)
     puts_refused (Ok o) r = tt
     puts_refused (Err e) r = (r.1, r.2, refused_seen e.0 r.0)

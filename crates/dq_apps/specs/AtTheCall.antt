@@ -1,7 +1,8 @@
 -- What a call changes of what is seen: the short clauses, which one reads first.
-use Rattle.std.specs.Prelude.{◌≡◌, ℕ, ◌<◌, ◌≤◌, nat_lt, Bool, false, Some, None}
-use Rattle.std.specs.Prelude.{if◌then◌else◌}
+use Rattle.std.specs.Prelude.{◌≡◌, ℕ, ◌+◌, ◌<◌, ◌≤◌, nat_lt, Bool, false, Option, Some, None}
+use Rattle.std.specs.Prelude.{if◌then◌else◌, IsSomeAnd}
 use Rattle.std.specs.List.{count_by}
+use Rattle.dq_core.specs.declared.errors.CoreError.{CoreError}
 use Rattle.dq_apps.specs.Cache.{Item, Cache, slot_at, moment_at, is_kept, value_seen}
 
 module _ {K V : Type 0} where
@@ -22,6 +23,23 @@ module _ {K V : Type 0} where
   abbrev pub KeepsOthers : (K → K → Bool) → Cache K V → Cache K V → K → ℕ → Type 0
   KeepsOthers eq b c key now =
       (q : K) (t : ℕ) → eq key q ≡ false → now ≤ t → value_seen eq c q t ≡ value_seen eq b q t
+
+  -- what a put shows: the value is seen until its deadline, and `old` is what was seen before
+  abbrev pub ShowsPut : (K → K → Bool) → Cache K V → K → V → ℕ → ℕ → Cache K V → Option V
+      → Type 0
+  ShowsPut eq b key value ttl now c old =
+      IsSeenUntil eq c key value (moment_at b now + ttl) × (old ≡ value_seen eq b key now)
+
+  -- a put is refused: key and value come back, and from `now` on the same is seen at every key
+  abbrev pub HandsBack : (K → K → Bool) → Cache K V → K → V → ℕ → Cache K V → CoreError × K × V
+      → Type 0
+  HandsBack eq b key value now c e = (e.1 ≡ key) × (e.2 ≡ value) × KeepsSeen eq b c now
+
+  -- what a renewal shows: what was seen is seen until its new deadline, which is `d`
+  abbrev pub ShowsRenewal : (K → K → Bool) → Cache K V → K → ℕ → ℕ → Cache K V → ℕ → Type 0
+  ShowsRenewal eq b key ttl now c d =
+      (d ≡ moment_at b now + ttl)
+      × IsSomeAnd (value_seen eq b key now) (λ v. IsSeenUntil eq c key v d)
 
   -- nothing is seen, at no key and no tick
   abbrev pub ShowsNothing : (K → K → Bool) → Cache K V → Type 0

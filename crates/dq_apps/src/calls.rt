@@ -1,9 +1,9 @@
 //! The calls that change a cache. The first clause of each is exact; those behind it say what is seen then.
-ghost use Rattle.std.specs.Prelude.{◌≡◌, ℕ, ◌+◌, true, None, IfOk, IfErr, OnOk, OnErr, IsSomeAnd};
+ghost use Rattle.std.specs.Prelude.{◌≡◌, ℕ, ◌+◌, true, None, IfOk, IfErr, OnOk, OnErr};
 ghost use Rattle.dq_apps.specs.Cache.{moment_at, value_seen};
 ghost use Rattle.dq_apps.specs.Calls.{Takes, Renews, Puts, Purges, TakesExpired};
-ghost use Rattle.dq_apps.specs.AtTheCall.{IsSeenUntil, IsGone, KeepsSeen, KeepsOthers};
-ghost use Rattle.dq_apps.specs.AtTheCall.{NoneDueNow, kept_count};
+ghost use Rattle.dq_apps.specs.AtTheCall.{ShowsPut, HandsBack, ShowsRenewal, IsGone};
+ghost use Rattle.dq_apps.specs.AtTheCall.{KeepsSeen, KeepsOthers, NoneDueNow, kept_count};
 
 use crate::cache::TtlCache;
 use crate::stock::{renew_at, timer_of};
@@ -11,6 +11,9 @@ use dq_core::CoreError;
 use dq_ticks::LAST_TICK;
 use std::alloc::Allocator;
 use std::hash::{BuildHasher, Hash};
+
+/// What a put answers: the value that was seen at its key before; or why it is refused, with key and value.
+pub type PutAnswer<K, V> = Result<Option<V>, (CoreError, K, V)>;
 
 impl<K: Eq + Hash + Drop, V: Drop, A: Allocator, S: BuildHasher> TtlCache<K, V, A, S> {
     /// Puts a value at a key until `now + ttl`, or the moment's where that is later: the moment is set, and what is due then
@@ -20,13 +23,7 @@ impl<K: Eq + Hash + Drop, V: Drop, A: Allocator, S: BuildHasher> TtlCache<K, V, 
     /// Refused as TickTooLarge for a `now` beyond the last tick and as TooFar for a deadline beyond it, and then nothing
     /// changes; and, when the moment is set and what is due is dropped, as Worn for a key that is kept and whose slot has
     /// no stamp left, as Full for one that isn't and for which no slot is free, and as NoMemory. Key and value come back.
-    pub fn put(
-        &mut self,
-        key: K,
-        value: V,
-        ttl: u64,
-        now: u64,
-    ) -> Result<Option<V>, (CoreError, K, V)>
+    pub fn put(&mut self, key: K, value: V, ttl: u64, now: u64) -> PutAnswer<K, V>
     where
         K: Clone,
         A: Clone,
@@ -34,14 +31,11 @@ impl<K: Eq + Hash + Drop, V: Drop, A: Allocator, S: BuildHasher> TtlCache<K, V, 
         ensures puts { Puts K.eq self.old key value ttl now result self.new }
 
         // The value is seen until its deadline, and the one that was seen before comes back.
-        ensures seen { OnOk result
-            (IsSeenUntil K.eq self.new key value (moment_at self.old now + ttl)) }
-        ensures old { IfOk result (λ old. old ≡ value_seen K.eq self.old key now) }
+        ensures seen { IfOk result (ShowsPut K.eq self.old key value ttl now self.new) }
 
         // At other keys the same is seen; and at all keys, where the put is refused.
         ensures others { KeepsOthers K.eq self.old self.new key now }
-        ensures refused { IfErr result
-            (λ e. (e.1 ≡ key) × (e.2 ≡ value) × KeepsSeen K.eq self.old self.new now) }
+        ensures refused { IfErr result (HandsBack K.eq self.old key value now self.new) }
     {
         self.law();
         if now > LAST_TICK {
@@ -100,9 +94,7 @@ impl<K: Eq + Hash + Drop, V: Drop, A: Allocator, S: BuildHasher> TtlCache<K, V, 
         ensures renews { Renews K.eq self.old key.now ttl now result self.new }
 
         // What was seen is seen until its new deadline.
-        ensures deadline { IfOk result (λ d. d ≡ moment_at self.old now + ttl) }
-        ensures seen { IfOk result (λ d. IsSomeAnd (value_seen K.eq self.old key.now now)
-            (λ v. IsSeenUntil K.eq self.new key.now v d)) }
+        ensures seen { IfOk result (ShowsRenewal K.eq self.old key.now ttl now self.new) }
 
         // At other keys the same is seen. A refusal changes nothing.
         ensures others { KeepsOthers K.eq self.old self.new key.now now }

@@ -4,7 +4,7 @@ ghost use Rattle.dq_apps.specs.Cache.{value_seen};
 ghost use Rattle.dq_apps.specs.Memos.{GetsOrSets, CountsOne};
 
 use crate::cache::TtlCache;
-use dq_core::CoreError;
+use crate::memo::MemoAnswer;
 use std::alloc::{Allocator, Global};
 use std::hash::{BuildHasher, BuildHasherDefault, FoldHasher, Hash};
 
@@ -78,29 +78,17 @@ impl<K: Eq + Hash + Drop, V: Drop, A: Allocator, S: BuildHasher> CountedCache<K,
         self.count(hit);
         hit
     }
-}
 
-impl<K, V, A, S> CountedCache<K, V, A, S>
-where
-    K: Eq + Hash + Drop,
-    V: Drop,
-    A: Allocator + Clone,
-    S: BuildHasher,
-{
     /// As [`TtlCache::get_or_insert_with`], counted: as a hit exactly where `make` isn't called.
     ///
     /// # Errors
     /// As [`TtlCache::get_or_insert_with`]; it is counted then too.
-    pub fn get_or_insert_with<F: FnOnce() -> V + Drop>(
-        &mut self,
-        key: K,
-        ttl: u64,
-        now: u64,
-        make: F,
-    ) -> Result<V, (CoreError, Option<V>)>
+    pub fn get_or_insert_with<F>(&mut self, key: K, ttl: u64, now: u64, make: F) -> MemoAnswer<V>
     where
+        F: FnOnce() -> V + Drop,
         K: Clone,
         V: Clone,
+        A: Clone,
         requires clones { (k : K) → K.is_clone key k → K.eq key k ≡ true }
         requires callable { F.pre make }
         ensures gets { GetsOrSets K.eq V.is_clone (F.post make) self.old.cache key ttl now result

@@ -16,7 +16,9 @@ mod stock;
 mod timers;
 
 pub use cache::TtlCache;
+pub use calls::PutAnswer;
 pub use counted::CountedCache;
+pub use memo::MemoAnswer;
 pub use name::Name;
 pub use seen::Seen;
 pub use sessions::IdleSessions;

@@ -10,6 +10,9 @@ use dq_core::CoreError;
 use std::alloc::Allocator;
 use std::hash::{BuildHasher, Hash};
 
+/// What a memo answers: a copy of the value; or why none comes, with what was made.
+pub type MemoAnswer<V> = Result<V, (CoreError, Option<V>)>;
+
 impl<K, V, A, S> TtlCache<K, V, A, S>
 where
     K: Eq + Hash + Drop,
@@ -22,14 +25,9 @@ where
     ///
     /// # Errors
     /// As [`TtlCache::set`], and NoMemory where a copy is refused. What was made comes back; none was where a value is seen.
-    pub fn get_or_insert_with<F: FnOnce() -> V + Drop>(
-        &mut self,
-        key: K,
-        ttl: u64,
-        now: u64,
-        make: F,
-    ) -> Result<V, (CoreError, Option<V>)>
+    pub fn get_or_insert_with<F>(&mut self, key: K, ttl: u64, now: u64, make: F) -> MemoAnswer<V>
     where
+        F: FnOnce() -> V + Drop,
         K: Clone,
         V: Clone,
         requires clones { (k : K) → K.is_clone key k → K.eq key k ≡ true }

@@ -1,13 +1,14 @@
 //! The stamps of a cache begin again, so that it runs for years.
-ghost use Rattle.std.specs.Prelude.{◌≡◌, ◌≤◌, ◌+◌, ◌↔◌, true, IsTrue, IfOk, IfErr, OnOk, OnErr, IsSomeAnd};
+ghost use Rattle.std.specs.Prelude.{◌≡◌, ◌≤◌, ◌↔◌, true, IsTrue, IfOk, IfErr, OnOk, OnErr};
 ghost use Rattle.std.specs.List.{count_by};
 ghost use Rattle.dq_core.specs.declared.errors.CoreError.TheVariants.{Worn};
-ghost use Rattle.dq_apps.specs.Cache.{moment_at, value_seen};
 ghost use Rattle.dq_apps.specs.Calls.{is_used_up};
-ghost use Rattle.dq_apps.specs.AtTheCall.{IsSeenUntil, KeepsSeen, KeepsOthers, kept_count};
+ghost use Rattle.dq_apps.specs.AtTheCall.{ShowsPut, HandsBack, ShowsRenewal};
+ghost use Rattle.dq_apps.specs.AtTheCall.{KeepsSeen, KeepsOthers, kept_count};
 ghost use Rattle.dq_apps.specs.Refreshes.{Refreshes, Touches, Sets, WantsStamps};
 
 use crate::cache::TtlCache;
+use crate::calls::PutAnswer;
 use crate::moves::move_all;
 use dq_core::CoreError;
 use std::alloc::Allocator;
@@ -64,9 +65,7 @@ where
         ensures touches { Touches K.eq self.old key.now ttl now result self.new }
 
         // What was seen is seen until its new deadline.
-        ensures deadline { IfOk result (λ d. d ≡ moment_at self.old now + ttl) }
-        ensures seen { IfOk result (λ d. IsSomeAnd (value_seen K.eq self.old key.now now)
-            (λ v. IsSeenUntil K.eq self.new key.now v d)) }
+        ensures seen { IfOk result (ShowsRenewal K.eq self.old key.now ttl now self.new) }
 
         // At other keys the same is seen; and at all keys, where it is refused.
         ensures others { KeepsOthers K.eq self.old self.new key.now now }
@@ -94,27 +93,18 @@ where
     /// # Errors
     /// As a put, and NoMemory where a refresh is refused; key and value come back. Worn, and Full with worn slots, only where
     /// the last stamp is 1.
-    pub fn set(
-        &mut self,
-        key: K,
-        value: V,
-        ttl: u64,
-        now: u64,
-    ) -> Result<Option<V>, (CoreError, K, V)>
+    pub fn set(&mut self, key: K, value: V, ttl: u64, now: u64) -> PutAnswer<K, V>
     where
         K: Clone,
         requires clones { (k : K) → K.is_clone key k → K.eq key k ≡ true }
         ensures sets { Sets K.eq self.old key value ttl now result self.new }
 
         // The value is seen until its deadline, and the one that was seen before comes back.
-        ensures seen { OnOk result
-            (IsSeenUntil K.eq self.new key value (moment_at self.old now + ttl)) }
-        ensures old { IfOk result (λ old. old ≡ value_seen K.eq self.old key now) }
+        ensures seen { IfOk result (ShowsPut K.eq self.old key value ttl now self.new) }
 
         // At other keys the same is seen; and at all keys, where it is refused.
         ensures others { KeepsOthers K.eq self.old self.new key now }
-        ensures refused { IfErr result
-            (λ e. (e.1 ≡ key) × (e.2 ≡ value) × KeepsSeen K.eq self.old self.new now) }
+        ensures refused { IfErr result (HandsBack K.eq self.old key value now self.new) }
 
         // It is not refused for want of stamps, where there are two.
         ensures worn { IfErr result (λ e. WantsStamps e.0 → self.old.last_stamp ≤ 1) }

@@ -15,6 +15,8 @@ mod once;
 #[cfg(test)]
 mod refresh;
 #[cfg(test)]
+mod refusing;
+#[cfg(test)]
 mod rows;
 #[cfg(test)]
 mod same_calls;

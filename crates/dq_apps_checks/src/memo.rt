@@ -1,10 +1,9 @@
 //! A cache as a memo: what is made where nothing is seen, each copy that is refused, and what is counted.
 
+use crate::refusing::{Heap, each_refused, times};
 use dq_apps::{CountedCache, TtlCache};
 use dq_core::CoreError;
 use dq_ticks::LAST_STAMP;
-use linked_list_allocator::LocalHeap;
-use refusing_heap::RefusingHeap;
 use std::alloc::AllocError;
 use std::process::Abort;
 use std::test::Fail;
@@ -87,9 +86,6 @@ fn hits_and_misses(rt: HostRuntime) -> Result<(), Fail> {
     Ok(())
 }
 
-// A heap that refuses one allocation.
-type Heap<'all> = RefusingHeap<&'all LocalHeap>;
-
 type Text<'heap, 'all> = String<&'heap Heap<'all>>;
 
 type Cache<'heap, 'all> = TtlCache<Text<'heap, 'all>, Text<'heap, 'all>, &'heap Heap<'all>>;
@@ -103,7 +99,6 @@ enum Refused {
     Made,
     // In a copy of what is seen.
     Seen,
-    Nowhere,
 }
 
 fn text<'heap, 'all>(heap: &'heap Heap<'all>, text: &str) -> Result<Text<'heap, 'all>, AllocError> {
@@ -111,22 +106,22 @@ fn text<'heap, 'all>(heap: &'heap Heap<'all>, text: &str) -> Result<Text<'heap, 
 }
 
 // A value is made and put, and a copy of it is asked for.
-fn walk(rt: &impl Abort, heap: &Heap) -> Refused {
+fn walk(rt: &impl Abort, heap: &Heap) -> Option<Refused> {
     let (Ok(first), Ok(again)) = (text(heap, "key"), text(heap, "key")) else {
-        return Refused::Before;
+        return Some(Refused::Before);
     };
     let (Ok(made), Ok(other)) = (text(heap, "made"), text(heap, "other")) else {
-        return Refused::Before;
+        return Some(Refused::Before);
     };
     let Ok(mut cache): Result<Cache, CoreError> = TtlCache::new(heap, 2, LAST_STAMP) else {
-        return Refused::Before;
+        return Some(Refused::Before);
     };
     match cache.get_or_insert_with(first, 5, 0, move || made) {
         Ok(value) => assert_eq!(rt; value.as_str(), "made"),
         Err((error, back)) => {
             assert_eq!(rt; (error, cache.len()), (CoreError::NoMemory, 0));
             assert!(rt; back.is_some_and(|value| value.as_str() == "made"));
-            return Refused::Made;
+            return Some(Refused::Made);
         }
     }
     match cache.get_or_insert_with(again, 5, 4, move || other) {
@@ -134,36 +129,18 @@ fn walk(rt: &impl Abort, heap: &Heap) -> Refused {
         Err((error, back)) => {
             assert_eq!(rt; (error, cache.len()), (CoreError::NoMemory, 1));
             assert!(rt; back.is_none());
-            return Refused::Seen;
+            return Some(Refused::Seen);
         }
     }
-    Refused::Nowhere
+    None
 }
 
 #[test]
 fn each_allocation_of_a_memo_is_refused(rt: HostRuntime) -> Result<(), Fail> {
-    let (mut made, mut seen) = (0usize, 0usize);
-    for grants in 0..100u64 {
-        let all = LocalHeap::new(rt.alloc(), 1 << 16)?;
-        let heap = RefusingHeap::new(&all, grants);
-        let refused = walk(&rt, &heap);
-        assert_eq!(rt; all.used(), 0);
-        assert_eq!(rt;
-            heap.has_refused(),
-            refused != Refused::Nowhere,
-            "allocation {grants}"
-        );
-        match refused {
-            Refused::Before => {}
-            Refused::Made => made = made.saturating_add(1),
-            Refused::Seen => seen = seen.saturating_add(1),
-            Refused::Nowhere => {
-                // A copy of what was made, room in the map, a copy of the key; and a copy of what is seen.
-                assert!(rt; made >= 3 && seen == 1);
-                return Ok(());
-            }
-        }
-    }
-    assert!(rt; false, "each run was refused");
+    let places = each_refused(&rt, rt.alloc(), |heap| walk(&rt, heap))?;
+
+    // A copy of what was made, room in the map, a copy of the key; and a copy of what is seen.
+    assert!(rt; times(&places, Refused::Made) >= 3);
+    assert_eq!(rt; times(&places, Refused::Seen), 1);
     Ok(())
 }

@@ -1,9 +1,9 @@
 //! Slots that have no stamp left: a refresh, the calls that refresh by themselves, and what leaves a cache.
 
+use crate::refusing::{Heap, each_refused, times};
 use dq_apps::TtlCache;
 use dq_core::CoreError;
 use linked_list_allocator::LocalHeap;
-use refusing_heap::RefusingHeap;
 use std::alloc::{AllocError, Global};
 use std::process::Abort;
 use std::test::Fail;
@@ -81,17 +81,24 @@ fn two_stamps_are_enough(rt: HostRuntime) -> Result<(), Fail> {
     Ok(())
 }
 
-// Whether a refresh was refused, which left the cache as it was; none where the cache wasn't made.
-fn is_refused(rt: &impl Abort, heap: &RefusingHeap<&LocalHeap>) -> Option<bool> {
-    let mut cache: TtlCache<char, u32, &RefusingHeap<&LocalHeap>> = match TtlCache::new(
-        heap, 2, 2,
-    ) {
-        Ok(cache) => cache,
-        Err(_) => return None,
+// Where the allocation was that was refused.
+#[derive(Clone, Copy, PartialEq, Eq, Debug)]
+enum Refused {
+    // In the making of the cache, or in a put.
+    Before,
+    // In the refresh, which left the cache as it was.
+    Refresh,
+}
+
+// A cache with a slot at its last stamp is refreshed.
+fn walk(rt: &impl Abort, heap: &Heap) -> Option<Refused> {
+    let Ok(mut cache): Result<TtlCache<char, u32, &Heap>, CoreError> = TtlCache::new(heap, 2, 2)
+    else {
+        return Some(Refused::Before);
     };
     for (key, value) in [('a', 1), ('a', 2), ('b', 3)] {
         if cache.put(key, value, 10, 0).is_err() {
-            return None;
+            return Some(Refused::Before);
         }
     }
     let refreshed = cache.refresh();
@@ -101,34 +108,24 @@ fn is_refused(rt: &impl Abort, heap: &RefusingHeap<&LocalHeap>) -> Option<bool> 
     );
     assert_eq!(rt; cache.get(&'a', 9).copied(), Some(2));
     match refreshed {
-        Ok(()) => assert_eq!(rt; cache.renew(&'a', 10, 1), Ok(11)),
+        Ok(()) => {
+            assert_eq!(rt; cache.renew(&'a', 10, 1), Ok(11));
+            None
+        }
         Err(error) => {
             assert_eq!(rt; error, CoreError::NoMemory);
             assert_eq!(rt; cache.renew(&'a', 10, 1), Err(CoreError::Worn));
+            Some(Refused::Refresh)
         }
     }
-    Some(refreshed.is_err())
 }
 
 #[test]
 fn each_allocation_of_a_refresh_is_refused(rt: HostRuntime) -> Result<(), Fail> {
-    let mut refusals = 0usize;
-    for grants in 0..100u64 {
-        let all = LocalHeap::new(rt.alloc(), 1 << 16)?;
-        let heap = RefusingHeap::new(&all, grants);
-        let refused = is_refused(&rt, &heap);
-        assert_eq!(rt; all.used(), 0);
-        match refused {
-            None => {}
-            Some(true) => refusals = refusals.saturating_add(1),
-            Some(false) => {
-                // Words, wheel and slots.
-                assert!(rt; !heap.has_refused() && refusals >= 3);
-                return Ok(());
-            }
-        }
-    }
-    assert!(rt; false, "each run was refused");
+    let places = each_refused(&rt, rt.alloc(), |heap| walk(&rt, heap))?;
+
+    // Words, wheel and slots.
+    assert!(rt; times(&places, Refused::Refresh) >= 3);
     Ok(())
 }
 

@@ -9,7 +9,7 @@ returns-in-Ok-set-clause-gets g c =
     let none = c.in_default.ensures in
     let set = c.in-Ok-set.ensures in
     let P : Option g.row.V.Denot → Type 0 = λ o. Sets eq b c.args.key c.in-Ok-clone.copy c.args.ttl c.args.now (Ok o) c.set.new.self in
-    inr (sym none, c.make-value.ensures, (c.in-Ok-clone.copy, c.in-Ok-clone.ensures.cases, subst P (set.old ∙ sym none) set.sets))
+    inr (sym none, c.make-value.ensures, (c.in-Ok-clone.copy, c.in-Ok-clone.ensures.cases, subst P (set.seen.1 ∙ sym none) set.sets))
 
 pub returns-clause-gets : goal.returns-clause-gets
 returns-clause-gets g c =

@@ -6,7 +6,7 @@ use Rattle.dq_apps.specs.Calls.{InRange, Puts}
 use Rattle.dq_core.specs.declared.errors.CoreError.TheVariants.{Worn}
 use Rattle.dq_apps.proofs.PutSteps.{at_purge, puts_replaced, puts_worn, puts_added}
 use Rattle.dq_apps.proofs.PutSteps as steps
-use Rattle.dq_apps.proofs.ShowsPuts.{puts_seen, puts_old, puts_others, puts_refused}
+use Rattle.dq_apps.proofs.ShowsPuts.{puts_seen, puts_others, puts_refused}
 use Rattle.dq_apps.proofs.cache.TtlCache.put.Goals as goal
 
 pub returns-in-Ok : goal.returns-in-Ok
@@ -24,7 +24,6 @@ returns-in-Ok g c =
     record {
       puts = puts;
       seen = puts_seen laws b c.replace.new.self c.args.key c.args.value c.args.ttl c.args.now apart (Ok (Some c.in-Ok.old)) puts;
-      old = puts_old laws b c.replace.new.self c.args.key c.args.value c.args.ttl c.args.now apart (Ok (Some c.in-Ok.old)) puts;
       others = puts_others laws b c.replace.new.self c.args.key c.args.value c.args.ttl c.args.now apart (Ok (Some c.in-Ok.old)) puts;
       refused = puts_refused laws b c.replace.new.self c.args.key c.args.value c.args.ttl c.args.now apart (Ok (Some c.in-Ok.old)) puts;
     }
@@ -46,7 +45,6 @@ returns-in-Err g c =
     record {
       puts = puts;
       seen = puts_seen laws b c.replace.new.self c.args.key c.args.value c.args.ttl c.args.now apart (Err (Worn, c.args.key, c.in-Err.value)) puts;
-      old = puts_old laws b c.replace.new.self c.args.key c.args.value c.args.ttl c.args.now apart (Err (Worn, c.args.key, c.in-Err.value)) puts;
       others = puts_others laws b c.replace.new.self c.args.key c.args.value c.args.ttl c.args.now apart (Err (Worn, c.args.key, c.in-Err.value)) puts;
       refused = puts_refused laws b c.replace.new.self c.args.key c.args.value c.args.ttl c.args.now apart (Err (Worn, c.args.key, c.in-Err.value)) puts;
     }
@@ -66,7 +64,6 @@ returns-in_ok-add g c =
     record {
       puts = puts;
       seen = puts_seen laws b c.add.new.self c.args.key c.args.value c.args.ttl c.args.now apart (Ok None) puts;
-      old = puts_old laws b c.add.new.self c.args.key c.args.value c.args.ttl c.args.now apart (Ok None) puts;
       others = puts_others laws b c.add.new.self c.args.key c.args.value c.args.ttl c.args.now apart (Ok None) puts;
       refused = puts_refused laws b c.add.new.self c.args.key c.args.value c.args.ttl c.args.now apart (Ok None) puts;
     }
@@ -89,7 +86,6 @@ returns-in_err-add g c =
     (record {
       puts = puts;
       seen = puts_seen laws b c.add.new.self c.args.key c.args.value c.args.ttl c.args.now apart (Err p.0) puts;
-      old = puts_old laws b c.add.new.self c.args.key c.args.value c.args.ttl c.args.now apart (Err p.0) puts;
       others = puts_others laws b c.add.new.self c.args.key c.args.value c.args.ttl c.args.now apart (Err p.0) puts;
       refused = puts_refused laws b c.add.new.self c.args.key c.args.value c.args.ttl c.args.now apart (Err p.0) puts;
     })

@@ -6,7 +6,7 @@ use Rattle.dq_apps.specs.Tied.{cache_of}
 use Rattle.dq_apps.proofs.CacheReads.{unseen_absent, unseen_due}
 use Rattle.dq_apps.proofs.CacheSteps.{renewed_stock, seen_worn, worn_cache}
 use Rattle.dq_apps.proofs.CacheSteps as steps
-use Rattle.dq_apps.proofs.ShowsPuts.{renews_seen, renews_others, renews_deadline, renews_refused}
+use Rattle.dq_apps.proofs.ShowsPuts.{renews_seen, renews_others, renews_refused}
 use Rattle.dq_apps.proofs.cache.TtlCache.renew.Goals as goal
 
 pub returns-in_default : goal.returns-in_default
@@ -19,7 +19,6 @@ returns-in_default g c =
     (((c.if-now-gt-LAST_TICK.false, omega (arith, c.max-moment.ensures, c.if-moment-ttl.false)), unseen_absent laws s.stock.entries s.timers s.moment c.self.invariant c.args.key.now (max c.args.now s.moment) c.in_default.ensures), refl) in
     record {
       renews = renews;
-      deadline = renews_deadline laws b b c.args.key.now c.args.ttl c.args.now (Err Missing) renews;
       seen = renews_seen laws b b c.args.key.now c.args.ttl c.args.now apart (Err Missing) renews;
       others = renews_others laws b b c.args.key.now c.args.ttl c.args.now (Err Missing) renews;
       refused = renews_refused laws b b c.args.key.now c.args.ttl c.args.now (Err Missing) renews;
@@ -36,7 +35,6 @@ returns-then-timer-moment g c =
     (((c.if-now-gt-LAST_TICK.false, omega (arith, c.max-moment.ensures, c.if-moment-ttl.false)), unseen_due laws s.stock.entries s.timers s.moment c.self.invariant c.args.key.now t.0 (max c.args.now s.moment) t.1 (omega (arith, t.2, c.max-moment.ensures, c.if-timer-moment.true))), refl) in
     record {
       renews = renews;
-      deadline = renews_deadline laws b b c.args.key.now c.args.ttl c.args.now (Err Missing) renews;
       seen = renews_seen laws b b c.args.key.now c.args.ttl c.args.now apart (Err Missing) renews;
       others = renews_others laws b b c.args.key.now c.args.ttl c.args.now (Err Missing) renews;
       refused = renews_refused laws b b c.args.key.now c.args.ttl c.args.now (Err Missing) renews;
@@ -55,7 +53,6 @@ returns-in_default-restart g c =
     (((c.if-now-gt-LAST_TICK.false, omega (arith, c.max-moment.ensures, c.if-moment-ttl.false)), seen_worn laws s.stock.entries s.timers s.moment c.self.invariant s.stock.entries c.restart.new.self c.args.key.now t.0 t.1 (c.max-moment.result + c.args.ttl) restarts (max c.args.now s.moment) (omega (arith, t.2, c.max-moment.ensures, c.if-timer-moment.false))), worn_cache laws s.stock.entries s.timers s.moment c.self.invariant s.stock.entries c.restart.new.self c.args.key.now t.0 t.1 (c.max-moment.result + c.args.ttl) restarts) in
     record {
       renews = renews;
-      deadline = renews_deadline laws b d c.args.key.now c.args.ttl c.args.now (Err Worn) renews;
       seen = renews_seen laws b d c.args.key.now c.args.ttl c.args.now apart (Err Worn) renews;
       others = renews_others laws b d c.args.key.now c.args.ttl c.args.now (Err Worn) renews;
       refused = renews_refused laws b d c.args.key.now c.args.ttl c.args.now (Err Worn) renews;
@@ -82,7 +79,6 @@ returns g c =
     (steps.renews laws s.stock.entries s.timers s.moment c.self.invariant c.renew_at.new.stock.entries c.restart.new.self c.args.key.now t.0 t.1 t.0.value (c.max-moment.result + c.args.ttl) c.max-moment.result c.in-Some-restart.next restarts (c.renew_at.ensures t.0 t.1) c.args.ttl c.args.now refl (c.if-now-gt-LAST_TICK.false, omega (arith, c.max-moment.ensures, c.if-moment-ttl.false)) (ap (λ n. n + c.args.ttl) c.max-moment.ensures) c.max-moment.ensures later) in
     record {
       renews = renews;
-      deadline = renews_deadline laws b d c.args.key.now c.args.ttl c.args.now (Ok (c.max-moment.result + c.args.ttl)) renews;
       seen = renews_seen laws b d c.args.key.now c.args.ttl c.args.now apart (Ok (c.max-moment.result + c.args.ttl)) renews;
       others = renews_others laws b d c.args.key.now c.args.ttl c.args.now (Ok (c.max-moment.result + c.args.ttl)) renews;
       refused = renews_refused laws b d c.args.key.now c.args.ttl c.args.now (Ok (c.max-moment.result + c.args.ttl)) renews;

@@ -1,12 +1,12 @@
 use Rattle.std.proofs.Common.{◌∙◌, sym, inl}
 use Rattle.std.proofs.lemmas.Bool.{false≢true}
-use Rattle.dq_apps.proofs.Fronts.{set_no_memory, set_no_memory_seen, set_no_memory_worn, set_again, set_seen, set_old, set_others, set_refused, set_worn}
+use Rattle.dq_apps.proofs.Fronts.{set_no_memory, set_no_memory_seen, set_no_memory_worn, set_again, set_seen, set_others, set_refused, set_worn}
 use Rattle.dq_apps.proofs.cache.TtlCache.set.Goals as goal
 
 pub returns-in-Ok : goal.returns-in-Ok
 returns-in-Ok g c =
     let done = c.in-Ok.ensures in
-    record { sets = inl (done.puts, tt); seen = done.seen; old = done.old; others = done.others; refused = tt; worn = tt }
+    record { sets = inl (done.puts, tt); seen = done.seen; others = done.others; refused = tt; worn = tt }
 
 pub returns-then-not-wants_stamps : goal.returns-then-not-wants_stamps
 returns-then-not-wants_stamps g c =
@@ -14,7 +14,6 @@ returns-then-not-wants_stamps g c =
     record {
       sets = inl (done.puts, λ w. false≢true (sym c.if-not-wants_stamps.true ∙ c.wants_stamps.ensures.1 w));
       seen = tt;
-      old = tt;
       others = done.others;
       refused = done.refused;
       worn = λ w. absurd (false≢true (sym c.if-not-wants_stamps.true ∙ c.wants_stamps.ensures.1 w));
@@ -39,7 +38,6 @@ returns-in-Err-refresh g c =
     record {
       sets = set_no_memory eq b p key back.1 value back.2 ttl now back.0 wants first.puts d f refused;
       seen = tt;
-      old = tt;
       others = λ q t apart later. keeps q t later;
       refused = (first.refused.0, first.refused.1, keeps);
       worn = set_no_memory_worn eq b p key back.1 value back.2 ttl now back.0 wants first.puts d f refused;
@@ -66,8 +64,7 @@ returns g c =
     let again = c.put-2.ensures in
     record {
       sets = set_again eq b p key back.1 value back.2 ttl now back.0 wants first.puts mid d fresh keeps before r again.puts;
-      seen = set_seen eq b p key back.1 value back.2 ttl now back.0 wants first.puts mid d fresh keeps before r again.puts again.seen;
-      old = set_old eq b p key back.1 value back.2 ttl now back.0 wants first.puts mid d fresh keeps before r again.puts r again.old;
+      seen = set_seen eq b p key back.1 value back.2 ttl now back.0 wants first.puts mid d fresh keeps before r again.puts r again.seen;
       others = set_others eq b p key back.1 value back.2 ttl now back.0 wants first.puts mid d fresh keeps before r again.puts again.others;
       refused = set_refused eq b p key back.1 value back.2 ttl now back.0 wants first.puts mid d fresh keeps before r again.puts r again.refused;
       worn = set_worn eq b p key back.1 value back.2 ttl now back.0 wants first.puts mid d fresh keeps before r again.puts;

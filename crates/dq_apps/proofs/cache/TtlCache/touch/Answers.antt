@@ -1,13 +1,13 @@
 use Rattle.std.proofs.Common.{◌∙◌, sym, ap, inl}
 use Rattle.std.proofs.lemmas.Bool.{false≢true}
 use Rattle.dq_apps.specs.Cache.{value_seen}
-use Rattle.dq_apps.proofs.Fronts.{no_memory, worn_wants, touch_no_memory, touch_no_memory_seen, touched, touched_deadline, touched_seen, touched_others, touched_refused, touched_worn}
+use Rattle.dq_apps.proofs.Fronts.{no_memory, worn_wants, touch_no_memory, touch_no_memory_seen, touched, touched_seen, touched_others, touched_refused, touched_worn}
 use Rattle.dq_apps.proofs.cache.TtlCache.touch.Goals as goal
 
 pub returns-in-Ok : goal.returns-in-Ok
 returns-in-Ok g c =
     let done = c.in-Ok.ensures in
-    record { touches = inl (done.renews, tt); deadline = done.deadline; seen = done.seen; others = done.others; refused = tt; worn = tt }
+    record { touches = inl (done.renews, tt); seen = done.seen; others = done.others; refused = tt; worn = tt }
 
 pub returns-then-not-wants_stamps : goal.returns-then-not-wants_stamps
 returns-then-not-wants_stamps g c =
@@ -16,7 +16,6 @@ returns-then-not-wants_stamps g c =
     let eq = g.K.PartialEq.eq in
     record {
       touches = inl (done.renews, λ worn. false≢true (sym c.if-not-wants_stamps.true ∙ c.wants_stamps.ensures.1 (worn_wants e worn)));
-      deadline = tt;
       seen = tt;
       others = done.others;
       refused = λ q t later. ap (λ x. value_seen eq x q t) done.refused;
@@ -34,7 +33,6 @@ returns-in-Err-refresh g c =
     let refused = c.in-Err-refresh.ensures.refreshes in
     record {
       touches = touch_no_memory eq b c.renew.new.self c.args.key.now c.args.ttl c.args.now e wants first c.refresh.new.self f refused;
-      deadline = tt;
       seen = tt;
       others = λ q t apart later. touch_no_memory_seen eq b c.renew.new.self c.args.key.now c.args.ttl c.args.now e wants first c.refresh.new.self f refused q t;
       refused = λ q t later. touch_no_memory_seen eq b c.renew.new.self c.args.key.now c.args.ttl c.args.now e wants first c.refresh.new.self f refused q t;
@@ -60,7 +58,6 @@ returns g c =
     let again = c.renew-2.ensures in
     record {
       touches = touched eq b b1 k ttl now e wants first mid d fresh keeps r again.renews;
-      deadline = touched_deadline eq b b1 k ttl now e wants first mid d fresh keeps r again.renews r again.deadline;
       seen = touched_seen eq b b1 k ttl now e wants first mid d fresh keeps r again.renews r again.seen;
       others = touched_others eq b b1 k ttl now e wants first mid d fresh keeps r again.renews again.others;
       refused = touched_refused eq b b1 k ttl now e wants first mid d fresh keeps r again.renews r again.refused;
