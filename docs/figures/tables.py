@@ -397,14 +397,14 @@ def renewing():
 
 
 def adapter():
-    """The adapter for tokio beside its peer: times and instructions of a call."""
-    its = runs.rows_of("adapter")
-    heads = ("A call of", "Entries", "peer, ns", "here, ns", "ratio", "peer, instructions", "here, instructions", "ratio")
+    """The adapter for tokio beside its peer: the instructions of a call, a column for each number of entries."""
+    found = {(name, entries): (float(peer), float(ours)) for name, entries, peer, ours in runs.rows_of("adapter")}
+    sizes = list(dict.fromkeys(entries for _, entries in found))
+    heads = ["Instructions of", *(it for size in sizes for it in (f"{int(size):,} entries: peer", "here", "ratio"))]
     lines = [row(*heads), "|---" + "|--:" * (len(heads) - 1) + "|"]
-    for name, entries, *found in its:
-        peer, here, peer_counted, here_counted = map(float, found)
-        cells = (f"{peer:,.0f}", f"{here:,.0f}", f"{peer / here:.1f}", f"{peer_counted:,.0f}", f"{here_counted:,.0f}", f"{peer_counted / here_counted:.1f}")
-        lines.append(row(name, f"{int(entries):,}", *cells))
+    for name in dict.fromkeys(name for name, _ in found):
+        both = [found[name, size] for size in sizes]
+        lines.append(row(name, *(it for peer, ours in both for it in (f"{peer:,.0f}", f"{ours:,.0f}", f"{peer / ours:.1f}"))))
     return "\n".join(lines)
 
 
