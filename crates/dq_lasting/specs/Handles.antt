@@ -91,8 +91,8 @@ StayFrom place old new = (q : ℕ) → place ≤ q → slice_get new q ≡ slice
 
 -- A renewal is refused where the queue has another number of shards, and nothing changes; else at
 -- the first place whose shard issues none, and the callers from there on stay.
-abbrev pub RenewRefused : (T : Type 0) → ℕ → List Numbered → HandleError → List Numbered → Type 0
-RenewRefused T shards old e new =
+abbrev pub RenewalRefused : (T : Type 0) → ℕ → List Numbered → HandleError → List Numbered → Type 0
+RenewalRefused T shards old e new =
     ((e ≡ OtherQueue) × (length old ≢ shards) × (new ≡ old))
     ⊎ ((length old ≡ shards)
     × ((place : ℕ) × (count : ℕ) × (place < shards) × AreRenewed T shards old new place count
@@ -103,4 +103,4 @@ abbrev pub RenewsHandle :
     (T : Type 0) → ℕ → List Numbered → Result ℕ HandleError → List Numbered → Type 0
 RenewsHandle T shards old (Ok count) new =
     (length old ≡ shards) × AreRenewed T shards old new shards count
-RenewsHandle T shards old (Err e) new = RenewRefused T shards old e new
+RenewsHandle T shards old (Err e) new = RenewalRefused T shards old e new
