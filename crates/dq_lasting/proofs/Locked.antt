@@ -10,7 +10,7 @@ use Rattle.dq_lasting.specs.declared.keeping.Kept.TheVariants as Step
 use Rattle.dq_lasting.specs.Shard.{LastingView, IsLasting}
 use Rattle.dq_lasting.specs.Answers.{IsOfPlace, AtPlace, InsertsAtPlace, ClosedFrom}
 use Rattle.dq_lasting.specs.Handles.{IssuedAt, IssuedFrom, TakesOn}
-use Rattle.dq_lasting.specs.Keeping.{KeepsGoing, GoesOnAt, AtEach}
+use Rattle.dq_lasting.specs.Keeping.{KeepsGoing, GoesOnAt, AtEach, TellsTakes}
 use Rattle.dq_lasting.specs.Numbered.{Numbered}
 
 -- a call that goes by the guard of a lock
@@ -41,20 +41,20 @@ pub issued_more : (T : Type 0) (n p : ℕ) (cs : List Numbered) (c : Numbered) �
 issued_more T n p [] c all one = (subst (λ (q : ℕ). IssuedAt T n q c) (omega arith) one, tt {0})
 issued_more T n p (x ∷ cs) c all one = (all.0, issued_more T n (p + 1) cs c all.1 (subst (λ (q : ℕ). IssuedAt T n q c) (omega arith) one))
 
--- the step at a closed shard's place
-pub keeps : (T : Type 0) (n p : ℕ) → p < n → (r : Result Kept ReopenError) → AtPlace {T = T} n p (GoesOnAt n p) r → KeepsGoing T n r
-keeps T n p below (Ok Step.Fine) a = inl (p, below, a)
-keeps T n p below (Ok (Step.Closed q)) a = absurd a.4
-keeps T n p below (Ok (Step.Drains q linked)) a =
+-- the step at the place of a shard that was seen closed
+pub keeps : (T : Type 0) (n p : ℕ) → p < n → AtPlace {T = T} n p TellsTakes false → (r : Result Kept ReopenError) → AtPlace {T = T} n p (GoesOnAt n p) r → KeepsGoing T n r
+keeps T n p below seen (Ok Step.Fine) a = inl (p, below, (seen, a))
+keeps T n p below seen (Ok (Step.Closed q)) a = absurd a.4
+keeps T n p below seen (Ok (Step.Drains q linked)) a =
     let P : ℕ → Type 0 = λ x. (x < n) × AtPlace {T = T} n x (GoesOnAt n x) (Ok (Step.Drains q linked)) in
     subst P (sym a.4.0) (below, a)
-keeps T n p below (Ok (Step.Reopened q)) a =
+keeps T n p below seen (Ok (Step.Reopened q)) a =
     let P : ℕ → Type 0 = λ x. (x < n) × AtPlace {T = T} n x (GoesOnAt n x) (Ok (Step.Reopened q)) in
     subst P (sym a.4.0) (below, a)
-keeps T n p below (Err e) a = (p, below, a)
+keeps T n p below seen (Err e) a = (p, below, a)
 
 -- a handle keeps its size
 pub takes_size : (T : Type 0) (n p : ℕ) (old new : List Numbered) (r : Result Bool HandleError) → TakesOn T n p old r new → length new ≡ length old
-takes_size T n p old new (Ok true) (c, issued, is) = ap (λ (xs : List Numbered). length xs) is ∙ length-set old p c
+takes_size T n p old new (Ok true) (c, issued, is, was) = ap (λ (xs : List Numbered). length xs) is ∙ length-set old p c
 takes_size T n p old new (Ok false) (c, at, number, same) = ap (λ (xs : List Numbered). length xs) same
-takes_size T n p old new (Err e) same = ap (λ (xs : List Numbered). length xs) same
+takes_size T n p old new (Err e) (same, refusal) = ap (λ (xs : List Numbered). length xs) same

@@ -1,8 +1,7 @@
 -- What a handle's renewal does place by place.
-use Rattle.std.proofs.Common.{◌≡◌, ◌≢◌, ℕ, zero, suc, ◌+◌, ◌<◌, ◌≤◌, List, [], ◌∷◌, length, Bool, true, false, Some, Ok, refl, sym, ap, ◌∙◌, subst, inl, inr, ⊎_elim, arith}
+use Rattle.std.proofs.Common.{◌≡◌, ◌≢◌, ℕ, zero, suc, ◌+◌, ◌<◌, List, [], ◌∷◌, length, true, false, Some, Ok, refl, sym, ap, ◌∙◌, subst, inl, inr, arith}
 use Rattle.std.specs.Prelude.{slice_get, slice_set}
-use Rattle.std.proofs.lemmas.Bool.{cases_eq}
-use Rattle.dq_lasting.specs.Handles.{IssuedAt, NumberAt, TakesOn, IsTakenOnAt, AreRenewed}
+use Rattle.dq_lasting.specs.Handles.{TakesOn, IsTakenOnAt, IsUpToDateAt, AreRenewed, StayFrom}
 use Rattle.dq_lasting.specs.Numbered.{Numbered}
 
 -- what is read after a write, there and elsewhere
@@ -18,37 +17,45 @@ get_set_other (x ∷ xs) zero (suc j) y other = refl
 get_set_other (x ∷ xs) (suc i) zero y other = refl
 get_set_other (x ∷ xs) (suc i) (suc j) y other = get_set_other xs i j y (λ e. other (ap (λ (k : ℕ). suc k) e))
 
--- the callers from a place on are as they were at first
-abbrev pub Untouched : ℕ → List Numbered → List Numbered → Type 0
-Untouched p first now = (q : ℕ) → p ≤ q → slice_get now q ≡ slice_get first q
-
 module _ (T : Type 0) (n : ℕ) (first : List Numbered) where
-  carry : (old new : List Numbered) (q : ℕ) → slice_get new q ≡ slice_get old q
-      → IsTakenOnAt T n first old q → IsTakenOnAt T n first new q
-  carry old new q same (inl (c, at, issued)) = inl (c, same ∙ at, issued)
-  carry old new q same (inr (c, at, was, number)) = inr (c, same ∙ at, was, number)
+  -- what was renewed below a place stays so where the callers there stay
+  carry : (old new : List Numbered) (p count : ℕ) → ((q : ℕ) → q < p → slice_get new q ≡ slice_get old q)
+      → AreRenewed T n first old p count → AreRenewed T n first new p count
+  carry old new zero count same is = is
+  carry old new (suc p) count same (inl (m, more, (c, at, issued, was), rest)) =
+      inl (m, more, (c, same p (omega arith) ∙ at, issued, was), carry old new p m (λ q b. same q (omega (arith, b))) rest)
+  carry old new (suc p) count same (inr ((c, at, was, number), rest)) =
+      inr ((c, same p (omega arith) ∙ at, was, number), carry old new p count (λ q b. same q (omega (arith, b))) rest)
 
-  -- one place more, of which the caller is renewed and the others stay
-  more : (p : ℕ) (old new : List Numbered) → AreRenewed T n first old p → Untouched p first old
-      → IsTakenOnAt T n first new p → ((q : ℕ) → q ≢ p → slice_get new q ≡ slice_get old q)
-      → AreRenewed T n first new (p + 1) × Untouched (p + 1) first new
-  more p old new before rest here others = (
-    λ q inside.
-        ⊎_elim
-        (λ eq. subst (λ (k : ℕ). IsTakenOnAt T n first new k) (sym eq) here)
-        (λ ne. carry old new q (others q ne) (before q (omega (arith, inside, ne))))
-        (cases_eq q p),
-    λ q from. others q (λ eq. absurd (omega (arith, eq, from))) ∙ rest q (omega (arith, from)),
-  )
+  -- the callers but that of one place stay
+  others : (p : ℕ) (old new : List Numbered) → StayFrom p first old
+      → ((q : ℕ) → q ≢ p → slice_get new q ≡ slice_get old q) → StayFrom (p + 1) first new
+  others p old new rest same q from = same q (λ eq. absurd (omega (arith, eq, from))) ∙ rest q (omega (arith, from))
 
-  pub renewed_more : (p : ℕ) (old new : List Numbered) (r : Bool) → p < length old
-      → AreRenewed T n first old p → Untouched p first old → TakesOn T n p old (Ok r) new
-      → AreRenewed T n first new (p + 1) × Untouched (p + 1) first new
-  renewed_more p old new true below before rest (c, issued, is) =
-      more p old new before rest
-      (inl (c, ap (λ (xs : List Numbered). slice_get xs p) is ∙ get_set_same old p c below, issued))
-      (λ q ne. ap (λ (xs : List Numbered). slice_get xs q) is ∙ get_set_other old p q c ne)
-  renewed_more p old new false below before rest (c, at, number, same) =
-      more p old new before rest
-      (inr (c, ap (λ (xs : List Numbered). slice_get xs p) same ∙ at, sym (rest p (omega arith)) ∙ at, number))
-      (λ q ne. ap (λ (xs : List Numbered). slice_get xs q) same)
+  -- one place more, whose caller is a new one
+  pub taken_more : (p count : ℕ) (old new : List Numbered) → p < length old
+      → AreRenewed T n first old p count → StayFrom p first old → TakesOn T n p old (Ok true) new
+      → AreRenewed T n first new (p + 1) (count + 1) × StayFrom (p + 1) first new
+  taken_more p count old new below before rest (c, issued, is, (was, number, at, told, other)) =
+      let same : (q : ℕ) → q ≢ p → slice_get new q ≡ slice_get old q
+      = λ q ne. ap (λ (xs : List Numbered). slice_get xs q) is ∙ get_set_other old p q c ne in
+      let here : IsTakenOnAt T n first new p
+      = (c, ap (λ (xs : List Numbered). slice_get xs p) is ∙ get_set_same old p c below, issued, (was, number, sym (rest p (omega arith)) ∙ at, told, other)) in
+      let next : suc p ≡ p + 1 = omega arith in
+      let all : AreRenewed T n first new (suc p) (count + 1)
+      = inl (count, refl, here, carry old new p count (λ q b. same q (λ eq. absurd (omega (arith, eq, b)))) before) in
+      (subst (λ (k : ℕ). AreRenewed T n first new k (count + 1)) next all, others p old new rest same)
+
+  -- one place more, whose caller stays
+  pub kept_more : (p count : ℕ) (old new : List Numbered)
+      → AreRenewed T n first old p count → StayFrom p first old → TakesOn T n p old (Ok false) new
+      → AreRenewed T n first new (p + 1) count × StayFrom (p + 1) first new
+  kept_more p count old new before rest (c, at, number, is) =
+      let same : (q : ℕ) → slice_get new q ≡ slice_get old q
+      = λ q. ap (λ (xs : List Numbered). slice_get xs q) is in
+      let here : IsUpToDateAt T n first new p
+      = (c, same p ∙ at, sym (rest p (omega arith)) ∙ at, number) in
+      let next : suc p ≡ p + 1 = omega arith in
+      let all : AreRenewed T n first new (suc p) count
+      = inr (here, carry old new p count (λ q b. same q) before) in
+      (subst (λ (k : ℕ). AreRenewed T n first new k count) next all, others p old new rest (λ q ne. same q))

@@ -1,5 +1,5 @@
 -- What the calls of a shard do, as relations between its states.
-use Rattle.std.specs.Prelude.{◌≡◌, ℕ, ◌+◌, ◌<◌, true, false, None, Result, Ok, Err}
+use Rattle.std.specs.Prelude.{◌≡◌, ℕ, ◌+◌, ◌<◌, ◌≤◌, ◌⊎◌, true, false, None, Result, Ok, Err}
 use Rattle.std.specs.List.{count_by}
 use Rattle.dq_ticks.specs.declared.keys.Key.{Key}
 use Rattle.dq_ticks.specs.declared.keys.EntryId.{EntryId}
@@ -44,6 +44,13 @@ pub record IsEndedBefore {T : Type 0} (old : LastingView T) (e : Ended) : Type 0
   pub expired : e.expired ≡ old.past.expired + old.core.counts.expiries
   pub removed : e.removed ≡ old.past.removed + old.core.counts.removals
   pub sum : AddsUp e
+
+-- the numbers that a key can carry, and the inserts that a tally can count, end before these
+abbrev pub number_end : ℕ
+number_end = 4294967296
+
+abbrev pub count_end : ℕ
+count_end = 18446744073709551616
 
 -- where a poll in pieces has more to do
 abbrev pub IfLastingWorks : {T : Type 0} → Result (Piece T) CoreError → Type 0 → Type 0
@@ -109,6 +116,11 @@ module _ {T : Type 0} where
   abbrev pub Closes : LastingView T → LastingView T → Type 0
   Closes old new = new ≡ record old { takes = false; parked = None }
 
+  -- no number is left that is higher by so much, or the past would be too much to count
+  abbrev pub NumbersAreSpent : LastingView T → ℕ → Type 0
+  NumbersAreSpent old by =
+      (number_end ≤ old.core.shard + by) ⊎ (count_end ≤ old.past.inserted + old.core.counts.begins)
+
   -- It goes on over a keeper that knows nothing, under a number that is higher by so much, and
   -- takes entries; no poller is left parked. Refused, nothing changes.
   abbrev pub Reopens : LastingView T → ℕ → Result (Unit {0}) ReopenError → LastingView T → Type 0
@@ -120,7 +132,8 @@ module _ {T : Type 0} where
       × (new.takes ≡ true) × IsEndedBefore old new.past × (new.parked ≡ None)
   Reopens old by (Err (StillLinked linked)) new =
       (linked ≡ count_by is_held old.core.slots.rows) × (0 < linked) × (new ≡ old)
-  Reopens old by (Err NumbersSpent) new = (count_by is_held old.core.slots.rows ≡ 0) × (new ≡ old)
+  Reopens old by (Err NumbersSpent) new =
+      (count_by is_held old.core.slots.rows ≡ 0) × NumbersAreSpent old by × (new ≡ old)
   Reopens old by (Err NoMemory) new = (count_by is_held old.core.slots.rows ≡ 0) × (new ≡ old)
 
   -- nothing changes but what the keeper knows, by a step that tells nothing of the entries

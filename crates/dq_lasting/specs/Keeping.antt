@@ -45,15 +45,25 @@ abbrev pub AtEach :
     {T : Type 0} {R : Type 0} → ℕ → ℕ → (LastingView T → R → LastingView T → Type 0) → R → Type 0
 AtEach shards many gives result = (p : ℕ) → p < many → AtPlace shards p gives result
 
--- The one step that was due, at the shard of a place. Nothing was due where each shard was seen to
--- take entries, and then to be closed or not yet worn by half.
+-- Each shard was seen to take entries, and those at so many places were then seen to be closed or
+-- not yet worn by half.
+abbrev pub NoneIsDue : (T : Type 0) → ℕ → ℕ → Type 0
+NoneIsDue T shards many =
+    AtEach {T = T} shards shards TellsTakes true × AtEach {T = T} shards many ClosesWorn false
+
+-- the shard of that place was seen closed, and found open under its next lock
+abbrev pub WasOpenedMeanwhile : (T : Type 0) → ℕ → ℕ → Type 0
+WasOpenedMeanwhile T shards p =
+    AtPlace {T = T} shards p TellsTakes false
+    × AtPlace {T = T} shards p (GoesOnAt shards p) (Ok Fine)
+
+-- The one step that was due, at the shard of a place. A shard is closed only where each was seen to
+-- take entries, and it is the first that is worn by half.
 abbrev pub KeepsGoing : (T : Type 0) → ℕ → Result Kept ReopenError → Type 0
 KeepsGoing T shards (Ok Fine) =
-    ((p : ℕ) × (p < shards) × AtPlace {T = T} shards p (GoesOnAt shards p) (Ok Fine))
-    ⊎ (AtEach {T = T} shards shards TellsTakes true
-    × AtEach {T = T} shards shards ClosesWorn false)
+    ((p : ℕ) × (p < shards) × WasOpenedMeanwhile T shards p) ⊎ NoneIsDue T shards shards
 KeepsGoing T shards (Ok (Closed p)) =
-    (p < shards) × AtPlace {T = T} shards p ClosesWorn true
+    (p < shards) × NoneIsDue T shards p × AtPlace {T = T} shards p ClosesWorn true
 KeepsGoing T shards (Ok (Drains p linked)) =
     (p < shards) × AtPlace {T = T} shards p (GoesOnAt shards p) (Ok (Drains p linked))
 KeepsGoing T shards (Ok (Reopened p)) =

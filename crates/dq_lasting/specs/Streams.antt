@@ -4,7 +4,7 @@ use Rattle.futures.specs.declared.task.Poll.{Poll}
 use Rattle.futures.specs.declared.task.Poll.TheVariants.{Ready, Pending}
 use Rattle.futures.specs.declared.task.context.Context.{Context}
 use Rattle.dq_ticks.specs.declared.TheConstants.{LAST_TICK}
-use Rattle.dq_core.specs.declared.errors.CoreError.TheVariants.{TickTooLarge, NoMemory}
+use Rattle.dq_core.specs.declared.errors.CoreError.TheVariants.{TickTooLarge}
 use Rattle.dq_core.specs.declared.outcomes.Expired.{Expired}
 use Rattle.dq_core.specs.declared.outcomes.Turn.TheVariants.{Out}
 use Rattle.dq_lasting.specs.declared.errors.LastingError.TheVariants.{Core}

@@ -1,10 +1,9 @@
 //! A handle extends and cancels entries of every shard, and looks at them, without a lock.
 ghost use Rattle.std.specs.Prelude.{◌≡◌, ◌≢◌, ◌%◌, ◌<◌, ◌≤◌, ◌⊎◌, IfOk, OnOk, length, slice_set, Ok};
 ghost use Rattle.dq_words.specs.declared.keeper.WordsError.TheVariants.{BadConfig};
-ghost use Rattle.dq_lasting.specs.Answers.{AtPlace};
-ghost use Rattle.dq_lasting.specs.Changes.{LastingIssues};
 ghost use Rattle.dq_lasting.specs.Numbered.{NumberedExtends, NumberedCancels, NumberedLooks, OfPlace};
-ghost use Rattle.dq_lasting.specs.Handles.{LastingQueueHandles, NumberAt, TakesOn, AreRenewed};
+ghost use Rattle.dq_lasting.specs.Handles.{LastingQueueHandles, IssuesAt, IsSameRefusal};
+ghost use Rattle.dq_lasting.specs.Handles.{NumberAt, TakesOn, RenewsHandle};
 
 use crate::errors::HandleError;
 use crate::numbered::NumberedCaller;
@@ -129,8 +128,8 @@ impl<A: Allocator> LastingHandle<A> {
     ) -> Result<usize, HandleError>
         ensures size { length self.new ≡ length self.old }
 
-        // Each shard's caller is a new one, or was seen to be of that shard's number.
-        ensures renewed { OnOk result (AreRenewed T queue.now self.old self.new queue.now) }
+        // Each shard's caller is a new one where the shard was renewed, or was seen to be of that shard's number.
+        ensures renewed { RenewsHandle T queue.now self.old result self.new }
     {
         let shards = queue.shards();
         if self.callers.len() != shards {
@@ -156,6 +155,7 @@ fn give_back_all<A: Allocator>(mut callers: Vec<NumberedCaller<A>, A>) {
 // Why no handle is made.
 fn refused(refusal: WordsError) -> HandleError
     requires { refusal ≢ BadConfig }
+    ensures { IsSameRefusal refusal result }
 {
     match refusal {
         WordsError::TooManyHandles { limit } => HandleError::TooManyHandles { limit },
@@ -180,7 +180,7 @@ impl<T: Drop, A: Allocator> LastingQueue<T, A> {
         place: usize,
     ) -> Result<NumberedCaller<A>, HandleError>
         requires { place < self.now }
-        ensures { IfOk result (λ c. AtPlace {T = T} self.now place LastingIssues (Ok c)) }
+        ensures { IssuesAt T self.now place result }
     {
         let mut shard = self.lock(rt, place);
         let issued = shard.issue();
@@ -200,7 +200,7 @@ impl<T: Drop, A: Allocator + Clone + Drop> LastingQueue<T, A> {
     /// generation were issued, given back or not, and NoMemory. The callers that were issued before are given back then.
     #[tactic(auto, using(crate::proofs::Locked::issued_more))]
     pub fn handle<R: Wait>(&self, rt: &R) -> Result<LastingHandle<A>, HandleError>
-        ensures { IfOk result (λ h. LastingQueueHandles T self.now h) }
+        ensures { LastingQueueHandles T self.now result }
     {
         let shards = self.shards();
         let Ok(alloc) = self.shards.allocator().clone() else {

@@ -1,5 +1,5 @@
 //! One shard: a queue that is closed, drained and opened again.
-ghost use Rattle.std.specs.Prelude.{◌≡◌, ◌↔◌, ◌+◌, ◌<◌, true, false, None, OnOk, OnErr, IfErr, IfSome, IsErrAnd, length};
+ghost use Rattle.std.specs.Prelude.{◌≡◌, ◌↔◌, ◌+◌, ◌<◌, ◌≤◌, true, false, None, OnOk, OnErr, IfErr, IfSome, IsErrAnd, length};
 ghost use Rattle.std.specs.List.{count_by};
 ghost use Rattle.dq_core.specs.Calls.{TellsWake};
 ghost use Rattle.dq_core.specs.Renewals.{OldAreMissing};
@@ -9,6 +9,7 @@ ghost use Rattle.dq_lasting.specs.Shard.{IsLasting, AddsUp};
 ghost use Rattle.dq_lasting.specs.Changes.{LastingInserts, LastingResets, LastingRemoves, Reopens};
 ghost use Rattle.dq_lasting.specs.Changes.{LastingDeadline, LastingPolls, LastingSweeps, Closes};
 ghost use Rattle.dq_lasting.specs.Changes.{LastingClears, LastingTells, LastingIssues, IsWith};
+ghost use Rattle.dq_lasting.specs.Changes.{count_end};
 ghost use Rattle.dq_lasting.specs.Keeping.{ClosesWorn, GoesOnAt};
 
 use crate::ended::{Ended, LastingTally};
@@ -51,7 +52,8 @@ fn with_ended(past: &Ended, tally: &Tally) -> Option<Ended>
     requires past { AddsUp past.now }
     requires tally { tally.now.inserted
         ≡ tally.now.expired + tally.now.removed + tally.now.cancelled }
-    ensures { IfSome result (λ e. IsWith past.now tally.now e) }
+    ensures sum { IfSome result (λ e. IsWith past.now tally.now e) }
+    ensures none { (result ≡ None) → count_end ≤ past.now.inserted + tally.now.inserted }
 {
     let Some(inserted) = past.inserted.checked_add(tally.inserted) else {
         return None;

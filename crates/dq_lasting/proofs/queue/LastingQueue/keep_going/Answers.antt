@@ -10,4 +10,5 @@ loop-place-preserved g c =
 
 pub returns-in-Some : goal.returns-in-Some
 returns-in-Some g c =
-    keeps g.row.T.Denot c.args.self.now c.in-Some.place (rw c.in-Some.is at c.closed_place.ensures.closed).0 c.go_on.result c.go_on.ensures
+    let seen = rw c.in-Some.is at c.closed_place.ensures.closed in
+    keeps g.row.T.Denot c.args.self.now c.in-Some.place seen.0 seen.1 c.go_on.result c.go_on.ensures
