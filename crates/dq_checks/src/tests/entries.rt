@@ -42,37 +42,57 @@ fn value_of<'a>(queue: &'a Queue, entry: &EntryId) -> Option<&'a str> {
     Some(value.as_str())
 }
 
+// Uses up the slot that is free first.
+fn wears_a_slot(rt: &impl Abort, alloc: Global, queue: &mut Queue) -> Result<(), Fail> {
+    for name in ["first", "second"] {
+        let key = inserted(alloc, queue, name, 5)?;
+        lists(rt, queue, &[(key, 5, name)]);
+        queue.remove(&key.entry())?;
+    }
+    assert_eq!(rt; queue.worn(), 1);
+    Ok(())
+}
+
+fn is_reset(queue: &mut Queue, entry: &EntryId, when: u64) -> Result<Key, Fail> {
+    Ok(queue.reset(entry, when)?)
+}
+
+fn is_extended(rt: &impl Abort, queue: &mut Queue, key: &Key, when: u64) {
+    assert_eq!(rt; queue.extend(key, when), Ok(when));
+}
+
+fn is_cancelled(rt: &impl Abort, queue: &mut Queue, key: &Key, when: u64) {
+    assert_eq!(rt; queue.cancel(key), Ok(when));
+}
+
+fn is_swept(rt: &impl Abort, queue: &mut Queue, removed: usize) {
+    assert_eq!(rt; queue.sweep(), removed);
+}
+
+// The queue of the test below, which drops it.
+fn lists_what_lives(rt: &impl Abort, alloc: Global, queue: &mut Queue) -> Result<(), Fail> {
+    let early = inserted(alloc, queue, "reset", 10)?;
+    let cancelled = inserted(alloc, queue, "cancelled", 30)?;
+    let extended = inserted(alloc, queue, "extended", 40)?;
+    let reset = is_reset(queue, &early.entry(), 20)?;
+    is_extended(rt, queue, &extended, 50);
+    is_cancelled(rt, queue, &cancelled, 30);
+    let live = [(reset, 20, "reset"), (extended, 50, "extended")];
+    lists(rt, queue, &live);
+    assert_eq!(rt; value_of(queue, &early.entry()), Some("reset"));
+    assert_eq!(rt; value_of(queue, &cancelled.entry()), Some("cancelled"));
+    is_swept(rt, queue, 1);
+    assert_eq!(rt; value_of(queue, &cancelled.entry()), None);
+    lists(rt, queue, &live);
+    Ok(())
+}
+
 // A worn slot, one whose entry was reset, one whose entry is cancelled and still linked, one whose entry was extended, and
 // one that was never used.
 #[test]
 fn live_entries_are_listed_once(rt: HostRuntime) -> Result<(), Fail> {
     let mut queue = queue_of_five(rt.alloc())?;
     lists(&rt, &queue, &[]);
-    for name in ["first", "second"] {
-        let key = inserted(rt.alloc(), &mut queue, name, 5)?;
-        lists(&rt, &queue, &[(key, 5, name)]);
-        queue.remove(&key.entry())?;
-    }
-    assert_eq!(rt; queue.worn(), 1);
-    let early = inserted(rt.alloc(), &mut queue, "reset", 10)?;
-    let cancelled = inserted(rt.alloc(), &mut queue, "cancelled", 30)?;
-    let extended = inserted(rt.alloc(), &mut queue, "extended", 40)?;
-    let reset = queue.reset(&early.entry(), 20)?;
-    assert_eq!(rt; queue.extend(&extended, 50), Ok(50));
-    assert_eq!(rt; queue.cancel(&cancelled), Ok(30));
-    lists(
-        &rt,
-        &queue,
-        &[(reset, 20, "reset"), (extended, 50, "extended")],
-    );
-    assert_eq!(rt; value_of(&queue, &early.entry()), Some("reset"));
-    assert_eq!(rt; value_of(&queue, &cancelled.entry()), Some("cancelled"));
-    assert_eq!(rt; queue.sweep(), 1);
-    assert_eq!(rt; value_of(&queue, &cancelled.entry()), None);
-    lists(
-        &rt,
-        &queue,
-        &[(reset, 20, "reset"), (extended, 50, "extended")],
-    );
-    Ok(())
+    wears_a_slot(&rt, rt.alloc(), &mut queue)?;
+    lists_what_lives(&rt, rt.alloc(), &mut queue)
 }
