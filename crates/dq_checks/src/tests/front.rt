@@ -1,9 +1,11 @@
 //! The front door: queues made by their capacity, and an insert that `?` takes.
 
+use super::queues::issued;
 use dq_core::{BadNumber, CoreConfig, CoreError, DelayCore, Turn, VecWords};
 use dq_ticks::{LAST_STAMP, LAST_TICK};
-use dq_words::shared_queue;
+use dq_words::{Caller, Keeper, shared_queue};
 use std::alloc::Global;
+use std::process::Abort;
 use std::test::Fail;
 
 fn plain_queue(alloc: Global, capacity: usize) -> Result<DelayCore<char, VecWords>, CoreError> {
@@ -21,18 +23,19 @@ fn a_config_of_a_capacity(rt: HostRuntime) -> Result<(), Fail> {
     Ok(())
 }
 
-#[test]
-fn a_queue_by_its_capacity(rt: HostRuntime) -> Result<(), Fail> {
-    let mut queue = plain_queue(rt.alloc(), 2)?;
+// Why an insert into a queue of two is refused.
+fn refused(queue: &mut DelayCore<char, VecWords>, when: u64) -> Option<CoreError> {
+    queue.insert_or_drop('c', when).err()
+}
+
+// The queue takes two entries and no third, and gives the sooner.
+fn takes_two(rt: &impl Abort, queue: &mut DelayCore<char, VecWords>) -> Result<(), Fail> {
     queue.insert_or_drop('b', 20)?;
     queue.insert_or_drop('a', 10)?;
     let full = CoreError::Full { linked: 2, worn: 0 };
-    assert_eq!(rt; queue.insert_or_drop('c', 5).err(), Some(full));
+    assert_eq!(rt; refused(queue, 5), Some(full));
     let late = CoreError::TooFar { limit: LAST_TICK };
-    assert_eq!(rt;
-        queue.insert_or_drop('c', LAST_TICK.saturating_add(1)).err(),
-        Some(late)
-    );
+    assert_eq!(rt; refused(queue, LAST_TICK.saturating_add(1)), Some(late));
     let Turn::Out(first) = queue.poll(10)? else {
         return Err(Fail::from("nothing came out"));
     };
@@ -41,16 +44,31 @@ fn a_queue_by_its_capacity(rt: HostRuntime) -> Result<(), Fail> {
 }
 
 #[test]
-fn a_queue_that_callers_extend(rt: HostRuntime) -> Result<(), Fail> {
-    let mut queue = shared_queue(rt.alloc(), 2)?;
+fn a_queue_by_its_capacity(rt: HostRuntime) -> Result<(), Fail> {
+    let mut queue = plain_queue(rt.alloc(), 2)?;
+    takes_two(&rt, &mut queue)
+}
+
+// An entry that the caller extends doesn't come out at its first deadline.
+fn waits_longer(
+    rt: &impl Abort,
+    queue: &mut DelayCore<char, Keeper>,
+    caller: &mut Caller,
+) -> Result<(), Fail> {
     let key = queue.insert_or_drop('a', 10)?;
-    let mut caller = queue.issue()?;
     assert_eq!(rt; caller.extend(&key, 30), Ok(30));
     let Turn::Waiting { next } = queue.poll(10)? else {
         return Err(Fail::from("it came out before its deadline"));
     };
     assert_eq!(rt; next, 30);
     Ok(())
+}
+
+#[test]
+fn a_queue_that_callers_extend(rt: HostRuntime) -> Result<(), Fail> {
+    let mut queue = shared_queue(rt.alloc(), 2)?;
+    let mut caller = issued(&mut queue)?;
+    waits_longer(&rt, &mut queue, &mut caller)
 }
 
 #[test]

@@ -120,6 +120,11 @@ pub fn over_shared<T: Drop>(
     over(alloc, last_stamp, Keeper::new(alloc, capacity)?)
 }
 
+/// A caller of the queue. What an issue says is long, so it is proved here, once for all values.
+pub fn issued<T: Drop>(core: &mut DelayCore<T, Keeper>) -> Result<Caller, Fail> {
+    Ok(core.issue()?)
+}
+
 /// A fresh queue over plain words.
 pub fn plain(
     alloc: Global,
@@ -141,7 +146,7 @@ pub fn shared(
     last_stamp: u32,
 ) -> Result<Queue<Keeper, Caller>, Fail> {
     let mut core = over_shared(alloc, capacity, last_stamp)?;
-    let calls = core.issue()?;
+    let calls = issued(&mut core)?;
     Ok(Queue {
         core,
         calls,

@@ -1,8 +1,9 @@
 // A caller that extends, a caller that cancels and the keeper's own queue, each in a thread of its own.
-use super::queues::over_shared;
+use super::queues::{issued, over_shared};
 use dq_core::{CoreError, DelayCore, Turn};
 use dq_ticks::{Key, LAST_STAMP};
 use dq_words::{Caller, Keeper};
+use std::alloc::Global;
 use std::process::Abort;
 use std::test::Fail;
 use std::thread::{Threads, join};
@@ -117,26 +118,46 @@ fn race<R: Threads + Sync>(
     )
 }
 
-#[test]
-fn extends_and_cancels_race_with_polls(rt: HostRuntime) -> Result<(), Fail> {
-    let mut core: Core = over_shared(rt.alloc(), 256, LAST_STAMP)?;
-    let mut extender = core.issue()?;
-    let mut canceller = core.issue()?;
-    let mut keys = Vec::with_capacity(rt.alloc(), ENTRIES)?;
-    fill(&mut core, &mut keys)?;
-    let ((extended, cancelled), expired) = race(
-        &rt,
-        &mut core,
-        &mut extender,
-        &mut canceller,
-        &keys,
-    );
+// The three threads meet, and what they answer agrees: the number of cancels.
+fn meet<R: Threads + Sync + Abort>(
+    rt: &R,
+    core: &mut Core,
+    extender: &mut Caller,
+    canceller: &mut Caller,
+    keys: &[Key],
+) -> u64 {
+    let ((extended, cancelled), expired) = race(rt, core, extender, canceller, keys);
     let Some(expired) = expired else {
         panic!(rt; "the polls came to no end, or an entry came out before its deadline")
     };
-    agree(&rt, &extended, &cancelled, &expired);
-    let cancels = cancelled.iter().filter(|answer| **answer > 0).count() as u64;
-    assert_eq!(rt; (canceller.give_back(), extender.give_back()), (cancels, 0));
+    agree(rt, &extended, &cancelled, &expired);
+    cancelled.iter().filter(|answer| **answer > 0).count() as u64
+}
+
+fn ends(extender: Caller, canceller: Caller) -> (u64, u64) {
+    (canceller.give_back(), extender.give_back())
+}
+
+// The queue is filled and the three threads meet: the number of cancels.
+fn contest<R: Threads + Sync + Abort>(
+    rt: &R,
+    alloc: Global,
+    core: &mut Core,
+    extender: &mut Caller,
+    canceller: &mut Caller,
+) -> Result<u64, Fail> {
+    let mut keys = Vec::with_capacity(alloc, ENTRIES)?;
+    fill(core, &mut keys)?;
+    Ok(meet(rt, core, extender, canceller, &keys))
+}
+
+#[test]
+fn extends_and_cancels_race_with_polls(rt: HostRuntime) -> Result<(), Fail> {
+    let mut core: Core = over_shared(rt.alloc(), 256, LAST_STAMP)?;
+    let mut extender = issued(&mut core)?;
+    let mut canceller = issued(&mut core)?;
+    let cancels = contest(&rt, rt.alloc(), &mut core, &mut extender, &mut canceller)?;
+    assert_eq!(rt; ends(extender, canceller), (cancels, 0));
     adds_up(&rt, &mut core, cancels);
     Ok(())
 }

@@ -3,9 +3,10 @@
 ghost use Rattle.std.specs.Prelude.{IfOk};
 ghost use Rattle.dq_core.specs.Words.{AreFresh};
 
+use super::queues::issued;
 use dq_core::{CallError, CoreConfig, CoreError, DelayCore, RenewError, VecWords, Words};
 use dq_ticks::{Key, LAST_STAMP};
-use dq_words::Keeper;
+use dq_words::{Caller, Keeper};
 use std::alloc::Global;
 use std::process::Abort;
 use std::test::Fail;
@@ -79,6 +80,11 @@ struct Round<'a> {
     old: &'a mut Vec<Key>,
 }
 
+// Takes an entry out, and answers the key that came with it.
+fn taken_out<W: Anew>(queue: &mut DelayCore<String, W>, key: &Key) -> Result<Key, Fail> {
+    Ok(queue.remove(&key.entry())?.key)
+}
+
 // Uses every stamp of a queue, so that all of its slots are worn, and answers a key that it gave.
 fn wear<R: Abort, W: Anew>(
     rt: &R,
@@ -89,16 +95,15 @@ fn wear<R: Abort, W: Anew>(
     let mut used = 0u64;
     for turn in 0..100u64 {
         let value = format!(in round.alloc; "{turn}")?;
-        let key = match queue.insert(value, turn) {
+        let key = match queue.insert_or_drop(value, turn) {
             Ok(key) => key,
-            Err((error, _value)) => {
+            Err(error) => {
                 let worn = round.capacity;
                 assert_eq!(rt; error, CoreError::Full { linked: 0, worn });
                 break;
             }
         };
-        let removed = queue.remove(&key.entry())?;
-        assert_eq!(rt; removed.key, key);
+        assert_eq!(rt; taken_out(queue, &key)?, key);
         last = Some(key);
         used = used.saturating_add(1);
     }
@@ -155,20 +160,21 @@ fn lasts<R: Abort, W: Anew>(
         generation(rt, &mut queue, &mut round)?;
     }
     assert_eq!(rt; queue.shard(), generations);
-    let Ok(key) = queue.insert(format!(in alloc; "held")?, 7) else {
-        unreachable_case(rt);
-        return Ok(());
-    };
-    let linked = renewed(alloc, &mut queue, generations.saturating_add(1), capacity)?;
-    assert_eq!(rt; linked, Err(RenewError::StillLinked { linked: 1 }));
-    let found = queue.deadline(&key.entry());
-    assert_eq!(rt; found, Ok(7));
-    Ok(())
+    holds(rt, alloc, &mut queue, generations.saturating_add(1))
 }
 
-// A case that no test may come to.
-fn unreachable_case<R: Abort>(rt: &R) {
-    assert!(rt; false);
+// While an entry is linked, no renewal goes.
+fn holds<R: Abort, W: Anew>(
+    rt: &R,
+    alloc: Global,
+    queue: &mut DelayCore<String, W>,
+    number: u32,
+) -> Result<(), Fail> {
+    let key = queue.insert_or_drop(format!(in alloc; "held")?, 7)?;
+    let linked = renewed(alloc, queue, number, 2)?;
+    assert_eq!(rt; linked, Err(RenewError::StillLinked { linked: 1 }));
+    assert_eq!(rt; queue.deadline(&key.entry()), Ok(7));
+    Ok(())
 }
 
 #[test]
@@ -187,61 +193,66 @@ fn shared_words_last(rt: HostRuntime) -> Result<(), Fail> {
     lasts::<_, Keeper>(&rt, alloc, 3, 2_000)
 }
 
+// An entry is taken out, the queue is renewed under the number, and an entry comes after it: the keys of both.
+fn followed<R: Abort, W: Anew>(
+    rt: &R,
+    alloc: Global,
+    queue: &mut DelayCore<String, W>,
+    number: u32,
+) -> Result<(Key, Key), Fail> {
+    let old = queue.insert_or_drop(format!(in alloc; "old")?, 5)?;
+    assert_eq!(rt; taken_out(queue, &old)?, old);
+    assert_eq!(rt; renewed(alloc, queue, number, 1)?, Ok(()));
+    let new = queue.insert_or_drop(format!(in alloc; "new")?, 6)?;
+    Ok((old, new))
+}
+
+// The queue's own calls by a key.
+fn is_unknown_to_all(rt: &impl Abort, queue: &mut DelayCore<String, VecWords>, key: &Key) {
+    assert_eq!(rt; queue.extend(key, 9), Err(CallError::Unknown));
+    assert_eq!(rt; queue.cancel(key), Err(CallError::Unknown));
+    assert_eq!(rt; queue.look(key), Err(CallError::Unknown));
+    let found = is_unknown(queue, key);
+    assert!(rt; found);
+}
+
 // Calls by key of the owner, with a key from before a renewal, while another entry has its slot and its stamp.
 #[test]
 fn old_keys_never_reach_a_new_entry(rt: HostRuntime) -> Result<(), Fail> {
-    let alloc = rt.alloc();
-    let mut queue: DelayCore<String, VecWords> = queue(alloc, 1, LAST_STAMP)?;
-    let Ok(old) = queue.insert(format!(in alloc; "old")?, 5) else {
-        unreachable_case(&rt);
-        return Ok(());
-    };
-    queue.remove(&old.entry())?;
-    assert_eq!(rt; renewed(alloc, &mut queue, 3, 1)?, Ok(()));
-    let Ok(new) = queue.insert(format!(in alloc; "new")?, 6) else {
-        unreachable_case(&rt);
-        return Ok(());
-    };
+    let mut queue: DelayCore<String, VecWords> = queue(rt.alloc(), 1, LAST_STAMP)?;
+    let (old, new) = followed(&rt, rt.alloc(), &mut queue, 3)?;
     let same = (new.entry().index(), new.stamp()) == (old.entry().index(), old.stamp());
     assert!(rt; same);
-    assert_eq!(rt; queue.extend(&old, 9), Err(CallError::Unknown));
-    assert_eq!(rt; queue.cancel(&old), Err(CallError::Unknown));
-    assert_eq!(rt; queue.look(&old), Err(CallError::Unknown));
-    let found = is_unknown(&mut queue, &old);
-    assert!(rt; found);
+    is_unknown_to_all(&rt, &mut queue, &old);
     assert_eq!(rt; queue.deadline(&new.entry()), Ok(6));
     Ok(())
+}
+
+// Neither call reaches the entry.
+fn is_refused(rt: &impl Abort, caller: &mut Caller, key: &Key) {
+    let cancelled = caller.cancel(key);
+    assert!(rt; cancelled.is_err());
+    let extended = caller.extend(key, 90);
+    assert!(rt; extended.is_err());
 }
 
 // A caller from before a renewal stays at the words from before, and the queue's new entry doesn't feel it.
 #[test]
 fn old_callers_stay_at_the_old_words(rt: HostRuntime) -> Result<(), Fail> {
-    let alloc = rt.alloc();
-    let mut queue: DelayCore<String, Keeper> = queue(alloc, 1, LAST_STAMP)?;
-    let mut caller = queue.issue()?;
-    let Ok(old) = queue.insert(format!(in alloc; "old")?, 5) else {
-        unreachable_case(&rt);
-        return Ok(());
-    };
-    queue.remove(&old.entry())?;
-    assert_eq!(rt; renewed(alloc, &mut queue, 1, 1)?, Ok(()));
-    let Ok(new) = queue.insert(format!(in alloc; "new")?, 6) else {
-        unreachable_case(&rt);
-        return Ok(());
-    };
-    let cancelled = caller.cancel(&new);
-    assert!(rt; cancelled.is_err());
-    let extended = caller.extend(&new, 90);
-    assert!(rt; extended.is_err());
+    let mut queue: DelayCore<String, Keeper> = queue(rt.alloc(), 1, LAST_STAMP)?;
+    let mut caller = issued(&mut queue)?;
+    let (_old, new) = followed(&rt, rt.alloc(), &mut queue, 1)?;
+    is_refused(&rt, &mut caller, &new);
     assert_eq!(rt; queue.deadline(&new.entry()), Ok(6));
     Ok(())
 }
 
-// A loop of one slot's worth goes on past the last stamp there is.
-#[test]
-fn three_million_inserts_go_on(rt: HostRuntime) -> Result<(), Fail> {
-    let alloc = rt.alloc();
-    let mut queue: DelayCore<u64, VecWords> = DelayCore::with_capacity(alloc, 1)?;
+// Inserts into one slot and takes out in turn, and renews where the slot is worn: how often it was renewed.
+fn goes_on(
+    rt: &impl Abort,
+    alloc: Global,
+    queue: &mut DelayCore<u64, VecWords>,
+) -> Result<u32, Fail> {
     let mut renewals = 0u32;
     for turn in 0..3_000_000u64 {
         if queue.worn() == 1 {
@@ -255,6 +266,13 @@ fn three_million_inserts_go_on(rt: HostRuntime) -> Result<(), Fail> {
         let removed = queue.remove(&key.entry())?;
         assert_eq!(rt; removed.value, turn);
     }
-    assert_eq!(rt; renewals, 2);
+    Ok(renewals)
+}
+
+// A loop of one slot's worth goes on past the last stamp there is.
+#[test]
+fn three_million_inserts_go_on(rt: HostRuntime) -> Result<(), Fail> {
+    let mut queue: DelayCore<u64, VecWords> = DelayCore::with_capacity(rt.alloc(), 1)?;
+    assert_eq!(rt; goes_on(&rt, rt.alloc(), &mut queue)?, 2);
     Ok(())
 }
