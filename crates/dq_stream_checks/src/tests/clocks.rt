@@ -1,10 +1,12 @@
 //! The ticks of a clock.
 
-use super::streams::{Seen, Task, fill, letters, stream_of};
+use super::streams::{Letters, Seen, Task, fill, letters_and_task, out, stream_of};
 use dq_stream::{MillisecondTicks, TickSource};
 use std::cell::Cell;
 use std::io;
 use std::io::ErrorKind;
+use std::process::Abort;
+use std::sync::Wait;
 use std::test::Fail;
 use std::time::{Clock, Duration, Instant};
 
@@ -65,20 +67,18 @@ fn one_start_one_time(rt: HostRuntime) -> Result<(), Fail> {
     Ok(())
 }
 
+fn gives_by_a_clock<R: Abort + Wait>(rt: &R, queue: &Letters, task: &Task) -> Result<(), Fail> {
+    let clock = SetClock(Cell::new(Some(0)));
+    let mut stream = stream_of(rt, queue, 0, MillisecondTicks::new(&clock)?)?;
+    fill(rt, queue, 0, &[('v', 2)])?;
+    task.sees(rt, &mut stream, Seen::Waits);
+    clock.0.set(Some(2_500_000));
+    task.sees(rt, &mut stream, out('v', 2, 2));
+    Ok(())
+}
+
 #[test]
 fn stream_by_a_clock(rt: HostRuntime) -> Result<(), Fail> {
-    let queue = letters(rt.alloc(), 1)?;
-    let task = Task::new(&rt)?;
-    let clock = SetClock(Cell::new(Some(0)));
-    let mut stream = stream_of(&rt, &queue, 0, MillisecondTicks::new(&clock)?)?;
-    fill(&rt, &queue, 0, &[('v', 2)])?;
-    assert_eq!(rt; task.poll(&mut stream), Seen::Waits);
-    clock.0.set(Some(2_500_000));
-    let out = Seen::Out {
-        value: 'v',
-        deadline: 2,
-        noted: 2,
-    };
-    assert_eq!(rt; task.poll(&mut stream), out);
-    Ok(())
+    let (queue, task) = letters_and_task(&rt, &[])?;
+    gives_by_a_clock(&rt, &queue, &task)
 }

@@ -1,28 +1,46 @@
 //! Streams under the executors of `futures`.
 
-use super::streams::{TickOf, fill, letters, stream_of};
+use super::streams::{Letters, TickOf, fill, letters, stream_of};
+use dq_core::Expired;
 use dq_shards::{QueueConfig, SharedDelayQueue};
-use dq_stream::ExpiredStream;
+use dq_stream::{ExpiredStream, StreamFault};
 use futures::executor::{block_on, run_all};
 use futures::future::Either;
 use futures::task::{Context, Poll};
 use futures::{Future, Stream, StreamExt, stream};
+use std::alloc::{AllocGlobal, Global};
 use std::cell::Cell;
+use std::random::RandomSource;
 use std::sync::Wait;
 use std::sync::atomic::AtomicU64;
 use std::sync::atomic::Ordering::SeqCst;
 use std::test::Fail;
 
+type Items = Vec<Result<Expired<char>, StreamFault>>;
+
+// All that a stream gives at a tick after the last deadline.
+fn collected<R>(rt: &R, queue: &Letters) -> Result<Items, Fail>
+where
+    R: AllocGlobal + RandomSource + Wait,
+{
+    let tick = Cell::new(10000);
+    let stream = stream_of(rt, queue, 0, TickOf(&tick))?;
+    Ok(block_on(rt, stream.collect(rt.alloc()))??)
+}
+
+fn deadlines_of(alloc: Global, items: Items) -> Result<Vec<u64>, Fail> {
+    let mut deadlines = Vec::new(alloc);
+    for item in items {
+        deadlines.push(item?.deadline)?;
+    }
+    Ok(deadlines)
+}
+
 #[test]
 fn three_in_order_collected(rt: HostRuntime) -> Result<(), Fail> {
     let queue = letters(rt.alloc(), 1)?;
     fill(&rt, &queue, 0, &[('a', 5), ('b', 70), ('c', 5000)])?;
-    let tick = Cell::new(10000);
-    let stream = stream_of(&rt, &queue, 0, TickOf(&tick))?;
-    let mut deadlines = Vec::new(rt.alloc());
-    for item in block_on(&rt, stream.collect(rt.alloc()))?? {
-        deadlines.push(item?.deadline)?;
-    }
+    let deadlines = deadlines_of(rt.alloc(), collected(&rt, &queue)?)?;
     assert_eq!(rt; deadlines.as_slice(), [5, 70, 5000].as_slice());
     Ok(())
 }
@@ -95,10 +113,8 @@ impl<R: Wait> Future for Time<'_, R> {
     }
 }
 
-#[test]
-fn two_streams_in_turn(rt: HostRuntime) -> Result<(), Fail> {
-    let queue = SharedDelayQueue::new(rt.alloc(), QueueConfig::of(2, 8))?;
-    // Each value is a digit of the sum, which so says how often it came.
+// Each value is a digit of the sum, which so says how often it came.
+fn put_digits<R: Wait>(rt: &R, queue: &SharedDelayQueue<u64>) -> Result<(), Fail> {
     for (shard, value, when) in [
         (0, 1, 3),
         (1, 10, 1),
@@ -107,32 +123,45 @@ fn two_streams_in_turn(rt: HostRuntime) -> Result<(), Fail> {
         (0, 10000, 128),
         (1, 100000, 130),
     ] {
-        if queue.insert(&rt, shard, value, when).is_err() {
+        if queue.insert(rt, shard, value, when).is_err() {
             return Err(Fail::new("an insert was refused"));
         }
     }
+    Ok(())
+}
+
+// Runs a reader of each shard beside the time.
+fn run_in_turn<R>(rt: &R, queue: &SharedDelayQueue<u64>, world: &World) -> Result<(), Fail>
+where
+    R: AllocGlobal + RandomSource + Wait,
+{
+    let mut work = Vec::new(rt.alloc());
+    for shard in 0..2 {
+        match ExpiredStream::new(rt, queue, shard, TickIn(world)) {
+            Ok(stream) => work.push(Either::Left(Reader { world, stream }))?,
+            Err((error, _)) => return Err(error.into()),
+        }
+    }
+    work.push(Either::Right(Time {
+        world,
+        rt,
+        queue,
+        last: 200,
+    }))?;
+    run_all(rt, stream::iter(work))?;
+    Ok(())
+}
+
+#[test]
+fn two_streams_in_turn(rt: HostRuntime) -> Result<(), Fail> {
+    let queue = SharedDelayQueue::new(rt.alloc(), QueueConfig::of(2, 8))?;
+    put_digits(&rt, &queue)?;
     let world = World {
         tick: AtomicU64::new(0),
         sum: AtomicU64::new(0),
         polls: AtomicU64::new(0),
     };
-    let mut work = Vec::new(rt.alloc());
-    for shard in 0..2 {
-        match ExpiredStream::new(&rt, &queue, shard, TickIn(&world)) {
-            Ok(stream) => work.push(Either::Left(Reader {
-                world: &world,
-                stream,
-            }))?,
-            Err((error, _)) => return Err(error.into()),
-        }
-    }
-    work.push(Either::Right(Time {
-        world: &world,
-        rt: &rt,
-        queue: &queue,
-        last: 200,
-    }))?;
-    run_all(&rt, stream::iter(work))?;
+    run_in_turn(&rt, &queue, &world)?;
     assert_eq!(rt; world.sum.load(SeqCst), 111111);
     // A stream that waits isn't polled at each tick.
     assert!(rt; world.polls.load(SeqCst) < 30);

@@ -8,6 +8,7 @@ use futures::task::Poll;
 use futures::test::MockTask;
 use std::alloc::{AllocGlobal, Allocator, Global};
 use std::cell::Cell;
+use std::process::Abort;
 use std::random::RandomSource;
 use std::sync::Wait;
 use std::test::Fail;
@@ -34,6 +35,37 @@ pub fn fill(
         }
     }
     Ok(last)
+}
+
+/// Puts a letter in, and answers its key.
+pub fn put<R: Wait>(
+    rt: &R,
+    queue: &Letters,
+    shard: u64,
+    value: char,
+    when: u64,
+) -> Result<Key, Fail> {
+    match fill(rt, queue, shard, &[(value, when)])? {
+        Some(key) => Ok(key),
+        None => Err(Fail::new("no key")),
+    }
+}
+
+/// A queue of one shard with these letters in it, and a task. A test makes them and lends them to what it shows: an error
+/// on the way then drops nothing, which is much of what there is to prove.
+pub fn letters_and_task<R>(rt: &R, entries: &[(char, u64)]) -> Result<(Letters, Task), Fail>
+where
+    R: AllocGlobal + RandomSource + Wait,
+{
+    let queue = letters(rt.alloc(), 1)?;
+    fill(rt, &queue, 0, entries)?;
+    let task = Task::new(rt)?;
+    Ok((queue, task))
+}
+
+/// Fails unless a poller is parked in the shard until this tick, or none is.
+pub fn parks<R: Abort + Wait>(rt: &R, queue: &Letters, shard: usize, until: Option<u64>) {
+    assert_eq!(rt; queue.parked(rt, shard), Ok(until));
 }
 
 /// Tells ticks that were set beforehand, and 0 once it has told them all. It counts how often it was asked.
@@ -93,6 +125,15 @@ pub enum Seen {
     Ends,
 }
 
+/// A letter that came out.
+pub fn out(value: char, deadline: u64, noted: u64) -> Seen {
+    Seen::Out {
+        value,
+        deadline,
+        noted,
+    }
+}
+
 /// A task that polls streams.
 #[derive(Drop)]
 pub struct Task {
@@ -128,5 +169,45 @@ impl Task {
         let was_woken = self.mock.is_woken();
         self.mock.enter(|_| ());
         was_woken
+    }
+    /// Fails unless a poll of a stream answers this.
+    pub fn sees<S: TickSource, R: Abort + Wait, A: Allocator>(
+        &self,
+        rt: &R,
+        stream: &mut ExpiredStream<'_, char, S, R, A>,
+        seen: Seen,
+    ) {
+        assert_eq!(rt; self.poll(stream), seen);
+    }
+
+    /// Fails unless a poller is parked in shard 0 until this tick, or none is, and this task was woken or wasn't.
+    pub fn is_left<R: Abort + Wait>(
+        &self,
+        rt: &R,
+        queue: &Letters,
+        until: Option<u64>,
+        woken: bool,
+    ) {
+        assert_eq!(rt; (queue.parked(rt, 0), self.was_woken()), (Ok(until), woken));
+    }
+
+    /// Rings shard 0. Fails unless that wakes this task, or wakes none.
+    pub fn is_rung<R: Abort + Wait>(&self, rt: &R, queue: &Letters, tick: u64, woken: bool) {
+        assert_eq!(rt;
+            (queue.ring(rt, 0, tick), self.was_woken()),
+            (Ok(woken), woken)
+        );
+    }
+    /// Fails unless a new stream of the shard, at tick 0, waits. It drops the stream.
+    pub fn waits<R: Abort + Wait>(
+        &self,
+        rt: &R,
+        queue: &Letters,
+        shard: usize,
+    ) -> Result<(), QueueError> {
+        let tick = Cell::new(0);
+        let mut stream = stream_of(rt, queue, shard, TickOf(&tick))?;
+        self.sees(rt, &mut stream, Seen::Waits);
+        Ok(())
     }
 }
