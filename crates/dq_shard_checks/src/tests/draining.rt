@@ -1,7 +1,9 @@
 //! Many entries come out under one lock.
 
 use dq_core::Turn;
-use dq_shards::{QueueConfig, ShardState, SharedDelayQueue};
+use dq_shards::{QueueConfig, QueueError, ShardState, SharedDelayQueue};
+use std::process::Abort;
+use std::sync::Wait;
 use std::test::Fail;
 
 // Polls until nothing is due, and answers how many came out and what their values add up to. Each value is its entry's
@@ -22,6 +24,18 @@ fn drain(state: &mut ShardState<u64>, tick: u64) -> Option<(usize, u64)> {
     Some((out, sum))
 }
 
+// So many of shard 1 come out up to a tick, and their values add up.
+fn are_drained<R: Abort + Wait>(
+    rt: &R,
+    queue: &SharedDelayQueue<u64>,
+    tick: u64,
+    answer: (usize, u64),
+) -> Result<(), QueueError> {
+    let drained = queue.lend(rt, 1, |state| drain(state, tick))?;
+    assert_eq!(rt; drained, Some(answer));
+    Ok(())
+}
+
 // Fails where `lend` lends the state of another shard (lend_of_another_shard), since the entries are inserted by name.
 #[test]
 fn many_outs_under_one_lock(rt: HostRuntime) -> Result<(), Fail> {
@@ -31,15 +45,9 @@ fn many_outs_under_one_lock(rt: HostRuntime) -> Result<(), Fail> {
         let deadline = number * 37 % 101;
         assert!(rt; queue.insert(&rt, 1, deadline, deadline).is_ok());
     }
-    assert_eq!(rt;
-        queue.lend(&rt, 1, |state| drain(state, 60))?,
-        Some((60, 1830))
-    );
+    are_drained(&rt, &queue, 60, (60, 1830))?;
     assert!(rt; matches!(queue.poll(&rt, 1, 60), Ok(Turn::Waiting { .. })));
-    assert_eq!(rt;
-        queue.lend(&rt, 1, |state| drain(state, 200))?,
-        Some((40, 3220))
-    );
+    are_drained(&rt, &queue, 200, (40, 3220))?;
     assert!(rt; matches!(queue.poll(&rt, 1, 200), Ok(Turn::Idle)));
     Ok(())
 }

@@ -16,6 +16,44 @@ fn first_deadline(shard: usize) -> u64 {
     100 + (shard % SHARDS) as u64
 }
 
+fn is_filed<R: Abort + Wait>(rt: &R, queue: &Numbers, shard: usize, key: &Key, when: u64) {
+    let seen = queue.lend(
+        rt,
+        shard,
+        |state| (state.shard() as usize, state.filed(&key.entry())),
+    );
+    assert_eq!(rt; seen, Ok((shard, Some(when))));
+}
+
+fn is_extended<R: Abort + Wait>(
+    rt: &R,
+    queue: &Numbers,
+    handle: &mut Handle,
+    key: &Key,
+    when: u64,
+) {
+    assert_eq!(rt; handle.extend(key, when), Ok(when));
+    assert_eq!(rt; queue.deadline(rt, &key.entry()), Ok(when));
+}
+
+fn is_reset<R: Abort + Wait>(
+    rt: &R,
+    queue: &Numbers,
+    handle: &mut Handle,
+    key: &Key,
+    when: u64,
+) -> Result<Key, QueueError> {
+    let key = queue.reset(rt, &key.entry(), when)?;
+    assert_eq!(rt; handle.look(&key), Ok(Look::StillLive(when)));
+    Ok(key)
+}
+
+fn comes_out<R: Abort + Wait>(rt: &R, queue: &Numbers, shard: usize, key: Key, when: u64) {
+    let turn = queue.poll(rt, shard, when);
+    assert!(rt; matches!(&turn, Ok(Turn::Out(out)) if out.key == key && out.value == shard));
+    assert!(rt; matches!(queue.poll(rt, shard, when), Ok(Turn::Idle)));
+}
+
 // Each call that names a shard reaches the one entry of that shard.
 fn reaches_its_own<R: Abort + Wait>(
     rt: &R,
@@ -27,22 +65,16 @@ fn reaches_its_own<R: Abort + Wait>(
     let when = first_deadline(shard);
     let (extended, reset) = (when.saturating_add(100), when.saturating_add(200));
     assert_eq!(rt; key.entry().shard() as usize, shard);
-    let seen = queue.lend(
-        rt,
-        shard,
-        |state| (state.shard() as usize, state.filed(&key.entry())),
-    )?;
-    assert_eq!(rt; seen, (shard, Some(when)));
-    assert_eq!(rt; queue.next_wake(rt, shard)?.is_some(), true);
-    assert_eq!(rt; handle.extend(&key, extended), Ok(extended));
-    assert_eq!(rt; queue.deadline(rt, &key.entry())?, extended);
-    let key = queue.reset(rt, &key.entry(), reset)?;
-    assert_eq!(rt; handle.look(&key), Ok(Look::StillLive(reset)));
-    assert_eq!(rt; queue.sweep(rt, shard)?, 0);
-    let turn = queue.poll(rt, shard, reset)?;
-    assert!(rt; matches!(&turn, Turn::Out(out) if out.key == key && out.value == shard));
-    assert!(rt; matches!(queue.poll(rt, shard, reset), Ok(Turn::Idle)));
-    assert_eq!(rt; queue.tally(rt, shard)?.expired, 1);
+    is_filed(rt, queue, shard, &key, when);
+    assert_eq!(rt;
+        queue.next_wake(rt, shard).map(|wake| wake.is_some()),
+        Ok(true)
+    );
+    is_extended(rt, queue, handle, &key, extended);
+    let key = is_reset(rt, queue, handle, &key, reset)?;
+    assert_eq!(rt; queue.sweep(rt, shard), Ok(0));
+    comes_out(rt, queue, shard, key, reset);
+    assert_eq!(rt; queue.tally(rt, shard).map(|tally| tally.expired), Ok(1));
     Ok(())
 }
 

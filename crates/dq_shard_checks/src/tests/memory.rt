@@ -94,15 +94,21 @@ fn each_allocation_is_refused(rt: HostRuntime) -> Result<(), Fail> {
     Ok(())
 }
 
+// Issues so many callers in shard 1 and gives each back.
+fn issue_callers<R: Wait>(rt: &R, queue: &Letters, count: u64) -> Result<(), Fail> {
+    for _ in 0..count {
+        let _cancels = queue.enter(rt, 1)?.issue()?.give_back();
+    }
+    Ok(())
+}
+
 // Over a heap that refuses what comes behind the queue's own allocations.
 #[test]
 fn issued_callers_take_no_memory(rt: HostRuntime) -> Result<(), Fail> {
     let all = LocalHeap::new(rt.alloc(), 1 << 16)?;
     let heap = RefusingHeap::new(&all, 25);
     let queue: Letters = SharedDelayQueue::new(&heap, QueueConfig::of(3, 4))?;
-    for _ in 0..HANDLE_LIMIT {
-        let _cancels = queue.enter(&rt, 1)?.issue()?.give_back();
-    }
+    issue_callers(&rt, &queue, HANDLE_LIMIT)?;
     assert!(rt; !heap.has_refused());
     assert!(rt; !is_handle_made(&rt, &queue)? && heap.has_refused());
     Ok(())

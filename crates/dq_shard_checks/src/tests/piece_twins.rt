@@ -107,34 +107,57 @@ fn drain<R: Abort + Wait>(
     Err(Fail::new("too many came out"))
 }
 
+// Both get the call of a turn, whose deadline is after the noted tick, and of this turn alone.
+fn call_both<'heap, R: Abort + Wait>(
+    rt: &R,
+    heap: &'heap LocalHeap,
+    (one, other): (&mut Side<'heap>, &mut Side<'heap>),
+    draw: &mut Draw,
+    (turn, tick): (u64, u64),
+) -> Result<(), Fail> {
+    let (kind, value) = (draw.below(6), draw.below(turn));
+    let blocks = (tick / 512 + 1).saturating_add(draw.below(1 << (turn % 14)));
+    let when = blocks.saturating_mul(512).saturating_add(turn);
+    let accepted = one.call(rt, heap, kind, value, when)?;
+    assert_eq!(rt;
+        other.call(rt, heap, kind, value, when)?,
+        accepted,
+        "turn {turn}"
+    );
+    Ok(())
+}
+
+// Each turn is a call, and at times both are drained; at the end nothing is left in them.
+fn give_the_same<'heap, R: Abort + Wait>(
+    rt: &R,
+    heap: &'heap LocalHeap,
+    one: &mut Side<'heap>,
+    other: &mut Side<'heap>,
+) -> Result<(), Fail> {
+    let mut draw = Draw::new(5);
+    let (mut tick, mut came) = (0u64, 0u64);
+    for turn in 0..TURNS {
+        call_both(rt, heap, (one, other), &mut draw, (turn, tick))?;
+        if turn & 7 == 7 {
+            tick = tick.saturating_add(draw.below(1 << 16));
+            let most = 1 + (draw.below(17) & 31) as u32;
+            came = came.saturating_add(drain(rt, one, other, tick, most)?);
+        }
+    }
+    came = came.saturating_add(drain(rt, one, other, 1 << 40, 3)?);
+    assert!(rt; came >= 100, "{came} came");
+    Ok(())
+}
+
 #[test]
 fn pieces_give_what_whole_polls_give(rt: HostRuntime) -> Result<(), Fail> {
     let heap = LocalHeap::new(rt.alloc(), 1 << 16)?;
     let mut one = Side::new(&rt, rt.alloc())?;
     let mut other = Side::new(&rt, rt.alloc())?;
-    let mut draw = Draw::new(5);
-    let (mut tick, mut came) = (0u64, 0u64);
-    for turn in 0..TURNS {
-        let (kind, value) = (draw.below(6), draw.below(turn));
-        // After the noted tick, and the deadline of this turn alone.
-        let blocks = (tick / 512 + 1).saturating_add(draw.below(1 << (turn % 14)));
-        let when = blocks.saturating_mul(512).saturating_add(turn);
-        let accepted = one.call(&rt, &heap, kind, value, when)?;
-        assert_eq!(rt;
-            other.call(&rt, &heap, kind, value, when)?,
-            accepted,
-            "turn {turn}"
-        );
-        if turn & 7 == 7 {
-            tick = tick.saturating_add(draw.below(1 << 16));
-            let most = 1 + (draw.below(17) & 31) as u32;
-            came = came.saturating_add(drain(&rt, &mut one, &mut other, tick, most)?);
-        }
-    }
-    came = came.saturating_add(drain(&rt, &mut one, &mut other, 1 << 40, 3)?);
-    assert!(rt; came >= 100, "{came} came");
+    give_the_same(&rt, &heap, &mut one, &mut other)?;
     assert_eq!(rt; one.handle.give_back(), other.handle.give_back());
-    assert_eq!(rt; one.queue.audit(&rt)?, other.queue.audit(&rt)?);
+    let totals = one.queue.audit(&rt)?;
+    assert_eq!(rt; totals, other.queue.audit(&rt)?);
     assert_eq!(rt; heap.used(), 0);
     Ok(())
 }

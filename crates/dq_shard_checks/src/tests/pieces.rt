@@ -7,6 +7,7 @@ use dq_ticks::Key;
 use futures::task::{Context, Poll, Source, Waker};
 use futures::test::MockTask;
 use linked_list_allocator::LocalHeap;
+use std::process::Abort;
 use std::sync::Wait;
 use std::test::Fail;
 
@@ -134,6 +135,16 @@ fn park<R: Wait>(rt: &R, queue: &Boxes, task: &MockTask, name: &Source) -> Resul
     Ok(())
 }
 
+// Whether the task was woken by a piece that is told as Working, and until when it is parked then.
+fn works<R: Abort + Wait>(
+    rt: &R,
+    queue: &Boxes,
+    task: &MockTask,
+) -> (bool, Result<Option<u64>, QueueError>) {
+    assert_eq!(rt; tell(queue.poll_some(rt, 0, 5, 1)), Told::Working);
+    (task.is_woken(), queue.parked(rt, 0))
+}
+
 // The last entry was cancelled, and a piece that is told as Working reaps it. Whoever waits then has nothing to wait for.
 #[test]
 fn a_piece_that_leaves_nothing_wakes(rt: HostRuntime) -> Result<(), Fail> {
@@ -145,10 +156,8 @@ fn a_piece_that_leaves_nothing_wakes(rt: HostRuntime) -> Result<(), Fail> {
     assert_eq!(rt; handle.cancel(&key), Ok(5));
     park(&rt, &queue, &task, &name)?;
     // The wheel arrives: the poller waits for what is due.
-    assert_eq!(rt; tell(queue.poll_some(&rt, 0, 5, 1)), Told::Working);
-    assert_eq!(rt; (task.is_woken(), queue.parked(&rt, 0)?), (false, Some(5)));
-    assert_eq!(rt; tell(queue.poll_some(&rt, 0, 5, 1)), Told::Working);
-    assert_eq!(rt; (task.is_woken(), queue.parked(&rt, 0)?), (true, None));
+    assert_eq!(rt; works(&rt, &queue, &task), (false, Ok(Some(5))));
+    assert_eq!(rt; works(&rt, &queue, &task), (true, Ok(None)));
     assert_eq!(rt; (heap.used(), handle.give_back()), (0, 1));
     Ok(())
 }

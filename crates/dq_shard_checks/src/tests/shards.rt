@@ -1,7 +1,7 @@
 //! The shards that a queue is made of, and what its audit adds up.
 
 use dq_core::CoreError;
-use dq_shards::{QueueConfig, QueueError, SharedDelayQueue, Totals};
+use dq_shards::{Handle, QueueConfig, QueueError, SharedDelayQueue, Totals};
 use std::alloc::Global;
 use std::cell::Cell;
 use std::process::Abort;
@@ -84,7 +84,10 @@ fn shards_are_as_configured(rt: HostRuntime) -> Result<(), Fail> {
         let queue = SharedDelayQueue::new(rt.alloc(), config)?;
         assert_eq!(rt; queue.shards(), shards);
         for shard in 0..shards {
-            assert_eq!(rt; queue.lend(&rt, shard, |state| state.capacity())?, capacity);
+            assert_eq!(rt;
+                queue.lend(&rt, shard, |state| state.capacity()),
+                Ok(capacity)
+            );
             wears_out(&rt, &queue, shard, capacity)?;
         }
     }
@@ -111,22 +114,32 @@ fn lend_out_of_range_calls_nothing(rt: HostRuntime) -> Result<(), Fail> {
     Ok(())
 }
 
-// Fails where the totals are those of one shard, or that many times those of one (audit_of_one_shard): each shard has its own.
-#[test]
-fn audit_adds_up_all_shards(rt: HostRuntime) -> Result<(), Fail> {
-    let queue = SharedDelayQueue::new(rt.alloc(), QueueConfig::of(3, 8))?;
-    let mut handle = queue.handle(&rt)?;
+// Inserts into three shards, of which each gets more than the last. The handle cancels one, and one is removed.
+fn fill<R: Abort + Wait>(
+    rt: &R,
+    queue: &SharedDelayQueue<char>,
+    handle: &mut Handle,
+) -> Result<(), QueueError> {
     for (route, when) in [(0, 5), (1, 5), (1, 6), (2, 5), (2, 6), (2, 7), (2, 8)] {
         let key = queue
-            .insert(&rt, route, 'v', when)
+            .insert(rt, route, 'v', when)
             .map_err(|refused| refused.0)?;
         if when == 7 {
             assert_eq!(rt; handle.cancel(&key), Ok(when));
         }
         if when == 8 {
-            assert_eq!(rt; queue.remove(&rt, &key.entry())?.deadline, when);
+            assert_eq!(rt; queue.remove(rt, &key.entry())?.deadline, when);
         }
     }
+    Ok(())
+}
+
+// Fails where the totals are those of one shard, or that many times those of one (audit_of_one_shard): each shard has its own.
+#[test]
+fn audit_adds_up_all_shards(rt: HostRuntime) -> Result<(), Fail> {
+    let queue = SharedDelayQueue::new(rt.alloc(), QueueConfig::of(3, 8))?;
+    let mut handle = queue.handle(&rt)?;
+    fill(&rt, &queue, &mut handle)?;
     assert!(rt; queue.poll(&rt, 1, 5).is_ok());
     assert_eq!(rt; handle.give_back(), 1);
     let totals = Totals {
