@@ -170,6 +170,7 @@ impl Task {
         self.mock.enter(|_| ());
         was_woken
     }
+
     /// Fails unless a poll of a stream answers this.
     pub fn sees<S: TickSource, R: Abort + Wait, A: Allocator>(
         &self,
@@ -198,6 +199,7 @@ impl Task {
             (Ok(woken), woken)
         );
     }
+
     /// Fails unless a new stream of the shard, at tick 0, waits. It drops the stream.
     pub fn waits<R: Abort + Wait>(
         &self,
