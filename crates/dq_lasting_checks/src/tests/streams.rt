@@ -97,6 +97,14 @@ fn queue_and_task<R: RandomSource + AllocGlobal>(rt: &R) -> Result<(Texts, Task)
     Ok((texts(rt.alloc())?, Task::new(rt)?))
 }
 
+fn is_woken_now(rt: &impl Abort, task: &Task, is_woken: bool) {
+    assert_eq!(rt; task.was_woken(), is_woken);
+}
+
+fn rings<R: Abort + Wait>(rt: &R, queue: &Texts, tick: u64, is_rung: bool) {
+    assert_eq!(rt; queue.ring(rt, 0, tick), Ok(is_rung));
+}
+
 fn gives<R: Abort + Wait>(rt: &R, task: &Task, stream: &mut Stream<'_, '_, R>, seen: Seen) {
     assert_eq!(rt; task.poll(stream), seen);
 }
@@ -169,13 +177,13 @@ fn woken_at_its_tick<R: Abort + Wait>(
     stream: &mut Stream<'_, '_, R>,
 ) -> Result<(), Fail> {
     gives(rt, task, stream, Seen::Waits);
-    assert_eq!(rt; task.was_woken(), false);
+    is_woken_now(rt, task, false);
     put(rt, alloc, queue, 0, 10)?;
     assert_eq!(rt; (task.was_woken(), task.was_woken()), (true, false));
     gives(rt, task, stream, Seen::Waits);
     for (at, is_rung) in [(9u64, false), (10, true)] {
-        assert_eq!(rt; queue.ring(rt, 0, at), Ok(is_rung));
-        assert_eq!(rt; task.was_woken(), is_rung);
+        rings(rt, queue, at, is_rung);
+        is_woken_now(rt, task, is_rung);
     }
     Ok(())
 }
@@ -189,11 +197,11 @@ fn woken_as_it_goes_on<R: Abort + Wait>(
     stream: &mut Stream<'_, '_, R>,
 ) -> Result<(), Fail> {
     queue.close(rt, 0)?;
-    assert_eq!(rt; task.was_woken(), true);
+    is_woken_now(rt, task, true);
     gives(rt, task, stream, Seen::Waits);
     let reopened = queue.keep_going(rt, alloc);
     assert_eq!(rt; reopened, Ok(Kept::Reopened { place: 0 }));
-    assert_eq!(rt; task.was_woken(), true);
+    is_woken_now(rt, task, true);
     gives(rt, task, stream, Seen::Waits);
     let renewed = put(rt, alloc, queue, 0, 10)?;
     assert_eq!(rt; (renewed.entry().shard(), task.was_woken()), (2, true));
