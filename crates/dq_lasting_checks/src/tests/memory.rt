@@ -21,6 +21,15 @@ enum Refused {
     Nowhere,
 }
 
+// An entry of the closed shard's route goes to the other shard.
+fn goes_beside<R: Abort + Wait>(rt: &R, queue: &Letters) {
+    let shard = match queue.insert(rt, 0, 'v', 5) {
+        Ok(key) => Some(key.entry().shard()),
+        Err(_refused) => None,
+    };
+    assert_eq!(rt; shard, Some(1));
+}
+
 // A shard that is closed and empty is opened again, once more where memory was refused first, and tells whether it was.
 fn reopens<'heap, 'all, R: Abort + Wait>(
     rt: &R,
@@ -37,28 +46,17 @@ fn reopens<'heap, 'all, R: Abort + Wait>(
             Err(ReopenError::NoMemory) => was_refused = true,
             Err(error) => return Err(error),
         }
-        let refused = queue.insert(rt, 0, 'v', 5).map(|key| key.entry().shard());
-        assert_eq!(rt; refused.ok(), Some(1));
+        goes_beside(rt, queue);
     }
     Err(ReopenError::NoMemory)
 }
 
-// A queue is made, and a handle, and a closed shard is opened again, whose new caller the handle takes on.
-fn goes<R: Abort + Wait>(rt: &R, heap: &Heap) -> Result<Refused, Fail> {
-    let queue: Letters = match LastingQueue::new(heap, LastingConfig::of(2, 4)) {
-        Ok(queue) => queue,
-        Err(CoreError::NoMemory) => return Ok(Refused::InNew),
-        Err(error) => return Err(error.into()),
-    };
-    queue.close(rt, 0)?;
-    let mut handle = match queue.handle(rt) {
-        Ok(handle) => handle,
-        Err(HandleError::NoMemory) => return Ok(Refused::InHandle),
-        Err(error) => return Err(error.into()),
-    };
-    let reopened = reopens(rt, heap, &queue);
-    let took = handle.renew(rt, &queue);
-    handle.give_back();
+// Where memory was refused to the opening of a shard or to the handle that takes on its new caller.
+fn refused_in<R: Abort>(
+    rt: &R,
+    reopened: Result<bool, ReopenError>,
+    took: Result<usize, HandleError>,
+) -> Result<Refused, Fail> {
     if reopened? {
         return Ok(Refused::InReopen);
     }
@@ -68,6 +66,34 @@ fn goes<R: Abort + Wait>(rt: &R, heap: &Heap) -> Result<Refused, Fail> {
         Err(error) => return Err(error.into()),
     }
     Ok(Refused::Nowhere)
+}
+
+// A handle is made, and a closed shard is opened again, whose new caller the handle takes on.
+fn goes_on<'heap, 'all, R: Abort + Wait>(
+    rt: &R,
+    heap: &'heap Heap<'all>,
+    queue: &Letters<'heap, 'all>,
+) -> Result<Refused, Fail> {
+    queue.close(rt, 0)?;
+    let mut handle = match queue.handle(rt) {
+        Ok(handle) => handle,
+        Err(HandleError::NoMemory) => return Ok(Refused::InHandle),
+        Err(error) => return Err(error.into()),
+    };
+    let reopened = reopens(rt, heap, queue);
+    let took = handle.renew(rt, queue);
+    handle.give_back();
+    refused_in(rt, reopened, took)
+}
+
+// A queue is made, and goes on.
+fn goes<R: Abort + Wait>(rt: &R, heap: &Heap) -> Result<Refused, Fail> {
+    let queue: Letters = match LastingQueue::new(heap, LastingConfig::of(2, 4)) {
+        Ok(queue) => queue,
+        Err(CoreError::NoMemory) => return Ok(Refused::InNew),
+        Err(error) => return Err(error.into()),
+    };
+    goes_on(rt, heap, &queue)
 }
 
 // A queue of two shards takes a row of them, and eight times for each: four for its words, three for its slots, one for its

@@ -6,6 +6,7 @@ use dq_ticks::{Key, LAST_TICK};
 use futures::task::{Poll, Source};
 use futures::test::MockTask;
 use std::alloc::{AllocGlobal, Global};
+use std::process::Abort;
 use std::random::RandomSource;
 use std::sync::Wait;
 use std::test::Fail;
@@ -68,109 +69,204 @@ impl Task {
     }
 }
 
-#[test]
-fn woken_by_what_comes_sooner(rt: HostRuntime) -> Result<(), Fail> {
-    let alloc = rt.alloc();
-    let queue = texts(alloc)?;
-    let task = Task::new(&rt)?;
-    let moved = put(&rt, alloc, &queue, 10)?;
-    assert_eq!(rt; task.poll(&rt, &queue, 0, 0), Seen::Waits);
-    put(&rt, alloc, &queue, 20)?;
-    assert_eq!(rt; task.was_woken(), false);
-    put(&rt, alloc, &queue, 5)?;
+// What each test owns, and lends to a scene: a queue and a task.
+fn queue_and_task<R: RandomSource + AllocGlobal>(rt: &R) -> Result<(Texts, Task), Fail> {
+    Ok((texts(rt.alloc())?, Task::new(rt)?))
+}
+
+// The task waits in the shard at place 0.
+fn waits<R: Abort + Wait>(rt: &R, queue: &Texts, task: &Task, tick: u64) {
+    assert_eq!(rt; task.poll(rt, queue, 0, tick), Seen::Waits);
+}
+
+fn clears_one<R: Abort + Wait>(rt: &R, queue: &Texts) {
+    assert_eq!(rt; queue.clear(rt, 0), Ok(1));
+}
+
+fn is_woken_now(rt: &impl Abort, task: &Task, is_woken: bool) {
+    assert_eq!(rt; task.was_woken(), is_woken);
+}
+
+fn rings<R: Abort + Wait>(
+    rt: &R,
+    queue: &Texts,
+    place: usize,
+    tick: u64,
+    answer: Result<bool, LastingError>,
+) {
+    assert_eq!(rt; queue.ring(rt, place, tick), answer);
+}
+
+// The entry that the task waits for becomes due later than at first.
+fn woken_by_a_reset<R: Abort + Wait>(
+    rt: &R,
+    queue: &Texts,
+    task: &Task,
+    moved: &Key,
+) -> Result<(), Fail> {
+    queue.reset(rt, &moved.entry(), 8)?;
+    is_woken_now(rt, task, true);
+    waits(rt, queue, task, 6);
+    // The next wake is later now, and so it waits on.
+    queue.remove(rt, &moved.entry())?;
+    is_woken_now(rt, task, false);
+    Ok(())
+}
+
+fn woken_by_entries<R: Abort + Wait>(
+    rt: &R,
+    alloc: Global,
+    queue: &Texts,
+    task: &Task,
+) -> Result<(), Fail> {
+    let moved = put(rt, alloc, queue, 10)?;
+    waits(rt, queue, task, 0);
+    put(rt, alloc, queue, 20)?;
+    is_woken_now(rt, task, false);
+    put(rt, alloc, queue, 5)?;
     assert_eq!(rt; (task.was_woken(), task.was_woken()), (true, false));
     let out = Seen::Out {
         deadline: 5,
         noted: 6,
     };
-    assert_eq!(rt; task.poll(&rt, &queue, 0, 6), out);
-    assert_eq!(rt; task.poll(&rt, &queue, 0, 6), Seen::Waits);
-    queue.reset(&rt, &moved.entry(), 8)?;
-    assert_eq!(rt; task.was_woken(), true);
-    assert_eq!(rt; task.poll(&rt, &queue, 0, 6), Seen::Waits);
-    // The next wake is later now, and so it waits on.
-    queue.remove(&rt, &moved.entry())?;
-    assert_eq!(rt; task.was_woken(), false);
-    assert_eq!(rt; queue.clear(&rt, 0), Ok(1));
-    assert_eq!(rt; task.was_woken(), true);
+    assert_eq!(rt; task.poll(rt, queue, 0, 6), out);
+    waits(rt, queue, task, 6);
+    woken_by_a_reset(rt, queue, task, &moved)?;
+    clears_one(rt, queue);
+    is_woken_now(rt, task, true);
     Ok(())
 }
 
 #[test]
-fn rung_at_its_tick(rt: HostRuntime) -> Result<(), Fail> {
-    let alloc = rt.alloc();
-    let queue = texts(alloc)?;
-    let task = Task::new(&rt)?;
-    put(&rt, alloc, &queue, 10)?;
-    assert_eq!(rt; task.poll(&rt, &queue, 0, 0), Seen::Waits);
+fn woken_by_what_comes_sooner(rt: HostRuntime) -> Result<(), Fail> {
+    let (queue, task) = queue_and_task(&rt)?;
+    woken_by_entries(&rt, rt.alloc(), &queue, &task)
+}
+
+// The task waits for an entry of tick 10, and is rung once.
+fn rung_once<R: Abort + Wait>(rt: &R, queue: &Texts, task: &Task) {
+    waits(rt, queue, task, 0);
     let row = [(9u64, false), (10, true), (10, false)];
     for (tick, is_woken) in row {
-        assert_eq!(rt; queue.ring(&rt, 0, tick), Ok(is_woken));
-        assert_eq!(rt; task.was_woken(), is_woken);
+        rings(rt, queue, 0, tick, Ok(is_woken));
+        is_woken_now(rt, task, is_woken);
     }
-    assert_eq!(rt; queue.ring(&rt, 1, 10), Ok(false));
-    assert_eq!(rt; queue.ring(&rt, 2, 10), Err(LastingError::Unknown));
+    rings(rt, queue, 1, 10, Ok(false));
+    rings(rt, queue, 2, 10, Err(LastingError::Unknown));
+}
+
+#[test]
+fn rung_at_its_tick(rt: HostRuntime) -> Result<(), Fail> {
+    let (queue, task) = queue_and_task(&rt)?;
+    put(&rt, rt.alloc(), &queue, 10)?;
+    rung_once(&rt, &queue, &task);
+    Ok(())
+}
+
+// The task is refused out of range, by the place and by the tick.
+fn refused<R: Abort + Wait>(rt: &R, queue: &Texts, task: &Task) {
+    let unknown = Seen::Refused(LastingError::Unknown);
+    assert_eq!(rt; task.poll(rt, queue, 2, 0), unknown);
+    let late = LastingError::Core(CoreError::TickTooLarge { limit: LAST_TICK });
+    let refused = Seen::Refused(late);
+    assert_eq!(rt; task.poll(rt, queue, 0, LAST_TICK + 1), refused);
+}
+
+// Nothing is linked at first.
+fn woken_by_an_insert<R: Abort + Wait>(
+    rt: &R,
+    alloc: Global,
+    queue: &Texts,
+    task: &Task,
+) -> Result<(), Fail> {
+    waits(rt, queue, task, 0);
+    rings(rt, queue, 0, LAST_TICK, Ok(false));
+    is_woken_now(rt, task, false);
+    put(rt, alloc, queue, 10)?;
+    is_woken_now(rt, task, true);
+    waits(rt, queue, task, 0);
+    clears_one(rt, queue);
+    is_woken_now(rt, task, true);
+    refused(rt, queue, task);
     Ok(())
 }
 
 #[test]
 fn waits_for_an_insert(rt: HostRuntime) -> Result<(), Fail> {
-    let alloc = rt.alloc();
-    let queue = texts(alloc)?;
-    let task = Task::new(&rt)?;
-    assert_eq!(rt; task.poll(&rt, &queue, 0, 0), Seen::Waits);
-    assert_eq!(rt; queue.ring(&rt, 0, LAST_TICK), Ok(false));
-    assert_eq!(rt; task.was_woken(), false);
-    put(&rt, alloc, &queue, 10)?;
-    assert_eq!(rt; task.was_woken(), true);
-    assert_eq!(rt; task.poll(&rt, &queue, 0, 0), Seen::Waits);
-    assert_eq!(rt; queue.clear(&rt, 0), Ok(1));
-    assert_eq!(rt; task.was_woken(), true);
-    let unknown = Seen::Refused(LastingError::Unknown);
-    assert_eq!(rt; task.poll(&rt, &queue, 2, 0), unknown);
-    let late = LastingError::Core(CoreError::TickTooLarge { limit: LAST_TICK });
-    let refused = Seen::Refused(late);
-    assert_eq!(rt; task.poll(&rt, &queue, 0, LAST_TICK + 1), refused);
+    let (queue, task) = queue_and_task(&rt)?;
+    woken_by_an_insert(&rt, rt.alloc(), &queue, &task)
+}
+
+// The shard is closed, and what is inserted goes to the other one.
+fn woken_by_a_close<R: Abort + Wait>(
+    rt: &R,
+    alloc: Global,
+    queue: &Texts,
+    task: &Task,
+) -> Result<(), Fail> {
+    queue.close(rt, 0)?;
+    is_woken_now(rt, task, true);
+    waits(rt, queue, task, 0);
+    let beside = put(rt, alloc, queue, 1)?;
+    assert_eq!(rt; (beside.entry().shard(), task.was_woken()), (1, false));
     Ok(())
+}
+
+// The shard is empty, and opened again.
+fn woken_by_a_new_generation<R: Abort + Wait>(
+    rt: &R,
+    alloc: Global,
+    queue: &Texts,
+    task: &Task,
+) -> Result<(), Fail> {
+    assert_eq!(rt;
+        queue.keep_going(rt, alloc),
+        Ok(Kept::Reopened { place: 0 })
+    );
+    is_woken_now(rt, task, true);
+    waits(rt, queue, task, 0);
+    let new = put(rt, alloc, queue, 10)?;
+    assert_eq!(rt; (new.entry().shard(), task.was_woken()), (2, true));
+    Ok(())
+}
+
+// The queue and the task of the test below, which drops them.
+fn woken_as_it_goes_on<R: Abort + Wait>(
+    rt: &R,
+    alloc: Global,
+    queue: &Texts,
+    task: &Task,
+) -> Result<(), Fail> {
+    let last = put(rt, alloc, queue, 10)?;
+    waits(rt, queue, task, 0);
+    woken_by_a_close(rt, alloc, queue, task)?;
+    queue.remove(rt, &last.entry())?;
+    is_woken_now(rt, task, true);
+    waits(rt, queue, task, 0);
+    woken_by_a_new_generation(rt, alloc, queue, task)
 }
 
 // A task waits in a shard that is closed, drains and is opened again.
 #[test]
 fn woken_where_its_shard_goes_on(rt: HostRuntime) -> Result<(), Fail> {
-    let alloc = rt.alloc();
-    let queue = texts(alloc)?;
-    let task = Task::new(&rt)?;
-    let last = put(&rt, alloc, &queue, 10)?;
-    assert_eq!(rt; task.poll(&rt, &queue, 0, 0), Seen::Waits);
-    queue.close(&rt, 0)?;
-    assert_eq!(rt; task.was_woken(), true);
-    assert_eq!(rt; task.poll(&rt, &queue, 0, 0), Seen::Waits);
-    let beside = put(&rt, alloc, &queue, 1)?;
-    assert_eq!(rt; (beside.entry().shard(), task.was_woken()), (1, false));
-    queue.remove(&rt, &last.entry())?;
-    assert_eq!(rt; task.was_woken(), true);
-    assert_eq!(rt; task.poll(&rt, &queue, 0, 0), Seen::Waits);
-    assert_eq!(rt;
-        queue.keep_going(&rt, alloc),
-        Ok(Kept::Reopened { place: 0 })
-    );
-    assert_eq!(rt; task.was_woken(), true);
-    assert_eq!(rt; task.poll(&rt, &queue, 0, 0), Seen::Waits);
-    let new = put(&rt, alloc, &queue, 10)?;
-    assert_eq!(rt; (new.entry().shard(), task.was_woken()), (2, true));
-    Ok(())
+    let (queue, task) = queue_and_task(&rt)?;
+    woken_as_it_goes_on(&rt, rt.alloc(), &queue, &task)
+}
+
+// The first task waits no more where a second one does.
+fn gives_its_place<R: Abort + Wait>(rt: &R, queue: &Texts, first: &Task, second: &Task) {
+    waits(rt, queue, first, 0);
+    waits(rt, queue, second, 0);
+    assert_eq!(rt; (first.was_woken(), second.was_woken()), (false, false));
+    rings(rt, queue, 0, 10, Ok(true));
+    assert_eq!(rt; (first.was_woken(), second.was_woken()), (false, true));
 }
 
 #[test]
 fn another_task_takes_its_place(rt: HostRuntime) -> Result<(), Fail> {
-    let alloc = rt.alloc();
-    let queue = texts(alloc)?;
-    let (first, second) = (Task::new(&rt)?, Task::new(&rt)?);
-    put(&rt, alloc, &queue, 10)?;
-    assert_eq!(rt; first.poll(&rt, &queue, 0, 0), Seen::Waits);
-    assert_eq!(rt; second.poll(&rt, &queue, 0, 0), Seen::Waits);
-    assert_eq!(rt; (first.was_woken(), second.was_woken()), (false, false));
-    assert_eq!(rt; queue.ring(&rt, 0, 10), Ok(true));
-    assert_eq!(rt; (first.was_woken(), second.was_woken()), (false, true));
+    let (queue, first) = queue_and_task(&rt)?;
+    let second = Task::new(&rt)?;
+    put(&rt, rt.alloc(), &queue, 10)?;
+    gives_its_place(&rt, &queue, &first, &second);
     Ok(())
 }

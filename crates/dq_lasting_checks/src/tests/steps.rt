@@ -24,12 +24,58 @@ fn short_lived(alloc: Global, capacity: usize) -> Result<Texts, CoreError> {
     )
 }
 
-// Inserts a text, and tells the number of the shard that it went to.
 fn put<R: Wait>(rt: &R, queue: &Texts, route: u64, text: String) -> Result<Key, LastingError> {
     match queue.insert(rt, route, text, 5) {
         Ok(key) => Ok(key),
         Err((error, _text)) => Err(error),
     }
+}
+
+// Inserts a text that is taken.
+fn is_put<R: Wait>(
+    rt: &R,
+    alloc: Global,
+    queue: &Texts,
+    route: u64,
+    text: &str,
+) -> Result<Key, Fail> {
+    Ok(put(rt, queue, route, String::from_str(alloc, text)?)?)
+}
+
+// A text is refused, since so many slots are linked and so many worn.
+fn is_refused<R: Abort + Wait>(
+    rt: &R,
+    queue: &Texts,
+    route: u64,
+    text: String,
+    (linked, worn): (usize, usize),
+) {
+    let refused = LastingError::Core(CoreError::Full { linked, worn });
+    assert_eq!(rt; put(rt, queue, route, text), Err(refused));
+}
+
+// Fills the shard that a route leads to.
+fn fills<R: Abort + Wait>(rt: &R, alloc: Global, queue: &Texts, route: u64) -> Result<(), Fail> {
+    for _ in 0..3 {
+        let key = is_put(rt, alloc, queue, route, "held")?;
+        assert_eq!(rt; u64::from(key.entry().shard()), route);
+    }
+    is_refused(rt, queue, route, format!(in alloc; "fourth")?, (3, 0));
+    Ok(())
+}
+
+fn wakes_at<R: Abort + Wait>(rt: &R, queue: &Texts, place: usize, wake: Option<u64>) {
+    assert_eq!(rt; queue.next_wake(rt, place), Ok(wake));
+}
+
+// What was cleared from the full shard at place 1 has worn its slots.
+fn wears_out<R: Abort + Wait>(rt: &R, alloc: Global, queue: &Texts) -> Result<(), Fail> {
+    wakes_at(rt, queue, 1, Some(5));
+    assert_eq!(rt; queue.clear(rt, 1), Ok(3));
+    is_refused(rt, queue, 1, format!(in alloc; "late")?, (0, 3));
+    wakes_at(rt, queue, 1, None);
+    assert_eq!(rt; queue.clear(rt, 2), Err(LastingError::Unknown));
+    Ok(())
 }
 
 #[test]
@@ -38,22 +84,17 @@ fn a_shard_holds_as_many_as_it_has_slots(rt: HostRuntime) -> Result<(), Fail> {
     let queue = short_lived(alloc, 3)?;
     assert_eq!(rt; queue.shards(), 2);
     for route in [1u64, 0] {
-        for _ in 0..3 {
-            let key = put(&rt, &queue, route, format!(in alloc; "held")?)?;
-            assert_eq!(rt; u64::from(key.entry().shard()), route);
-        }
-        let full = put(&rt, &queue, route, format!(in alloc; "fourth")?);
-        let refused = LastingError::Core(CoreError::Full { linked: 3, worn: 0 });
-        assert_eq!(rt; full, Err(refused));
+        fills(&rt, alloc, &queue, route)?;
     }
-    assert_eq!(rt; queue.next_wake(&rt, 1), Ok(Some(5)));
-    assert_eq!(rt; queue.clear(&rt, 1), Ok(3));
-    let worn = put(&rt, &queue, 1, format!(in alloc; "late")?);
-    let refused = LastingError::Core(CoreError::Full { linked: 0, worn: 3 });
-    assert_eq!(rt; worn, Err(refused));
-    assert_eq!(rt; queue.next_wake(&rt, 1), Ok(None));
-    assert_eq!(rt; queue.clear(&rt, 2), Err(LastingError::Unknown));
-    Ok(())
+    wears_out(&rt, alloc, &queue)
+}
+
+fn keeps_going<R: Abort + Wait>(rt: &R, alloc: Global, queue: &Texts, kept: Kept) {
+    assert_eq!(rt; queue.keep_going(rt, alloc), Ok(kept));
+}
+
+fn drains<R: Abort + Wait>(rt: &R, alloc: Global, queue: &Texts, linked: usize) {
+    keeps_going(rt, alloc, queue, Kept::Drains { place: 0, linked });
 }
 
 // The shard at place 0, of which one entry was removed and one is left, is closed, drains and is opened again.
@@ -64,47 +105,41 @@ fn goes_on<R: Abort + Wait>(
     handle: &mut LastingHandle,
     left: &Key,
 ) -> Result<(), Fail> {
-    assert_eq!(rt; queue.keep_going(rt, alloc), Ok(Kept::Closed { place: 0 }));
-    let drains = Kept::Drains {
-        place: 0,
-        linked: 1,
-    };
-    assert_eq!(rt; queue.keep_going(rt, alloc), Ok(drains));
-    let beside = put(rt, queue, 0, format!(in alloc; "beside")?)?;
+    keeps_going(rt, alloc, queue, Kept::Closed { place: 0 });
+    drains(rt, alloc, queue, 1);
+    let beside = is_put(rt, alloc, queue, 0, "beside")?;
     assert_eq!(rt; beside.entry().shard(), 1);
     assert_eq!(rt; handle.cancel(left), Ok(5));
-    let drained = Kept::Drains {
-        place: 0,
-        linked: 0,
-    };
-    assert_eq!(rt; queue.keep_going(rt, alloc), Ok(drained));
-    assert_eq!(rt;
-        queue.keep_going(rt, alloc),
-        Ok(Kept::Reopened { place: 0 })
-    );
-    assert_eq!(rt; queue.keep_going(rt, alloc), Ok(Kept::Fine));
+    drains(rt, alloc, queue, 0);
+    keeps_going(rt, alloc, queue, Kept::Reopened { place: 0 });
+    keeps_going(rt, alloc, queue, Kept::Fine);
     Ok(())
 }
 
-#[test]
-fn keep_going_does_what_is_due(rt: HostRuntime) -> Result<(), Fail> {
-    let alloc = rt.alloc();
-    let queue = short_lived(alloc, 2)?;
-    let mut handle = queue.handle(&rt)?;
-    assert_eq!(rt; queue.keep_going(&rt, alloc), Ok(Kept::Fine));
-    let gone = put(&rt, &queue, 0, format!(in alloc; "gone")?)?;
-    let left = put(&rt, &queue, 0, format!(in alloc; "left")?)?;
-    queue.remove(&rt, &gone.entry())?;
-    goes_on(&rt, alloc, &queue, &mut handle, &left)?;
-    let new = put(&rt, &queue, 0, format!(in alloc; "new")?)?;
+fn renews<R: Abort + Wait>(rt: &R, queue: &Texts, handle: &mut LastingHandle, renewed: usize) {
+    assert_eq!(rt; handle.renew(rt, queue), Ok(renewed));
+}
+
+// A handle reaches a new entry once it is renewed, and then no longer one of the generation before.
+fn keeps_up<R: Abort + Wait>(
+    rt: &R,
+    queue: &Texts,
+    handle: &mut LastingHandle,
+    new: &Key,
+    left: &Key,
+) {
     assert_eq!(rt; new.entry().shard(), 2);
-    assert_eq!(rt; handle.extend(&new, 9), Err(CallError::Unknown));
-    assert_eq!(rt; handle.renew(&rt, &queue), Ok(1));
-    assert_eq!(rt; handle.renew(&rt, &queue), Ok(0));
-    assert_eq!(rt; handle.extend(&new, 9), Ok(9));
-    assert_eq!(rt; handle.look(&left), Err(CallError::Unknown));
-    assert_eq!(rt; queue.deadline(&rt, &left.entry()), Err(CoreError::Missing));
-    let tally = queue.tally(&rt, 0)?;
+    assert_eq!(rt; handle.extend(new, 9), Err(CallError::Unknown));
+    renews(rt, queue, handle, 1);
+    renews(rt, queue, handle, 0);
+    assert_eq!(rt; handle.extend(new, 9), Ok(9));
+    assert_eq!(rt; handle.look(left), Err(CallError::Unknown));
+    assert_eq!(rt; queue.deadline(rt, &left.entry()), Err(CoreError::Missing));
+}
+
+// The shard at place 0 tells of both of its generations.
+fn tells_of_both<R: Abort + Wait>(rt: &R, queue: &Texts) -> Result<(), Fail> {
+    let tally = queue.tally(rt, 0)?;
     assert_eq!(rt;
         (
             tally.past.inserted,
@@ -117,22 +152,51 @@ fn keep_going_does_what_is_due(rt: HostRuntime) -> Result<(), Fail> {
     Ok(())
 }
 
+// The queue and the handle of the test below, which drops them.
+fn does_what_is_due<R: Abort + Wait>(
+    rt: &R,
+    alloc: Global,
+    queue: &Texts,
+    handle: &mut LastingHandle,
+) -> Result<(), Fail> {
+    keeps_going(rt, alloc, queue, Kept::Fine);
+    let gone = is_put(rt, alloc, queue, 0, "gone")?;
+    let left = is_put(rt, alloc, queue, 0, "left")?;
+    queue.remove(rt, &gone.entry())?;
+    goes_on(rt, alloc, queue, handle, &left)?;
+    let new = is_put(rt, alloc, queue, 0, "new")?;
+    keeps_up(rt, queue, handle, &new, &left);
+    tells_of_both(rt, queue)
+}
+
+#[test]
+fn keep_going_does_what_is_due(rt: HostRuntime) -> Result<(), Fail> {
+    let queue = short_lived(rt.alloc(), 2)?;
+    let mut handle = queue.handle(&rt)?;
+    does_what_is_due(&rt, rt.alloc(), &queue, &mut handle)
+}
+
+// Takes all handles of a generation.
+fn takes_handles<R: Abort + Wait>(rt: &R, queue: &Texts) -> Result<(), Fail> {
+    for _ in 0..1_024 {
+        queue.handle(rt)?.give_back();
+    }
+    let Err(refused) = queue.handle(rt) else {
+        return Err(Fail::new("one handle too many"));
+    };
+    assert_eq!(rt; refused, HandleError::TooManyHandles { limit: 1_024 });
+    Ok(())
+}
+
 // The callers of a generation are counted, given back or not.
 #[test]
 fn each_generation_has_so_many_handles(rt: HostRuntime) -> Result<(), Fail> {
-    let alloc = rt.alloc();
-    let queue = short_lived(alloc, 1)?;
+    let queue = short_lived(rt.alloc(), 1)?;
     for _ in 0..2 {
-        for _ in 0..1_024 {
-            queue.handle(&rt)?.give_back();
-        }
-        let Err(refused) = queue.handle(&rt) else {
-            return Err(Fail::new("one handle too many"));
-        };
-        assert_eq!(rt; refused, HandleError::TooManyHandles { limit: 1_024 });
+        takes_handles(&rt, &queue)?;
         for place in 0..2 {
             queue.close(&rt, place)?;
-            assert_eq!(rt; queue.keep_going(&rt, alloc), Ok(Kept::Reopened { place }));
+            keeps_going(&rt, rt.alloc(), &queue, Kept::Reopened { place });
         }
     }
     Ok(())
@@ -149,22 +213,41 @@ fn totals([inserted, removed, cancelled, linked]: [u128; 4]) -> LastingTotals {
     }
 }
 
+fn audits<R: Abort + Wait>(rt: &R, queue: &Texts, counts: [u128; 4]) {
+    assert_eq!(rt; queue.audit(rt), totals(counts));
+}
+
+// The shard at place 0 is opened again after its entry was removed.
+fn reopens<R: Wait>(rt: &R, alloc: Global, queue: &Texts) -> Result<(), Fail> {
+    is_put(rt, alloc, queue, 0, "removed")?;
+    queue.clear(rt, 0)?;
+    queue.close(rt, 0)?;
+    queue.keep_going(rt, alloc)?;
+    Ok(())
+}
+
+// The queue and the handle of the test below, which drops them.
+fn audits_generations<R: Abort + Wait>(
+    rt: &R,
+    alloc: Global,
+    queue: &Texts,
+    handle: &mut LastingHandle,
+) -> Result<(), Fail> {
+    audits(rt, queue, [0, 0, 0, 0]);
+    reopens(rt, alloc, queue)?;
+    let left = is_put(rt, alloc, queue, 1, "cancelled")?;
+    handle.cancel(&left)?;
+    is_put(rt, alloc, queue, 0, "linked")?;
+    audits(rt, queue, [3, 1, 0, 2]);
+    queue.sweep(rt, 1)?;
+    audits(rt, queue, [3, 1, 1, 1]);
+    Ok(())
+}
+
 // What was cancelled is linked until it is reaped.
 #[test]
 fn the_audit_goes_over_generations(rt: HostRuntime) -> Result<(), Fail> {
-    let alloc = rt.alloc();
-    let queue = short_lived(alloc, 2)?;
+    let queue = short_lived(rt.alloc(), 2)?;
     let mut handle = queue.handle(&rt)?;
-    assert_eq!(rt; queue.audit(&rt), totals([0, 0, 0, 0]));
-    put(&rt, &queue, 0, format!(in alloc; "removed")?)?;
-    queue.clear(&rt, 0)?;
-    queue.close(&rt, 0)?;
-    queue.keep_going(&rt, alloc)?;
-    let left = put(&rt, &queue, 1, format!(in alloc; "cancelled")?)?;
-    handle.cancel(&left)?;
-    put(&rt, &queue, 0, format!(in alloc; "linked")?)?;
-    assert_eq!(rt; queue.audit(&rt), totals([3, 1, 0, 2]));
-    queue.sweep(&rt, 1)?;
-    assert_eq!(rt; queue.audit(&rt), totals([3, 1, 1, 1]));
-    Ok(())
+    audits_generations(&rt, rt.alloc(), &queue, &mut handle)
 }

@@ -10,6 +10,7 @@ use futures::task::Poll;
 use futures::test::MockTask;
 use std::alloc::{AllocGlobal, Global};
 use std::cell::Cell;
+use std::process::Abort;
 use std::random::RandomSource;
 use std::sync::Wait;
 use std::test::Fail;
@@ -89,89 +90,152 @@ impl Task {
     }
 }
 
-#[test]
-fn lasting_stream_gives_what_is_due(rt: HostRuntime) -> Result<(), Fail> {
-    let alloc = rt.alloc();
-    let queue = texts(alloc)?;
-    let task = Task::new(&rt)?;
-    let tick = Cell::new(0);
-    for when in [7u64, 3, 12] {
-        put(&rt, alloc, &queue, 0, when)?;
+type Stream<'q, 't, R> = LastingStream<'q, String, SetTick<'t>, R>;
+
+// What each test owns, and lends to a scene: a queue and a task.
+fn queue_and_task<R: RandomSource + AllocGlobal>(rt: &R) -> Result<(Texts, Task), Fail> {
+    Ok((texts(rt.alloc())?, Task::new(rt)?))
+}
+
+fn is_woken_now(rt: &impl Abort, task: &Task, is_woken: bool) {
+    assert_eq!(rt; task.was_woken(), is_woken);
+}
+
+fn rings<R: Abort + Wait>(rt: &R, queue: &Texts, tick: u64, is_rung: bool) {
+    assert_eq!(rt; queue.ring(rt, 0, tick), Ok(is_rung));
+}
+
+fn gives<R: Abort + Wait>(rt: &R, task: &Task, stream: &mut Stream<'_, '_, R>, seen: Seen) {
+    assert_eq!(rt; task.poll(stream), seen);
+}
+
+// Polls a stream at each of those ticks in turn.
+fn gives_at<R: Abort + Wait>(
+    rt: &R,
+    task: &Task,
+    stream: &mut Stream<'_, '_, R>,
+    tick: &Cell<u64>,
+    row: &[(u64, Seen)],
+) {
+    for (at, seen) in row.iter() {
+        tick.set(*at);
+        gives(rt, task, stream, *seen);
     }
-    put(&rt, alloc, &queue, 1, 1)?;
-    let mut stream = stream_of(&rt, &queue, 0, &tick)?;
+}
+
+fn one_stream_gives<R: Abort + Wait>(
+    rt: &R,
+    queue: &Texts,
+    task: &Task,
+    tick: &Cell<u64>,
+) -> Result<(), Fail> {
+    let mut stream = stream_of(rt, queue, 0, tick)?;
     let row = [
         (2u64, Seen::Waits),
         (7, Seen::Out(3)),
         (7, Seen::Out(7)),
         (7, Seen::Waits),
     ];
-    for (at, seen) in row {
-        tick.set(at);
-        assert_eq!(rt; task.poll(&mut stream), seen);
-    }
+    gives_at(rt, task, &mut stream, tick, &row);
     // Where a stream is dropped its place keeps what it has, and another stream gives it.
     drop(stream);
+    Ok(())
+}
+
+fn others_give<R: Abort + Wait>(
+    rt: &R,
+    queue: &Texts,
+    task: &Task,
+    tick: &Cell<u64>,
+) -> Result<(), Fail> {
+    let mut next = stream_of(rt, queue, 0, tick)?;
+    gives(rt, task, &mut next, Seen::Out(12));
+    gives(rt, task, &mut next, Seen::Waits);
+    let mut beside = stream_of(rt, queue, 1, tick)?;
+    gives(rt, task, &mut beside, Seen::Out(1));
+    Ok(())
+}
+
+#[test]
+fn lasting_stream_gives_what_is_due(rt: HostRuntime) -> Result<(), Fail> {
+    let (queue, task) = queue_and_task(&rt)?;
+    let tick = Cell::new(0);
+    for (route, when) in [(0u64, 7u64), (0, 3), (0, 12), (1, 1)] {
+        put(&rt, rt.alloc(), &queue, route, when)?;
+    }
+    one_stream_gives(&rt, &queue, &task, &tick)?;
     tick.set(20);
-    let mut next = stream_of(&rt, &queue, 0, &tick)?;
-    assert_eq!(rt; task.poll(&mut next), Seen::Out(12));
-    assert_eq!(rt; task.poll(&mut next), Seen::Waits);
-    let mut beside = stream_of(&rt, &queue, 1, &tick)?;
-    assert_eq!(rt; task.poll(&mut beside), Seen::Out(1));
+    others_give(&rt, &queue, &task, &tick)
+}
+
+// Nothing is linked at first, and then an entry whose tick comes.
+fn woken_at_its_tick<R: Abort + Wait>(
+    rt: &R,
+    alloc: Global,
+    queue: &Texts,
+    task: &Task,
+    stream: &mut Stream<'_, '_, R>,
+) -> Result<(), Fail> {
+    gives(rt, task, stream, Seen::Waits);
+    is_woken_now(rt, task, false);
+    put(rt, alloc, queue, 0, 10)?;
+    assert_eq!(rt; (task.was_woken(), task.was_woken()), (true, false));
+    gives(rt, task, stream, Seen::Waits);
+    for (at, is_rung) in [(9u64, false), (10, true)] {
+        rings(rt, queue, at, is_rung);
+        is_woken_now(rt, task, is_rung);
+    }
+    Ok(())
+}
+
+// The shard is closed and opened again.
+fn woken_as_it_goes_on<R: Abort + Wait>(
+    rt: &R,
+    alloc: Global,
+    queue: &Texts,
+    task: &Task,
+    stream: &mut Stream<'_, '_, R>,
+) -> Result<(), Fail> {
+    queue.close(rt, 0)?;
+    is_woken_now(rt, task, true);
+    gives(rt, task, stream, Seen::Waits);
+    let reopened = queue.keep_going(rt, alloc);
+    assert_eq!(rt; reopened, Ok(Kept::Reopened { place: 0 }));
+    is_woken_now(rt, task, true);
+    gives(rt, task, stream, Seen::Waits);
+    let renewed = put(rt, alloc, queue, 0, 10)?;
+    assert_eq!(rt; (renewed.entry().shard(), task.was_woken()), (2, true));
+    gives(rt, task, stream, Seen::Out(10));
     Ok(())
 }
 
 // A stream waits while nothing is linked, until its tick, and while its shard is closed and opened again.
 #[test]
 fn lasting_stream_waits_and_is_woken(rt: HostRuntime) -> Result<(), Fail> {
-    let alloc = rt.alloc();
-    let queue = texts(alloc)?;
-    let task = Task::new(&rt)?;
+    let (queue, task) = queue_and_task(&rt)?;
     let tick = Cell::new(0);
     let mut stream = stream_of(&rt, &queue, 0, &tick)?;
-    assert_eq!(rt; task.poll(&mut stream), Seen::Waits);
-    assert_eq!(rt; task.was_woken(), false);
-    put(&rt, alloc, &queue, 0, 10)?;
-    assert_eq!(rt; (task.was_woken(), task.was_woken()), (true, false));
-    assert_eq!(rt; task.poll(&mut stream), Seen::Waits);
-    for (at, is_rung) in [(9u64, false), (10, true)] {
-        assert_eq!(rt; queue.ring(&rt, 0, at), Ok(is_rung));
-        assert_eq!(rt; task.was_woken(), is_rung);
-    }
+    woken_at_its_tick(&rt, rt.alloc(), &queue, &task, &mut stream)?;
     tick.set(10);
-    assert_eq!(rt; task.poll(&mut stream), Seen::Out(10));
-    assert_eq!(rt; task.poll(&mut stream), Seen::Waits);
-    queue.close(&rt, 0)?;
-    assert_eq!(rt; task.was_woken(), true);
-    assert_eq!(rt; task.poll(&mut stream), Seen::Waits);
-    let reopened = queue.keep_going(&rt, alloc);
-    assert_eq!(rt; reopened, Ok(Kept::Reopened { place: 0 }));
-    assert_eq!(rt; task.was_woken(), true);
-    assert_eq!(rt; task.poll(&mut stream), Seen::Waits);
-    let renewed = put(&rt, alloc, &queue, 0, 10)?;
-    assert_eq!(rt; (renewed.entry().shard(), task.was_woken()), (2, true));
-    assert_eq!(rt; task.poll(&mut stream), Seen::Out(10));
-    Ok(())
+    gives(&rt, &task, &mut stream, Seen::Out(10));
+    gives(&rt, &task, &mut stream, Seen::Waits);
+    woken_as_it_goes_on(&rt, rt.alloc(), &queue, &task, &mut stream)
 }
 
 #[test]
 fn lasting_stream_tells_its_faults(rt: HostRuntime) -> Result<(), Fail> {
-    let alloc = rt.alloc();
-    let queue = texts(alloc)?;
-    let task = Task::new(&rt)?;
+    let (queue, task) = queue_and_task(&rt)?;
     let tick = Cell::new(LAST_TICK + 1);
     let refused = stream_of(&rt, &queue, 2, &tick).err();
     assert_eq!(rt; refused, Some(LastingError::Unknown));
-    put(&rt, alloc, &queue, 0, 5)?;
+    put(&rt, rt.alloc(), &queue, 0, 5)?;
     let mut stream = stream_of(&rt, &queue, 0, &tick)?;
     let late = LastingFault::TickTooLarge { limit: LAST_TICK };
     for _ in 0..2 {
-        assert_eq!(rt; task.poll(&mut stream), Seen::Fault(late));
+        gives(&rt, &task, &mut stream, Seen::Fault(late));
     }
     // It goes on, and nothing was noted.
-    for (at, seen) in [(4u64, Seen::Waits), (5, Seen::Out(5))] {
-        tick.set(at);
-        assert_eq!(rt; task.poll(&mut stream), seen);
-    }
+    let row = [(4u64, Seen::Waits), (5, Seen::Out(5))];
+    gives_at(&rt, &task, &mut stream, &tick, &row);
     Ok(())
 }
