@@ -8,8 +8,10 @@ use std::alloc::{AllocError, Global};
 use std::process::Abort;
 use std::test::Fail;
 
+type Letters = TtlCache<char, u32>;
+
 // Two keys until tick 10, in slots that are both at their last stamp.
-fn worn_cache(rt: &impl Abort, alloc: Global) -> Result<TtlCache<char, u32>, Fail> {
+fn worn_cache(rt: &impl Abort, alloc: Global) -> Result<Letters, Fail> {
     let mut cache = TtlCache::new(alloc, 2, 2)?;
     for (key, value) in [('a', 1), ('b', 2), ('a', 3), ('b', 4)] {
         assert!(rt; cache.put(key, value, 10, 0).is_ok(), "{key} {value}");
@@ -18,32 +20,38 @@ fn worn_cache(rt: &impl Abort, alloc: Global) -> Result<TtlCache<char, u32>, Fai
     Ok(cache)
 }
 
-// A refresh leaves what is seen, and each key can be renewed again.
-#[test]
-fn a_refresh_keeps_what_is_seen(rt: HostRuntime) -> Result<(), Fail> {
-    let mut cache = worn_cache(&rt, rt.alloc())?;
+fn keeps_what_is_seen(rt: &impl Abort, cache: &mut Letters) {
     assert_eq!(rt; cache.refresh(), Ok(()));
     assert_eq!(rt; (cache.len(), cache.moment(), cache.worn()), (2, 0, 0));
     assert_eq!(rt; cache.next_deadline(), Some(10));
     for (key, now, value) in [('a', 9, Some(3)), ('b', 9, Some(4)), ('a', 10, None)] {
         assert_eq!(rt; cache.get(&key, now).copied(), value, "{key} at {now}");
     }
+}
+
+// A refresh leaves what is seen, and each key can be renewed again.
+#[test]
+fn a_refresh_keeps_what_is_seen(rt: HostRuntime) -> Result<(), Fail> {
+    let mut cache = worn_cache(&rt, rt.alloc())?;
+    keeps_what_is_seen(&rt, &mut cache);
     assert_eq!(rt; cache.renew(&'a', 15, 1), Ok(16));
     assert_eq!(rt; cache.purge(10), Ok(1));
     assert_eq!(rt; cache.get(&'a', 15).copied(), Some(3));
     Ok(())
 }
 
-// A key in a worn slot gets its deadline and its value, and one that isn't kept the place of a worn slot.
-#[test]
-fn touch_and_set_refresh(rt: HostRuntime) -> Result<(), Fail> {
-    let mut cache = worn_cache(&rt, rt.alloc())?;
+fn touch_refreshes(rt: &impl Abort, cache: &mut Letters) {
     assert_eq!(rt; cache.touch(&'a', 15, 1), Ok(16));
     assert_eq!(rt; cache.touch(&'c', 15, 1), Err(CoreError::Missing));
-    let mut cache = worn_cache(&rt, rt.alloc())?;
+}
+
+fn set_refreshes(rt: &impl Abort, cache: &mut Letters) {
     assert!(rt; matches!(cache.set('b', 5, 15, 1), Ok(Some(4))));
     assert_eq!(rt; cache.get(&'b', 15).copied(), Some(5));
-    let mut cache = worn_cache(&rt, rt.alloc())?;
+}
+
+// A put is refused for want of stamps, where a set isn't.
+fn set_takes_a_worn_place(rt: &impl Abort, cache: &mut Letters) {
     assert_eq!(rt; (cache.take(&'b', 1), cache.worn()), (Some(4), 1));
     assert!(rt;
         matches!(
@@ -53,32 +61,55 @@ fn touch_and_set_refresh(rt: HostRuntime) -> Result<(), Fail> {
     );
     assert!(rt; matches!(cache.set('c', 6, 15, 1), Ok(None)));
     assert_eq!(rt; (cache.len(), cache.worn()), (2, 0));
+}
+
+fn set_is_refused(rt: &impl Abort, cache: &mut Letters) {
     assert!(rt;
         matches!(
             cache.set('d', 7, 5, 2),
             Err((CoreError::Full { linked: 2, worn: 0 }, 'd', 7))
         )
     );
+}
+
+// A key in a worn slot gets its deadline and its value, and one that isn't kept the place of a worn slot.
+#[test]
+fn touch_and_set_refresh(rt: HostRuntime) -> Result<(), Fail> {
+    touch_refreshes(&rt, &mut worn_cache(&rt, rt.alloc())?);
+    set_refreshes(&rt, &mut worn_cache(&rt, rt.alloc())?);
+    let mut cache = worn_cache(&rt, rt.alloc())?;
+    set_takes_a_worn_place(&rt, &mut cache);
+    set_is_refused(&rt, &mut cache);
+    Ok(())
+}
+
+type Numbers = TtlCache<char, u64>;
+
+fn goes_on(rt: &impl Abort, cache: &mut Numbers, now: u64) {
+    assert!(rt; cache.set('a', now, 10, now).is_ok(), "set at {now}");
+    assert!(rt; cache.touch(&'a', 20, now).is_ok(), "touch at {now}");
+    assert!(rt; cache.set('b', now, 1, now).is_ok(), "other at {now}");
+}
+
+fn one_stamp_is_not_enough(rt: &impl Abort, alloc: Global) -> Result<(), Fail> {
+    let mut once: Numbers = TtlCache::new(alloc, 1, 1)?;
+    assert!(rt; once.set('a', 1, 10, 0).is_ok());
+    assert_eq!(rt; once.touch(&'a', 10, 0), Err(CoreError::Worn));
     Ok(())
 }
 
 // Two stamps a slot are enough for as many calls as one likes; one stamp is not.
 #[test]
 fn two_stamps_are_enough(rt: HostRuntime) -> Result<(), Fail> {
-    let mut cache: TtlCache<char, u64> = TtlCache::new(rt.alloc(), 2, 2)?;
+    let mut cache: Numbers = TtlCache::new(rt.alloc(), 2, 2)?;
     for now in 0..300 {
-        assert!(rt; cache.set('a', now, 10, now).is_ok(), "set at {now}");
-        assert!(rt; cache.touch(&'a', 20, now).is_ok(), "touch at {now}");
-        assert!(rt; cache.set('b', now, 1, now).is_ok(), "other at {now}");
+        goes_on(&rt, &mut cache, now);
     }
     assert_eq!(rt;
         (cache.len(), cache.get(&'a', 300).copied()),
         (2, Some(299))
     );
-    let mut once: TtlCache<char, u64> = TtlCache::new(rt.alloc(), 1, 1)?;
-    assert!(rt; once.set('a', 1, 10, 0).is_ok());
-    assert_eq!(rt; once.touch(&'a', 10, 0), Err(CoreError::Worn));
-    Ok(())
+    one_stamp_is_not_enough(&rt, rt.alloc())
 }
 
 // Where the allocation was that was refused.
@@ -129,35 +160,75 @@ fn each_allocation_of_a_refresh_is_refused(rt: HostRuntime) -> Result<(), Fail> 
     Ok(())
 }
 
-type Text<'heap> = String<&'heap LocalHeap>;
+type Texts<'heap> = TtlCache<char, String<&'heap LocalHeap>>;
 
-fn text(heap: &LocalHeap) -> Result<Text<'_>, AllocError> {
-    String::from_str(heap, "a value")
+// What a put of a value that owns memory answers is dropped, be it the old value or the one that was refused.
+fn puts<'heap>(
+    cache: &mut Texts<'heap>,
+    heap: &'heap LocalHeap,
+    key: char,
+    ttl: u64,
+) -> Result<bool, AllocError> {
+    let text = String::from_str(heap, "a value")?;
+    Ok(cache.put(key, text, ttl, 0).is_ok())
 }
 
-// Values that own memory leave a cache by each call that lets one go, and the last with the cache.
-fn let_go(rt: &impl Abort, alloc: Global, heap: &LocalHeap) -> Result<(), Fail> {
-    let mut cache: TtlCache<char, Text> = TtlCache::with_capacity(alloc, 2)?;
-    assert!(rt; cache.put('a', text(heap)?, 10, 0).is_ok());
+fn sets<'heap>(
+    cache: &mut Texts<'heap>,
+    heap: &'heap LocalHeap,
+    key: char,
+) -> Result<bool, AllocError> {
+    let text = String::from_str(heap, "a value")?;
+    Ok(cache.set(key, text, 10, 10).is_ok())
+}
+
+// Two values are kept then, each of which has as much memory as is told.
+fn lets_go_by_puts<'heap>(
+    rt: &impl Abort,
+    cache: &mut Texts<'heap>,
+    heap: &'heap LocalHeap,
+) -> Result<usize, Fail> {
+    assert!(rt; puts(cache, heap, 'a', 10)?);
     let one = heap.used();
     assert!(rt; one > 0);
-    assert!(rt; cache.put('a', text(heap)?, 10, 0).is_ok());
+    assert!(rt; puts(cache, heap, 'a', 10)?);
     assert_eq!(rt; heap.used(), one);
-    assert!(rt; cache.put('b', text(heap)?, 5, 0).is_ok());
+    assert!(rt; puts(cache, heap, 'b', 5)?);
     assert_eq!(rt; heap.used(), one.saturating_mul(2));
-    assert!(rt; cache.put('c', text(heap)?, 5, 0).is_err());
+    assert!(rt; !puts(cache, heap, 'c', 5)?);
     assert_eq!(rt; heap.used(), one.saturating_mul(2));
+    Ok(one)
+}
+
+fn lets_go_by_time(rt: &impl Abort, cache: &mut Texts, heap: &LocalHeap, one: usize) {
     assert_eq!(rt; cache.purge(5), Ok(1));
     assert_eq!(rt; heap.used(), one);
     assert!(rt; matches!(cache.take_expired(10), Ok(Some(_))));
     assert_eq!(rt; heap.used(), 0);
-    assert!(rt; cache.set('a', text(heap)?, 10, 10).is_ok());
+}
+
+// One value is kept then.
+fn lets_go_by_take<'heap>(
+    rt: &impl Abort,
+    cache: &mut Texts<'heap>,
+    heap: &'heap LocalHeap,
+    one: usize,
+) -> Result<(), Fail> {
+    assert!(rt; sets(cache, heap, 'a')?);
     assert!(rt; cache.take(&'a', 10).is_some());
     assert_eq!(rt; heap.used(), 0);
-    assert!(rt; cache.set('b', text(heap)?, 10, 10).is_ok());
+    assert!(rt; sets(cache, heap, 'b')?);
     assert_eq!(rt; cache.refresh(), Ok(()));
     assert_eq!(rt; heap.used(), one);
     Ok(())
+}
+
+// Values that own memory leave a cache by each call that lets one go, and the last with the cache.
+fn let_go(rt: &impl Abort, alloc: Global, heap: &LocalHeap) -> Result<(), Fail> {
+    let mut cache: Texts = TtlCache::with_capacity(alloc, 2)?;
+    let one = lets_go_by_puts(rt, &mut cache, heap)?;
+    lets_go_by_time(rt, &mut cache, heap, one);
+    lets_go_by_take(rt, &mut cache, heap, one)
 }
 
 #[test]
