@@ -9,6 +9,5 @@ mod race;
 mod renewals;
 mod sent;
 mod step;
-mod wheel;
 mod words;
 mod worked;

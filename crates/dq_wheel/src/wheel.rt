@@ -396,3 +396,6 @@ impl<A: Allocator> Wheel<A> {
 pub fn wakes_are_ahead()
     ensures { WakesAreAhead }
 {}
+
+#[cfg(test)]
+mod tests;

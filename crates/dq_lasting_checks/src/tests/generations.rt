@@ -50,28 +50,19 @@ fn drain<R: Wait>(rt: &R, queue: &Numbers, worker: &mut Worker) -> Result<(), Fa
     Ok(())
 }
 
-// What one worker did in so many rounds.
-fn done_by_one<R: Wait + Abort>(
-    rt: &R,
-    alloc: Global,
-    queue: &Numbers,
-    rounds: u64,
-) -> Result<Done, Fail> {
-    let mut worker = Worker::new(alloc, rt, queue)?;
-    for round in 0..rounds {
-        let inserted = worker.insert_and_end(rt, queue, round.wrapping_mul(12), 12);
-        let kept = worker.poll_and_keep_going(rt, queue, 12);
-        assert_eq!(rt; (inserted, kept), (Some(()), Some(())));
-    }
-    drain(rt, queue, &mut worker)?;
-    Ok(worker.finish())
-}
-
 #[test]
 fn one_owner(rt: HostRuntime) -> Result<(), Fail> {
+    let alloc = rt.alloc();
     for (last_stamp, rounds) in [(2u32, 3_000u64), (3, 3_000)] {
-        let queue: Numbers = LastingQueue::new(rt.alloc(), config(2, 4, last_stamp))?;
-        let done = done_by_one(&rt, rt.alloc(), &queue, rounds)?;
+        let queue: Numbers = LastingQueue::new(alloc, config(2, 4, last_stamp))?;
+        let mut worker = Worker::new(alloc, &rt, &queue)?;
+        for round in 0..rounds {
+            let inserted = worker.insert_and_end(&rt, &queue, round.wrapping_mul(12), 12);
+            let kept = worker.poll_and_keep_going(&rt, &queue, 12);
+            assert_eq!(rt; (inserted, kept), (Some(()), Some(())));
+        }
+        drain(&rt, &queue, &mut worker)?;
+        let done = worker.finish();
         let often = done.reopened > rounds / 2;
         assert!(rt; often);
         adds_up(&rt, &queue, &done)?;
@@ -110,34 +101,24 @@ fn four<R: Threads + Wait + Sync>(
     (one, two, three, poller)
 }
 
-fn two_workers<R: Wait>(rt: &R, alloc: Global, queue: &Numbers) -> Result<(Worker, Worker), Fail> {
-    let worker = Worker::new(alloc, rt, queue)?;
-    Ok((worker, Worker::new(alloc, rt, queue)?))
-}
-
-// What four threads did, when all is drained.
-fn done_by_four<R: Threads + Wait + Sync>(
-    rt: &R,
-    alloc: Global,
-    queue: &Numbers,
-) -> Result<Done, Fail> {
-    let (one, two) = two_workers(rt, alloc, queue)?;
-    let (three, poller) = two_workers(rt, alloc, queue)?;
-    let (one, two, three, mut poller) = four(rt, queue, (one, two, three, poller), 4_000);
-    drain(rt, queue, &mut poller)?;
-    Ok(
-        one.finish()
-            .with(two.finish())
-            .with(three.finish())
-            .with(poller.finish()),
-    )
-}
-
 #[test]
 fn four_threads_over_four_shards(rt: HostRuntime) -> Result<(), Fail> {
+    let alloc = rt.alloc();
     for last_stamp in [2u32, 3] {
-        let queue: Numbers = LastingQueue::new(rt.alloc(), config(4, 8, last_stamp))?;
-        let done = done_by_four(&rt, rt.alloc(), &queue)?;
+        let queue: Numbers = LastingQueue::new(alloc, config(4, 8, last_stamp))?;
+        let workers = (
+            Worker::new(alloc, &rt, &queue)?,
+            Worker::new(alloc, &rt, &queue)?,
+            Worker::new(alloc, &rt, &queue)?,
+            Worker::new(alloc, &rt, &queue)?,
+        );
+        let (one, two, three, mut poller) = four(&rt, &queue, workers, 4_000);
+        drain(&rt, &queue, &mut poller)?;
+        let done = one
+            .finish()
+            .with(two.finish())
+            .with(three.finish())
+            .with(poller.finish());
         adds_up(&rt, &queue, &done)?;
     }
     Ok(())
@@ -160,32 +141,27 @@ fn insert_and_remove<R: Wait>(
     }
 }
 
-// How often an entry was refused, a shard closed, and one opened again.
-fn wears_its_slots<R: Wait>(rt: &R, alloc: Global, queue: &Numbers) -> Result<[u64; 3], Fail> {
+// Each shard has one slot with all of its stamps. Where those of the first are spent it refuses an entry, and is closed and
+// opened again, while the second takes a few.
+#[test]
+fn one_slot_goes_on(rt: HostRuntime) -> Result<(), Fail> {
+    let alloc = rt.alloc();
+    let queue: Numbers = LastingQueue::new(alloc, LastingConfig::of(2, 1))?;
     let (mut refused, mut closed, mut reopened) = (0u64, 0u64, 0u64);
     for turn in 0..3_000_000u64 {
-        let is_taken = insert_and_remove(rt, alloc, queue, turn)?;
+        let is_taken = insert_and_remove(&rt, alloc, &queue, turn)?;
         if !is_taken {
             refused = refused.wrapping_add(1);
         }
         if !is_taken || turn % 16 == 0 {
-            match queue.keep_going(rt, alloc)? {
+            match queue.keep_going(&rt, alloc)? {
                 Kept::Closed { .. } => closed = closed.wrapping_add(1),
                 Kept::Reopened { .. } => reopened = reopened.wrapping_add(1),
                 Kept::Fine | Kept::Drains { .. } => {}
             }
         }
     }
-    Ok([refused, closed, reopened])
-}
-
-// Each shard has one slot with all of its stamps. Where those of the first are spent it refuses an entry, and is closed and
-// opened again, while the second takes a few.
-#[test]
-fn one_slot_goes_on(rt: HostRuntime) -> Result<(), Fail> {
-    let queue: Numbers = LastingQueue::new(rt.alloc(), LastingConfig::of(2, 1))?;
-    let counts = wears_its_slots(&rt, rt.alloc(), &queue)?;
-    assert_eq!(rt; counts, [2, 2, 2]);
+    assert_eq!(rt; (refused, closed, reopened), (2, 2, 2));
     let first = queue.tally(&rt, 0)?;
     assert_eq!(rt; first.past.inserted, 2 * u64::from(LAST_STAMP));
     let audited = queue.audit(&rt);

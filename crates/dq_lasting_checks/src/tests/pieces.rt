@@ -4,7 +4,6 @@ use super::work::{Entries, Numbers};
 use dq_core::{CoreError, Piece, Turn};
 use dq_lasting::{Kept, LastingConfig, LastingError, LastingQueue};
 use dq_ticks::LAST_TICK;
-use std::alloc::Global;
 use std::sync::Wait;
 use std::test::Fail;
 
@@ -26,41 +25,33 @@ fn poll_pieces<R: Wait>(
     }
 }
 
-// What was inserted between pieces, and how often a shard was opened again.
-fn goes_on<R: Wait>(
-    rt: &R,
-    alloc: Global,
-    queue: &Numbers,
-    most: u32,
-    expired: &mut Entries,
-) -> Result<(Entries, u64), Fail> {
-    let (mut inserted, mut reopened) = (Entries::NONE, 0u64);
-    for turn in 0..3_000u64 {
-        let when = turn.saturating_add(16) / 16 * 16;
-        if queue.insert(rt, turn, Box::new(alloc, turn)?, when).is_ok() {
-            inserted.add(turn);
-        }
-        poll_pieces(rt, queue, turn, most, 2, expired);
-        if matches!(queue.keep_going(rt, alloc)?, Kept::Reopened { .. }) {
-            reopened = reopened.wrapping_add(1);
-        }
-    }
-    Ok((inserted, reopened))
-}
-
-// Each slot is worn after its second entry, so shards are opened again time and again. A piece of one step leaves most of a
-// full slot for later.
+// Each slot is worn after its second entry, so shards are opened again time and again. A piece of one step leaves most of a full
+// slot for later.
 #[test]
 fn pieces_over_renewals(rt: HostRuntime) -> Result<(), Fail> {
+    let alloc = rt.alloc();
     for most in [1u32, 2, 7] {
         let config = LastingConfig {
             shards: 2,
             capacity: 8,
             last_stamp: 2,
         };
-        let queue: Numbers = LastingQueue::new(rt.alloc(), config)?;
-        let mut expired = Entries::NONE;
-        let (inserted, reopened) = goes_on(&rt, rt.alloc(), &queue, most, &mut expired)?;
+        let queue: Numbers = LastingQueue::new(alloc, config)?;
+        let (mut inserted, mut expired) = (Entries::NONE, Entries::NONE);
+        let mut reopened = 0u64;
+        for turn in 0..3_000u64 {
+            let when = turn.saturating_add(16) / 16 * 16;
+            if queue
+                .insert(&rt, turn, Box::new(alloc, turn)?, when)
+                .is_ok()
+            {
+                inserted.add(turn);
+            }
+            poll_pieces(&rt, &queue, turn, most, 2, &mut expired);
+            if matches!(queue.keep_going(&rt, alloc)?, Kept::Reopened { .. }) {
+                reopened = reopened.wrapping_add(1);
+            }
+        }
         poll_pieces(&rt, &queue, 4_000, most, 200, &mut expired);
         assert_eq!(rt; expired, inserted);
         let often = reopened > 50;
