@@ -1,6 +1,7 @@
 //! A task that is parked in a shard: when it is woken, and how often.
 
-use dq_core::CoreError;
+use super::steps::{audits, is_refused, keeps_going, renews, short_lived, wakes_at};
+use dq_core::{CoreError, Look};
 use dq_lasting::{Kept, LastingConfig, LastingError, LastingQueue};
 use dq_ticks::{Key, LAST_TICK};
 use futures::task::{Poll, Source};
@@ -251,6 +252,134 @@ fn woken_as_it_goes_on<R: Abort + Wait>(
 fn woken_where_its_shard_goes_on(rt: HostRuntime) -> Result<(), Fail> {
     let (queue, task) = queue_and_task(&rt)?;
     woken_as_it_goes_on(&rt, rt.alloc(), &queue, &task)
+}
+
+// A step closes the worn shard, which wakes the task, and no more than once.
+fn woken_by_the_step<R: Abort + Wait>(rt: &R, alloc: Global, queue: &Texts, task: &Task) {
+    keeps_going(rt, alloc, queue, Kept::Closed { place: 0 });
+    assert_eq!(rt; (task.was_woken(), task.was_woken()), (true, false));
+}
+
+// The shard is opened again, of which the task learns nothing: it hasn't asked since it was woken.
+fn opened_behind_it<R: Abort + Wait>(rt: &R, alloc: Global, queue: &Texts, task: &Task) {
+    keeps_going(rt, alloc, queue, Kept::Reopened { place: 0 });
+    is_woken_now(rt, task, false);
+}
+
+// One of two slots is worn, and the task waits for the entry in the other.
+fn woken_where_half_is_worn<R: Abort + Wait>(
+    rt: &R,
+    alloc: Global,
+    queue: &Texts,
+    task: &Task,
+) -> Result<(), Fail> {
+    let gone = put(rt, alloc, queue, 5)?;
+    let left = put(rt, alloc, queue, 10)?;
+    queue.remove(rt, &gone.entry())?;
+    waits(rt, queue, task, 0);
+    woken_by_the_step(rt, alloc, queue, task);
+    queue.remove(rt, &left.entry())?;
+    opened_behind_it(rt, alloc, queue, task);
+    Ok(())
+}
+
+// Both slots are worn, and the task waits for an insert, which is refused.
+fn woken_where_all_is_worn<R: Abort + Wait>(
+    rt: &R,
+    alloc: Global,
+    queue: &Texts,
+    task: &Task,
+) -> Result<(), Fail> {
+    for _ in 0..2 {
+        put(rt, alloc, queue, 10)?;
+    }
+    queue.clear(rt, 0)?;
+    waits(rt, queue, task, 0);
+    is_refused(rt, queue, 0, format!(in alloc; "late")?, (0, 2));
+    is_woken_now(rt, task, false);
+    woken_by_the_step(rt, alloc, queue, task);
+    opened_behind_it(rt, alloc, queue, task);
+    Ok(())
+}
+
+#[test]
+fn woken_where_its_worn_shard_is_closed(rt: HostRuntime) -> Result<(), Fail> {
+    let queue = short_lived(rt.alloc(), 2)?;
+    let task = Task::new(&rt)?;
+    woken_where_half_is_worn(&rt, rt.alloc(), &queue, &task)?;
+    woken_where_all_is_worn(&rt, rt.alloc(), &queue, &task)
+}
+
+// What a new handle tells of an entry.
+fn looks<R: Abort + Wait>(rt: &R, queue: &Texts, key: &Key, look: Look) -> Result<(), Fail> {
+    let mut handle = queue.handle(rt)?;
+    renews(rt, queue, &mut handle, 0);
+    assert_eq!(rt; handle.look(key), Ok(look));
+    handle.give_back();
+    Ok(())
+}
+
+fn told_until<R: Abort + Wait>(rt: &R, queue: &Texts, key: &Key, deadline: Result<u64, CoreError>) {
+    assert_eq!(rt; queue.deadline(rt, &key.entry()), deadline);
+}
+
+// So many entries are linked in the shard at place 0, and none at place 1.
+fn tallies<R: Abort + Wait>(rt: &R, queue: &Texts, linked: u64) -> Result<(), Fail> {
+    for (place, linked) in [(0usize, linked), (1, 0)] {
+        assert_eq!(rt; queue.tally(rt, place)?.present.linked, linked);
+    }
+    Ok(())
+}
+
+// The task waits for the one entry, whose tick is 10. No call that tells of it wakes the task, nor takes it from its place.
+fn told_while_it_waits<R: Abort + Wait>(
+    rt: &R,
+    alloc: Global,
+    queue: &Texts,
+    task: &Task,
+    key: &Key,
+) -> Result<(), Fail> {
+    waits(rt, queue, task, 0);
+    told_until(rt, queue, key, Ok(10));
+    wakes_at(rt, queue, 0, Some(10));
+    tallies(rt, queue, 1)?;
+    audits(rt, queue, [1, 0, 0, 1]);
+    looks(rt, queue, key, Look::StillLive(10))?;
+    keeps_going(rt, alloc, queue, Kept::Fine);
+    is_woken_now(rt, task, false);
+    rings(rt, queue, 0, 10, Ok(true));
+    is_woken_now(rt, task, true);
+    Ok(())
+}
+
+// The same where the entry was removed, and the task waits for an insert.
+fn told_while_none_is_linked<R: Abort + Wait>(
+    rt: &R,
+    alloc: Global,
+    queue: &Texts,
+    task: &Task,
+    key: &Key,
+) -> Result<(), Fail> {
+    waits(rt, queue, task, 0);
+    told_until(rt, queue, key, Err(CoreError::Missing));
+    wakes_at(rt, queue, 0, None);
+    tallies(rt, queue, 0)?;
+    audits(rt, queue, [1, 1, 0, 0]);
+    looks(rt, queue, key, Look::LookRemoved(10))?;
+    keeps_going(rt, alloc, queue, Kept::Fine);
+    is_woken_now(rt, task, false);
+    put(rt, alloc, queue, 10)?;
+    is_woken_now(rt, task, true);
+    Ok(())
+}
+
+#[test]
+fn what_only_tells_leaves_the_task(rt: HostRuntime) -> Result<(), Fail> {
+    let (queue, task) = queue_and_task(&rt)?;
+    let key = put(&rt, rt.alloc(), &queue, 10)?;
+    told_while_it_waits(&rt, rt.alloc(), &queue, &task, &key)?;
+    queue.remove(&rt, &key.entry())?;
+    told_while_none_is_linked(&rt, rt.alloc(), &queue, &task, &key)
 }
 
 // The first task waits no more where a second one does.

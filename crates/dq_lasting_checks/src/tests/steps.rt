@@ -13,7 +13,7 @@ use std::test::Fail;
 type Texts = LastingQueue<String>;
 
 // Two shards of so many slots, each worn after its first entry.
-fn short_lived(alloc: Global, capacity: usize) -> Result<Texts, CoreError> {
+pub fn short_lived(alloc: Global, capacity: usize) -> Result<Texts, CoreError> {
     LastingQueue::new(
         alloc,
         LastingConfig {
@@ -43,7 +43,7 @@ fn is_put<R: Wait>(
 }
 
 // A text is refused, since so many slots are linked and so many worn.
-fn is_refused<R: Abort + Wait>(
+pub fn is_refused<R: Abort + Wait>(
     rt: &R,
     queue: &Texts,
     route: u64,
@@ -64,7 +64,7 @@ fn fills<R: Abort + Wait>(rt: &R, alloc: Global, queue: &Texts, route: u64) -> R
     Ok(())
 }
 
-fn wakes_at<R: Abort + Wait>(rt: &R, queue: &Texts, place: usize, wake: Option<u64>) {
+pub fn wakes_at<R: Abort + Wait>(rt: &R, queue: &Texts, place: usize, wake: Option<u64>) {
     assert_eq!(rt; queue.next_wake(rt, place), Ok(wake));
 }
 
@@ -89,7 +89,7 @@ fn a_shard_holds_as_many_as_it_has_slots(rt: HostRuntime) -> Result<(), Fail> {
     wears_out(&rt, alloc, &queue)
 }
 
-fn keeps_going<R: Abort + Wait>(rt: &R, alloc: Global, queue: &Texts, kept: Kept) {
+pub fn keeps_going<R: Abort + Wait>(rt: &R, alloc: Global, queue: &Texts, kept: Kept) {
     assert_eq!(rt; queue.keep_going(rt, alloc), Ok(kept));
 }
 
@@ -116,7 +116,7 @@ fn goes_on<R: Abort + Wait>(
     Ok(())
 }
 
-fn renews<R: Abort + Wait>(rt: &R, queue: &Texts, handle: &mut LastingHandle, renewed: usize) {
+pub fn renews<R: Abort + Wait>(rt: &R, queue: &Texts, handle: &mut LastingHandle, renewed: usize) {
     assert_eq!(rt; handle.renew(rt, queue), Ok(renewed));
 }
 
@@ -176,6 +176,53 @@ fn keep_going_does_what_is_due(rt: HostRuntime) -> Result<(), Fail> {
     does_what_is_due(&rt, rt.alloc(), &queue, &mut handle)
 }
 
+// One of the two slots of each shard is worn, and the shard at place 0 has an entry in the other.
+fn wears_both<R: Wait>(rt: &R, alloc: Global, queue: &Texts) -> Result<Key, Fail> {
+    let left = is_put(rt, alloc, queue, 0, "left")?;
+    for route in [0u64, 1] {
+        let gone = is_put(rt, alloc, queue, route, "gone")?;
+        queue.remove(rt, &gone.entry())?;
+    }
+    Ok(left)
+}
+
+// What is inserted by a route goes to the shard of this number.
+fn goes_to<R: Abort + Wait>(
+    rt: &R,
+    alloc: Global,
+    queue: &Texts,
+    route: u64,
+    number: u32,
+) -> Result<(), Fail> {
+    let key = is_put(rt, alloc, queue, route, "beside")?;
+    assert_eq!(rt; key.entry().shard(), number);
+    Ok(())
+}
+
+// The shard at place 0 is closed and drains, and the other one stays open until that is opened again.
+fn closes_in_turn<R: Abort + Wait>(
+    rt: &R,
+    alloc: Global,
+    queue: &Texts,
+    left: &Key,
+) -> Result<(), Fail> {
+    keeps_going(rt, alloc, queue, Kept::Closed { place: 0 });
+    drains(rt, alloc, queue, 1);
+    goes_to(rt, alloc, queue, 0, 1)?;
+    queue.remove(rt, &left.entry())?;
+    keeps_going(rt, alloc, queue, Kept::Reopened { place: 0 });
+    keeps_going(rt, alloc, queue, Kept::Closed { place: 1 });
+    goes_to(rt, alloc, queue, 1, 2)
+}
+
+// Two shards are to be closed, and one of them takes what is inserted at every moment.
+#[test]
+fn one_shard_is_closed_at_a_time(rt: HostRuntime) -> Result<(), Fail> {
+    let queue = short_lived(rt.alloc(), 2)?;
+    let left = wears_both(&rt, rt.alloc(), &queue)?;
+    closes_in_turn(&rt, rt.alloc(), &queue, &left)
+}
+
 // Takes all handles of a generation.
 fn takes_handles<R: Abort + Wait>(rt: &R, queue: &Texts) -> Result<(), Fail> {
     for _ in 0..1_024 {
@@ -213,7 +260,7 @@ fn totals([inserted, removed, cancelled, linked]: [u128; 4]) -> LastingTotals {
     }
 }
 
-fn audits<R: Abort + Wait>(rt: &R, queue: &Texts, counts: [u128; 4]) {
+pub fn audits<R: Abort + Wait>(rt: &R, queue: &Texts, counts: [u128; 4]) {
     assert_eq!(rt; queue.audit(rt), totals(counts));
 }
 
