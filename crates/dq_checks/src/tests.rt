@@ -9,5 +9,6 @@ mod race;
 mod renewals;
 mod sent;
 mod step;
+mod wheel;
 mod words;
 mod worked;

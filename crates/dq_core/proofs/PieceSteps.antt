@@ -15,6 +15,9 @@ use Rattle.dq_wheel.specs.Moves.{ReachesLimit}
 use Rattle.dq_wheel.specs.Arrivals.{arrives, ArrivesAtWake, AreFiledByThen}
 use Rattle.dq_core.specs.declared.slots.Held.{Held}
 use Rattle.dq_core.specs.declared.outcomes.Expired.{Expired}
+use Rattle.dq_core.specs.declared.outcomes.Pace.{Pace}
+use Rattle.dq_core.specs.declared.outcomes.Pace.TheVariants.{Whole, InPieces}
+use Rattle.dq_core.specs.declared.outcomes.Progress.TheVariants.{Rests}
 use Rattle.dq_core.specs.declared.outcomes.Turn.{Turn}
 use Rattle.dq_core.specs.declared.outcomes.Turn.TheVariants.{Out, Waiting, Idle}
 use Rattle.dq_core.specs.declared.outcomes.Piece.TheVariants.{Answer, Working}
@@ -25,7 +28,7 @@ use Rattle.dq_core.specs.Machine.{Machine, Pass, RunOf, IsOnTheWay, NoneLiveBefo
 use Rattle.dq_core.specs.Core.{Core, machine, IsPlaced, IsLawfulCore, filing_for}
 use Rattle.dq_core.specs.TableRows.{machine_of}
 use Rattle.dq_core.specs.Calls.{SameCore, LooksOver, IsFiledOver, IsUnderWay, IsAnswered, IsOut, IsTurn, TurnRow, turn_counts, TellsWake, WakesAhead, work, noting}
-use Rattle.dq_core.specs.Pieces.{ArrivesOn, PieceStep, ComesThrough, WheelComes, IsFiledByThen, IsComing, IsAnsweredBy, due_step, steps_left, IsPolledSome}
+use Rattle.dq_core.specs.Pieces.{ArrivesOn, PieceStep, ComesThrough, WheelComes, IsFiledByThen, IsComing, IsAnsweredBy, due_step, steps_left, IsPolledSome, IsStepAt}
 use Rattle.dq_core.proofs.Looks.{looks_none, looks_more, learned_more}
 use Rattle.dq_core.proofs.Law.{filed_is}
 use Rattle.dq_core.proofs.Steps.{IsAtRest, relinked, step_later, step_cancelled}
@@ -411,3 +414,8 @@ pub piece_idle : {T W : Type 0} (shared : Bool) (b cur after : Core T W) (t turn
 piece_idle shared b cur after t turns most on r wake =
     let now = rested shared b cur after t turns on r.0 in
     piece_rests shared b after t turns most Idle now (refl, r.1, none_due (machine after) after.noted r.2, wake) now.3.looks refl
+
+-- where none is due at the noted tick, a step at either pace rests
+pub step_rests : {T W : Type 0} (shared : Bool) (pace : Pace) (b c : Core T W) → IsAtRest b c → IsStepAt shared pace b Rests c
+step_rests shared Whole b c rest = rest
+step_rests shared InPieces b c rest = rest

@@ -15,6 +15,8 @@ use Rattle.dq_core.specs.declared.outcomes.Turn.{Turn}
 use Rattle.dq_core.specs.declared.outcomes.Turn.TheVariants.{Out}
 use Rattle.dq_core.specs.declared.outcomes.Piece.{Piece}
 use Rattle.dq_core.specs.declared.outcomes.Piece.TheVariants.{Answer, Working}
+use Rattle.dq_core.specs.declared.outcomes.Pace.{Pace}
+use Rattle.dq_core.specs.declared.outcomes.Pace.TheVariants.{Whole, InPieces}
 use Rattle.dq_core.specs.declared.outcomes.Progress.{Progress}
 use Rattle.dq_core.specs.declared.outcomes.Progress.TheVariants.{Gave, Went, Rests}
 use Rattle.dq_core.specs.Machine.{Machine, Note, Step, RunOf, IsOnTheWay, NoneLiveBefore}
@@ -95,6 +97,11 @@ IsPieceStep shared b Went c = IsComing shared b c × (steps_left c < steps_left 
 IsPieceStep shared b Rests c =
     (c ≡ b) × (c.wheel.filing.tick ≡ c.noted) × NoneLiveBefore (machine c) (c.noted + 1)
     × ((i : ℕ) → filed_at c.wheel.filing.filed i ≢ Some c.wheel.filing.tick)
+
+-- what one step does at that pace
+abbrev pub IsStepAt : {T W : Type 0} → Bool → Pace → Core T W → Progress T → Core T W → Type 0
+IsStepAt shared Whole b made c = IsProgress shared b made c
+IsStepAt shared InPieces b made c = IsPieceStep shared b made c
 
 -- an index that is due is settled, by a step of a poll that is one of a poll in pieces too; where
 -- none is due nothing changes

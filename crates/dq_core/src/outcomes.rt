@@ -61,6 +61,15 @@ pub enum Piece<T> {
     Working,
 }
 
+/// How a step of a poll comes to a later tick.
+#[derive(Clone, Copy)]
+pub enum Pace {
+    /// Slot by slot: each that starts is opened whole.
+    Whole,
+    /// To the start of a slot, which is left as it is.
+    InPieces,
+}
+
 /// What a step of a poll came to.
 #[derive(Drop)]
 pub enum Progress<T> {

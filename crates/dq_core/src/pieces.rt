@@ -9,37 +9,17 @@ ghost use Rattle.dq_core.specs.AtTheCall.{IfOut, IfRests};
 ghost use Rattle.dq_core.specs.Calls.{SameCore};
 ghost use Rattle.dq_core.specs.Core.{machine};
 ghost use Rattle.dq_core.specs.Machine.{NoneLinked, NoneLiveBefore};
-ghost use Rattle.dq_core.specs.Pieces.{IfAnswer, IsPieceStep, PollsSome};
+ghost use Rattle.dq_core.specs.Pieces.{IfAnswer, PollsSome};
 ghost use Rattle.dq_core.specs.Words.{StillBegun};
 
 use crate::errors::CoreError;
-use crate::outcomes::{Piece, Progress, Turn};
+use crate::outcomes::{Pace, Piece, Progress, Turn};
 use crate::queue::DelayCore;
 use crate::words::Words;
 use dq_ticks::LAST_TICK;
 use std::alloc::Allocator;
 
 impl<T: Drop, W: Words, A: Allocator> DelayCore<T, W, A> {
-    // One step of a poll in pieces: settles an index that is due, or arrives at a later tick.
-    #[inline]
-    fn step_some(&mut self) -> Progress<T>
-        ensures same { SameCore self.old self.new }
-        ensures origin { W.origin self.new.words ≡ W.origin self.old.words }
-        ensures begun { StillBegun W.begun self.old.words self.new.words }
-        ensures noted { self.new.noted ≡ self.old.noted }
-        ensures progress { IsPieceStep W.shared self.old result self.new }
-    {
-        if let Some(made) = self.settle_due() {
-            return made;
-        }
-        let tick = self.wheel.tick();
-        if tick < self.noted {
-            self.wheel.arrive(self.noted);
-            return Progress::Went;
-        }
-        Progress::Rests
-    }
-
     /// Does of a [`Self::poll`] at most `most` steps, each in constant time but for a value's drop. Call again while it
     /// answers Working: each such call leaves at least so many steps fewer. Between the calls every other call may be made.
     ///
@@ -75,7 +55,7 @@ impl<T: Drop, W: Words, A: Allocator> DelayCore<T, W, A> {
         }
         self.note(tick);
         for _turn in 0..most {
-            match self.step_some() {
+            match self.step(Pace::InPieces) {
                 Progress::Gave(expired) => return Ok(Piece::Answer(Turn::Out(expired))),
                 Progress::Went => {}
                 Progress::Rests => {

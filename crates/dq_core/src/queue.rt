@@ -13,7 +13,7 @@ ghost use Rattle.dq_core.specs.Calls.{IsConfig};
 ghost use Rattle.dq_wheel.specs.State.{filed_at, fresh_filing};
 
 use crate::errors::{CoreConfig, CoreError};
-use crate::outcomes::{Expired, Progress, Removed, Tally, Turn};
+use crate::outcomes::{Expired, Pace, Progress, Removed, Tally, Turn};
 use crate::slots::Slots;
 use crate::words::{Settled, Words};
 use dq_ticks::{CAPACITY_LIMIT, EntryId, Key, LAST_STAMP, LAST_TICK, Mark, REACH};
@@ -165,8 +165,8 @@ impl<T: Drop, W: Words, A: Allocator> DelayCore<T, W, A> {
     ghost use Rattle.dq_core.specs.Machine.{NoneLiveBefore, NoneLinked, table_at};
     ghost use Rattle.dq_core.specs.AtTheCall.{IfOut, IfRests, linked_in, IsLinkedAs, HoldsValue, OthersStay, KeepsSlots};
     ghost use Rattle.dq_core.specs.declared.errors.CoreError.TheVariants.{TooFar, Missing, WasCancelled};
-    ghost use Rattle.dq_core.specs.Calls.{SameCore, base_for, IsMissing, IsLiveEntry, IsCancelledEntry, Inserts, IsProgress, noting, Polls, TellsWake, WakesAhead, IsFind, TellsDeadline, Removes, Resets};
-    ghost use Rattle.dq_core.specs.Pieces.{SettlesDue};
+    ghost use Rattle.dq_core.specs.Calls.{SameCore, base_for, IsMissing, IsLiveEntry, IsCancelledEntry, Inserts, noting, Polls, TellsWake, WakesAhead, IsFind, TellsDeadline, Removes, Resets};
+    ghost use Rattle.dq_core.specs.Pieces.{SettlesDue, IsStepAt};
 
     /// The shard law, what the wheel's own law says of this queue's wheel, and that what is known and counted is what
     /// the words' keeper knows and has counted.
@@ -284,22 +284,30 @@ impl<T: Drop, W: Words, A: Allocator> DelayCore<T, W, A> {
         }
     }
 
-    // One step of a poll: settles an index that is due, or goes on to a later tick.
-    #[inline]
-    fn step(&mut self) -> Progress<T>
+    // One step of a poll: settles an index that is due, or comes to a later tick at that pace.
+    #[inline(always)]
+    pub(crate) fn step(&mut self, pace: Pace) -> Progress<T>
         ensures same { SameCore self.old self.new }
         ensures origin { W.origin self.new.words ≡ W.origin self.old.words }
         ensures begun { StillBegun W.begun self.old.words self.new.words }
         ensures noted { self.new.noted ≡ self.old.noted }
-        ensures progress { IsProgress W.shared self.old result self.new }
+        ensures progress { IsStepAt W.shared pace self.old result self.new }
     {
         if let Some(made) = self.settle_due() {
             return made;
         }
         let tick = self.wheel.tick();
         if tick < self.noted {
-            self.wheel.advance(self.noted);
-            return Progress::Went;
+            return match pace {
+                Pace::Whole => {
+                    self.wheel.advance(self.noted);
+                    Progress::Went
+                }
+                Pace::InPieces => {
+                    self.wheel.arrive(self.noted);
+                    Progress::Went
+                }
+            };
         }
         Progress::Rests
     }
@@ -357,7 +365,7 @@ impl<T: Drop, W: Words, A: Allocator> DelayCore<T, W, A> {
         }
         self.note(tick);
         'steps: loop {
-            match self.step() {
+            match self.step(Pace::Whole) {
                 Progress::Gave(expired) => return Ok(Turn::Out(expired)),
                 Progress::Went => {}
                 Progress::Rests => break 'steps,

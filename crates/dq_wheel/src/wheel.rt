@@ -396,6 +396,3 @@ impl<A: Allocator> Wheel<A> {
 pub fn wakes_are_ahead()
     ensures { WakesAreAhead }
 {}
-
-#[cfg(test)]
-mod tests;

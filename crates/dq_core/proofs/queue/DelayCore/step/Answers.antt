@@ -1,20 +1,30 @@
 use Rattle.std.proofs.Common.{◌∙◌, refl, arith}
-use Rattle.dq_core.proofs.WheelSteps.{goes_on}
+use Rattle.dq_core.proofs.PieceSteps.{arrives_on, step_arrived, step_rests}
 use Rattle.dq_core.proofs.Steps.{step_advanced, advanced_on, rests_at}
+use Rattle.dq_core.proofs.WheelSteps.{goes_on}
 use Rattle.dq_core.proofs.queue.DelayCore.step.Goals as goal
 
-pub returns-then-tick-self-clause-progress : goal.returns-then-tick-self-clause-progress
-returns-then-tick-self-clause-progress g c =
+pub returns-in-Whole-clause-progress : goal.returns-in-Whole-clause-progress
+returns-in-Whole-clause-progress g c =
     let same = c.self.view_is ∙ c.in_default.ensures.settles.0 in
     let none = rw (← same) at c.in_default.ensures.settles.1 in
     let tick = c.tick-tick.ensures.value in
     let goes = goes_on _ _ c.self.inside.wheel.filing _ _ refl (omega (arith, tick, c.if-tick-self.true)) none c.advance.ensures.way in
-    rw (← same)
+    rw (c.in-Whole.is, ← same)
     (step_advanced g.W.Words.shared _ _ c.self.invariant.0 goes c.advance.ensures.filed c.advance.ensures.within (advanced_on _ _ c.self.inside.wheel.filing.tick _ c.tick-tick.ensures.value refl c.if-tick-self.true c.advance.ensures.onward) c.advance.ensures.none_before refl refl refl refl)
+
+pub returns-in-InPieces-clause-progress : goal.returns-in-InPieces-clause-progress
+returns-in-InPieces-clause-progress g c =
+    let same = c.self.view_is ∙ c.in_default.ensures.settles.0 in
+    let none = rw (← same) at c.in_default.ensures.settles.1 in
+    let tick = c.tick-tick.ensures.value in
+    let on = arrives_on _ _ c.self.inside.wheel.filing _ _ refl (omega (arith, tick, c.if-tick-self.true)) none c.arrive.ensures.way in
+    rw (c.in-InPieces.is, ← same)
+    (step_arrived g.W.Words.shared _ _ c.self.invariant.0 on c.arrive.ensures.earlier c.arrive.ensures.within (advanced_on _ _ c.self.inside.wheel.filing.tick _ c.tick-tick.ensures.value refl c.if-tick-self.true c.arrive.ensures.onward) c.arrive.ensures.none_before refl refl refl refl)
 
 pub returns-clause-progress : goal.returns-clause-progress
 returns-clause-progress g c =
     let same = c.self.view_is ∙ c.in_default.ensures.settles.0 in
     let none = rw (← same) at c.in_default.ensures.settles.1 in
     let tick = c.tick-tick.ensures.value in
-    rw (← c.self.view_is) (rests_at _ _ same c.self.invariant.0 (omega (arith, tick, c.if-tick-self.false)) none)
+    rw (← c.self.view_is) (step_rests _ c.args.pace _ _ (rests_at _ _ same c.self.invariant.0 (omega (arith, tick, c.if-tick-self.false)) none))

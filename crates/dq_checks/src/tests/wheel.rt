@@ -1,5 +1,7 @@
-use super::{Place, Wheel, WheelError, wakes_are_ahead};
+//! The wheel alone, its places and its ways, over a table of ticks.
+
 use dq_ticks::{CAPACITY_LIMIT, LAST_TICK, REACH, digit, level_of, slot_start};
+use dq_wheel::{Place, Wheel, WheelError, wakes_are_ahead};
 use linked_list_allocator::LocalHeap;
 use std::alloc::Allocator;
 use std::process::Abort;
