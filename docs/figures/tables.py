@@ -121,6 +121,7 @@ FIGURES = {
     "script-tick": runs.script_tick,
     "stored": runs.stored,
     "edits": tree.edits,
+    "wider-edits": tree.wider_edits,
     "lines": tree.lines,
     "lines-over-code": lambda kinds, which="queue": tree.lines(kinds, which) / tree.lines("code", "queue"),
     "functions": tree.functions,
@@ -226,7 +227,7 @@ def sizes():
     for crate in tree.crates():
         count = crate.lines()
         numbers = [count[it] for it in ("code", "contract", "specs", "proofs", "test")]
-        numbers += [crate.functions(), crate.test_count(), len(crate.edits())]
+        numbers += [crate.functions(), crate.test_count(), len(crate.edits()) + len(crate.wider_edits())]
         total = [a + b for a, b in zip(total, numbers)]
         lines.append(row(f"`{crate.name}`", *(f"{it:,}" if it else "" for it in numbers)))
     lines.append(row("all", *(f"{it:,}" for it in total)))

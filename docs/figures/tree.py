@@ -144,7 +144,32 @@ class Crate:
         return [name for it in self.sources for name in TEST.findall(text_of(it))]
 
     def edits(self):
+        """The edits that the gate tries."""
         return [it.stem for it in files(self.folder / "must-fail", ".edit")]
+
+    def wider_edits(self):
+        """The edits that `test-edits` tries."""
+        return [it.stem for it in files(self.folder / "wider-edits", ".edit")]
+
+    def stale_edits(self):
+        """The wider edits that can't be applied: the gate sees no such edit, so the page check does."""
+        return [it.stem for it in files(self.folder / "wider-edits", ".edit") if not self.applies(text_of(it))]
+
+    def applies(self, edit):
+        """Whether each old text of an edit stands once in its file, after the pairs before it."""
+        texts, path, old = {}, None, None
+        for line in edit.splitlines():
+            kind, _, rest = line.partition(": ")
+            if kind == "file":
+                path = rest.strip()
+                texts.setdefault(path, text_of(self.folder / path))
+            elif kind == "old":
+                old = rest
+                if texts[path].count(old) != 1:
+                    return False
+            elif line.startswith("new:"):
+                texts[path] = texts[path].replace(old, rest)
+        return old is not None
 
 
 @functools.lru_cache(maxsize=None)
@@ -171,6 +196,10 @@ def lines(kind, which="all"):
 
 def edits(which="all"):
     return sum(len(it.edits()) for it in some(which))
+
+
+def wider_edits(which="all"):
+    return sum(len(it.wider_edits()) for it in some(which))
 
 
 def functions(which="queue"):
