@@ -66,11 +66,14 @@ fn with_ended(past: &Ended, tally: &Tally) -> Option<Ended>
     })
 }
 
-impl<T: Drop, A: Allocator> LastingShard<T, A> {
-    pub(crate) fn new(core: DelayCore<T, Keeper<A>, A>) -> LastingShard<T, A>
-        ensures { (result.core ≡ core) × (result.takes ≡ true) × AddsUp result.past
-            × (result.parked ≡ None) }
-    {
+impl<T, A: Allocator> From<DelayCore<T, Keeper<A>, A>> for LastingShard<T, A> {
+    ghost use Rattle.std.specs.Prelude.{◌≡◌, true, None};
+    ghost use Rattle.dq_lasting.specs.Shard.{AddsUp};
+
+    ghost from_gives = { λ core s. (s.core ≡ core) × (s.takes ≡ true) × AddsUp s.past
+        × (s.parked ≡ None) };
+
+    fn from(core: DelayCore<T, Keeper<A>, A>) -> LastingShard<T, A> {
         let past = Ended {
             inserted: 0,
             expired: 0,
@@ -84,7 +87,9 @@ impl<T: Drop, A: Allocator> LastingShard<T, A> {
             parked: None,
         }
     }
+}
 
+impl<T: Drop, A: Allocator> LastingShard<T, A> {
     /// What every shard keeps. The call does nothing, and is for proofs.
     pub fn law(&self)
         ensures { IsLasting self.now }

@@ -1,6 +1,6 @@
 -- What a queue of shards answers: of a shard behind its lock no more is known than its number, and
 -- what every shard keeps.
-use Rattle.std.specs.Prelude.{◌≡◌, ℕ, ◌<◌, ◌≤◌, ◌%◌, ◌⊎◌, None, Result, Ok, Err, length}
+use Rattle.std.specs.Prelude.{◌≡◌, ℕ, ◌<◌, ◌≤◌, ◌%◌, ◌⊎◌, Result, Ok, Err}
 use Rattle.dq_ticks.specs.declared.TheConstants.{CAPACITY_LIMIT, LAST_STAMP}
 use Rattle.dq_ticks.specs.declared.keys.Key.{Key}
 use Rattle.dq_core.specs.declared.errors.CoreError.{CoreError}
@@ -31,14 +31,6 @@ abbrev pub with_value_handed_back :
     {T : Type 0} → T → Result Key QueueError → Result Key (QueueError × T)
 with_value_handed_back value (Ok k) = Ok k
 with_value_handed_back value (Err e) = Err (e, value)
-
--- a shard that was made by a configuration
-abbrev pub IsNewShard : {T : Type 0} → QueueConfig → ℕ → ShardView T → Type 0
-IsNewShard config number s =
-    (s.core.shard ≡ number)
-    × (length s.core.slots.rows ≡ config.capacity)
-    × (s.core.slots.last_stamp ≡ config.last_stamp)
-    × (s.parked ≡ None)
 
 module _ {T : Type 0} where
   -- A call on a shard, of which there are some. It is refused as unknown exactly out of range;

@@ -5,14 +5,14 @@ ghost use Rattle.dq_shards.specs.declared.errors.TheConstants.{SHARD_LIMIT};
 ghost use Rattle.dq_shards.specs.declared.errors.QueueError.TheVariants.{Unknown};
 ghost use Rattle.dq_shards.specs.Shard.{IsShard};
 ghost use Rattle.dq_shards.specs.Changes.{OnNumbered};
-ghost use Rattle.dq_shards.specs.Answers.{IsQueueConfig, QueueIsMade, IsNewShard};
+ghost use Rattle.dq_shards.specs.Answers.{IsQueueConfig, QueueIsMade};
 
 use crate::errors::{QueueConfig, QueueError, SHARD_LIMIT};
 use crate::locked::LockedShard;
 use crate::state::ShardState;
 use dq_core::{CoreConfig, CoreError};
 use dq_ticks::{CAPACITY_LIMIT, LAST_STAMP};
-use dq_words::{Caller, numbered_queue};
+use dq_words::{Caller, locked_shards};
 use std::alloc::{AllocError, Allocator, Global};
 use std::marker::Model;
 use std::sync::{Mutex, Wait};
@@ -49,43 +49,6 @@ fn is_config(config: &QueueConfig) -> bool
         && config.last_stamp <= LAST_STAMP
 }
 
-// One shard, with nothing in it.
-fn shard_of<T: Drop, A: Allocator + Clone + Drop>(
-    alloc: A,
-    number: usize,
-    config: &QueueConfig,
-) -> Result<ShardState<T, A>, AllocError>
-    requires number { number < SHARD_LIMIT }
-    requires config { IsQueueConfig config.now }
-    ensures { IfOk result (λ s. IsNewShard config.now number s) }
-{
-    let core = CoreConfig {
-        shard: number as u32,
-        capacity: config.capacity,
-        last_stamp: config.last_stamp,
-    };
-    match numbered_queue(alloc, core) {
-        Ok(core) => Ok(ShardState::new(core)),
-        Err(_) => Err(AllocError),
-    }
-}
-
-// The shards of a queue, each behind its lock.
-fn row_of<T: Drop, A: Allocator + Clone + Drop>(
-    alloc: A,
-    config: &QueueConfig,
-) -> Result<Vec<Mutex<ShardState<T, A>>, A>, AllocError>
-    requires { IsQueueConfig config.now }
-    ensures { IfOk result (λ row. vec_len row ≡ config.now.shards) }
-{
-    let mut row = Vec::with_capacity(alloc.clone()?, config.shards)?;
-    for number in 0..config.shards {
-        let shard = shard_of(alloc.clone()?, number, config)?;
-        row.push_reserved(Mutex::new(shard));
-    }
-    Ok(row)
-}
-
 impl<T: Drop, A: Allocator + Clone + Drop> SharedDelayQueue<T, A> {
     /// A queue of empty shards at tick 0. Refused as BadConfig where a number of the configuration is out of its range,
     /// and else as NoMemory. All memory of the queue is taken here: no other call takes any, but `handle` and `issue`.
@@ -95,9 +58,14 @@ impl<T: Drop, A: Allocator + Clone + Drop> SharedDelayQueue<T, A> {
         if !is_config(&config) {
             return Err(QueueError::Core(CoreError::BadConfig));
         }
-        match row_of(alloc, &config) {
+        let core = CoreConfig {
+            shard: 0,
+            capacity: config.capacity,
+            last_stamp: config.last_stamp,
+        };
+        match locked_shards(alloc, config.shards as u32, core) {
             Ok(shards) => Ok(SharedDelayQueue { shards }),
-            Err(AllocError) => Err(QueueError::Core(CoreError::NoMemory)),
+            Err(error) => Err(QueueError::Core(error)),
         }
     }
 }
@@ -138,7 +106,7 @@ impl<T: Drop, A: Allocator> SharedDelayQueue<T, A> {
             state: self.shards[shard].lock(rt),
         };
         if locked.shard() as usize != shard {
-            // A closure of `lend` swapped two states. This thread holds the lock, so it sleeps here.
+            // A closure of `lend` put another state here. This thread holds the lock, so it sleeps here.
             for _ in rt.forever() {
                 let _again = self.shards[shard].lock(rt);
             }

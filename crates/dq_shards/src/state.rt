@@ -58,13 +58,17 @@ impl<T, A: Allocator> Model for ShardState<T, A> {
     ghost invariant = { λ s. IsParked s.core s.parked };
 }
 
-impl<T: Drop, A: Allocator> ShardState<T, A> {
-    pub(crate) fn new(core: DelayCore<T, Keeper<A>, A>) -> ShardState<T, A>
-        ensures { result ≡ record { core = core; parked = None } }
-    {
+impl<T, A: Allocator> From<DelayCore<T, Keeper<A>, A>> for ShardState<T, A> {
+    ghost use Rattle.std.specs.Prelude.{◌≡◌, None};
+
+    ghost from_gives = { λ core s. s ≡ record { core = core; parked = None } };
+
+    fn from(core: DelayCore<T, Keeper<A>, A>) -> ShardState<T, A> {
         ShardState { core, parked: None }
     }
+}
 
+impl<T: Drop, A: Allocator> ShardState<T, A> {
     /// What every shard keeps. The call does nothing, and is for proofs.
     pub fn law(&self)
         ensures { IsShard self.now }

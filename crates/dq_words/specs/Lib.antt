@@ -8,4 +8,5 @@ pub mod Keeping
 pub mod Plays
 pub mod Rule
 pub mod Seats
+pub mod Shards
 pub mod Word

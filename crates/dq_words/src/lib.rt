@@ -11,9 +11,11 @@ mod front;
 mod keeper;
 mod parts;
 mod seated;
+mod shards;
 mod tries;
 pub mod views;
 
 pub use caller::Caller;
 pub use front::{numbered_queue, shared_queue};
 pub use keeper::{HANDLE_LIMIT, Keeper, WordsError};
+pub use shards::locked_shards;
