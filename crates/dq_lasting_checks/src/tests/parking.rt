@@ -1,29 +1,15 @@
 //! A task that is parked in a shard: when it is woken, and how often.
 
-use super::steps::{audits, is_refused, keeps_going, renews, short_lived, wakes_at};
+use super::steps::{Texts, audits, is_refused, keeps_going, renews, short_lived, wakes_at};
+use super::tasks::{Task, is_woken_now, put, queue_and_task, rings};
 use dq_core::{CoreError, Look};
-use dq_lasting::{Kept, LastingConfig, LastingError, LastingQueue};
+use dq_lasting::{Kept, LastingError};
 use dq_ticks::{Key, LAST_TICK};
-use futures::task::{Poll, Source};
-use futures::test::MockTask;
-use std::alloc::{AllocGlobal, Global};
+use futures::task::Poll;
+use std::alloc::Global;
 use std::process::Abort;
-use std::random::RandomSource;
 use std::sync::Wait;
 use std::test::Fail;
-
-type Texts = LastingQueue<String>;
-
-fn texts(alloc: Global) -> Result<Texts, CoreError> {
-    LastingQueue::new(alloc, LastingConfig::of(2, 4))
-}
-
-fn put<R: Wait>(rt: &R, alloc: Global, queue: &Texts, when: u64) -> Result<Key, Fail> {
-    match queue.insert(rt, 0, format!(in alloc; "held")?, when) {
-        Ok(key) => Ok(key),
-        Err((error, _text)) => Err(error.into()),
-    }
-}
 
 // What a poll of a task saw.
 #[derive(Clone, Copy, Debug, PartialEq, Eq)]
@@ -33,69 +19,28 @@ enum Seen {
     Refused(LastingError),
 }
 
-#[derive(Drop)]
-struct Task {
-    mock: MockTask,
-    name: Source,
-}
-
-impl Task {
-    fn new<R: RandomSource + AllocGlobal>(rt: &R) -> Result<Task, Fail> {
-        Ok(Task {
-            mock: MockTask::new(rt)?,
-            name: Source::new(),
-        })
+// A task polls the shard at a place once.
+fn polled<R: Wait>(rt: &R, queue: &Texts, task: &Task, place: usize, tick: u64) -> Seen {
+    let polled = task
+        .mock
+        .enter(|cx| queue.poll_or_park(rt, place, tick, &task.name, cx));
+    match polled {
+        Poll::Pending => Seen::Waits,
+        Poll::Ready(Ok(expired)) => Seen::Out {
+            deadline: expired.deadline,
+            noted: expired.noted,
+        },
+        Poll::Ready(Err(error)) => Seen::Refused(error),
     }
-
-    // Polls the shard at a place once.
-    fn poll<R: Wait>(&self, rt: &R, queue: &Texts, place: usize, tick: u64) -> Seen {
-        let polled = self
-            .mock
-            .enter(|cx| queue.poll_or_park(rt, place, tick, &self.name, cx));
-        match polled {
-            Poll::Pending => Seen::Waits,
-            Poll::Ready(Ok(expired)) => Seen::Out {
-                deadline: expired.deadline,
-                noted: expired.noted,
-            },
-            Poll::Ready(Err(error)) => Seen::Refused(error),
-        }
-    }
-
-    // Whether it was woken since it was last polled or asked.
-    fn was_woken(&self) -> bool {
-        let was_woken = self.mock.is_woken();
-        self.mock.enter(|_| ());
-        was_woken
-    }
-}
-
-// What each test owns, and lends to a scene: a queue and a task.
-fn queue_and_task<R: RandomSource + AllocGlobal>(rt: &R) -> Result<(Texts, Task), Fail> {
-    Ok((texts(rt.alloc())?, Task::new(rt)?))
 }
 
 // The task waits in the shard at place 0.
 fn waits<R: Abort + Wait>(rt: &R, queue: &Texts, task: &Task, tick: u64) {
-    assert_eq!(rt; task.poll(rt, queue, 0, tick), Seen::Waits);
+    assert_eq!(rt; polled(rt, queue, task, 0, tick), Seen::Waits);
 }
 
 fn clears_one<R: Abort + Wait>(rt: &R, queue: &Texts) {
     assert_eq!(rt; queue.clear(rt, 0), Ok(1));
-}
-
-fn is_woken_now(rt: &impl Abort, task: &Task, is_woken: bool) {
-    assert_eq!(rt; task.was_woken(), is_woken);
-}
-
-fn rings<R: Abort + Wait>(
-    rt: &R,
-    queue: &Texts,
-    place: usize,
-    tick: u64,
-    answer: Result<bool, LastingError>,
-) {
-    assert_eq!(rt; queue.ring(rt, place, tick), answer);
 }
 
 // The entry that the task waits for becomes due later than at first.
@@ -120,17 +65,17 @@ fn woken_by_entries<R: Abort + Wait>(
     queue: &Texts,
     task: &Task,
 ) -> Result<(), Fail> {
-    let moved = put(rt, alloc, queue, 10)?;
+    let moved = put(rt, alloc, queue, 0, 10)?;
     waits(rt, queue, task, 0);
-    put(rt, alloc, queue, 20)?;
+    put(rt, alloc, queue, 0, 20)?;
     is_woken_now(rt, task, false);
-    put(rt, alloc, queue, 5)?;
+    put(rt, alloc, queue, 0, 5)?;
     assert_eq!(rt; (task.was_woken(), task.was_woken()), (true, false));
     let out = Seen::Out {
         deadline: 5,
         noted: 6,
     };
-    assert_eq!(rt; task.poll(rt, queue, 0, 6), out);
+    assert_eq!(rt; polled(rt, queue, task, 0, 6), out);
     waits(rt, queue, task, 6);
     woken_by_a_reset(rt, queue, task, &moved)?;
     clears_one(rt, queue);
@@ -159,7 +104,7 @@ fn rung_once<R: Abort + Wait>(rt: &R, queue: &Texts, task: &Task) {
 #[test]
 fn rung_at_its_tick(rt: HostRuntime) -> Result<(), Fail> {
     let (queue, task) = queue_and_task(&rt)?;
-    put(&rt, rt.alloc(), &queue, 10)?;
+    put(&rt, rt.alloc(), &queue, 0, 10)?;
     rung_once(&rt, &queue, &task);
     Ok(())
 }
@@ -167,10 +112,10 @@ fn rung_at_its_tick(rt: HostRuntime) -> Result<(), Fail> {
 // The task is refused out of range, by the place and by the tick.
 fn refused<R: Abort + Wait>(rt: &R, queue: &Texts, task: &Task) {
     let unknown = Seen::Refused(LastingError::Unknown);
-    assert_eq!(rt; task.poll(rt, queue, 2, 0), unknown);
+    assert_eq!(rt; polled(rt, queue, task, 2, 0), unknown);
     let late = LastingError::Core(CoreError::TickTooLarge { limit: LAST_TICK });
     let refused = Seen::Refused(late);
-    assert_eq!(rt; task.poll(rt, queue, 0, LAST_TICK + 1), refused);
+    assert_eq!(rt; polled(rt, queue, task, 0, LAST_TICK + 1), refused);
 }
 
 // Nothing is linked at first.
@@ -183,7 +128,7 @@ fn woken_by_an_insert<R: Abort + Wait>(
     waits(rt, queue, task, 0);
     rings(rt, queue, 0, LAST_TICK, Ok(false));
     is_woken_now(rt, task, false);
-    put(rt, alloc, queue, 10)?;
+    put(rt, alloc, queue, 0, 10)?;
     is_woken_now(rt, task, true);
     waits(rt, queue, task, 0);
     clears_one(rt, queue);
@@ -208,7 +153,7 @@ fn woken_by_a_close<R: Abort + Wait>(
     queue.close(rt, 0)?;
     is_woken_now(rt, task, true);
     waits(rt, queue, task, 0);
-    let beside = put(rt, alloc, queue, 1)?;
+    let beside = put(rt, alloc, queue, 0, 1)?;
     assert_eq!(rt; (beside.entry().shard(), task.was_woken()), (1, false));
     Ok(())
 }
@@ -220,13 +165,10 @@ fn woken_by_a_new_generation<R: Abort + Wait>(
     queue: &Texts,
     task: &Task,
 ) -> Result<(), Fail> {
-    assert_eq!(rt;
-        queue.keep_going(rt, alloc),
-        Ok(Kept::Reopened { place: 0 })
-    );
+    keeps_going(rt, alloc, queue, Kept::Reopened { place: 0 });
     is_woken_now(rt, task, true);
     waits(rt, queue, task, 0);
-    let new = put(rt, alloc, queue, 10)?;
+    let new = put(rt, alloc, queue, 0, 10)?;
     assert_eq!(rt; (new.entry().shard(), task.was_woken()), (2, true));
     Ok(())
 }
@@ -238,7 +180,7 @@ fn woken_as_it_goes_on<R: Abort + Wait>(
     queue: &Texts,
     task: &Task,
 ) -> Result<(), Fail> {
-    let last = put(rt, alloc, queue, 10)?;
+    let last = put(rt, alloc, queue, 0, 10)?;
     waits(rt, queue, task, 0);
     woken_by_a_close(rt, alloc, queue, task)?;
     queue.remove(rt, &last.entry())?;
@@ -273,8 +215,8 @@ fn woken_where_half_is_worn<R: Abort + Wait>(
     queue: &Texts,
     task: &Task,
 ) -> Result<(), Fail> {
-    let gone = put(rt, alloc, queue, 5)?;
-    let left = put(rt, alloc, queue, 10)?;
+    let gone = put(rt, alloc, queue, 0, 5)?;
+    let left = put(rt, alloc, queue, 0, 10)?;
     queue.remove(rt, &gone.entry())?;
     waits(rt, queue, task, 0);
     woken_by_the_step(rt, alloc, queue, task);
@@ -291,7 +233,7 @@ fn woken_where_all_is_worn<R: Abort + Wait>(
     task: &Task,
 ) -> Result<(), Fail> {
     for _ in 0..2 {
-        put(rt, alloc, queue, 10)?;
+        put(rt, alloc, queue, 0, 10)?;
     }
     queue.clear(rt, 0)?;
     waits(rt, queue, task, 0);
@@ -368,7 +310,7 @@ fn told_while_none_is_linked<R: Abort + Wait>(
     looks(rt, queue, key, Look::LookRemoved(10))?;
     keeps_going(rt, alloc, queue, Kept::Fine);
     is_woken_now(rt, task, false);
-    put(rt, alloc, queue, 10)?;
+    put(rt, alloc, queue, 0, 10)?;
     is_woken_now(rt, task, true);
     Ok(())
 }
@@ -376,7 +318,7 @@ fn told_while_none_is_linked<R: Abort + Wait>(
 #[test]
 fn what_only_tells_leaves_the_task(rt: HostRuntime) -> Result<(), Fail> {
     let (queue, task) = queue_and_task(&rt)?;
-    let key = put(&rt, rt.alloc(), &queue, 10)?;
+    let key = put(&rt, rt.alloc(), &queue, 0, 10)?;
     told_while_it_waits(&rt, rt.alloc(), &queue, &task, &key)?;
     queue.remove(&rt, &key.entry())?;
     told_while_none_is_linked(&rt, rt.alloc(), &queue, &task, &key)
@@ -395,7 +337,7 @@ fn gives_its_place<R: Abort + Wait>(rt: &R, queue: &Texts, first: &Task, second:
 fn another_task_takes_its_place(rt: HostRuntime) -> Result<(), Fail> {
     let (queue, first) = queue_and_task(&rt)?;
     let second = Task::new(&rt)?;
-    put(&rt, rt.alloc(), &queue, 10)?;
+    put(&rt, rt.alloc(), &queue, 0, 10)?;
     gives_its_place(&rt, &queue, &first, &second);
     Ok(())
 }

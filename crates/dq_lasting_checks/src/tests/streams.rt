@@ -1,32 +1,16 @@
 //! A stream of one place: what it gives, when it waits and is woken, and how it tells its faults.
 
-use dq_core::CoreError;
-use dq_lasting::{
-    Kept, LastingConfig, LastingError, LastingFault, LastingQueue, LastingStream, Ticks,
-};
-use dq_ticks::{Key, LAST_TICK};
+use super::steps::{Texts, keeps_going};
+use super::tasks::{Task, is_woken_now, put, queue_and_task, rings};
+use dq_lasting::{Kept, LastingError, LastingFault, LastingStream, Ticks};
+use dq_ticks::LAST_TICK;
 use futures::StreamExt;
 use futures::task::Poll;
-use futures::test::MockTask;
-use std::alloc::{AllocGlobal, Global};
+use std::alloc::Global;
 use std::cell::Cell;
 use std::process::Abort;
-use std::random::RandomSource;
 use std::sync::Wait;
 use std::test::Fail;
-
-type Texts = LastingQueue<String>;
-
-fn texts(alloc: Global) -> Result<Texts, CoreError> {
-    LastingQueue::new(alloc, LastingConfig::of(2, 4))
-}
-
-fn put<R: Wait>(rt: &R, alloc: Global, queue: &Texts, route: u64, when: u64) -> Result<Key, Fail> {
-    match queue.insert(rt, route, format!(in alloc; "held")?, when) {
-        Ok(key) => Ok(key),
-        Err((error, _text)) => Err(error.into()),
-    }
-}
 
 // Tells the tick that is set.
 #[derive(Drop)]
@@ -38,13 +22,15 @@ impl Ticks for SetTick<'_> {
     }
 }
 
+type Stream<'q, 't, R> = LastingStream<'q, String, SetTick<'t>, R>;
+
 // A stream of a place.
 fn stream_of<'q, 't, R: Wait>(
     rt: &'q R,
     queue: &'q Texts,
     place: usize,
     tick: &'t Cell<u64>,
-) -> Result<LastingStream<'q, String, SetTick<'t>, R>, LastingError> {
+) -> Result<Stream<'q, 't, R>, LastingError> {
     match LastingStream::new(rt, queue, place, SetTick(tick)) {
         Ok(stream) => Ok(stream),
         Err((error, _ticks)) => Err(error),
@@ -60,53 +46,18 @@ enum Seen {
     Ends,
 }
 
-#[derive(Drop)]
-struct Task {
-    mock: MockTask,
-}
-
-impl Task {
-    fn new<R: RandomSource + AllocGlobal>(rt: &R) -> Result<Task, Fail> {
-        Ok(Task {
-            mock: MockTask::new(rt)?,
-        })
+// A task polls a stream once.
+fn polled<R: Wait>(task: &Task, stream: &mut Stream<'_, '_, R>) -> Seen {
+    match task.mock.poll(&mut stream.next()) {
+        Poll::Pending => Seen::Waits,
+        Poll::Ready(None) => Seen::Ends,
+        Poll::Ready(Some(Err(fault))) => Seen::Fault(fault),
+        Poll::Ready(Some(Ok(expired))) => Seen::Out(expired.deadline),
     }
-
-    // Polls a stream once.
-    fn poll<R: Wait>(&self, stream: &mut LastingStream<'_, String, SetTick<'_>, R>) -> Seen {
-        match self.mock.poll(&mut stream.next()) {
-            Poll::Pending => Seen::Waits,
-            Poll::Ready(None) => Seen::Ends,
-            Poll::Ready(Some(Err(fault))) => Seen::Fault(fault),
-            Poll::Ready(Some(Ok(expired))) => Seen::Out(expired.deadline),
-        }
-    }
-
-    // Whether it was woken since it was last polled or asked.
-    fn was_woken(&self) -> bool {
-        let was_woken = self.mock.is_woken();
-        self.mock.enter(|_| ());
-        was_woken
-    }
-}
-
-type Stream<'q, 't, R> = LastingStream<'q, String, SetTick<'t>, R>;
-
-// What each test owns, and lends to a scene: a queue and a task.
-fn queue_and_task<R: RandomSource + AllocGlobal>(rt: &R) -> Result<(Texts, Task), Fail> {
-    Ok((texts(rt.alloc())?, Task::new(rt)?))
-}
-
-fn is_woken_now(rt: &impl Abort, task: &Task, is_woken: bool) {
-    assert_eq!(rt; task.was_woken(), is_woken);
-}
-
-fn rings<R: Abort + Wait>(rt: &R, queue: &Texts, tick: u64, is_rung: bool) {
-    assert_eq!(rt; queue.ring(rt, 0, tick), Ok(is_rung));
 }
 
 fn gives<R: Abort + Wait>(rt: &R, task: &Task, stream: &mut Stream<'_, '_, R>, seen: Seen) {
-    assert_eq!(rt; task.poll(stream), seen);
+    assert_eq!(rt; polled(task, stream), seen);
 }
 
 // Polls a stream at each of those ticks in turn.
@@ -182,7 +133,7 @@ fn woken_at_its_tick<R: Abort + Wait>(
     assert_eq!(rt; (task.was_woken(), task.was_woken()), (true, false));
     gives(rt, task, stream, Seen::Waits);
     for (at, is_rung) in [(9u64, false), (10, true)] {
-        rings(rt, queue, at, is_rung);
+        rings(rt, queue, 0, at, Ok(is_rung));
         is_woken_now(rt, task, is_rung);
     }
     Ok(())
@@ -199,8 +150,7 @@ fn woken_as_it_goes_on<R: Abort + Wait>(
     queue.close(rt, 0)?;
     is_woken_now(rt, task, true);
     gives(rt, task, stream, Seen::Waits);
-    let reopened = queue.keep_going(rt, alloc);
-    assert_eq!(rt; reopened, Ok(Kept::Reopened { place: 0 }));
+    keeps_going(rt, alloc, queue, Kept::Reopened { place: 0 });
     is_woken_now(rt, task, true);
     gives(rt, task, stream, Seen::Waits);
     let renewed = put(rt, alloc, queue, 0, 10)?;
