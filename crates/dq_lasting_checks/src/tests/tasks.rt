@@ -1,8 +1,8 @@
-//! A task that waits in a shard: the queue that it waits in, and whether it was woken.
+//! What the tests of a waiting task share: the task, its queue, and the calls that wake it.
 
-use super::steps::Texts;
+use super::steps::{Texts, keeps_going};
 use dq_core::CoreError;
-use dq_lasting::{LastingConfig, LastingError, LastingQueue};
+use dq_lasting::{Kept, LastingConfig, LastingError, LastingQueue};
 use dq_ticks::Key;
 use futures::task::Source;
 use futures::test::MockTask;
@@ -14,19 +14,6 @@ use std::test::Fail;
 
 fn texts(alloc: Global) -> Result<Texts, CoreError> {
     LastingQueue::new(alloc, LastingConfig::of(2, 4))
-}
-
-pub fn put<R: Wait>(
-    rt: &R,
-    alloc: Global,
-    queue: &Texts,
-    route: u64,
-    when: u64,
-) -> Result<Key, Fail> {
-    match queue.insert(rt, route, format!(in alloc; "held")?, when) {
-        Ok(key) => Ok(key),
-        Err((error, _text)) => Err(error.into()),
-    }
 }
 
 // It polls a shard by its name. A stream that it polls has a name of its own.
@@ -57,16 +44,52 @@ pub fn queue_and_task<R: RandomSource + AllocGlobal>(rt: &R) -> Result<(Texts, T
     Ok((texts(rt.alloc())?, Task::new(rt)?))
 }
 
-pub fn is_woken_now(rt: &impl Abort, task: &Task, is_woken: bool) {
-    assert_eq!(rt; task.was_woken(), is_woken);
+// A queue and a task that waits in it, which a test lends to its parts.
+#[derive(Drop)]
+pub struct Scene<'a, R> {
+    pub rt: &'a R,
+    pub alloc: Global,
+    pub queue: &'a Texts,
+    pub task: &'a Task,
 }
 
-pub fn rings<R: Abort + Wait>(
-    rt: &R,
-    queue: &Texts,
-    place: usize,
-    tick: u64,
-    answer: Result<bool, LastingError>,
-) {
-    assert_eq!(rt; queue.ring(rt, place, tick), answer);
+impl<'a, R: AllocGlobal> Scene<'a, R> {
+    pub fn new(rt: &'a R, queue: &'a Texts, task: &'a Task) -> Scene<'a, R> {
+        Scene {
+            rt,
+            alloc: rt.alloc(),
+            queue,
+            task,
+        }
+    }
+}
+
+impl<R: Abort + Wait> Scene<'_, R> {
+    pub fn put(&self, route: u64, when: u64) -> Result<Key, Fail> {
+        let text = format!(in self.alloc; "held")?;
+        match self.queue.insert(self.rt, route, text, when) {
+            Ok(key) => Ok(key),
+            Err((error, _text)) => Err(error.into()),
+        }
+    }
+
+    pub fn is_woken_now(&self, is_woken: bool) {
+        assert_eq!(self.rt; self.task.was_woken(), is_woken);
+    }
+
+    // It was woken, and no more than once.
+    pub fn is_woken_once(&self) {
+        assert_eq!(self.rt;
+            (self.task.was_woken(), self.task.was_woken()),
+            (true, false)
+        );
+    }
+
+    pub fn rings(&self, place: usize, tick: u64, answer: Result<bool, LastingError>) {
+        assert_eq!(self.rt; self.queue.ring(self.rt, place, tick), answer);
+    }
+
+    pub fn keeps_going(&self, kept: Kept) {
+        keeps_going(self.rt, self.alloc, self.queue, kept);
+    }
 }
