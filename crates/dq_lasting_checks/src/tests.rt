@@ -7,4 +7,5 @@ mod pieces;
 mod pool;
 mod steps;
 mod streams;
+mod tasks;
 mod work;

@@ -64,8 +64,10 @@ impl<'q, T: Drop, S: TickSource, R: Wait, A: Allocator> ExpiredStream<'q, T, S, 
         steps: NonZeroU32,
         cx: &mut Context<'_>,
     ) -> Poll<Option<Result<Expired<T>, StreamFault>>>
-        // What is given is due, and no live entry of the shard has an earlier deadline.
+        // What is given is due, and no live entry of the shard has an earlier deadline. None is given
+        // only where nothing is linked, or where it had ended for good.
         ensures given { IfGiven result (IsLeastDue shard.new) }
+        ensures empty { EndsWhereEmpty self.old result shard.new }
 
         // It waits where none is due, parked as by poll_locked. Or it is at work: so many steps fewer
         // are left, and the task is woken.
@@ -73,19 +75,15 @@ impl<'q, T: Drop, S: TickSource, R: Wait, A: Allocator> ExpiredStream<'q, T, S, 
             ⊎ IsAtWork cx.new shard.old steps.value shard.new) }
         ensures registered { OnPending result (Covers cx.new (λ s. s ≡ self.new.name.id)) }
 
-        // It gives nothing where nothing is linked. Once it has ended for good nothing changes any more.
-        ensures empty { EndsWhereEmpty self.old result shard.new }
+        // It ends for good after a refused tick, and only then; nothing changes any more then.
+        ensures ends { EndsByFault cx.new self.old result self.new }
         ensures over { StaysOver self.old result self.new shard.old shard.new }
 
-        // It ends for good after a refused tick, and only then.
-        ensures ends { EndsByFault cx.new self.old result self.new }
-
-        // It stays a stream of its shard.
+        // All that it does: the shard's own poll in pieces, at a tick that the source told. It stays a
+        // stream of its shard.
+        ensures polls { AtToldTick S.tells self.old self.new (λ tick.
+            PacedPolls cx.old cx.new shard.old tick steps.value result shard.new) }
         ensures stays { StaysOfShard self.old self.new }
-
-        // All that it does: the shard's own poll in pieces, at a tick that the source told.
-        ensures polls { AtToldTick S.tells self.old self.new
-            (λ tick. PacedPolls cx.old cx.new shard.old tick steps.value result shard.new) }
         ensures kept { Keeps cx.old cx.new }
     {
         if self.ended {

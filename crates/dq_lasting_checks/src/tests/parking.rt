@@ -1,29 +1,14 @@
 //! A task that is parked in a shard: when it is woken, and how often.
 
 use super::steps::{audits, is_refused, keeps_going, renews, short_lived, wakes_at};
+use super::tasks::{Scene, Task, queue_and_task};
 use dq_core::{CoreError, Look};
-use dq_lasting::{Kept, LastingConfig, LastingError, LastingQueue};
+use dq_lasting::{Kept, LastingError};
 use dq_ticks::{Key, LAST_TICK};
-use futures::task::{Poll, Source};
-use futures::test::MockTask;
-use std::alloc::{AllocGlobal, Global};
+use futures::task::Poll;
 use std::process::Abort;
-use std::random::RandomSource;
 use std::sync::Wait;
 use std::test::Fail;
-
-type Texts = LastingQueue<String>;
-
-fn texts(alloc: Global) -> Result<Texts, CoreError> {
-    LastingQueue::new(alloc, LastingConfig::of(2, 4))
-}
-
-fn put<R: Wait>(rt: &R, alloc: Global, queue: &Texts, when: u64) -> Result<Key, Fail> {
-    match queue.insert(rt, 0, format!(in alloc; "held")?, when) {
-        Ok(key) => Ok(key),
-        Err((error, _text)) => Err(error.into()),
-    }
-}
 
 // What a poll of a task saw.
 #[derive(Clone, Copy, Debug, PartialEq, Eq)]
@@ -33,25 +18,13 @@ enum Seen {
     Refused(LastingError),
 }
 
-#[derive(Drop)]
-struct Task {
-    mock: MockTask,
-    name: Source,
-}
-
-impl Task {
-    fn new<R: RandomSource + AllocGlobal>(rt: &R) -> Result<Task, Fail> {
-        Ok(Task {
-            mock: MockTask::new(rt)?,
-            name: Source::new(),
-        })
-    }
-
+impl<R: Abort + Wait> Scene<'_, R> {
     // Polls the shard at a place once.
-    fn poll<R: Wait>(&self, rt: &R, queue: &Texts, place: usize, tick: u64) -> Seen {
-        let polled = self
-            .mock
-            .enter(|cx| queue.poll_or_park(rt, place, tick, &self.name, cx));
+    fn polled_at(&self, place: usize, tick: u64) -> Seen {
+        let polled = self.task.mock.enter(|cx| {
+            self.queue
+                .poll_or_park(self.rt, place, tick, &self.task.name, cx)
+        });
         match polled {
             Poll::Pending => Seen::Waits,
             Poll::Ready(Ok(expired)) => Seen::Out {
@@ -62,243 +35,185 @@ impl Task {
         }
     }
 
-    // Whether it was woken since it was last polled or asked.
-    fn was_woken(&self) -> bool {
-        let was_woken = self.mock.is_woken();
-        self.mock.enter(|_| ());
-        was_woken
+    fn sees(&self, place: usize, tick: u64, seen: Seen) {
+        assert_eq!(self.rt; self.polled_at(place, tick), seen);
+    }
+
+    // The task waits in the shard at place 0.
+    fn waits(&self, tick: u64) {
+        self.sees(0, tick, Seen::Waits);
+    }
+
+    fn clears_one(&self) {
+        assert_eq!(self.rt; self.queue.clear(self.rt, 0), Ok(1));
     }
 }
 
-// What each test owns, and lends to a scene: a queue and a task.
-fn queue_and_task<R: RandomSource + AllocGlobal>(rt: &R) -> Result<(Texts, Task), Fail> {
-    Ok((texts(rt.alloc())?, Task::new(rt)?))
-}
-
-// The task waits in the shard at place 0.
-fn waits<R: Abort + Wait>(rt: &R, queue: &Texts, task: &Task, tick: u64) {
-    assert_eq!(rt; task.poll(rt, queue, 0, tick), Seen::Waits);
-}
-
-fn clears_one<R: Abort + Wait>(rt: &R, queue: &Texts) {
-    assert_eq!(rt; queue.clear(rt, 0), Ok(1));
-}
-
-fn is_woken_now(rt: &impl Abort, task: &Task, is_woken: bool) {
-    assert_eq!(rt; task.was_woken(), is_woken);
-}
-
-fn rings<R: Abort + Wait>(
-    rt: &R,
-    queue: &Texts,
-    place: usize,
-    tick: u64,
-    answer: Result<bool, LastingError>,
-) {
-    assert_eq!(rt; queue.ring(rt, place, tick), answer);
-}
-
 // The entry that the task waits for becomes due later than at first.
-fn woken_by_a_reset<R: Abort + Wait>(
-    rt: &R,
-    queue: &Texts,
-    task: &Task,
-    moved: &Key,
-) -> Result<(), Fail> {
-    queue.reset(rt, &moved.entry(), 8)?;
-    is_woken_now(rt, task, true);
-    waits(rt, queue, task, 6);
+fn woken_by_a_reset<R: Abort + Wait>(scene: &Scene<'_, R>, moved: &Key) -> Result<(), Fail> {
+    scene.queue.reset(scene.rt, &moved.entry(), 8)?;
+    scene.is_woken_now(true);
+    scene.waits(6);
     // The next wake is later now, and so it waits on.
-    queue.remove(rt, &moved.entry())?;
-    is_woken_now(rt, task, false);
+    scene.queue.remove(scene.rt, &moved.entry())?;
+    scene.is_woken_now(false);
     Ok(())
 }
 
-fn woken_by_entries<R: Abort + Wait>(
-    rt: &R,
-    alloc: Global,
-    queue: &Texts,
-    task: &Task,
-) -> Result<(), Fail> {
-    let moved = put(rt, alloc, queue, 10)?;
-    waits(rt, queue, task, 0);
-    put(rt, alloc, queue, 20)?;
-    is_woken_now(rt, task, false);
-    put(rt, alloc, queue, 5)?;
-    assert_eq!(rt; (task.was_woken(), task.was_woken()), (true, false));
+fn woken_by_entries<R: Abort + Wait>(scene: &Scene<'_, R>) -> Result<(), Fail> {
+    let moved = scene.put(0, 10)?;
+    scene.waits(0);
+    scene.put(0, 20)?;
+    scene.is_woken_now(false);
+    scene.put(0, 5)?;
+    scene.is_woken_once();
     let out = Seen::Out {
         deadline: 5,
         noted: 6,
     };
-    assert_eq!(rt; task.poll(rt, queue, 0, 6), out);
-    waits(rt, queue, task, 6);
-    woken_by_a_reset(rt, queue, task, &moved)?;
-    clears_one(rt, queue);
-    is_woken_now(rt, task, true);
+    scene.sees(0, 6, out);
+    scene.waits(6);
+    woken_by_a_reset(scene, &moved)?;
+    scene.clears_one();
+    scene.is_woken_now(true);
     Ok(())
 }
 
 #[test]
 fn woken_by_what_comes_sooner(rt: HostRuntime) -> Result<(), Fail> {
     let (queue, task) = queue_and_task(&rt)?;
-    woken_by_entries(&rt, rt.alloc(), &queue, &task)
+    woken_by_entries(&Scene::new(&rt, &queue, &task))
 }
 
 // The task waits for an entry of tick 10, and is rung once.
-fn rung_once<R: Abort + Wait>(rt: &R, queue: &Texts, task: &Task) {
-    waits(rt, queue, task, 0);
+fn rung_once<R: Abort + Wait>(scene: &Scene<'_, R>) {
+    scene.waits(0);
     let row = [(9u64, false), (10, true), (10, false)];
     for (tick, is_woken) in row {
-        rings(rt, queue, 0, tick, Ok(is_woken));
-        is_woken_now(rt, task, is_woken);
+        scene.rings(0, tick, Ok(is_woken));
+        scene.is_woken_now(is_woken);
     }
-    rings(rt, queue, 1, 10, Ok(false));
-    rings(rt, queue, 2, 10, Err(LastingError::Unknown));
+    scene.rings(1, 10, Ok(false));
+    scene.rings(2, 10, Err(LastingError::Unknown));
 }
 
 #[test]
 fn rung_at_its_tick(rt: HostRuntime) -> Result<(), Fail> {
     let (queue, task) = queue_and_task(&rt)?;
-    put(&rt, rt.alloc(), &queue, 10)?;
-    rung_once(&rt, &queue, &task);
+    let scene = Scene::new(&rt, &queue, &task);
+    scene.put(0, 10)?;
+    rung_once(&scene);
     Ok(())
 }
 
 // The task is refused out of range, by the place and by the tick.
-fn refused<R: Abort + Wait>(rt: &R, queue: &Texts, task: &Task) {
-    let unknown = Seen::Refused(LastingError::Unknown);
-    assert_eq!(rt; task.poll(rt, queue, 2, 0), unknown);
+fn refused<R: Abort + Wait>(scene: &Scene<'_, R>) {
+    scene.sees(2, 0, Seen::Refused(LastingError::Unknown));
     let late = LastingError::Core(CoreError::TickTooLarge { limit: LAST_TICK });
-    let refused = Seen::Refused(late);
-    assert_eq!(rt; task.poll(rt, queue, 0, LAST_TICK + 1), refused);
+    scene.sees(0, LAST_TICK + 1, Seen::Refused(late));
 }
 
 // Nothing is linked at first.
-fn woken_by_an_insert<R: Abort + Wait>(
-    rt: &R,
-    alloc: Global,
-    queue: &Texts,
-    task: &Task,
-) -> Result<(), Fail> {
-    waits(rt, queue, task, 0);
-    rings(rt, queue, 0, LAST_TICK, Ok(false));
-    is_woken_now(rt, task, false);
-    put(rt, alloc, queue, 10)?;
-    is_woken_now(rt, task, true);
-    waits(rt, queue, task, 0);
-    clears_one(rt, queue);
-    is_woken_now(rt, task, true);
-    refused(rt, queue, task);
+fn woken_by_an_insert<R: Abort + Wait>(scene: &Scene<'_, R>) -> Result<(), Fail> {
+    scene.waits(0);
+    scene.rings(0, LAST_TICK, Ok(false));
+    scene.is_woken_now(false);
+    scene.put(0, 10)?;
+    scene.is_woken_now(true);
+    scene.waits(0);
+    scene.clears_one();
+    scene.is_woken_now(true);
+    refused(scene);
     Ok(())
 }
 
 #[test]
 fn waits_for_an_insert(rt: HostRuntime) -> Result<(), Fail> {
     let (queue, task) = queue_and_task(&rt)?;
-    woken_by_an_insert(&rt, rt.alloc(), &queue, &task)
+    woken_by_an_insert(&Scene::new(&rt, &queue, &task))
 }
 
 // The shard is closed, and what is inserted goes to the other one.
-fn woken_by_a_close<R: Abort + Wait>(
-    rt: &R,
-    alloc: Global,
-    queue: &Texts,
-    task: &Task,
-) -> Result<(), Fail> {
-    queue.close(rt, 0)?;
-    is_woken_now(rt, task, true);
-    waits(rt, queue, task, 0);
-    let beside = put(rt, alloc, queue, 1)?;
-    assert_eq!(rt; (beside.entry().shard(), task.was_woken()), (1, false));
+fn woken_by_a_close<R: Abort + Wait>(scene: &Scene<'_, R>) -> Result<(), Fail> {
+    scene.queue.close(scene.rt, 0)?;
+    scene.is_woken_now(true);
+    scene.waits(0);
+    let beside = scene.put(0, 1)?;
+    assert_eq!(scene.rt;
+        (beside.entry().shard(), scene.task.was_woken()),
+        (1, false)
+    );
     Ok(())
 }
 
 // The shard is empty, and opened again.
-fn woken_by_a_new_generation<R: Abort + Wait>(
-    rt: &R,
-    alloc: Global,
-    queue: &Texts,
-    task: &Task,
-) -> Result<(), Fail> {
-    assert_eq!(rt;
-        queue.keep_going(rt, alloc),
-        Ok(Kept::Reopened { place: 0 })
-    );
-    is_woken_now(rt, task, true);
-    waits(rt, queue, task, 0);
-    let new = put(rt, alloc, queue, 10)?;
-    assert_eq!(rt; (new.entry().shard(), task.was_woken()), (2, true));
+fn woken_by_a_new_generation<R: Abort + Wait>(scene: &Scene<'_, R>) -> Result<(), Fail> {
+    scene.keeps_going(Kept::Reopened { place: 0 });
+    scene.is_woken_now(true);
+    scene.waits(0);
+    let new = scene.put(0, 10)?;
+    assert_eq!(scene.rt; (new.entry().shard(), scene.task.was_woken()), (2, true));
     Ok(())
 }
 
-// The queue and the task of the test below, which drops them.
-fn woken_as_it_goes_on<R: Abort + Wait>(
-    rt: &R,
-    alloc: Global,
-    queue: &Texts,
-    task: &Task,
-) -> Result<(), Fail> {
-    let last = put(rt, alloc, queue, 10)?;
-    waits(rt, queue, task, 0);
-    woken_by_a_close(rt, alloc, queue, task)?;
-    queue.remove(rt, &last.entry())?;
-    is_woken_now(rt, task, true);
-    waits(rt, queue, task, 0);
-    woken_by_a_new_generation(rt, alloc, queue, task)
+fn woken_as_it_goes_on<R: Abort + Wait>(scene: &Scene<'_, R>) -> Result<(), Fail> {
+    let last = scene.put(0, 10)?;
+    scene.waits(0);
+    woken_by_a_close(scene)?;
+    scene.queue.remove(scene.rt, &last.entry())?;
+    scene.is_woken_now(true);
+    scene.waits(0);
+    woken_by_a_new_generation(scene)
 }
 
 // A task waits in a shard that is closed, drains and is opened again.
 #[test]
 fn woken_where_its_shard_goes_on(rt: HostRuntime) -> Result<(), Fail> {
     let (queue, task) = queue_and_task(&rt)?;
-    woken_as_it_goes_on(&rt, rt.alloc(), &queue, &task)
+    woken_as_it_goes_on(&Scene::new(&rt, &queue, &task))
 }
 
 // A step closes the worn shard, which wakes the task, and no more than once.
-fn woken_by_the_step<R: Abort + Wait>(rt: &R, alloc: Global, queue: &Texts, task: &Task) {
-    keeps_going(rt, alloc, queue, Kept::Closed { place: 0 });
-    assert_eq!(rt; (task.was_woken(), task.was_woken()), (true, false));
+fn woken_by_the_step<R: Abort + Wait>(scene: &Scene<'_, R>) {
+    scene.keeps_going(Kept::Closed { place: 0 });
+    scene.is_woken_once();
 }
 
 // The shard is opened again, of which the task learns nothing: it hasn't asked since it was woken.
-fn opened_behind_it<R: Abort + Wait>(rt: &R, alloc: Global, queue: &Texts, task: &Task) {
-    keeps_going(rt, alloc, queue, Kept::Reopened { place: 0 });
-    is_woken_now(rt, task, false);
+fn opened_behind_it<R: Abort + Wait>(scene: &Scene<'_, R>) {
+    scene.keeps_going(Kept::Reopened { place: 0 });
+    scene.is_woken_now(false);
 }
 
 // One of two slots is worn, and the task waits for the entry in the other.
-fn woken_where_half_is_worn<R: Abort + Wait>(
-    rt: &R,
-    alloc: Global,
-    queue: &Texts,
-    task: &Task,
-) -> Result<(), Fail> {
-    let gone = put(rt, alloc, queue, 5)?;
-    let left = put(rt, alloc, queue, 10)?;
-    queue.remove(rt, &gone.entry())?;
-    waits(rt, queue, task, 0);
-    woken_by_the_step(rt, alloc, queue, task);
-    queue.remove(rt, &left.entry())?;
-    opened_behind_it(rt, alloc, queue, task);
+fn woken_where_half_is_worn<R: Abort + Wait>(scene: &Scene<'_, R>) -> Result<(), Fail> {
+    let gone = scene.put(0, 5)?;
+    let left = scene.put(0, 10)?;
+    scene.queue.remove(scene.rt, &gone.entry())?;
+    scene.waits(0);
+    woken_by_the_step(scene);
+    scene.queue.remove(scene.rt, &left.entry())?;
+    opened_behind_it(scene);
     Ok(())
 }
 
 // Both slots are worn, and the task waits for an insert, which is refused.
-fn woken_where_all_is_worn<R: Abort + Wait>(
-    rt: &R,
-    alloc: Global,
-    queue: &Texts,
-    task: &Task,
-) -> Result<(), Fail> {
+fn woken_where_all_is_worn<R: Abort + Wait>(scene: &Scene<'_, R>) -> Result<(), Fail> {
     for _ in 0..2 {
-        put(rt, alloc, queue, 10)?;
+        scene.put(0, 10)?;
     }
-    queue.clear(rt, 0)?;
-    waits(rt, queue, task, 0);
-    is_refused(rt, queue, 0, format!(in alloc; "late")?, (0, 2));
-    is_woken_now(rt, task, false);
-    woken_by_the_step(rt, alloc, queue, task);
-    opened_behind_it(rt, alloc, queue, task);
+    scene.queue.clear(scene.rt, 0)?;
+    scene.waits(0);
+    is_refused(
+        scene.rt,
+        scene.queue,
+        0,
+        format!(in scene.alloc; "late")?,
+        (0, 2),
+    );
+    scene.is_woken_now(false);
+    woken_by_the_step(scene);
+    opened_behind_it(scene);
     Ok(())
 }
 
@@ -306,96 +221,89 @@ fn woken_where_all_is_worn<R: Abort + Wait>(
 fn woken_where_its_worn_shard_is_closed(rt: HostRuntime) -> Result<(), Fail> {
     let queue = short_lived(rt.alloc(), 2)?;
     let task = Task::new(&rt)?;
-    woken_where_half_is_worn(&rt, rt.alloc(), &queue, &task)?;
-    woken_where_all_is_worn(&rt, rt.alloc(), &queue, &task)
+    let scene = Scene::new(&rt, &queue, &task);
+    woken_where_half_is_worn(&scene)?;
+    woken_where_all_is_worn(&scene)
 }
 
 // What a new handle tells of an entry.
-fn looks<R: Abort + Wait>(rt: &R, queue: &Texts, key: &Key, look: Look) -> Result<(), Fail> {
-    let mut handle = queue.handle(rt)?;
-    renews(rt, queue, &mut handle, 0);
-    assert_eq!(rt; handle.look(key), Ok(look));
+fn looks<R: Abort + Wait>(scene: &Scene<'_, R>, key: &Key, look: Look) -> Result<(), Fail> {
+    let mut handle = scene.queue.handle(scene.rt)?;
+    renews(scene.rt, scene.queue, &mut handle, 0);
+    assert_eq!(scene.rt; handle.look(key), Ok(look));
     handle.give_back();
     Ok(())
 }
 
-fn told_until<R: Abort + Wait>(rt: &R, queue: &Texts, key: &Key, deadline: Result<u64, CoreError>) {
-    assert_eq!(rt; queue.deadline(rt, &key.entry()), deadline);
+fn told_until<R: Abort + Wait>(scene: &Scene<'_, R>, key: &Key, deadline: Result<u64, CoreError>) {
+    assert_eq!(scene.rt; scene.queue.deadline(scene.rt, &key.entry()), deadline);
 }
 
 // So many entries are linked in the shard at place 0, and none at place 1.
-fn tallies<R: Abort + Wait>(rt: &R, queue: &Texts, linked: u64) -> Result<(), Fail> {
+fn tallies<R: Abort + Wait>(scene: &Scene<'_, R>, linked: u64) -> Result<(), Fail> {
     for (place, linked) in [(0usize, linked), (1, 0)] {
-        assert_eq!(rt; queue.tally(rt, place)?.present.linked, linked);
+        assert_eq!(scene.rt; scene.queue.tally(scene.rt, place)?.present.linked, linked);
     }
     Ok(())
 }
 
 // The task waits for the one entry, whose tick is 10. No call that tells of it wakes the task, nor takes it from its place.
-fn told_while_it_waits<R: Abort + Wait>(
-    rt: &R,
-    alloc: Global,
-    queue: &Texts,
-    task: &Task,
-    key: &Key,
-) -> Result<(), Fail> {
-    waits(rt, queue, task, 0);
-    told_until(rt, queue, key, Ok(10));
-    wakes_at(rt, queue, 0, Some(10));
-    tallies(rt, queue, 1)?;
-    audits(rt, queue, [1, 0, 0, 1]);
-    looks(rt, queue, key, Look::StillLive(10))?;
-    keeps_going(rt, alloc, queue, Kept::Fine);
-    is_woken_now(rt, task, false);
-    rings(rt, queue, 0, 10, Ok(true));
-    is_woken_now(rt, task, true);
+fn told_while_it_waits<R: Abort + Wait>(scene: &Scene<'_, R>, key: &Key) -> Result<(), Fail> {
+    scene.waits(0);
+    told_until(scene, key, Ok(10));
+    wakes_at(scene.rt, scene.queue, 0, Some(10));
+    tallies(scene, 1)?;
+    audits(scene.rt, scene.queue, [1, 0, 0, 1]);
+    looks(scene, key, Look::StillLive(10))?;
+    scene.keeps_going(Kept::Fine);
+    scene.is_woken_now(false);
+    scene.rings(0, 10, Ok(true));
+    scene.is_woken_now(true);
     Ok(())
 }
 
 // The same where the entry was removed, and the task waits for an insert.
-fn told_while_none_is_linked<R: Abort + Wait>(
-    rt: &R,
-    alloc: Global,
-    queue: &Texts,
-    task: &Task,
-    key: &Key,
-) -> Result<(), Fail> {
-    waits(rt, queue, task, 0);
-    told_until(rt, queue, key, Err(CoreError::Missing));
-    wakes_at(rt, queue, 0, None);
-    tallies(rt, queue, 0)?;
-    audits(rt, queue, [1, 1, 0, 0]);
-    looks(rt, queue, key, Look::LookRemoved(10))?;
-    keeps_going(rt, alloc, queue, Kept::Fine);
-    is_woken_now(rt, task, false);
-    put(rt, alloc, queue, 10)?;
-    is_woken_now(rt, task, true);
+fn told_while_none_is_linked<R: Abort + Wait>(scene: &Scene<'_, R>, key: &Key) -> Result<(), Fail> {
+    scene.waits(0);
+    told_until(scene, key, Err(CoreError::Missing));
+    wakes_at(scene.rt, scene.queue, 0, None);
+    tallies(scene, 0)?;
+    audits(scene.rt, scene.queue, [1, 1, 0, 0]);
+    looks(scene, key, Look::LookRemoved(10))?;
+    scene.keeps_going(Kept::Fine);
+    scene.is_woken_now(false);
+    scene.put(0, 10)?;
+    scene.is_woken_now(true);
     Ok(())
 }
 
 #[test]
 fn what_only_tells_leaves_the_task(rt: HostRuntime) -> Result<(), Fail> {
     let (queue, task) = queue_and_task(&rt)?;
-    let key = put(&rt, rt.alloc(), &queue, 10)?;
-    told_while_it_waits(&rt, rt.alloc(), &queue, &task, &key)?;
+    let scene = Scene::new(&rt, &queue, &task);
+    let key = scene.put(0, 10)?;
+    told_while_it_waits(&scene, &key)?;
     queue.remove(&rt, &key.entry())?;
-    told_while_none_is_linked(&rt, rt.alloc(), &queue, &task, &key)
+    told_while_none_is_linked(&scene, &key)
 }
 
 // The first task waits no more where a second one does.
-fn gives_its_place<R: Abort + Wait>(rt: &R, queue: &Texts, first: &Task, second: &Task) {
-    waits(rt, queue, first, 0);
-    waits(rt, queue, second, 0);
-    assert_eq!(rt; (first.was_woken(), second.was_woken()), (false, false));
-    rings(rt, queue, 0, 10, Ok(true));
-    assert_eq!(rt; (first.was_woken(), second.was_woken()), (false, true));
+fn gives_its_place<R: Abort + Wait>(first: &Scene<'_, R>, second: &Scene<'_, R>) {
+    first.waits(0);
+    second.waits(0);
+    first.is_woken_now(false);
+    second.is_woken_now(false);
+    second.rings(0, 10, Ok(true));
+    first.is_woken_now(false);
+    second.is_woken_now(true);
 }
 
 #[test]
 fn another_task_takes_its_place(rt: HostRuntime) -> Result<(), Fail> {
-    let (queue, first) = queue_and_task(&rt)?;
-    let second = Task::new(&rt)?;
-    put(&rt, rt.alloc(), &queue, 10)?;
-    gives_its_place(&rt, &queue, &first, &second);
+    let (queue, task) = queue_and_task(&rt)?;
+    let other = Task::new(&rt)?;
+    let first = Scene::new(&rt, &queue, &task);
+    first.put(0, 10)?;
+    gives_its_place(&first, &Scene::new(&rt, &queue, &other));
     Ok(())
 }

@@ -10,7 +10,7 @@ use std::process::Abort;
 use std::sync::Wait;
 use std::test::Fail;
 
-type Texts = LastingQueue<String>;
+pub type Texts = LastingQueue<String>;
 
 // Two shards of so many slots, each worn after its first entry.
 pub fn short_lived(alloc: Global, capacity: usize) -> Result<Texts, CoreError> {

@@ -1,32 +1,15 @@
 //! A stream of one place: what it gives, when it waits and is woken, and how it tells its faults.
 
-use dq_core::CoreError;
-use dq_lasting::{
-    Kept, LastingConfig, LastingError, LastingFault, LastingQueue, LastingStream, Ticks,
-};
-use dq_ticks::{Key, LAST_TICK};
+use super::steps::Texts;
+use super::tasks::{Scene, queue_and_task};
+use dq_lasting::{Kept, LastingError, LastingFault, LastingStream, Ticks};
+use dq_ticks::LAST_TICK;
 use futures::StreamExt;
 use futures::task::Poll;
-use futures::test::MockTask;
-use std::alloc::{AllocGlobal, Global};
 use std::cell::Cell;
 use std::process::Abort;
-use std::random::RandomSource;
 use std::sync::Wait;
 use std::test::Fail;
-
-type Texts = LastingQueue<String>;
-
-fn texts(alloc: Global) -> Result<Texts, CoreError> {
-    LastingQueue::new(alloc, LastingConfig::of(2, 4))
-}
-
-fn put<R: Wait>(rt: &R, alloc: Global, queue: &Texts, route: u64, when: u64) -> Result<Key, Fail> {
-    match queue.insert(rt, route, format!(in alloc; "held")?, when) {
-        Ok(key) => Ok(key),
-        Err((error, _text)) => Err(error.into()),
-    }
-}
 
 // Tells the tick that is set.
 #[derive(Drop)]
@@ -38,18 +21,7 @@ impl Ticks for SetTick<'_> {
     }
 }
 
-// A stream of a place.
-fn stream_of<'q, 't, R: Wait>(
-    rt: &'q R,
-    queue: &'q Texts,
-    place: usize,
-    tick: &'t Cell<u64>,
-) -> Result<LastingStream<'q, String, SetTick<'t>, R>, LastingError> {
-    match LastingStream::new(rt, queue, place, SetTick(tick)) {
-        Ok(stream) => Ok(stream),
-        Err((error, _ticks)) => Err(error),
-    }
-}
+type Stream<'q, 't, R> = LastingStream<'q, String, SetTick<'t>, R>;
 
 // What a poll of a stream answered: of an entry its deadline.
 #[derive(Clone, Copy, Debug, PartialEq, Eq)]
@@ -60,21 +32,22 @@ enum Seen {
     Ends,
 }
 
-#[derive(Drop)]
-struct Task {
-    mock: MockTask,
-}
-
-impl Task {
-    fn new<R: RandomSource + AllocGlobal>(rt: &R) -> Result<Task, Fail> {
-        Ok(Task {
-            mock: MockTask::new(rt)?,
-        })
+impl<'a, R: Abort + Wait> Scene<'a, R> {
+    // A stream of a place.
+    fn stream<'t>(
+        &self,
+        place: usize,
+        tick: &'t Cell<u64>,
+    ) -> Result<Stream<'a, 't, R>, LastingError> {
+        match LastingStream::new(self.rt, self.queue, place, SetTick(tick)) {
+            Ok(stream) => Ok(stream),
+            Err((error, _ticks)) => Err(error),
+        }
     }
 
     // Polls a stream once.
-    fn poll<R: Wait>(&self, stream: &mut LastingStream<'_, String, SetTick<'_>, R>) -> Seen {
-        match self.mock.poll(&mut stream.next()) {
+    fn polled(&self, stream: &mut Stream<'_, '_, R>) -> Seen {
+        match self.task.mock.poll(&mut stream.next()) {
             Poll::Pending => Seen::Waits,
             Poll::Ready(None) => Seen::Ends,
             Poll::Ready(Some(Err(fault))) => Seen::Fault(fault),
@@ -82,130 +55,89 @@ impl Task {
         }
     }
 
-    // Whether it was woken since it was last polled or asked.
-    fn was_woken(&self) -> bool {
-        let was_woken = self.mock.is_woken();
-        self.mock.enter(|_| ());
-        was_woken
+    fn gives(&self, stream: &mut Stream<'_, '_, R>, seen: Seen) {
+        assert_eq!(self.rt; self.polled(stream), seen);
+    }
+
+    // Polls a stream at each of those ticks in turn.
+    fn gives_at(&self, stream: &mut Stream<'_, '_, R>, tick: &Cell<u64>, row: &[(u64, Seen)]) {
+        for (at, seen) in row.iter() {
+            tick.set(*at);
+            self.gives(stream, *seen);
+        }
     }
 }
 
-type Stream<'q, 't, R> = LastingStream<'q, String, SetTick<'t>, R>;
-
-// What each test owns, and lends to a scene: a queue and a task.
-fn queue_and_task<R: RandomSource + AllocGlobal>(rt: &R) -> Result<(Texts, Task), Fail> {
-    Ok((texts(rt.alloc())?, Task::new(rt)?))
-}
-
-fn is_woken_now(rt: &impl Abort, task: &Task, is_woken: bool) {
-    assert_eq!(rt; task.was_woken(), is_woken);
-}
-
-fn rings<R: Abort + Wait>(rt: &R, queue: &Texts, tick: u64, is_rung: bool) {
-    assert_eq!(rt; queue.ring(rt, 0, tick), Ok(is_rung));
-}
-
-fn gives<R: Abort + Wait>(rt: &R, task: &Task, stream: &mut Stream<'_, '_, R>, seen: Seen) {
-    assert_eq!(rt; task.poll(stream), seen);
-}
-
-// Polls a stream at each of those ticks in turn.
-fn gives_at<R: Abort + Wait>(
-    rt: &R,
-    task: &Task,
-    stream: &mut Stream<'_, '_, R>,
-    tick: &Cell<u64>,
-    row: &[(u64, Seen)],
-) {
-    for (at, seen) in row.iter() {
-        tick.set(*at);
-        gives(rt, task, stream, *seen);
-    }
-}
-
-fn one_stream_gives<R: Abort + Wait>(
-    rt: &R,
-    queue: &Texts,
-    task: &Task,
-    tick: &Cell<u64>,
-) -> Result<(), Fail> {
-    let mut stream = stream_of(rt, queue, 0, tick)?;
+fn one_stream_gives<R: Abort + Wait>(scene: &Scene<'_, R>, tick: &Cell<u64>) -> Result<(), Fail> {
+    let mut stream = scene.stream(0, tick)?;
     let row = [
         (2u64, Seen::Waits),
         (7, Seen::Out(3)),
         (7, Seen::Out(7)),
         (7, Seen::Waits),
     ];
-    gives_at(rt, task, &mut stream, tick, &row);
+    scene.gives_at(&mut stream, tick, &row);
     // Where a stream is dropped its place keeps what it has, and another stream gives it.
     drop(stream);
     Ok(())
 }
 
-fn others_give<R: Abort + Wait>(
-    rt: &R,
-    queue: &Texts,
-    task: &Task,
-    tick: &Cell<u64>,
-) -> Result<(), Fail> {
-    let mut next = stream_of(rt, queue, 0, tick)?;
-    gives(rt, task, &mut next, Seen::Out(12));
-    gives(rt, task, &mut next, Seen::Waits);
-    let mut beside = stream_of(rt, queue, 1, tick)?;
-    gives(rt, task, &mut beside, Seen::Out(1));
+fn others_give<R: Abort + Wait>(scene: &Scene<'_, R>, tick: &Cell<u64>) -> Result<(), Fail> {
+    let mut next = scene.stream(0, tick)?;
+    scene.gives(&mut next, Seen::Out(12));
+    scene.gives(&mut next, Seen::Waits);
+    let mut beside = scene.stream(1, tick)?;
+    scene.gives(&mut beside, Seen::Out(1));
     Ok(())
 }
 
 #[test]
 fn lasting_stream_gives_what_is_due(rt: HostRuntime) -> Result<(), Fail> {
     let (queue, task) = queue_and_task(&rt)?;
+    let scene = Scene::new(&rt, &queue, &task);
     let tick = Cell::new(0);
     for (route, when) in [(0u64, 7u64), (0, 3), (0, 12), (1, 1)] {
-        put(&rt, rt.alloc(), &queue, route, when)?;
+        scene.put(route, when)?;
     }
-    one_stream_gives(&rt, &queue, &task, &tick)?;
+    one_stream_gives(&scene, &tick)?;
     tick.set(20);
-    others_give(&rt, &queue, &task, &tick)
+    others_give(&scene, &tick)
 }
 
 // Nothing is linked at first, and then an entry whose tick comes.
 fn woken_at_its_tick<R: Abort + Wait>(
-    rt: &R,
-    alloc: Global,
-    queue: &Texts,
-    task: &Task,
+    scene: &Scene<'_, R>,
     stream: &mut Stream<'_, '_, R>,
 ) -> Result<(), Fail> {
-    gives(rt, task, stream, Seen::Waits);
-    is_woken_now(rt, task, false);
-    put(rt, alloc, queue, 0, 10)?;
-    assert_eq!(rt; (task.was_woken(), task.was_woken()), (true, false));
-    gives(rt, task, stream, Seen::Waits);
+    scene.gives(stream, Seen::Waits);
+    scene.is_woken_now(false);
+    scene.put(0, 10)?;
+    scene.is_woken_once();
+    scene.gives(stream, Seen::Waits);
     for (at, is_rung) in [(9u64, false), (10, true)] {
-        rings(rt, queue, at, is_rung);
-        is_woken_now(rt, task, is_rung);
+        scene.rings(0, at, Ok(is_rung));
+        scene.is_woken_now(is_rung);
     }
     Ok(())
 }
 
 // The shard is closed and opened again.
 fn woken_as_it_goes_on<R: Abort + Wait>(
-    rt: &R,
-    alloc: Global,
-    queue: &Texts,
-    task: &Task,
+    scene: &Scene<'_, R>,
     stream: &mut Stream<'_, '_, R>,
 ) -> Result<(), Fail> {
-    queue.close(rt, 0)?;
-    is_woken_now(rt, task, true);
-    gives(rt, task, stream, Seen::Waits);
-    let reopened = queue.keep_going(rt, alloc);
-    assert_eq!(rt; reopened, Ok(Kept::Reopened { place: 0 }));
-    is_woken_now(rt, task, true);
-    gives(rt, task, stream, Seen::Waits);
-    let renewed = put(rt, alloc, queue, 0, 10)?;
-    assert_eq!(rt; (renewed.entry().shard(), task.was_woken()), (2, true));
-    gives(rt, task, stream, Seen::Out(10));
+    scene.queue.close(scene.rt, 0)?;
+    scene.is_woken_now(true);
+    scene.gives(stream, Seen::Waits);
+    scene.keeps_going(Kept::Reopened { place: 0 });
+    scene.is_woken_now(true);
+    scene.gives(stream, Seen::Waits);
+    let renewed = scene.put(0, 10)?;
+    assert_eq!(scene.rt;
+        (renewed.entry().shard(), scene.task.was_woken()),
+        (2, true)
+    );
+    scene.gives(stream, Seen::Out(10));
     Ok(())
 }
 
@@ -213,29 +145,31 @@ fn woken_as_it_goes_on<R: Abort + Wait>(
 #[test]
 fn lasting_stream_waits_and_is_woken(rt: HostRuntime) -> Result<(), Fail> {
     let (queue, task) = queue_and_task(&rt)?;
+    let scene = Scene::new(&rt, &queue, &task);
     let tick = Cell::new(0);
-    let mut stream = stream_of(&rt, &queue, 0, &tick)?;
-    woken_at_its_tick(&rt, rt.alloc(), &queue, &task, &mut stream)?;
+    let mut stream = scene.stream(0, &tick)?;
+    woken_at_its_tick(&scene, &mut stream)?;
     tick.set(10);
-    gives(&rt, &task, &mut stream, Seen::Out(10));
-    gives(&rt, &task, &mut stream, Seen::Waits);
-    woken_as_it_goes_on(&rt, rt.alloc(), &queue, &task, &mut stream)
+    scene.gives(&mut stream, Seen::Out(10));
+    scene.gives(&mut stream, Seen::Waits);
+    woken_as_it_goes_on(&scene, &mut stream)
 }
 
 #[test]
 fn lasting_stream_tells_its_faults(rt: HostRuntime) -> Result<(), Fail> {
     let (queue, task) = queue_and_task(&rt)?;
+    let scene = Scene::new(&rt, &queue, &task);
     let tick = Cell::new(LAST_TICK + 1);
-    let refused = stream_of(&rt, &queue, 2, &tick).err();
+    let refused = scene.stream(2, &tick).err();
     assert_eq!(rt; refused, Some(LastingError::Unknown));
-    put(&rt, rt.alloc(), &queue, 0, 5)?;
-    let mut stream = stream_of(&rt, &queue, 0, &tick)?;
+    scene.put(0, 5)?;
+    let mut stream = scene.stream(0, &tick)?;
     let late = LastingFault::TickTooLarge { limit: LAST_TICK };
     for _ in 0..2 {
-        gives(&rt, &task, &mut stream, Seen::Fault(late));
+        scene.gives(&mut stream, Seen::Fault(late));
     }
     // It goes on, and nothing was noted.
     let row = [(4u64, Seen::Waits), (5, Seen::Out(5))];
-    gives_at(&rt, &task, &mut stream, &tick, &row);
+    scene.gives_at(&mut stream, &tick, &row);
     Ok(())
 }
