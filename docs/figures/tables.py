@@ -32,7 +32,7 @@ SAME_CALLS = "crates/dq_model/src/tests/same_calls.rt"
 
 def model_queues():
     """The pairs of capacity and last stamp at which a queue goes beside the slow model."""
-    pairs = re.search(r"for \(capacity, last_stamp\) in \[(.*?)\] \{", tree.text_of(tree.TOP / SAME_CALLS), re.S)
+    pairs = re.search(r"let sizes: &\[\(usize, u32\)\] = &\[(.*?)\];", tree.text_of(tree.TOP / SAME_CALLS), re.S)
     if not pairs:
         raise LookupError(f"{SAME_CALLS} has no pairs of capacity and last stamp")
     return len(re.findall(r"\(\d+, \d+\)", pairs[1]))
@@ -211,11 +211,14 @@ def lost_to_the_heap():
 def gate():
     """What each crate takes in the gate."""
     noted = runs.noted("gate")
+
+    def minutes(crate, what):
+        return f"{float(noted[crate, what]):.1f}" if (crate, what) in noted else "not yet"
+
     lines = [row("Crate", "Proof, tests and programs", "Must-fail edits", "Their minutes"), "|---|--:|--:|--:|"]
     for crate in tree.names():
         edits = tree.edits(crate)
-        told = noted.get((crate, "edits"), "not yet") if edits else ""
-        lines.append(row(f"`{crate}`", noted.get((crate, "proof"), "not yet"), str(edits or ""), told))
+        lines.append(row(f"`{crate}`", minutes(crate, "proof"), str(edits or ""), minutes(crate, "edits") if edits else ""))
     return "\n".join(lines)
 
 

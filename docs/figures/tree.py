@@ -9,7 +9,7 @@ TOP = pathlib.Path(__file__).resolve().parents[2]
 CRATES = TOP / "crates"
 
 # Crates whose code no user runs: what an automatic look at them can't tell.
-ROLES = {"dq_load": "bench", "refusing_heap": "tests"}
+ROLES = {"dq_load": "bench", "refusing_heap": "tests", "draws": "tests"}
 CLAUSE = re.compile(r"(requires|ensures|ghost)\b")
 FUNCTION = re.compile(r"^\s*(pub(?:\([a-z]+\))? )?(?:const |unsafe )*fn (\w+)", re.M)
 TEST = re.compile(r"#\[test\]\s*(?:(?:#\[.*\]|//.*)\s*)*(?:pub )?fn (\w+)")

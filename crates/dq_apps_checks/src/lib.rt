@@ -3,6 +3,8 @@
 #![tactic(auto)]
 
 #[cfg(test)]
+mod calls;
+#[cfg(test)]
 mod many;
 #[cfg(test)]
 mod memo;
@@ -26,3 +28,17 @@ mod sessions;
 mod sessions_memory;
 #[cfg(test)]
 mod wakes;
+
+#[cfg(test)]
+use std::fmt::{Debug, Display};
+#[cfg(test)]
+use std::process::Abort;
+
+// A call answers so. Else the test ends: it names the call and shows both.
+#[cfg(test)]
+fn same<T>(rt: &impl Abort, call: impl Display + Copy, answer: T, expected: T)
+where
+    T: PartialEq + Debug + Drop,
+{
+    assert_eq!(rt; answer, expected, "{call}");
+}

@@ -1,5 +1,6 @@
 //! A walk is made again and again, and each of its allocations is refused in turn.
 
+use super::same;
 use linked_list_allocator::LocalHeap;
 use refusing_heap::RefusingHeap;
 use std::alloc::Global;
@@ -22,8 +23,12 @@ where
         let all = LocalHeap::new(alloc, 1 << 16)?;
         let heap = RefusingHeap::new(&all, grants);
         let place = walk(&heap);
-        assert_eq!(rt; all.used(), 0, "allocation {grants}");
-        assert_eq!(rt; heap.has_refused(), place.is_some(), "allocation {grants}");
+        same(
+            rt,
+            grants,
+            (all.used(), heap.has_refused()),
+            (0, place.is_some()),
+        );
         let Some(place) = place else {
             return Ok(places);
         };

@@ -1,5 +1,8 @@
 //! The worked rows.
 
+use super::same;
+use crate::calls::Call::{Capacity, Get, Len, Moment, NextDeadline, Purge, Put, Renew, Seen, Take};
+use crate::calls::{Letters, each_answers, plays_up_to};
 use dq_apps::TtlCache;
 use dq_core::CoreError;
 use dq_ticks::LAST_STAMP;
@@ -10,149 +13,141 @@ use std::test::Fail;
 // The last tick, as the tables of the rows have it.
 const LAST: u64 = 4398046511103;
 
-type Cache = TtlCache<char, u32>;
+const FULL: CoreError = CoreError::Full { linked: 2, worn: 0 };
 
-fn cache(alloc: Global, capacity: usize, last_stamp: u32) -> Result<Cache, CoreError> {
-    TtlCache::new(alloc, capacity, last_stamp)
-}
+const TOO_LARGE: CoreError = CoreError::TickTooLarge { limit: LAST };
 
-// A put, and what it answers.
-fn puts(
-    rt: &impl Abort,
-    cache: &mut Cache,
-    key: char,
-    value: u32,
-    ttl: u64,
-    now: u64,
-    answer: Result<Option<u32>, CoreError>,
-) {
-    match cache.put(key, value, ttl, now) {
-        Ok(old) => assert_eq!(rt; Ok(old), answer),
-        Err((error, back, same)) => {
-            assert_eq!(rt; Err(error), answer);
-            assert_eq!(rt; (back, same), (key, value));
-        }
-    }
-}
-
-fn gets(rt: &impl Abort, cache: &Cache, key: char, now: u64, answer: Option<u32>) {
-    assert_eq!(rt; cache.get(&key, now).copied(), answer);
-    assert_eq!(rt; cache.contains(&key, now), answer.is_some());
-}
+const TOO_FAR: CoreError = CoreError::TooFar { limit: LAST };
 
 #[test]
 fn cache_walk(rt: HostRuntime) -> Result<(), Fail> {
-    let mut cache = cache(rt.alloc(), 2, LAST_STAMP)?;
-    puts(&rt, &mut cache, 'a', 1, 10, 0, Ok(None));
-    gets(&rt, &cache, 'a', 9, Some(1));
-    gets(&rt, &cache, 'a', 10, None);
-    puts(&rt, &mut cache, 'b', 2, 10, 0, Ok(None));
-    let full = CoreError::Full { linked: 2, worn: 0 };
-    puts(&rt, &mut cache, 'c', 3, 5, 0, Err(full));
-    puts(&rt, &mut cache, 'c', 3, 5, 10, Ok(None));
-    assert_eq!(rt; cache.len(), 1);
-    assert_eq!(rt; cache.renew(&'c', 20, 12), Ok(32));
-    puts(&rt, &mut cache, 'c', 4, 1, 12, Ok(Some(3)));
-    assert_eq!(rt; cache.take(&'c', 12), Some(4));
-    assert_eq!(rt; cache.renew(&'c', 1, 12), Err(CoreError::Missing));
-    assert_eq!(rt; cache.purge(68719476736), Ok(0));
-    let beyond = CoreError::TickTooLarge { limit: LAST };
-    assert_eq!(rt; cache.purge(LAST + 1), Err(beyond));
-    Ok(())
+    let calls = &[
+        Put('a', 1, 10, 0, Ok(None)),
+        Get('a', 9, Some(1)),
+        Get('a', 10, None),
+        Put('b', 2, 10, 0, Ok(None)),
+        Put('c', 3, 5, 0, Err(FULL)),
+        Put('c', 3, 5, 10, Ok(None)),
+        Len(1),
+        Renew('c', 20, 12, Ok(32)),
+        Put('c', 4, 1, 12, Ok(Some(3))),
+        Take('c', 12, Some(4)),
+        Renew('c', 1, 12, Err(CoreError::Missing)),
+        Purge(68719476736, Ok(0)),
+        Purge(LAST + 1, Err(TOO_LARGE)),
+    ];
+    plays_up_to(&rt, rt.alloc(), 2, LAST_STAMP, calls)
 }
 
 #[test]
 fn cache_worn_key(rt: HostRuntime) -> Result<(), Fail> {
-    let mut cache = cache(rt.alloc(), 2, 1)?;
-    puts(&rt, &mut cache, 'a', 1, 5, 0, Ok(None));
-    puts(&rt, &mut cache, 'a', 2, 5, 0, Err(CoreError::Worn));
-    gets(&rt, &cache, 'a', 0, Some(1));
-    Ok(())
+    let calls = &[
+        Put('a', 1, 5, 0, Ok(None)),
+        Put('a', 2, 5, 0, Err(CoreError::Worn)),
+        Get('a', 0, Some(1)),
+    ];
+    plays_up_to(&rt, rt.alloc(), 2, 1, calls)
+}
+
+fn refused(alloc: Global, capacity: usize, last_stamp: u32) -> Option<CoreError> {
+    TtlCache::<char, u32>::new(alloc, capacity, last_stamp).err()
 }
 
 #[test]
 fn bad_configs(rt: HostRuntime) {
-    for (capacity, last_stamp, answer) in [
+    let table: &[(usize, u32, Option<CoreError>)] = &[
         (0, 1, Some(CoreError::BadConfig)),
         (65537, 1, Some(CoreError::BadConfig)),
         (1, 0, Some(CoreError::BadConfig)),
         (1, 1048576, Some(CoreError::BadConfig)),
         (1, 1, None),
         (65536, 1048575, None),
-    ] {
-        let refused = cache(rt.alloc(), capacity, last_stamp).err();
-        assert_eq!(rt;
-            refused,
-            answer,
-            "capacity {capacity}, last stamp {last_stamp}"
-        );
+    ];
+    for (number, (capacity, last_stamp, answer)) in table.iter().enumerate() {
+        let refused = refused(rt.alloc(), *capacity, *last_stamp);
+        same(&rt, number, refused, *answer);
     }
 }
 
 // What the readers tell from a put to the purge that drops it.
 #[test]
 fn cache_readers(rt: HostRuntime) -> Result<(), Fail> {
-    let mut cache = cache(rt.alloc(), 3, LAST_STAMP)?;
-    assert!(rt; cache.is_empty() && cache.capacity() == 3 && cache.moment() == 0);
-    assert_eq!(rt; cache.next_deadline(), None);
-    puts(&rt, &mut cache, 'a', 1, 30, 5, Ok(None));
-    puts(&rt, &mut cache, 'b', 2, 10, 5, Ok(None));
-    assert_eq!(rt; (cache.len(), cache.moment()), (2, 5));
-    for (now, count, sum) in [(5, 2, 3), (14, 2, 3), (15, 1, 1), (34, 1, 1), (35, 0, 0)] {
-        assert_eq!(rt; cache.seen(now).count(), count, "at {now}");
-        let mut seen = 0u32;
-        for (_key, value) in cache.seen(now) {
-            seen = seen.saturating_add(*value);
-        }
-        assert_eq!(rt; seen, sum, "at {now}");
-    }
-    assert_eq!(rt; cache.next_deadline(), Some(15));
-    assert_eq!(rt; cache.purge(15), Ok(1));
-    assert_eq!(rt; cache.next_deadline(), Some(35));
-    assert!(rt; !cache.is_empty());
-    Ok(())
+    let calls = &[
+        Len(0),
+        Capacity(3),
+        Moment(0),
+        NextDeadline(None),
+        Put('a', 1, 30, 5, Ok(None)),
+        Put('b', 2, 10, 5, Ok(None)),
+        Len(2),
+        Moment(5),
+        Seen(5, 2, 3),
+        Seen(14, 2, 3),
+        Seen(15, 1, 1),
+        Seen(34, 1, 1),
+        Seen(35, 0, 0),
+        NextDeadline(Some(15)),
+        Purge(15, Ok(1)),
+        NextDeadline(Some(35)),
+        Len(1),
+    ];
+    plays_up_to(&rt, rt.alloc(), 3, LAST_STAMP, calls)
 }
+
+// How far ahead the wheel of a queue reaches.
+const REACH: u64 = 68719476735;
 
 // The least deadline is told where the queue files what is further ahead than its wheel reaches, too.
 #[test]
 fn far_deadlines(rt: HostRuntime) -> Result<(), Fail> {
-    let mut cache = cache(rt.alloc(), 4, LAST_STAMP)?;
-    let reach = 68719476735;
-    puts(&rt, &mut cache, 'a', 1, reach + 100, 0, Ok(None));
-    assert_eq!(rt; cache.next_deadline(), Some(reach + 100));
-    puts(&rt, &mut cache, 'b', 2, reach - 30, 50, Ok(None));
-    assert_eq!(rt; cache.next_deadline(), Some(reach + 20));
-    assert_eq!(rt; cache.purge(reach + 19), Ok(0));
-    assert_eq!(rt; cache.purge(reach + 20), Ok(1));
-    assert_eq!(rt; cache.next_deadline(), Some(reach + 100));
-    assert_eq!(rt; cache.purge(reach + 100), Ok(1));
-    Ok(())
+    let calls = &[
+        Put('a', 1, REACH + 100, 0, Ok(None)),
+        NextDeadline(Some(REACH + 100)),
+        Put('b', 2, REACH - 30, 50, Ok(None)),
+        NextDeadline(Some(REACH + 20)),
+        Purge(REACH + 19, Ok(0)),
+        Purge(REACH + 20, Ok(1)),
+        NextDeadline(Some(REACH + 100)),
+        Purge(REACH + 100, Ok(1)),
+    ];
+    plays_up_to(&rt, rt.alloc(), 4, LAST_STAMP, calls)
+}
+
+// A put and a renewal are refused alike, and nothing changes.
+fn refuses(rt: &impl Abort, cache: &mut Letters, ttl: u64, now: u64, error: CoreError) {
+    let calls = &[
+        Put('b', 2, ttl, now, Err(error)),
+        Renew('a', ttl, now, Err(error)),
+        Len(1),
+        Moment(0),
+    ];
+    each_answers(rt, cache, calls);
+}
+
+fn out_of_range(rt: &impl Abort, cache: &mut Letters) {
+    each_answers(rt, cache, &[Put('a', 1, 5, 0, Ok(None))]);
+    let table: &[(u64, u64, CoreError)] = &[
+        (0, LAST + 1, TOO_LARGE),
+        (u64::MAX, u64::MAX, TOO_LARGE),
+        (1, LAST, TOO_FAR),
+        (u64::MAX, 0, TOO_FAR),
+        (LAST - 6, 7, TOO_FAR),
+    ];
+    for (ttl, now, error) in table {
+        refuses(rt, cache, *ttl, *now, *error);
+    }
+    let calls = &[
+        Put('b', 2, LAST - 7, 7, Ok(None)),
+        Len(1),
+        Moment(7),
+        NextDeadline(Some(LAST)),
+    ];
+    each_answers(rt, cache, calls);
 }
 
 // A value that was refused for its tick or deadline comes back, and nothing changes.
 #[test]
 fn put_out_of_range(rt: HostRuntime) -> Result<(), Fail> {
-    let mut cache = cache(rt.alloc(), 1, LAST_STAMP)?;
-    puts(&rt, &mut cache, 'a', 1, 5, 0, Ok(None));
-    let too_large = CoreError::TickTooLarge { limit: LAST };
-    let too_far = CoreError::TooFar { limit: LAST };
-    for (ttl, now, answer) in [
-        (0, LAST + 1, too_large),
-        (u64::MAX, u64::MAX, too_large),
-        (1, LAST, too_far),
-        (u64::MAX, 0, too_far),
-        (LAST - 6, 7, too_far),
-    ] {
-        puts(&rt, &mut cache, 'b', 2, ttl, now, Err(answer));
-        assert_eq!(rt;
-            cache.renew(&'a', ttl, now),
-            Err(answer),
-            "ttl {ttl} at {now}"
-        );
-        assert_eq!(rt; (cache.len(), cache.moment()), (1, 0));
-    }
-    puts(&rt, &mut cache, 'b', 2, LAST - 7, 7, Ok(None));
-    assert_eq!(rt; (cache.len(), cache.moment()), (1, 7));
-    assert_eq!(rt; cache.next_deadline(), Some(LAST));
+    out_of_range(&rt, &mut TtlCache::new(rt.alloc(), 1, LAST_STAMP)?);
     Ok(())
 }

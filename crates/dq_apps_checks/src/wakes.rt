@@ -1,25 +1,27 @@
 //! The next wake of a cache: which it is, and that whoever purges at each wake gets to each deadline in few purges.
 
+use super::same;
+use crate::calls::Call::{Moment, NextDeadline, NextWake, Purge, Put, Refresh, Renew, Take};
+use crate::calls::{Letters, each_answers, plays};
 use dq_apps::TtlCache;
 use std::alloc::Global;
 use std::process::Abort;
 use std::test::Fail;
 
-type Cache = TtlCache<char, u32>;
-
-// A cache with a key for each of these times to live, put at tick 0.
-fn cache_of(rt: &impl Abort, alloc: Global, ttls: &[(char, u64)]) -> Result<Cache, Fail> {
-    let mut cache: Cache = TtlCache::with_capacity(alloc, 4)?;
-    for (key, ttl) in ttls {
-        assert!(rt; cache.put(*key, 1, *ttl, 0).is_ok());
-    }
-    Ok(cache)
+// A key that is put at tick 0 wakes there.
+fn wakes(rt: &impl Abort, alloc: Global, ttl: u64, wake: u64) -> Result<(), Fail> {
+    let calls = &[
+        Put('a', 1, ttl, 0, Ok(None)),
+        NextWake(Some(wake)),
+        NextDeadline(Some(ttl)),
+    ];
+    plays(rt, alloc, 4, calls)
 }
 
 // At tick 0 a wake is the deadline with all its digits of base 64 but the first set to 0.
 #[test]
 fn wakes_by_the_first_digit(rt: HostRuntime) -> Result<(), Fail> {
-    for (ttl, wake) in [
+    let table: &[(u64, u64)] = &[
         (0, 0),
         (1, 1),
         (63, 63),
@@ -33,60 +35,75 @@ fn wakes_by_the_first_digit(rt: HostRuntime) -> Result<(), Fail> {
         (68719476735, 67645734912),
         // Further ahead than the wheel reaches, so filed where it ends.
         (70000000000, 67645734912),
-    ] {
-        let cache = cache_of(&rt, rt.alloc(), &[('a', ttl)])?;
-        assert_eq!(rt; cache.next_wake(), Some(wake), "time to live {ttl}");
-        assert_eq!(rt; cache.next_deadline(), Some(ttl));
+    ];
+    for (ttl, wake) in table {
+        wakes(&rt, rt.alloc(), *ttl, *wake)?;
     }
-    let none = cache_of(&rt, rt.alloc(), &[])?;
-    assert_eq!(rt; none.next_wake(), None);
-    Ok(())
+    plays(&rt, rt.alloc(), 4, &[NextWake(None)])
 }
 
 // The first of several deadlines is the one that wakes, and a take or a purge leaves the next one.
 #[test]
 fn wakes_for_the_first(rt: HostRuntime) -> Result<(), Fail> {
-    let mut cache = cache_of(&rt, rt.alloc(), &[('a', 5000), ('b', 1000), ('c', 1001)])?;
-    assert_eq!(rt; cache.next_wake(), Some(960));
-    assert_eq!(rt; cache.purge(960), Ok(0));
-    assert_eq!(rt; cache.next_wake(), Some(1000));
-    assert_eq!(rt; cache.take(&'b', 960), Some(1));
-    assert_eq!(rt; cache.next_wake(), Some(1001));
-    assert_eq!(rt; cache.purge(1001), Ok(1));
-    assert_eq!(rt; cache.next_wake(), Some(4096));
-    assert_eq!(rt; cache.take(&'a', 1001), Some(1));
-    assert_eq!(rt; cache.next_wake(), None);
-    Ok(())
+    let calls = &[
+        Put('a', 1, 5000, 0, Ok(None)),
+        Put('b', 1, 1000, 0, Ok(None)),
+        Put('c', 1, 1001, 0, Ok(None)),
+        NextWake(Some(960)),
+        Purge(960, Ok(0)),
+        NextWake(Some(1000)),
+        Take('b', 960, Some(1)),
+        NextWake(Some(1001)),
+        Purge(1001, Ok(1)),
+        NextWake(Some(4096)),
+        Take('a', 1001, Some(1)),
+        NextWake(None),
+    ];
+    plays(&rt, rt.alloc(), 4, calls)
 }
 
-// Purges at each wake until nothing is kept, and answers how many purges that took. Each wake is ahead of the one before.
-fn purges(rt: &impl Abort, cache: &mut Cache) -> usize {
+// Purges at a wake, which has to be ahead of the one before and no later than the deadline.
+fn purges_at(rt: &impl Abort, cache: &mut Letters, before: u64, wake: u64, deadline: u64) {
+    same(rt, wake, (before < wake, wake <= deadline), (true, true));
+    same(rt, wake, cache.purge(wake).is_ok(), true);
+}
+
+// Purges at each wake until nothing is kept, and answers how many purges that took.
+fn purges(rt: &impl Abort, cache: &mut Letters) -> Option<usize> {
     let mut before = 0u64;
     for turn in 0..1_000usize {
         let (Some(wake), Some(deadline)) = (cache.next_wake(), cache.next_deadline()) else {
-            return turn;
+            return Some(turn);
         };
-        assert!(rt; before < wake && wake <= deadline, "{wake} for {deadline}");
-        assert!(rt; cache.purge(wake).is_ok());
+        purges_at(rt, cache, before, wake, deadline);
         before = wake;
     }
-    assert!(rt; false, "it wakes for ever");
-    0
+    None
+}
+
+fn takes_purges(rt: &impl Abort, cache: &mut Letters, ttl: u64, count: usize) {
+    each_answers(rt, cache, &[Put('a', 1, ttl, 0, Ok(None))]);
+    same(rt, ttl, purges(rt, cache), Some(count));
 }
 
 // A deadline that stands in the highest level of the wheel takes a purge for each level, and one a tick ahead takes one.
 #[test]
 fn six_purges_for_a_deadline(rt: HostRuntime) -> Result<(), Fail> {
-    for (ttl, count) in [
+    let table: &[(u64, usize)] = &[
         (1, 1),
         (100, 2),
         (1000, 2),
         (5000, 3),
         (68719476735, 6),
         (1090785345, 6),
-    ] {
-        let mut cache = cache_of(&rt, rt.alloc(), &[('a', ttl)])?;
-        assert_eq!(rt; purges(&rt, &mut cache), count, "time to live {ttl}");
+    ];
+    for (ttl, count) in table {
+        takes_purges(
+            &rt,
+            &mut TtlCache::with_capacity(rt.alloc(), 4)?,
+            *ttl,
+            *count,
+        );
     }
     Ok(())
 }
@@ -94,14 +111,18 @@ fn six_purges_for_a_deadline(rt: HostRuntime) -> Result<(), Fail> {
 // A renewal and a refresh leave the wheel where it was: the wake may lie before the moment then, and a purge brings it up.
 #[test]
 fn a_purge_brings_the_wake_up(rt: HostRuntime) -> Result<(), Fail> {
-    let mut cache = cache_of(&rt, rt.alloc(), &[('a', 1000), ('b', 2000)])?;
-    assert_eq!(rt; cache.renew(&'a', 1010, 990), Ok(2000));
-    assert_eq!(rt; cache.next_wake(), Some(1984));
-    assert_eq!(rt; cache.purge(1990), Ok(0));
-    assert_eq!(rt; cache.next_wake(), Some(2000));
-    assert_eq!(rt; cache.refresh(), Ok(()));
-    assert_eq!(rt; (cache.moment(), cache.next_wake()), (1990, Some(1984)));
-    assert_eq!(rt; cache.purge(1990), Ok(0));
-    assert_eq!(rt; cache.next_wake(), Some(2000));
-    Ok(())
+    let calls = &[
+        Put('a', 1, 1000, 0, Ok(None)),
+        Put('b', 1, 2000, 0, Ok(None)),
+        Renew('a', 1010, 990, Ok(2000)),
+        NextWake(Some(1984)),
+        Purge(1990, Ok(0)),
+        NextWake(Some(2000)),
+        Refresh,
+        Moment(1990),
+        NextWake(Some(1984)),
+        Purge(1990, Ok(0)),
+        NextWake(Some(2000)),
+    ];
+    plays(&rt, rt.alloc(), 4, calls)
 }

@@ -1,5 +1,5 @@
 -- The list of a queue's live entries, slot by slot.
-use Rattle.std.proofs.Common.{◌≡◌, ◌≢◌, ℕ, ◌+◌, ◌<◌, ◌≤◌, zero, suc, eqb, cond, Bool, true, false, List, [], ◌∷◌, length, get_or, drop, Option, Some, None, refl, sym, ap, ◌∙◌, subst, eq-eqb, ne_eqb, arith, filter}
+use Rattle.std.proofs.Common.{◌≡◌, ◌≢◌, ℕ, ◌+◌, ◌<◌, ◌≤◌, zero, suc, cond, List, [], ◌∷◌, length, get_or, drop, Option, Some, None, refl, sym, ap, ◌∙◌, subst, eq-eqb, ne_eqb, arith, filter}
 use Rattle.std.specs.List.{cons_option}
 use Rattle.std.proofs.lemmas.List.{drop_all}
 use Rattle.dq_ticks.specs.declared.keys.Key.{Key}
@@ -10,8 +10,8 @@ use Rattle.dq_ticks.specs.declared.words.Mark.TheVariants.{LiveMark, CancelledMa
 use Rattle.dq_core.specs.declared.slots.Held.{Held}
 use Rattle.dq_core.specs.Words.{word_at}
 use Rattle.dq_core.specs.Slots.{row_at}
-use Rattle.dq_core.specs.Machine.{Entry, TableRow, table_at}
-use Rattle.dq_core.specs.Core.{Core, machine, IsLawfulCore, due_by, entry_of, table_of}
+use Rattle.dq_core.specs.Machine.{Entry, TableRow}
+use Rattle.dq_core.specs.Core.{Core, machine, IsLawfulCore, due_by, entry_of}
 use Rattle.dq_core.specs.Entries.{Listed, listed_until, listed_of, listed_from, live_entries, live_entry, is_of, ListsEachOnce}
 use Rattle.dq_core.proofs.Ways.{table_row_is, table-le-rows}
 

@@ -1,12 +1,12 @@
 -- Words in numbers, and the parts that they have.
-use Rattle.std.proofs.Common.{◌≡◌, ℕ, zero, suc, ◌+◌, ◌-◌, ◌*◌, ◌/◌, ◌%◌, ◌<◌, ◌≤◌, List, ◌∷◌, length, get_or, set, map, max, replicate, refl, sym, ap, arith, ◌∙◌}
-use Rattle.std.proofs.lemmas.List.{map-set, get_or-map}
+use Rattle.std.proofs.Common.{◌≡◌, ℕ, zero, suc, ◌<◌, ◌≤◌, List, ◌∷◌, set, map, replicate, refl, ap, arith, ◌∙◌}
+use Rattle.std.proofs.lemmas.List.{map-set}
 use Rattle.dq_ticks.specs.declared.words.Parts.{Parts}
 use Rattle.dq_ticks.specs.declared.words.Mark.{Mark}
 use Rattle.dq_ticks.specs.declared.words.Mark.TheVariants.{LiveMark, CancelledMark, ExpiredMark, RemovedMark}
 use Rattle.dq_ticks.specs.declared.TheConstants.{LAST_TICK, LAST_STAMP}
 use Rattle.dq_ticks.specs.Word.{parts_of, packed, mark_by, mark_number, mark_of, stamp_of, field_of, word}
-use Rattle.dq_core.specs.Words.{never, live}
+use Rattle.dq_core.specs.Words.{never}
 
 marks_come_back : (m : Mark) → mark_by (mark_number m) ≡ m
 marks_come_back LiveMark = refl

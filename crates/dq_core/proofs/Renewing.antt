@@ -1,19 +1,17 @@
 -- A renewal: what it leaves of the slots, of the law and of the machine.
-use Rattle.std.proofs.Common.{◌≡◌, ℕ, ◌+◌, ◌<◌, ◌≤◌, zero, suc, Bool, true, false, cond, List, [], ◌∷◌, length, get_or, set, replicate, Option, None, Some, is_some, is_none, refl, sym, ap, ◌∙◌, subst, inl, ⊎_elim, arith}
+use Rattle.std.proofs.Common.{◌≡◌, ℕ, ◌+◌, ◌<◌, ◌≤◌, zero, suc, Bool, true, false, cond, List, [], ◌∷◌, length, set, replicate, Option, None, Some, is_some, is_none, refl, sym, ap, ◌∙◌, subst, inl, ⊎_elim, arith}
 use Rattle.std.specs.List.{count_by, sum_by}
-use Rattle.std.proofs.lemmas.List.{length-set, length-replicate, get_or-replicate, get_or-set_same, get_or-set_other, ext_get_or}
+use Rattle.std.proofs.lemmas.List.{length-set, length-replicate, get_or-replicate, ext_get_or}
 use Rattle.std.proofs.lemmas.List.Sums.{sum_by-cons}
-use Rattle.std.proofs.lemmas.Bool.{and_right, cases_eq, cases_lt, lt-ltb, le-ltb}
+use Rattle.std.proofs.lemmas.Bool.{and_right, cases_eq, lt-ltb, le-ltb}
 use Rattle.dq_ticks.specs.declared.words.Parts.{Parts}
-use Rattle.dq_ticks.specs.declared.keys.EntryId.{EntryId}
 use Rattle.dq_wheel.specs.State.{Filing, filed_at}
 use Rattle.dq_core.specs.Words.{Counts, word_at, never, AreFresh}
 use Rattle.dq_core.specs.Slots.{Row, SlotRows, unused, row_at, is_held, is_free, IsRow}
 use Rattle.dq_core.specs.FreeSlots.{FreeIndexes, free_times, room_of, GivesBack}
 use Rattle.dq_core.specs.SlotRowsKept.{is_open, IsSlotRowsKept}
-use Rattle.dq_core.specs.Machine.{TableRow, Machine, NoneLinked}
-use Rattle.dq_core.specs.Core.{Core, machine, table_of, IsPlaced, IsSlot, IsLawful}
-use Rattle.dq_core.specs.Calls.{IsMissing}
+use Rattle.dq_core.specs.Machine.{TableRow, Machine}
+use Rattle.dq_core.specs.Core.{Core, machine, table_of, IsSlot, IsLawful}
 use Rattle.dq_core.specs.Renewals.{never_used, fresh_machine, OldAreMissing}
 use Rattle.dq_core.proofs.Law.{loose_is}
 use Rattle.dq_core.proofs.SlotRows.{count_set, open_other, open_same, slot_rows_set}

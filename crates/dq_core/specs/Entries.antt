@@ -2,7 +2,7 @@
 use Rattle.std.specs.Prelude.{◌≡◌, ℕ, ◌+◌, ◌==◌, Bool, List, [], ◌∷◌, Option, Some, None, filter}
 use Rattle.std.specs.List.{cons_option}
 use Rattle.dq_ticks.specs.declared.keys.Key.{Key}
-use Rattle.dq_core.specs.Machine.{Entry, TableRow, Machine, table_at}
+use Rattle.dq_core.specs.Machine.{Entry, TableRow, table_at}
 use Rattle.dq_core.specs.Core.{Core, machine}
 
 -- a live entry as it is listed: its key, its deadline in force, and its value

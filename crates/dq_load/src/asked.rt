@@ -48,11 +48,54 @@ pub const PIECES: [(&str, Touched); 3] = [
 ];
 
 /// The steps of a piece, by the names under which the rows of pieces are timed.
-pub const PIECE_STEPS: [(&str, Option<u32>); 4] = [
+pub const PIECE_STEPS: &[(&str, Option<u32>)] = &[
     ("whole", None),
     ("pieces-16", Some(16)),
     ("pieces-64", Some(64)),
     ("pieces-256", Some(256)),
+];
+
+/// The rows of the run without arguments, with their entries and threads.
+pub const SMALL: &[(&str, usize, u64)] = &[
+    ("insert", 100, 1),
+    ("extend", 100, 1),
+    ("reset", 100, 1),
+    ("remove", 100, 1),
+    ("cancel", 100, 1),
+    ("poll", 100, 1),
+    ("insert+poll", 100, 1),
+    ("reset+poll", 100, 1),
+    ("remove+poll", 100, 1),
+    ("mixed", 100, 1),
+    ("churn", 100, 1),
+    ("heartbeat", 100, 1),
+    ("callers", 100, 2),
+    ("longest-extend", 100, 1),
+    ("longest-reset", 100, 1),
+    ("longest-cancel", 100, 1),
+    ("pieces-extend", 100, 1),
+    ("pieces-reset", 100, 1),
+    ("pieces-cancel", 100, 1),
+    ("renewing", 100, 1),
+    ("insert/2", 100, 1),
+    ("insert/2", 4_000, 2),
+    ("own-insert/2", 4_000, 2),
+    ("extend/2", 100, 1),
+    ("extend/2", 4_000, 2),
+    ("own-extend/2", 4_000, 2),
+    ("reset/2", 100, 1),
+    ("reset/2", 4_000, 2),
+    ("own-reset/2", 4_000, 2),
+    ("remove/2", 100, 1),
+    ("remove/2", 4_000, 2),
+    ("own-remove/2", 4_000, 2),
+    ("poll/2", 100, 1),
+    ("poll/2", 4_000, 2),
+    ("own-poll/2", 4_000, 2),
+    ("insert-burst/2", 100, 1),
+    ("insert-burst/2", 4_000, 2),
+    ("poll-burst/2", 100, 1),
+    ("poll-burst/2", 4_000, 2),
 ];
 
 // The words of a command that names no peer.
@@ -80,6 +123,8 @@ pub struct Asked<'a> {
     pub rounds: u64,
     /// The one that is timed, where not all are.
     pub peer: Option<&'a str>,
+    /// Whether only what never changes is printed.
+    pub is_small: bool,
 }
 
 /// The row, the entries and the threads, as they stand in a line.
@@ -118,6 +163,20 @@ impl<'a> Asked<'a> {
             threads,
             rounds,
             peer,
+            is_small: false,
+        })
+    }
+
+    /// A row of the run without arguments, which is made once.
+    pub fn small(row: &'a str, entries: usize, threads: u64) -> Option<Asked<'a>> {
+        Some(Asked {
+            row,
+            timed: row_of(row)?,
+            entries,
+            threads,
+            rounds: 1,
+            peer: None,
+            is_small: true,
         })
     }
 

@@ -1,8 +1,8 @@
 //! The rows of one owner: what is timed, and what is counted. All arithmetic of the plan is modulo 2^64.
 
-use crate::plan::{BEAT, BEATS, HEARTBEATS, IDLE, KEPT, PASS, SEED, SplitMix64, passes};
+use crate::plan::{BEAT, BEATS, HEARTBEATS, IDLE, KEPT, PASS, SEED, SplitMix64, keys_at, passes};
 use crate::queues::{Queue, Refusal};
-use crate::sample::Sample;
+use crate::sample::{Sample, nanoseconds_since};
 use anyhow::Result;
 use dq_ticks::Key;
 use std::alloc::Global;
@@ -78,36 +78,48 @@ impl<Q: Queue> Load<Q> {
     /// One pass of a row: from an empty queue to an empty queue.
     pub fn pass(&mut self, rt: &impl Clock, row: Row) -> Result<()> {
         match row {
-            Row::Insert | Row::InsertPoll => self.insert(rt)?,
-            Row::Extend => self.extend(rt)?,
-            Row::Reset | Row::ResetPoll => self.reset(rt)?,
-            Row::Remove | Row::RemovePoll => self.remove(rt)?,
-            Row::Cancel => self.cancel(rt)?,
-            Row::Poll => self.poll(rt)?,
-            Row::Mixed => self.mixed(rt)?,
-            Row::Churn => self.churn(rt)?,
-            Row::Heartbeat => self.heartbeat(rt)?,
-        }
+            Row::Insert | Row::InsertPoll => self.insert(rt),
+            Row::Extend => self.extend(rt),
+            Row::Reset | Row::ResetPoll => self.reset(rt),
+            Row::Remove | Row::RemovePoll => self.remove(rt),
+            Row::Cancel => self.cancel(rt),
+            Row::Poll => self.poll(rt),
+            Row::Mixed | Row::Churn | Row::Heartbeat => self.sessions(rt, row),
+        }?;
         if row.polls_after() {
-            self.poll_within(rt, self.now.wrapping_add(IDLE))?;
+            self.poll_within(rt, self.now.wrapping_add(IDLE), 0)?;
         }
         self.end_pass()
     }
 
     fn spend(&mut self, rt: &impl Clock, since: Instant, operations: usize) -> Result<()> {
-        let spent = u64::try_from(since.elapsed(rt)?.as_nanos())?;
-        self.sample.nanoseconds = self.sample.nanoseconds.wrapping_add(spent);
-        self.sample.operations = self.sample.operations.wrapping_add(operations as u64);
+        let spent = nanoseconds_since(rt, since)?;
+        self.sample.spend(spent, operations);
+        Ok(())
+    }
+
+    // Inserts an entry, and keeps its key. An error of its own keeps the timed loops short.
+    #[inline(always)]
+    fn insert_into(&mut self, keys: &mut Vec<Key>, value: u64, when: u64) -> Result<(), Refusal> {
+        let key = self.queue.insert(value, when)?;
+        keys.push(key)?;
         Ok(())
     }
 
     fn insert_all(&mut self, deadlines: &[u64]) -> Result<Vec<Key>> {
         let mut keys = Vec::with_capacity(self.alloc, deadlines.len())?;
         for (value, deadline) in deadlines.iter().enumerate() {
-            keys.push(self.queue.insert(value as u64, *deadline)?)?;
+            self.insert_into(&mut keys, value as u64, *deadline)?;
         }
         let counts = &mut self.sample.counts;
         counts.inserts = counts.inserts.wrapping_add(deadlines.len() as u64);
+        Ok(keys)
+    }
+
+    fn insert_timed(&mut self, rt: &impl Clock, deadlines: &[u64]) -> Result<Vec<Key>> {
+        let since = Instant::now(rt)?;
+        let keys = self.insert_all(deadlines)?;
+        self.spend(rt, since, keys.len())?;
         Ok(keys)
     }
 
@@ -116,20 +128,22 @@ impl<Q: Queue> Load<Q> {
         self.insert_all(deadlines.as_slice())
     }
 
-    /// The keys at those indexes, in their order.
-    pub fn keys_at(&self, keys: &[Key], indexes: &[usize]) -> Result<Vec<Key>> {
-        let mut chosen = Vec::with_capacity(self.alloc, indexes.len())?;
-        for index in indexes {
-            chosen.push(*keys.get(*index).ok_or(Refusal::NoEntry)?)?;
-        }
-        Ok(chosen)
+    /// The keys in a shuffled order.
+    pub fn shuffled(&mut self, keys: &[Key]) -> Result<Vec<Key>> {
+        let order = self.draws.shuffled(self.alloc, self.entries)?;
+        keys_at(self.alloc, keys, order.as_slice())
+    }
+
+    /// So many of the keys, one as likely as another.
+    pub fn picked(&mut self, keys: &[Key], count: usize) -> Result<Vec<Key>> {
+        let picks = self.draws.picks(self.alloc, count, self.entries)?;
+        keys_at(self.alloc, keys, picks.as_slice())
     }
 
     // Fills the queue, and gives the keys in a shuffled order.
     fn fill_shuffled(&mut self) -> Result<Vec<Key>> {
         let keys = self.fill()?;
-        let order = self.draws.shuffled(self.alloc, self.entries)?;
-        self.keys_at(keys.as_slice(), order.as_slice())
+        self.shuffled(keys.as_slice())
     }
 
     // Polls at a tick until nothing is given.
@@ -149,13 +163,13 @@ impl<Q: Queue> Load<Q> {
     }
 
     // Polls at a tick until nothing is given, and adds the time to that of the calls before.
-    fn poll_within(&mut self, rt: &impl Clock, tick: u64) -> Result<()> {
+    fn poll_within(&mut self, rt: &impl Clock, tick: u64, operations: usize) -> Result<()> {
         let since = Instant::now(rt)?;
         self.poll_all(tick)?;
-        self.spend(rt, since, 0)
+        self.spend(rt, since, operations)
     }
 
-    // Resets the entry of a key, and keeps the new key. An error of its own keeps the timed loops short.
+    // Resets the entry of a key, and keeps the new key.
     #[inline(always)]
     fn reset_at(&mut self, keys: &mut [Key], index: usize, deadline: u64) -> Result<(), Refusal> {
         let key = keys.get_mut(index).ok_or(Refusal::NoEntry)?;
@@ -184,11 +198,8 @@ impl<Q: Queue> Load<Q> {
             let Some((value, deadline)) = self.queue.poll(tick)? else {
                 break;
             };
-            let counts = &mut self.sample.counts;
-            counts.outs = counts.outs.wrapping_add(1);
-            counts.values = counts.values.wrapping_add(value);
             let from_start = deadline.wrapping_sub(self.now);
-            counts.deadlines = counts.deadlines.wrapping_add(from_start);
+            self.sample.counts.count_out(value, from_start);
         }
         self.now = tick;
         Ok(())
@@ -196,19 +207,21 @@ impl<Q: Queue> Load<Q> {
 
     fn insert(&mut self, rt: &impl Clock) -> Result<()> {
         let deadlines = self.draws.deadlines(self.alloc, self.now, self.entries)?;
-        let since = Instant::now(rt)?;
-        let _keys = self.insert_all(deadlines.as_slice())?;
-        self.spend(rt, since, deadlines.len())
+        let _keys = self.insert_timed(rt, deadlines.as_slice())?;
+        Ok(())
     }
 
     fn extend(&mut self, rt: &impl Clock) -> Result<()> {
         let keys = self.fill()?;
-        let picks = self.draws.picks(self.alloc, self.entries, self.entries)?;
-        let touched = self.keys_at(keys.as_slice(), picks.as_slice())?;
+        let touched = self.picked(keys.as_slice(), self.entries)?;
+        self.extend_timed(rt, touched.as_slice())
+    }
+
+    fn extend_timed(&mut self, rt: &impl Clock, touched: &[Key]) -> Result<()> {
         let mut later = self.now.wrapping_add(IDLE + 1);
         let mut deadlines = 0u64;
         let since = Instant::now(rt)?;
-        for key in touched.iter() {
+        for key in touched {
             deadlines = deadlines.wrapping_add(self.queue.extend(key, later)?);
             later = later.wrapping_add(1);
         }
@@ -228,30 +241,57 @@ impl<Q: Queue> Load<Q> {
 
     fn reset(&mut self, rt: &impl Clock) -> Result<()> {
         let mut keys = self.fill()?;
+        self.reset_picked(rt, keys.as_mut_slice())
+    }
+
+    // Resets as many entries as there are, each of any key, to any deadline.
+    fn reset_picked(&mut self, rt: &impl Clock, keys: &mut [Key]) -> Result<()> {
         let picks = self.draws.picks(self.alloc, self.entries, self.entries)?;
         let deadlines = self.draws.deadlines(self.alloc, self.now, self.entries)?;
+        self.reset_timed(rt, keys, picks.as_slice(), deadlines.as_slice())
+    }
+
+    fn reset_timed(
+        &mut self,
+        rt: &impl Clock,
+        keys: &mut [Key],
+        picks: &[usize],
+        deadlines: &[u64],
+    ) -> Result<()> {
         let since = Instant::now(rt)?;
-        for (pick, deadline) in picks.iter().zip(deadlines.iter()) {
-            self.reset_at(keys.as_mut_slice(), *pick, *deadline)?;
+        for (pick, deadline) in picks.iter().zip(deadlines) {
+            self.reset_at(keys, *pick, *deadline)?;
         }
-        self.spend(rt, since, picks.len())?;
+        self.spend_resets(rt, since, picks.len())
+    }
+
+    fn spend_resets(&mut self, rt: &impl Clock, since: Instant, resets: usize) -> Result<()> {
+        self.spend(rt, since, resets)?;
         let counts = &mut self.sample.counts;
-        counts.resets = counts.resets.wrapping_add(picks.len() as u64);
+        counts.resets = counts.resets.wrapping_add(resets as u64);
         Ok(())
     }
 
     fn remove(&mut self, rt: &impl Clock) -> Result<()> {
         let ended = self.fill_shuffled()?;
+        self.remove_timed(rt, ended.as_slice())
+    }
+
+    fn remove_timed(&mut self, rt: &impl Clock, ended: &[Key]) -> Result<()> {
         let mut values = 0u64;
         let since = Instant::now(rt)?;
-        for key in ended.iter() {
+        for key in ended {
             values = values.wrapping_add(self.queue.remove(key)?);
         }
         self.spend(rt, since, ended.len())?;
-        let counts = &mut self.sample.counts;
-        counts.removes = counts.removes.wrapping_add(ended.len() as u64);
-        counts.values = counts.values.wrapping_add(values);
+        self.count_removes(ended.len(), values);
         Ok(())
+    }
+
+    fn count_removes(&mut self, removes: usize, values: u64) {
+        let counts = &mut self.sample.counts;
+        counts.removes = counts.removes.wrapping_add(removes as u64);
+        counts.values = counts.values.wrapping_add(values);
     }
 
     fn cancel_all(&mut self, keys: &[Key]) -> Result<()> {
@@ -263,22 +303,30 @@ impl<Q: Queue> Load<Q> {
         Ok(())
     }
 
+    // Cancels entries, and polls at a tick until nothing is given.
+    fn reap_within(
+        &mut self,
+        rt: &impl Clock,
+        ended: &[Key],
+        tick: u64,
+        operations: usize,
+    ) -> Result<()> {
+        let since = Instant::now(rt)?;
+        self.cancel_all(ended)?;
+        self.poll_all(tick)?;
+        self.spend(rt, since, operations)
+    }
+
     // Cancels every entry, and polls once past all deadlines, which reaps what is still filed.
     fn cancel(&mut self, rt: &impl Clock) -> Result<()> {
         let ended = self.fill_shuffled()?;
         let tick = self.now.wrapping_add(IDLE);
-        let since = Instant::now(rt)?;
-        self.cancel_all(ended.as_slice())?;
-        self.poll_all(tick)?;
-        self.spend(rt, since, ended.len())
+        self.reap_within(rt, ended.as_slice(), tick, ended.len())
     }
 
     fn poll(&mut self, rt: &impl Clock) -> Result<()> {
         let keys = self.fill()?;
-        let tick = self.now.wrapping_add(IDLE);
-        let since = Instant::now(rt)?;
-        self.poll_all(tick)?;
-        self.spend(rt, since, keys.len())
+        self.poll_within(rt, self.now.wrapping_add(IDLE), keys.len())
     }
 
     // For each place in a beat, the ticks from the start of the beat.
@@ -291,23 +339,19 @@ impl<Q: Queue> Load<Q> {
         Ok(steps)
     }
 
-    // Idle timeouts: the sessions begin in one beat, each is touched once in each of the beats after it, and then most
-    // are cancelled and the others expire.
-    fn mixed(&mut self, rt: &impl Clock) -> Result<()> {
+    // A row whose sessions begin in one beat, and are called once in each of the beats after it.
+    fn sessions(&mut self, rt: &impl Clock, row: Row) -> Result<()> {
         let steps = self.steps()?;
-        let keys = self.begin(rt, steps.as_slice())?;
-        for beat in 1..=BEATS {
-            self.beat(rt, keys.as_slice(), steps.as_slice(), beat * BEAT)?;
-        }
+        self.sessions_at(rt, row, steps.as_slice())
+    }
 
-        let mut order = self.draws.shuffled(self.alloc, self.entries)?;
-        order.retain(|index| *index % KEPT != 0);
-        let ended = self.keys_at(keys.as_slice(), order.as_slice())?;
-        let tick = self.now.wrapping_add((BEATS + 1) * BEAT + IDLE);
-        let since = Instant::now(rt)?;
-        self.cancel_all(ended.as_slice())?;
-        self.poll_all(tick)?;
-        self.spend(rt, since, self.entries)
+    fn sessions_at(&mut self, rt: &impl Clock, row: Row, steps: &[u64]) -> Result<()> {
+        let mut keys = self.begin(rt, steps)?;
+        if row == Row::Mixed {
+            self.mixed(rt, keys.as_slice(), steps)
+        } else {
+            self.heartbeats(rt, row, keys.as_mut_slice(), steps)
+        }
     }
 
     // Begins a session at each step, to expire by the idle limit.
@@ -316,24 +360,48 @@ impl<Q: Queue> Load<Q> {
         for step in steps {
             begun.push(self.now.wrapping_add(*step).wrapping_add(IDLE))?;
         }
-        let since = Instant::now(rt)?;
-        let keys = self.insert_all(begun.as_slice())?;
-        self.spend(rt, since, keys.len())?;
-        Ok(keys)
+        self.insert_timed(rt, begun.as_slice())
     }
 
-    // Requests with a time limit: in each beat each ends in a fresh order, and another begins at once in its place. The
-    // limits that are drawn lie past the next beat, so none expires before it ends. At last all expire.
-    fn churn(&mut self, rt: &impl Clock) -> Result<()> {
-        let steps = self.steps()?;
-        let mut keys = self.begin(rt, steps.as_slice())?;
-        for beat in 1..=HEARTBEATS {
-            self.churn_beat(rt, keys.as_mut_slice(), steps.as_slice(), beat * BEAT)?;
+    // Idle timeouts: each session is touched in each beat, and then most are cancelled and the others expire.
+    fn mixed(&mut self, rt: &impl Clock, keys: &[Key], steps: &[u64]) -> Result<()> {
+        for beat in 1..=BEATS {
+            self.beat(rt, keys, steps, self.now.wrapping_add(beat * BEAT))?;
         }
-        self.poll_within(rt, self.now.wrapping_add(HEARTBEATS * BEAT + 2 * IDLE))
+        let ended = self.most(keys)?;
+        let tick = self.now.wrapping_add((BEATS + 1) * BEAT + IDLE);
+        self.reap_within(rt, ended.as_slice(), tick, self.entries)
     }
 
-    // Every request ends, another begins in its place, and then the queue is polled.
+    // The keys of the sessions that are cancelled, in a shuffled order.
+    fn most(&mut self, keys: &[Key]) -> Result<Vec<Key>> {
+        let mut order = self.draws.shuffled(self.alloc, self.entries)?;
+        order.retain(|index| *index % KEPT != 0);
+        keys_at(self.alloc, keys, order.as_slice())
+    }
+
+    // The rows in which the queue is polled within a time of its own after each beat. At last all expire.
+    fn heartbeats(
+        &mut self,
+        rt: &impl Clock,
+        row: Row,
+        keys: &mut [Key],
+        steps: &[u64],
+    ) -> Result<()> {
+        for beat in 1..=HEARTBEATS {
+            let begin = self.now.wrapping_add(beat * BEAT);
+            if row == Row::Churn {
+                self.churn_beat(rt, keys, steps, begin)
+            } else {
+                self.heart_beat(rt, keys, steps, begin)
+            }?;
+            self.poll_within(rt, begin.wrapping_add(BEAT), 0)?;
+        }
+        self.poll_within(rt, self.now.wrapping_add(HEARTBEATS * BEAT + 2 * IDLE), 0)
+    }
+
+    // Requests with a time limit: each ends, in a fresh order, and another begins at once in its place. The limits that are
+    // drawn lie past the next beat, so none expires before it ends.
     fn churn_beat(
         &mut self,
         rt: &impl Clock,
@@ -342,37 +410,39 @@ impl<Q: Queue> Load<Q> {
         begin: u64,
     ) -> Result<()> {
         let order = self.draws.shuffled(self.alloc, self.entries)?;
-        let begin = self.now.wrapping_add(begin);
+        let limits = self.limits(steps, begin)?;
+        self.replace_timed(rt, keys, order.as_slice(), limits.as_slice())
+    }
+
+    fn limits(&mut self, steps: &[u64], begin: u64) -> Result<Vec<u64>> {
         let earliest = begin.wrapping_add(2 * BEAT);
-        let mut deadlines = self.draws.deadlines(self.alloc, earliest, self.entries)?;
-        for (deadline, step) in deadlines.iter_mut().zip(steps) {
-            *deadline = deadline.wrapping_add(*step);
+        let mut limits = self.draws.deadlines(self.alloc, earliest, self.entries)?;
+        for (limit, step) in limits.iter_mut().zip(steps) {
+            *limit = limit.wrapping_add(*step);
         }
+        Ok(limits)
+    }
+
+    fn replace_timed(
+        &mut self,
+        rt: &impl Clock,
+        keys: &mut [Key],
+        order: &[usize],
+        limits: &[u64],
+    ) -> Result<()> {
         let mut values = 0u64;
         let since = Instant::now(rt)?;
-        for (index, deadline) in order.iter().zip(deadlines.iter()) {
-            values = values.wrapping_add(self.replace_at(keys, *index, *deadline)?);
+        for (index, limit) in order.iter().zip(limits) {
+            values = values.wrapping_add(self.replace_at(keys, *index, *limit)?);
         }
         self.spend(rt, since, order.len())?;
-        self.poll_within(rt, begin.wrapping_add(BEAT))?;
+        self.count_removes(order.len(), values);
         let counts = &mut self.sample.counts;
-        counts.removes = counts.removes.wrapping_add(order.len() as u64);
         counts.inserts = counts.inserts.wrapping_add(order.len() as u64);
-        counts.values = counts.values.wrapping_add(values);
         Ok(())
     }
 
-    // Heartbeats: each session is touched in each beat by a reset, in a fresh order. At last all expire.
-    fn heartbeat(&mut self, rt: &impl Clock) -> Result<()> {
-        let steps = self.steps()?;
-        let mut keys = self.begin(rt, steps.as_slice())?;
-        for beat in 1..=HEARTBEATS {
-            self.heart_beat(rt, keys.as_mut_slice(), steps.as_slice(), beat * BEAT)?;
-        }
-        self.poll_within(rt, self.now.wrapping_add(HEARTBEATS * BEAT + 2 * IDLE))
-    }
-
-    // Every session is reset once, and then the queue is polled.
+    // Heartbeats: each session is touched by a reset, in a fresh order.
     fn heart_beat(
         &mut self,
         rt: &impl Clock,
@@ -381,24 +451,38 @@ impl<Q: Queue> Load<Q> {
         begin: u64,
     ) -> Result<()> {
         let order = self.draws.shuffled(self.alloc, self.entries)?;
-        let begin = self.now.wrapping_add(begin);
+        self.touch_timed(rt, keys, order.as_slice(), steps, begin)
+    }
+
+    fn touch_timed(
+        &mut self,
+        rt: &impl Clock,
+        keys: &mut [Key],
+        order: &[usize],
+        steps: &[u64],
+        begin: u64,
+    ) -> Result<()> {
         let later = begin.wrapping_add(IDLE);
         let since = Instant::now(rt)?;
         for (index, step) in order.iter().zip(steps) {
             self.reset_at(keys, *index, later.wrapping_add(*step))?;
         }
-        self.spend(rt, since, order.len())?;
-        self.poll_within(rt, begin.wrapping_add(BEAT))?;
-        let counts = &mut self.sample.counts;
-        counts.resets = counts.resets.wrapping_add(order.len() as u64);
-        Ok(())
+        self.spend_resets(rt, since, order.len())
     }
 
-    // Every session is touched once, in a fresh order, and then the queue is polled.
+    // Every session is touched by an extend, in a fresh order, and then the queue is polled.
     fn beat(&mut self, rt: &impl Clock, keys: &[Key], steps: &[u64], begin: u64) -> Result<()> {
-        let order = self.draws.shuffled(self.alloc, self.entries)?;
-        let touched = self.keys_at(keys, order.as_slice())?;
-        let begin = self.now.wrapping_add(begin);
+        let touched = self.shuffled(keys)?;
+        self.beat_timed(rt, touched.as_slice(), steps, begin)
+    }
+
+    fn beat_timed(
+        &mut self,
+        rt: &impl Clock,
+        touched: &[Key],
+        steps: &[u64],
+        begin: u64,
+    ) -> Result<()> {
         let later = begin.wrapping_add(IDLE);
         let mut deadlines = 0u64;
         let since = Instant::now(rt)?;

@@ -4,7 +4,7 @@
 use crate::load::Load;
 use crate::plan::{BEAT, IDLE, LONG_BEATS, LONG_PASS, RUNS, SEED, SplitMix64, places_at};
 use crate::queues::{Given, Queue, Refusal};
-use crate::sample::Sample;
+use crate::sample::{Sample, nanoseconds_since};
 use anyhow::{Result, ensure};
 use dq_ticks::Key;
 use std::alloc::Global;
@@ -47,7 +47,7 @@ impl Calls {
 
     /// Takes the time of the next call, which began at a moment.
     pub fn note(&mut self, rt: &impl Clock, since: Instant) -> Result<()> {
-        let spent = u64::try_from(since.elapsed(rt)?.as_nanos())?;
+        let spent = nanoseconds_since(rt, since)?;
         match self.least.get_mut(self.next) {
             Some(least) => *least = spent.min(*least),
             None => self.least.push(spent)?,
@@ -56,14 +56,11 @@ impl Calls {
         Ok(())
     }
 
-    /// Goes to the first call, for another run.
-    pub fn restart(&mut self) -> Result<()> {
-        ensure!(
-            self.next == self.least.len(),
-            "the runs make different calls"
-        );
+    /// Goes to the first call, for another run, and answers whether this one made all calls.
+    pub fn restart(&mut self) -> bool {
+        let made = self.next;
         self.next = 0;
-        Ok(())
+        made == self.least.len()
     }
 
     fn total(&self) -> u64 {
@@ -74,22 +71,28 @@ impl Calls {
         total
     }
 
+    // The nanoseconds that so many of 10,000 calls don't exceed, once they are sorted.
+    fn at(&self, share: usize) -> u64 {
+        let calls = self.least.len();
+        let place = calls.saturating_mul(share) / 10_000;
+        let spent = self.least.get(place.min(calls.saturating_sub(1)));
+        spent.copied().unwrap_or(0)
+    }
+
     /// The spread of the calls, after the last run.
     pub fn spread(&mut self, call: &'static str) -> Spread {
         self.least.sort_unstable();
-        let calls = self.least.len();
-        let at = |share: usize| {
-            let place = calls.saturating_mul(share) / 10_000;
-            self.least
-                .get(place.min(calls.saturating_sub(1)))
-                .copied()
-                .unwrap_or(0)
-        };
         Spread {
             call,
-            calls,
+            calls: self.least.len(),
             total: self.total(),
-            at: [at(5_000), at(9_900), at(9_990), at(9_999), at(10_000)],
+            at: [
+                self.at(5_000),
+                self.at(9_900),
+                self.at(9_990),
+                self.at(9_999),
+                self.at(10_000),
+            ],
         }
     }
 }
@@ -124,6 +127,20 @@ struct Times {
     poll: Calls,
 }
 
+impl Times {
+    fn new(alloc: Global) -> Times {
+        Times {
+            insert: Calls::new(alloc),
+            touch: Calls::new(alloc),
+            poll: Calls::new(alloc),
+        }
+    }
+
+    fn restart(&mut self) -> bool {
+        self.insert.restart() & self.touch.restart() & self.poll.restart()
+    }
+}
+
 /// The spreads of a run's inserts, of what touches its sessions, and of its polls.
 pub type Spreads = (Spread, Spread, Spread);
 
@@ -136,37 +153,46 @@ impl<Q: Queue> Load<Q> {
         touched: Touched,
         is_one_order: bool,
     ) -> Result<(Sample, Spreads)> {
+        let mut times = Times::new(self.alloc);
+        self.runs(rt, touched, is_one_order, &mut times)
+    }
+
+    fn runs(
+        &mut self,
+        rt: &impl Clock,
+        touched: Touched,
+        is_one_order: bool,
+        times: &mut Times,
+    ) -> Result<(Sample, Spreads)> {
         self.sample = Sample::default();
-        let mut times = Times {
-            insert: Calls::new(self.alloc),
-            touch: Calls::new(self.alloc),
-            poll: Calls::new(self.alloc),
-        };
         for _ in 0..RUNS {
             if is_one_order {
                 self.draws = SplitMix64::new(SEED);
             }
-            if touched == Touched::Cancel {
-                self.reaped_run(rt, &mut times)?;
-            } else {
-                self.idle_run(rt, touched, &mut times)?;
-            }
-            times.insert.restart()?;
-            times.touch.restart()?;
-            times.poll.restart()?;
+            self.run(rt, touched, times)?;
+            ensure!(times.restart(), "the runs make different calls");
             self.end_run()?;
         }
-        for calls in [&times.insert, &times.touch, &times.poll] {
-            let sample = &mut self.sample;
-            sample.nanoseconds = sample.nanoseconds.wrapping_add(calls.total());
-            sample.operations = sample.operations.wrapping_add(calls.least.len() as u64);
+        let insert = self.spread(&mut times.insert, "insert");
+        let touch = self.spread(&mut times.touch, touched.call());
+        let poll = self.spread(&mut times.poll, "poll");
+        Ok((self.sample, (insert, touch, poll)))
+    }
+
+    // The spread of the calls of a kind, whose least times are those of the sample.
+    fn spread(&mut self, calls: &mut Calls, call: &'static str) -> Spread {
+        let spread = calls.spread(call);
+        self.sample.spend(spread.total, spread.calls);
+        spread
+    }
+
+    fn run(&mut self, rt: &impl Clock, touched: Touched, times: &mut Times) -> Result<()> {
+        let mut keys = Vec::with_capacity(self.alloc, self.entries)?;
+        if touched == Touched::Cancel {
+            self.reaped_run(rt, &mut keys, times)
+        } else {
+            self.idle_run(rt, touched, &mut keys, times)
         }
-        let spreads = (
-            times.insert.spread("insert"),
-            times.touch.spread(touched.call()),
-            times.poll.spread("poll"),
-        );
-        Ok((self.sample, spreads))
     }
 
     // Takes out what a run left, and goes to the start of the next.
@@ -183,28 +209,19 @@ impl<Q: Queue> Load<Q> {
 
     // Sessions begin within a beat, each is touched once in each of the beats after it, and then all expire. The queue is
     // polled at each tick.
-    fn idle_run(&mut self, rt: &impl Clock, touched: Touched, times: &mut Times) -> Result<()> {
-        let mut keys = Vec::with_capacity(self.alloc, self.entries)?;
+    fn idle_run(
+        &mut self,
+        rt: &impl Clock,
+        touched: Touched,
+        keys: &mut Vec<Key>,
+        times: &mut Times,
+    ) -> Result<()> {
         for offset in 0..BEAT {
-            let tick = self.now.wrapping_add(offset);
-            let (first, end) = places_at(self.entries, offset);
-            for value in first..end {
-                keys.push(self.begin_timed(rt, value, tick.wrapping_add(IDLE), times)?)?;
-            }
-            self.poll_timed(rt, tick, times)?;
+            self.begin_tick(rt, offset, keys, times)?;
         }
         for beat in 1..=LONG_BEATS {
             let begin = self.now.wrapping_add(beat * BEAT);
-            let order = self.draws.shuffled(self.alloc, self.entries)?;
-            for offset in 0..BEAT {
-                let tick = begin.wrapping_add(offset);
-                let (first, end) = places_at(self.entries, offset);
-                for index in order.iter().take(end).skip(first) {
-                    let key = keys.get_mut(*index).ok_or(Refusal::NoEntry)?;
-                    self.touch_timed(rt, touched, key, tick.wrapping_add(IDLE), times)?;
-                }
-                self.poll_timed(rt, tick, times)?;
-            }
+            self.idle_beat(rt, touched, begin, keys.as_mut_slice(), times)?;
         }
         let silent = self.now.wrapping_add((LONG_BEATS + 1) * BEAT);
         for offset in 0..IDLE {
@@ -213,22 +230,74 @@ impl<Q: Queue> Load<Q> {
         Ok(())
     }
 
+    // The sessions of a tick begin.
+    fn begin_tick(
+        &mut self,
+        rt: &impl Clock,
+        offset: u64,
+        keys: &mut Vec<Key>,
+        times: &mut Times,
+    ) -> Result<()> {
+        let tick = self.now.wrapping_add(offset);
+        let (first, end) = places_at(self.entries, offset);
+        for value in first..end {
+            self.begin_timed(rt, value, tick.wrapping_add(IDLE), keys, times)?;
+        }
+        self.poll_timed(rt, tick, times)
+    }
+
     fn begin_timed(
         &mut self,
         rt: &impl Clock,
         value: usize,
         deadline: u64,
+        keys: &mut Vec<Key>,
         times: &mut Times,
-    ) -> Result<Key> {
+    ) -> Result<()> {
         let since = Instant::now(rt)?;
         let key = self.queue.insert(value as u64, deadline)?;
         times.insert.note(rt, since)?;
         let counts = &mut self.sample.counts;
         counts.inserts = counts.inserts.wrapping_add(1);
-        Ok(key)
+        keys.push(key)?;
+        Ok(())
     }
 
-    fn touch_timed(
+    // Every session is touched, in a fresh order.
+    fn idle_beat(
+        &mut self,
+        rt: &impl Clock,
+        touched: Touched,
+        begin: u64,
+        keys: &mut [Key],
+        times: &mut Times,
+    ) -> Result<()> {
+        let order = self.draws.shuffled(self.alloc, self.entries)?;
+        self.touch_all(rt, touched, begin, order.as_slice(), keys, times)
+    }
+
+    fn touch_all(
+        &mut self,
+        rt: &impl Clock,
+        touched: Touched,
+        begin: u64,
+        order: &[usize],
+        keys: &mut [Key],
+        times: &mut Times,
+    ) -> Result<()> {
+        for offset in 0..BEAT {
+            let tick = begin.wrapping_add(offset);
+            let (first, end) = places_at(self.entries, offset);
+            for index in order.iter().take(end).skip(first) {
+                let key = keys.get_mut(*index).ok_or(Refusal::NoEntry)?;
+                self.touch(rt, touched, key, tick.wrapping_add(IDLE), times)?;
+            }
+            self.poll_timed(rt, tick, times)?;
+        }
+        Ok(())
+    }
+
+    fn touch(
         &mut self,
         rt: &impl Clock,
         touched: Touched,
@@ -236,20 +305,42 @@ impl<Q: Queue> Load<Q> {
         deadline: u64,
         times: &mut Times,
     ) -> Result<()> {
-        let counts = &mut self.sample.counts;
         if touched == Touched::Extend {
-            let since = Instant::now(rt)?;
-            let answer = self.queue.extend(key, deadline)?;
-            times.touch.note(rt, since)?;
-            counts.extends = counts.extends.wrapping_add(1);
-            let from_start = answer.wrapping_sub(self.now);
-            counts.deadlines = counts.deadlines.wrapping_add(from_start);
+            self.extend_one(rt, key, deadline, times)
         } else {
-            let since = Instant::now(rt)?;
-            *key = self.queue.reset(key, deadline)?;
-            times.touch.note(rt, since)?;
-            counts.resets = counts.resets.wrapping_add(1);
+            self.reset_one(rt, key, deadline, times)
         }
+    }
+
+    fn extend_one(
+        &mut self,
+        rt: &impl Clock,
+        key: &Key,
+        deadline: u64,
+        times: &mut Times,
+    ) -> Result<()> {
+        let since = Instant::now(rt)?;
+        let answer = self.queue.extend(key, deadline)?;
+        times.touch.note(rt, since)?;
+        let counts = &mut self.sample.counts;
+        counts.extends = counts.extends.wrapping_add(1);
+        let from_start = answer.wrapping_sub(self.now);
+        counts.deadlines = counts.deadlines.wrapping_add(from_start);
+        Ok(())
+    }
+
+    fn reset_one(
+        &mut self,
+        rt: &impl Clock,
+        key: &mut Key,
+        deadline: u64,
+        times: &mut Times,
+    ) -> Result<()> {
+        let since = Instant::now(rt)?;
+        *key = self.queue.reset(key, deadline)?;
+        times.touch.note(rt, since)?;
+        let counts = &mut self.sample.counts;
+        counts.resets = counts.resets.wrapping_add(1);
         Ok(())
     }
 
@@ -259,30 +350,45 @@ impl<Q: Queue> Load<Q> {
             let since = Instant::now(rt)?;
             let polled = self.queue.poll_piece(tick)?;
             times.poll.note(rt, since)?;
-            let (value, deadline) = match polled {
-                Given::Out(value, deadline) => (value, deadline),
-                Given::Working => continue,
+            match polled {
+                Given::Out(value, deadline) => {
+                    let from_start = deadline.wrapping_sub(self.now);
+                    self.sample.counts.count_out(value, from_start);
+                }
+                Given::Working => {}
                 Given::Rests => break,
-            };
-            let counts = &mut self.sample.counts;
-            counts.outs = counts.outs.wrapping_add(1);
-            counts.values = counts.values.wrapping_add(value);
-            let from_start = deadline.wrapping_sub(self.now);
-            counts.deadlines = counts.deadlines.wrapping_add(from_start);
+            }
         }
         Ok(())
     }
 
     // Every entry is cancelled, and one poll past all deadlines reaps what is still filed.
-    fn reaped_run(&mut self, rt: &impl Clock, times: &mut Times) -> Result<()> {
+    fn reaped_run(
+        &mut self,
+        rt: &impl Clock,
+        keys: &mut Vec<Key>,
+        times: &mut Times,
+    ) -> Result<()> {
+        self.begin_drawn(rt, keys, times)?;
+        let ended = self.shuffled(keys.as_slice())?;
+        self.cancel_timed(rt, ended.as_slice(), times)
+    }
+
+    fn begin_drawn(
+        &mut self,
+        rt: &impl Clock,
+        keys: &mut Vec<Key>,
+        times: &mut Times,
+    ) -> Result<()> {
         let deadlines = self.draws.deadlines(self.alloc, self.now, self.entries)?;
-        let mut keys = Vec::with_capacity(self.alloc, self.entries)?;
         for (value, deadline) in deadlines.iter().enumerate() {
-            keys.push(self.begin_timed(rt, value, *deadline, times)?)?;
+            self.begin_timed(rt, value, *deadline, keys, times)?;
         }
-        let order = self.draws.shuffled(self.alloc, self.entries)?;
-        let ended = self.keys_at(keys.as_slice(), order.as_slice())?;
-        for key in ended.iter() {
+        Ok(())
+    }
+
+    fn cancel_timed(&mut self, rt: &impl Clock, ended: &[Key], times: &mut Times) -> Result<()> {
+        for key in ended {
             let since = Instant::now(rt)?;
             let _deadline = self.queue.cancel(key)?;
             times.touch.note(rt, since)?;

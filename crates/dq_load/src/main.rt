@@ -18,13 +18,13 @@ mod shards;
 mod work;
 
 use anyhow::{Result, bail};
-use asked::{Asked, CALLS, LONGEST, PIECE_STEPS, PIECES, ROWS, Timed};
+use asked::{Asked, PIECE_STEPS, SMALL, Timed};
 use kit::{KitQueue, KitWheel};
 use load::{Load, Row};
-use longest::{Spread, Touched};
+use longest::{Spread, Spreads, Touched};
 use pieces::InPieces;
 use plan::SplitMix64;
-use queues::{Issues, OneShard, Owned, Queue, Shared};
+use queues::{Issues, OneShard, Owned, Queue, Refusal, Shared};
 use renewing::{Renewed, renewing};
 use sample::Sample;
 use shards::{Call, Route, ShardLoad};
@@ -34,18 +34,8 @@ use std::rt::Clock;
 use std::sync::Wait;
 use std::thread::Threads;
 
-// The entries and the callers of the small run.
-const SMALL: usize = 100;
-
-const SMALL_CALLERS: u64 = 2;
-
-// The shards of the small run, and the entries of each where several threads call.
-const SMALL_SHARDS: usize = 2;
-
-const SMALL_SHARED: usize = 4_000;
-
 // How a lasting queue is timed: by its name, and whether one shard of it is renewed at any time.
-const RENEWING: [(&str, bool); 2] = [("steady", false), ("renewed", true)];
+const RENEWING: &[(&str, bool)] = &[("steady", false), ("renewed", true)];
 
 fn main(rt: HostRuntime) -> Result<()> {
     let words: Result<Vec<String>, _> = env::args(&rt)?.skip(1).collect(rt.alloc());
@@ -64,13 +54,20 @@ where
             "usage: dq_load time ROW ENTRIES THREADS ROUNDS [PEER] (bench/README.md has the rows)"
         );
     };
+    time(rt, &asked)
+}
+
+fn time<R>(rt: &R, asked: &Asked) -> Result<()>
+where
+    R: Clock + Print + AllocGlobal + RandomSource + Threads + Wait + Clone + Drop + Send + 'static,
+{
     match asked.timed {
-        Timed::Owned(row) => time_row(rt, &asked, row),
-        Timed::Longest(touched) => time_longest(rt, &asked, touched),
-        Timed::Pieces(touched) => time_pieces(rt, &asked, touched),
-        Timed::Renewing => time_renewing(rt, &asked),
-        Timed::Callers => time_callers(rt, &asked, Shared::new(rt.alloc(), asked.entries)?),
-        Timed::Shards(call, route, shards) => time_shards(rt, &asked, call, route, shards),
+        Timed::Owned(row) => time_row(rt, asked, row),
+        Timed::Longest(touched) => time_longest(rt, asked, touched),
+        Timed::Pieces(touched) => time_pieces(rt, asked, touched),
+        Timed::Renewing => time_renewing(rt, asked),
+        Timed::Callers => time_callers(rt, asked, Shared::new(rt.alloc(), asked.entries)?),
+        Timed::Shards(call, route, shards) => time_shards(rt, asked, call, route, shards),
     }
 }
 
@@ -80,141 +77,11 @@ where
     R: Clock + Print + AllocGlobal + RandomSource + Threads + Wait + Clone + Drop + Send + 'static,
 {
     print_draws(rt)?;
-    for (name, row) in ROWS {
-        small_row(rt, "ours-owned", name, row, Owned::new(rt.alloc(), SMALL)?)?;
-        small_row(rt, "ours", name, row, Shared::new(rt.alloc(), SMALL)?)?;
-        small_row(
-            rt,
-            "kit-wheel",
-            name,
-            row,
-            KitWheel::new(rt.alloc(), SMALL)?,
-        )?;
-        small_row(rt, "kit-delay-queue", name, row, KitQueue::new(rt, SMALL)?)?;
-    }
-    small_callers(rt, Shared::new(rt.alloc(), SMALL)?)?;
-    for (name, touched) in LONGEST {
-        small_longest(
-            rt,
-            "ours-owned",
-            name,
-            touched,
-            Owned::new(rt.alloc(), SMALL)?,
-        )?;
-        small_longest(rt, "ours", name, touched, Shared::new(rt.alloc(), SMALL)?)?;
-        let shard = OneShard::new(rt.clone()?, rt.alloc(), SMALL)?;
-        small_longest(rt, "ours-shards", name, touched, shard)?;
-    }
-    small_pieces(rt)?;
-    small_renewing(rt)?;
-    for (name, call) in CALLS {
-        small_shards(rt, name, call, Route::Drawn, SMALL, 1)?;
-        small_shards(
-            rt,
-            name,
-            call,
-            Route::Drawn,
-            SMALL_SHARED,
-            SMALL_CALLERS as usize,
-        )?;
-        if call.is_by_name() {
-            small_shards(rt, name, call, Route::Own, SMALL_SHARED, SMALL_SHARDS)?;
-        }
+    for (row, entries, threads) in SMALL {
+        let asked = Asked::small(row, *entries, *threads).ok_or(Refusal::NoEntry)?;
+        time(rt, &asked)?;
     }
     print_bytes(rt)
-}
-
-fn small_longest<R, Q>(rt: &R, named: &str, name: &str, touched: Touched, queue: Q) -> Result<()>
-where
-    R: Clock + Print + AllocGlobal,
-    Q: Queue + Drop,
-{
-    let mut load = Load::new(rt.alloc(), queue, SMALL);
-    let (sample, _spreads) = load.longest(rt, touched, false)?;
-    let Sample {
-        operations,
-        counts,
-        ..
-    } = sample;
-    println!(rt; "{named} {name} {SMALL} 1 {operations} {counts}")?;
-    Ok(())
-}
-
-fn small_pieces<R>(rt: &R) -> Result<()>
-where
-    R: Clock + Print + AllocGlobal,
-{
-    for (name, touched) in PIECES {
-        for (named, steps) in PIECE_STEPS {
-            match steps {
-                None => small_longest(rt, named, name, touched, Owned::new(rt.alloc(), SMALL)?)?,
-                Some(most) => {
-                    let queue = InPieces::new(rt.alloc(), SMALL, most)?;
-                    small_longest(rt, named, name, touched, queue)?
-                }
-            }
-        }
-    }
-    Ok(())
-}
-
-fn small_renewing<R>(rt: &R) -> Result<()>
-where
-    R: Clock + Print + AllocGlobal + Wait,
-{
-    for (named, is_renewed) in RENEWING {
-        let Renewed {
-            counts,
-            reopened,
-            spreads: _spreads,
-        } = renewing(rt, rt.alloc(), SMALL, is_renewed)?;
-        println!(rt; "{named} renewing {SMALL} 1 {reopened} {counts}")?;
-    }
-    Ok(())
-}
-
-fn small_shards<R>(
-    rt: &R,
-    name: &str,
-    call: Call,
-    route: Route,
-    entries: usize,
-    threads: usize,
-) -> Result<()>
-where
-    R: Clock + Print + AllocGlobal + Threads + Wait + Clone + Drop + Send + 'static,
-{
-    let mut load = ShardLoad::new(rt, rt.alloc(), SMALL_SHARDS, entries, threads, route)?;
-    load.pass(rt, call)?;
-    let Sample {
-        operations,
-        counts,
-        ..
-    } = load.round(rt, call)?;
-    let own = match route {
-        Route::Drawn => "",
-        Route::Own => "own-",
-    };
-    println!(rt;
-        "ours-shards {own}{name}/{SMALL_SHARDS} {entries} {threads} {operations} {counts}"
-    )?;
-    Ok(())
-}
-
-fn small_callers<R, Q>(rt: &R, queue: Q) -> Result<()>
-where
-    R: Clock + Print + AllocGlobal + Threads + Wait + Clone + Drop + Send + 'static,
-    Q: Issues + Drop,
-{
-    let mut load = warmed(rt, queue, SMALL, Row::Insert)?;
-    let sample = load.callers(rt, SMALL_CALLERS)?;
-    let Sample {
-        operations,
-        counts,
-        ..
-    } = sample;
-    println!(rt; "ours callers {SMALL} {SMALL_CALLERS} {operations} {counts}")?;
-    Ok(())
 }
 
 // The first numbers of the generator from 1234567, to be compared with those that its authors' C code prints.
@@ -234,30 +101,14 @@ fn print_bytes<R: Print + AllocGlobal>(rt: &R) -> Result<()> {
     Ok(())
 }
 
-fn small_row<R, Q>(rt: &R, named: &str, name: &str, row: Row, queue: Q) -> Result<()>
-where
-    R: Clock + Print + AllocGlobal,
-    Q: Queue + Drop,
-{
-    let mut load = warmed(rt, queue, SMALL, row)?;
-    let Sample {
-        operations,
-        counts,
-        ..
-    } = load.round(rt, row)?;
-    println!(rt; "{named} {name} {SMALL} 1 {operations} {counts}")?;
+// A round's line: its sample; of the small run what never changes.
+fn tell<R: Print>(rt: &R, asked: &Asked, name: &str, round: u64, sample: &Sample) -> Result<()> {
+    if asked.is_small {
+        println!(rt; "{name} {asked} {} {}", sample.operations, sample.counts)?;
+    } else {
+        println!(rt; "{name} {asked} {round} {sample}")?;
+    }
     Ok(())
-}
-
-// A queue under load that has made one pass to warm up.
-fn warmed<R, Q>(rt: &R, queue: Q, entries: usize, row: Row) -> Result<Load<Q>>
-where
-    R: Clock + AllocGlobal,
-    Q: Queue + Drop,
-{
-    let mut load = Load::new(rt.alloc(), queue, entries);
-    load.pass(rt, row)?;
-    Ok(load)
 }
 
 // Times rounds of our queues and of the two peers here, of each that is wanted.
@@ -276,13 +127,8 @@ where
         time_queue(rt, asked, row, "kit-wheel", KitWheel::new(alloc, entries)?)?;
     }
     if asked.wants("kit-delay-queue") {
-        time_queue(
-            rt,
-            asked,
-            row,
-            "kit-delay-queue",
-            KitQueue::new(rt, entries)?,
-        )?;
+        let queue = KitQueue::new(rt, entries)?;
+        time_queue(rt, asked, row, "kit-delay-queue", queue)?;
     }
     Ok(())
 }
@@ -293,10 +139,20 @@ where
     R: Clock + Print + AllocGlobal,
     Q: Queue + Drop,
 {
-    let mut load = warmed(rt, queue, asked.entries, row)?;
+    let mut load = Load::new(rt.alloc(), queue, asked.entries);
+    time_load(rt, asked, row, name, &mut load)
+}
+
+fn time_load<R, Q>(rt: &R, asked: &Asked, row: Row, name: &str, load: &mut Load<Q>) -> Result<()>
+where
+    R: Clock + Print + AllocGlobal,
+    Q: Queue,
+{
+    // One pass warms up.
+    load.pass(rt, row)?;
     for round in 1..=asked.rounds {
         let sample = load.round(rt, row)?;
-        println!(rt; "{name} {asked} {round} {sample}")?;
+        tell(rt, asked, name, round, &sample)?;
     }
     Ok(())
 }
@@ -308,13 +164,8 @@ where
 {
     let (alloc, entries) = (rt.alloc(), asked.entries);
     if asked.wants("ours-owned") {
-        time_calls(
-            rt,
-            asked,
-            touched,
-            "ours-owned",
-            Owned::new(alloc, entries)?,
-        )?;
+        let queue = Owned::new(alloc, entries)?;
+        time_calls(rt, asked, touched, "ours-owned", queue)?;
     }
     if asked.wants("ours") {
         time_calls(rt, asked, touched, "ours", Shared::new(alloc, entries)?)?;
@@ -326,49 +177,82 @@ where
     Ok(())
 }
 
+// Times the calls of the queue of one owner one by one, polled whole and in pieces.
+fn time_pieces<R>(rt: &R, asked: &Asked, touched: Touched) -> Result<()>
+where
+    R: Clock + Print + AllocGlobal,
+{
+    for (name, steps) in PIECE_STEPS {
+        if asked.wants(name) {
+            time_steps(rt, asked, touched, name, *steps)?;
+        }
+    }
+    Ok(())
+}
+
+fn time_steps<R>(
+    rt: &R,
+    asked: &Asked,
+    touched: Touched,
+    name: &str,
+    steps: Option<u32>,
+) -> Result<()>
+where
+    R: Clock + Print + AllocGlobal,
+{
+    let queue = Owned::new(rt.alloc(), asked.entries)?;
+    match steps {
+        None => time_calls(rt, asked, touched, name, queue),
+        Some(most) => time_calls(rt, asked, touched, name, InPieces::new(queue, most)),
+    }
+}
+
 fn time_calls<R, Q>(rt: &R, asked: &Asked, touched: Touched, name: &str, queue: Q) -> Result<()>
 where
     R: Clock + Print + AllocGlobal,
     Q: Queue + Drop,
 {
     let mut load = Load::new(rt.alloc(), queue, asked.entries);
-    for round in 1..=asked.rounds {
-        let (sample, (insert, touch, poll)) = load.longest(rt, touched, false)?;
-        println!(rt; "{name} {asked} {round} {sample} {insert} {touch} {poll}")?;
-    }
-    Ok(())
+    time_kinds(rt, asked, touched, name, &mut load)
 }
 
-// Times the calls of the queue of one owner one by one, polled whole and in pieces.
-fn time_pieces<R>(rt: &R, asked: &Asked, touched: Touched) -> Result<()>
+fn time_kinds<R, Q>(
+    rt: &R,
+    asked: &Asked,
+    touched: Touched,
+    name: &str,
+    load: &mut Load<Q>,
+) -> Result<()>
 where
     R: Clock + Print + AllocGlobal,
+    Q: Queue,
 {
-    let (alloc, entries) = (rt.alloc(), asked.entries);
-    for (name, steps) in PIECE_STEPS {
-        if asked.wants(name) {
-            match steps {
-                None => time_kinds(rt, asked, touched, name, Owned::new(alloc, entries)?)?,
-                Some(most) => {
-                    let queue = InPieces::new(alloc, entries, most)?;
-                    time_kinds(rt, asked, touched, name, queue)?
-                }
-            }
+    let is_in_pieces = matches!(asked.timed, Timed::Pieces(_));
+    for round in 1..=asked.rounds {
+        let (sample, spreads) = load.longest(rt, touched, is_in_pieces)?;
+        if asked.is_small {
+            tell(rt, asked, name, round, &sample)?;
+        } else {
+            tell_spreads(rt, asked, name, round, &sample, spreads)?;
         }
     }
     Ok(())
 }
 
-fn time_kinds<R, Q>(rt: &R, asked: &Asked, touched: Touched, name: &str, queue: Q) -> Result<()>
-where
-    R: Clock + Print + AllocGlobal,
-    Q: Queue + Drop,
-{
-    let mut load = Load::new(rt.alloc(), queue, asked.entries);
-    for round in 1..=asked.rounds {
-        let (_sample, (insert, touch, poll)) = load.longest(rt, touched, true)?;
-        print_kinds(rt, asked, name, round, &[insert, touch, poll])?;
+// A round's spreads in its line; of whole polls and those in pieces, in a line for each kind of call.
+fn tell_spreads<R: Print>(
+    rt: &R,
+    asked: &Asked,
+    name: &str,
+    round: u64,
+    sample: &Sample,
+    spreads: Spreads,
+) -> Result<()> {
+    let (insert, touch, poll) = spreads;
+    if let Timed::Pieces(_) = asked.timed {
+        return print_kinds(rt, asked, name, round, &[insert, touch, poll]);
     }
+    println!(rt; "{name} {asked} {round} {sample} {insert} {touch} {poll}")?;
     Ok(())
 }
 
@@ -394,12 +278,28 @@ where
     for (name, is_renewed) in RENEWING {
         if asked.wants(name) {
             for round in 1..=asked.rounds {
-                let told = renewing(rt, rt.alloc(), asked.entries, is_renewed)?;
-                print_kinds(rt, asked, name, round, &told.spreads)?;
-                println!(rt; "{name} {asked} {round} reopened {}", told.reopened)?;
+                let renewed = renewing(rt, rt.alloc(), asked.entries, *is_renewed)?;
+                tell_renewed(rt, asked, name, round, &renewed)?;
             }
         }
     }
+    Ok(())
+}
+
+fn tell_renewed<R: Print>(
+    rt: &R,
+    asked: &Asked,
+    name: &str,
+    round: u64,
+    renewed: &Renewed,
+) -> Result<()> {
+    let reopened = renewed.reopened;
+    if asked.is_small {
+        println!(rt; "{name} {asked} {reopened} {}", renewed.counts)?;
+        return Ok(());
+    }
+    print_kinds(rt, asked, name, round, &renewed.spreads)?;
+    println!(rt; "{name} {asked} {round} reopened {reopened}")?;
     Ok(())
 }
 
@@ -408,10 +308,19 @@ where
     R: Clock + Print + AllocGlobal + Threads + Wait + Clone + Drop + Send + 'static,
     Q: Issues + Drop,
 {
-    let mut load = warmed(rt, queue, asked.entries, Row::Insert)?;
+    let mut load = Load::new(rt.alloc(), queue, asked.entries);
+    time_issued(rt, asked, &mut load)
+}
+
+fn time_issued<R, Q>(rt: &R, asked: &Asked, load: &mut Load<Q>) -> Result<()>
+where
+    R: Clock + Print + AllocGlobal + Threads + Wait + Clone + Drop + Send + 'static,
+    Q: Issues,
+{
+    load.pass(rt, Row::Insert)?;
     for round in 1..=asked.rounds {
         let sample = load.callers(rt, asked.threads)?;
-        println!(rt; "ours {asked} {round} {sample}")?;
+        tell(rt, asked, "ours", round, &sample)?;
     }
     Ok(())
 }
@@ -423,10 +332,17 @@ where
 {
     let threads = asked.threads as usize;
     let mut load = ShardLoad::new(rt, rt.alloc(), shards, asked.entries, threads, route)?;
+    time_shared(rt, asked, call, &mut load)
+}
+
+fn time_shared<R>(rt: &R, asked: &Asked, call: Call, load: &mut ShardLoad) -> Result<()>
+where
+    R: Clock + Print + AllocGlobal + Threads + Wait + Clone + Drop + Send + 'static,
+{
     load.pass(rt, call)?;
     for round in 1..=asked.rounds {
         let sample = load.round(rt, call)?;
-        println!(rt; "ours-shards {asked} {round} {sample}")?;
+        tell(rt, asked, "ours-shards", round, &sample)?;
     }
     Ok(())
 }

@@ -1,9 +1,7 @@
 //! The queue of one owner, polled in pieces of so many steps.
 
 use crate::queues::{Given, Owned, Queue, Refusal};
-use anyhow::Result;
 use dq_ticks::Key;
-use std::alloc::Global;
 
 /// The queue of one owner, and the steps of a piece of its polls.
 #[derive(Drop)]
@@ -13,9 +11,8 @@ pub struct InPieces {
 }
 
 impl InPieces {
-    pub fn new(alloc: Global, capacity: usize, most: u32) -> Result<InPieces> {
-        let owned = Owned::new(alloc, capacity)?;
-        Ok(InPieces { owned, most })
+    pub fn new(owned: Owned, most: u32) -> InPieces {
+        InPieces { owned, most }
     }
 }
 

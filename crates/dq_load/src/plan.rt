@@ -1,7 +1,9 @@
 //! What is drawn, and in which order. bench/README.md says it in words, and the peers there draw the same.
 ghost use Rattle.std.specs.Prelude.{◌<◌};
 
-use dq_ticks::CAPACITY_LIMIT;
+use crate::queues::Refusal;
+use anyhow::Result;
+use dq_ticks::{CAPACITY_LIMIT, Key};
 use std::alloc::{AllocError, Global};
 
 /// Where every run begins to draw.
@@ -88,6 +90,15 @@ pub fn part(length: usize, thread: usize, threads: usize) -> (usize, usize) {
 pub fn places_at(entries: usize, offset: u64) -> (usize, usize) {
     let first = |ticks: u64| ticks.saturating_mul(entries as u64).div_ceil(BEAT) as usize;
     (first(offset), first(offset.saturating_add(1)))
+}
+
+/// The keys at those indexes, in their order.
+pub fn keys_at(alloc: Global, keys: &[Key], indexes: &[usize]) -> Result<Vec<Key>> {
+    let mut chosen = Vec::with_capacity(alloc, indexes.len())?;
+    for index in indexes {
+        chosen.push(*keys.get(*index).ok_or(Refusal::NoEntry)?)?;
+    }
+    Ok(chosen)
 }
 
 /// The generator of Steele, Lea and Flood, "Fast splittable pseudorandom number generators" (2014).

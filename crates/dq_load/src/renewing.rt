@@ -5,7 +5,7 @@ use crate::longest::{Calls, Spread};
 use crate::plan::{RUNS, SEED, SplitMix64};
 use crate::queues::Refusal;
 use crate::sample::Counts;
-use anyhow::Result;
+use anyhow::{Result, ensure};
 use dq_core::Turn;
 use dq_lasting::{Kept, LastingConfig, LastingHandle, LastingQueue};
 use dq_ticks::{CAPACITY_LIMIT, Key};
@@ -54,13 +54,9 @@ impl Times {
         }
     }
 
-    fn restart(&mut self) -> Result<()> {
-        self.insert.restart()?;
-        self.extend.restart()?;
-        self.reset.restart()?;
-        self.remove.restart()?;
-        self.poll.restart()?;
-        self.keep.restart()
+    fn restart(&mut self) -> bool {
+        let calls = self.insert.restart() & self.extend.restart() & self.reset.restart();
+        calls & self.remove.restart() & self.poll.restart() & self.keep.restart()
     }
 
     fn spreads(&mut self) -> [Spread; 6] {
@@ -105,20 +101,38 @@ pub fn renewing<R: Clock + Wait>(
     is_renewed: bool,
 ) -> Result<Renewed> {
     let mut times = Times::new(alloc);
+    runs(rt, alloc, entries, is_renewed, &mut times)
+}
+
+fn runs<R: Clock + Wait>(
+    rt: &R,
+    alloc: Global,
+    entries: usize,
+    is_renewed: bool,
+    times: &mut Times,
+) -> Result<Renewed> {
     let (mut counts, mut reopened) = (Counts::default(), 0u64);
     for _ in 0..RUNS {
-        let mut serving = Serving::new(rt, alloc, entries)?;
-        serving.run(rt, is_renewed, &mut times)?;
-        times.restart()?;
-        counts = serving.counts;
-        reopened = serving.reopened;
+        (counts, reopened) = run(rt, alloc, entries, is_renewed, times)?;
+        ensure!(times.restart(), "the runs make different calls");
     }
-    let spreads = times.spreads();
     Ok(Renewed {
         counts,
         reopened,
-        spreads,
+        spreads: times.spreads(),
     })
+}
+
+fn run<R: Clock + Wait>(
+    rt: &R,
+    alloc: Global,
+    entries: usize,
+    is_renewed: bool,
+    times: &mut Times,
+) -> Result<(Counts, u64)> {
+    let mut serving = Serving::new(rt, alloc, entries)?;
+    serving.run(rt, is_renewed, times)?;
+    Ok((serving.counts, serving.reopened))
 }
 
 impl Serving {

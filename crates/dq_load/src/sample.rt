@@ -1,6 +1,15 @@
 //! What a round took and did.
 
+use anyhow::Result;
 use std::fmt;
+use std::rt::Clock;
+use std::time::Instant;
+
+/// The nanoseconds since a moment.
+#[inline(always)]
+pub fn nanoseconds_since(rt: &impl Clock, since: Instant) -> Result<u64> {
+    Ok(u64::try_from(since.elapsed(rt)?.as_nanos())?)
+}
 
 /// What a round did. Every peer of the bench does the same.
 #[derive(Clone, Copy, Debug, Default, PartialEq, Eq)]
@@ -16,6 +25,15 @@ pub struct Counts {
     /// The sum of the deadlines of the entries that came out in the parts that aren't timed, and of the deadlines
     /// that the owner's extends answered, each counted from the start of its pass.
     pub deadlines: u64,
+}
+
+impl Counts {
+    /// Counts an entry that came out: its value, and its deadline from the start of its pass.
+    pub fn count_out(&mut self, value: u64, deadline: u64) {
+        self.outs = self.outs.wrapping_add(1);
+        self.values = self.values.wrapping_add(value);
+        self.deadlines = self.deadlines.wrapping_add(deadline);
+    }
 }
 
 /// The counts as they stand in a line: from the inserts to the deadlines, between single spaces.
@@ -44,6 +62,14 @@ pub struct Sample {
     pub nanoseconds: u64,
     pub operations: u64,
     pub counts: Counts,
+}
+
+impl Sample {
+    /// Adds calls, and the time that they took.
+    pub fn spend(&mut self, nanoseconds: u64, operations: usize) {
+        self.nanoseconds = self.nanoseconds.wrapping_add(nanoseconds);
+        self.operations = self.operations.wrapping_add(operations as u64);
+    }
 }
 
 /// The sample as it stands in a line: nanoseconds, operations and counts.

@@ -3,10 +3,12 @@
 
 ghost use Rattle.std.specs.Prelude.{◌<◌};
 
-use crate::plan::{BURST, IDLE, SEED, SplitMix64, part, shard_pass, shard_passes, shard_room};
+use crate::plan::{
+    BURST, IDLE, SEED, SplitMix64, keys_at, part, shard_pass, shard_passes, shard_room,
+};
 use crate::queues::Refusal;
 use crate::sample::Sample;
-use crate::work::{Begun, Done, Round, Shards, Work, insert_all};
+use crate::work::{Begun, Dealt, Done, Round, Shards, Work, insert_all};
 use anyhow::{Result, anyhow};
 use dq_core::Turn;
 use dq_shards::{Handle, QueueConfig};
@@ -16,7 +18,7 @@ use std::rt::Clock;
 use std::sync::atomic::{AtomicU64, Ordering};
 use std::sync::{Arc, Wait};
 use std::thread;
-use std::thread::Threads;
+use std::thread::{JoinHandle, Threads};
 
 /// What is timed of the shared queue.
 #[derive(Clone, Copy, Debug, PartialEq, Eq)]
@@ -75,13 +77,11 @@ impl ShardLoad {
         route: Route,
     ) -> Result<ShardLoad> {
         let queue = Shards::new(alloc, QueueConfig::of(shards, shard_room(entries)))?;
-        let mut handles = Vec::new(alloc);
-        for _ in 0..threads {
-            handles.push(queue.handle(rt)?)?;
-        }
+        let queue = Arc::new(alloc, queue)?;
+        let handles = handles_of(rt, alloc, &*queue, threads)?;
         Ok(ShardLoad {
             alloc,
-            shards: Arc::new(alloc, queue)?,
+            shards: queue,
             handles,
             draws: SplitMix64::new(SEED),
             now: 0,
@@ -111,14 +111,14 @@ impl ShardLoad {
         R: Clock + Threads + Wait + Clone + Drop + Send + 'static,
     {
         match call {
-            Call::Insert => self.insert(rt)?,
-            Call::Extend => self.extend(rt)?,
-            Call::Reset => self.reset(rt)?,
-            Call::Remove => self.remove(rt)?,
-            Call::Poll => self.poll(rt, false)?,
-            Call::InsertBurst => self.insert_bursts(rt)?,
-            Call::PollBurst => self.poll(rt, true)?,
-        }
+            Call::Insert => self.insert(rt, 1),
+            Call::Extend => self.extend(rt),
+            Call::Reset => self.reset(rt),
+            Call::Remove => self.remove(rt),
+            Call::Poll => self.poll(rt, false),
+            Call::InsertBurst => self.insert(rt, BURST),
+            Call::PollBurst => self.poll(rt, true),
+        }?;
         self.end_pass(rt)
     }
 
@@ -130,11 +130,8 @@ impl ShardLoad {
                 let Turn::Out(out) = self.shards.poll(rt, shard, tick)? else {
                     break;
                 };
-                let counts = &mut self.sample.counts;
-                counts.outs = counts.outs.wrapping_add(1);
-                counts.values = counts.values.wrapping_add(out.value);
                 let from_start = out.deadline.wrapping_sub(self.now);
-                counts.deadlines = counts.deadlines.wrapping_add(from_start);
+                self.sample.counts.count_out(out.value, from_start);
             }
         }
         self.now = tick;
@@ -148,12 +145,25 @@ impl ShardLoad {
         }
         let mut order = Vec::with_capacity(self.alloc, self.entries)?;
         for thread in 0..self.threads {
-            let first = thread.saturating_mul(self.each);
-            for index in self.draws.shuffled(self.alloc, self.each)? {
-                order.push(first.saturating_add(index))?;
-            }
+            self.order_own(&mut order, thread)?;
         }
         Ok(order)
+    }
+
+    // Adds a shuffled order of a thread's entries.
+    fn order_own(&mut self, order: &mut Vec<usize>, thread: usize) -> Result<()> {
+        let first = thread.saturating_mul(self.each);
+        let own = self.draws.shuffled(self.alloc, self.each)?;
+        for index in own.iter() {
+            order.push(first.saturating_add(*index))?;
+        }
+        Ok(())
+    }
+
+    // The keys in such an order.
+    fn shuffled(&mut self, keys: &[Key]) -> Result<Vec<Key>> {
+        let order = self.order()?;
+        keys_at(self.alloc, keys, order.as_slice())
     }
 
     // So many entries that a thread calls, one as likely as another.
@@ -180,15 +190,20 @@ impl ShardLoad {
             Route::Own => Vec::new(self.alloc),
         };
         let deadlines = self.draws.deadlines(self.alloc, self.now, self.entries)?;
-        let shards = self.shards.shards();
-        let mut begun = Vec::with_capacity(self.alloc, self.entries)?;
+        self.begun(order.as_slice(), deadlines.as_slice(), burst)
+    }
+
+    fn begun(&self, order: &[usize], deadlines: &[u64], burst: usize) -> Result<Vec<Begun>>
+        requires { 0 < burst }
+    {
+        let mut begun = Vec::with_capacity(self.alloc, deadlines.len())?;
         for (place, deadline) in deadlines.iter().enumerate() {
             let index = match self.route {
-                Route::Drawn => *order.get(place / burst).ok_or(Refusal::NoEntry)?,
-                Route::Own => place.checked_div(self.each).unwrap_or(0),
+                Route::Drawn => order.get(place / burst).copied(),
+                Route::Own => place.checked_div(self.each),
             };
             begun.push(Begun {
-                shard: index % shards,
+                shard: index.ok_or(Refusal::NoEntry)? % self.shards.shards(),
                 value: place as u64,
                 deadline: *deadline,
             })?;
@@ -198,9 +213,13 @@ impl ShardLoad {
 
     fn fill<R: Wait>(&mut self, rt: &R) -> Result<Vec<Key>> {
         let begun = self.drawn(1)?;
-        let mut done = Done::new(self.alloc);
-        insert_all(rt, &*self.shards, begun.as_slice(), &mut done)?;
         self.count_inserts(begun.len());
+        self.inserted(rt, begun.as_slice())
+    }
+
+    fn inserted<R: Wait>(&self, rt: &R, begun: &[Begun]) -> Result<Vec<Key>> {
+        let mut done = Done::new(self.alloc);
+        insert_all(rt, &*self.shards, begun, &mut done)?;
         Ok(done.keys)
     }
 
@@ -209,59 +228,49 @@ impl ShardLoad {
         counts.inserts = counts.inserts.wrapping_add(inserts as u64);
     }
 
-    // What is at those indexes of a list, in their order.
-    fn chosen<T: Copy + Drop>(&self, list: &[T], indexes: &[usize]) -> Result<Vec<T>> {
-        let mut chosen = Vec::with_capacity(self.alloc, indexes.len())?;
-        for index in indexes {
-            chosen.push(*list.get(*index).ok_or(Refusal::NoEntry)?)?;
-        }
-        Ok(chosen)
-    }
-
     // A list dealt out to the threads, so many places at a time.
-    fn dealt<T: Copy + Drop>(&self, list: &[T], burst: usize) -> Result<Vec<Vec<T>>>
+    fn dealt<T: Dealt>(&self, list: &[T], burst: usize) -> Result<Vec<Work>>
         requires { 0 < burst }
     {
-        let bursts = list.len().div_ceil(burst);
-        let mut dealt = Vec::with_capacity(self.alloc, self.threads)?;
+        let mut works = Vec::with_capacity(self.alloc, self.threads)?;
         for thread in 0..self.threads {
-            let (begin, end) = part(bursts, thread, self.threads);
-            let (begin, end) = (begin.saturating_mul(burst), end.saturating_mul(burst));
-            let mut mine = Vec::with_capacity(self.alloc, end.saturating_sub(begin))?;
-            for entry in list.iter().take(end).skip(begin) {
-                mine.push(*entry)?;
-            }
-            dealt.push(mine)?;
+            let mine = self.share(list, burst, thread)?;
+            works.push(T::work(mine, burst))?;
         }
-        Ok(dealt)
+        Ok(works)
     }
 
-    fn insert<R>(&mut self, rt: &R) -> Result<()>
-    where
-        R: Clock + Threads + Wait + Clone + Drop + Send + 'static,
+    // A thread's part of a list.
+    fn share<T: Dealt>(&self, list: &[T], burst: usize, thread: usize) -> Result<Vec<T>>
+        requires { 0 < burst }
     {
-        let begun = self.drawn(1)?;
-        let mut works = Vec::new(self.alloc);
-        for mine in self.dealt(begun.as_slice(), 1)? {
-            works.push(Work::Insert(mine))?;
+        let (begin, end) = part(list.len().div_ceil(burst), thread, self.threads);
+        let (begin, end) = (begin.saturating_mul(burst), end.saturating_mul(burst));
+        let mut mine = Vec::with_capacity(self.alloc, end.saturating_sub(begin))?;
+        for entry in list.iter().take(end).skip(begin) {
+            mine.push(*entry)?;
         }
-        self.timed(rt, works, begun.len())?;
-        self.count_inserts(begun.len());
-        Ok(())
+        Ok(mine)
     }
 
-    fn insert_bursts<R>(&mut self, rt: &R) -> Result<()>
+    // Does what is dealt out of a list.
+    fn deal<R, T: Dealt>(&mut self, rt: &R, list: &[T], burst: usize) -> Result<()>
     where
         R: Clock + Threads + Wait + Clone + Drop + Send + 'static,
+        requires { 0 < burst }
     {
-        let begun = self.drawn(BURST)?;
-        let mut works = Vec::new(self.alloc);
-        for mine in self.dealt(begun.as_slice(), BURST)? {
-            works.push(Work::InsertBursts(mine))?;
-        }
-        self.timed(rt, works, begun.len())?;
+        let works = self.dealt(list, burst)?;
+        self.timed(rt, works, list.len())
+    }
+
+    fn insert<R>(&mut self, rt: &R, burst: usize) -> Result<()>
+    where
+        R: Clock + Threads + Wait + Clone + Drop + Send + 'static,
+        requires { 0 < burst }
+    {
+        let begun = self.drawn(burst)?;
         self.count_inserts(begun.len());
-        Ok(())
+        self.deal(rt, begun.as_slice(), burst)
     }
 
     fn extend<R>(&mut self, rt: &R) -> Result<()>
@@ -270,23 +279,31 @@ impl ShardLoad {
     {
         let keys = self.fill(rt)?;
         let each = keys.len().checked_div(self.threads).unwrap_or(0);
-        let later = self.now.wrapping_add(IDLE + 1);
+        let extends = each.saturating_mul(self.threads);
+        let counts = &mut self.sample.counts;
+        counts.extends = counts.extends.wrapping_add(extends as u64);
+        let works = self.extends(keys.as_slice(), each)?;
+        self.timed(rt, works, extends)
+    }
+
+    // For each thread so many extends of any of its entries.
+    fn extends(&mut self, keys: &[Key], each: usize) -> Result<Vec<Work>> {
         let mut works = Vec::new(self.alloc);
         for thread in 0..self.threads {
             let picks = self.picks(thread, each)?;
-            let keys = self.chosen(keys.as_slice(), picks.as_slice())?;
-            let handle = self.handles.pop().ok_or(Refusal::NoEntry)?;
-            works.push(Work::Extend {
-                handle,
-                keys,
-                later,
-            })?;
+            works.push(self.extending(keys, picks.as_slice())?)?;
         }
-        let extends = each.saturating_mul(self.threads);
-        self.timed(rt, works, extends)?;
-        let counts = &mut self.sample.counts;
-        counts.extends = counts.extends.wrapping_add(extends as u64);
-        Ok(())
+        Ok(works)
+    }
+
+    fn extending(&mut self, keys: &[Key], picks: &[usize]) -> Result<Work> {
+        let keys = keys_at(self.alloc, keys, picks)?;
+        let handle = self.handles.pop().ok_or(Refusal::NoEntry)?;
+        Ok(Work::Extend {
+            handle,
+            keys,
+            later: self.now.wrapping_add(IDLE + 1),
+        })
     }
 
     fn reset<R>(&mut self, rt: &R) -> Result<()>
@@ -294,20 +311,21 @@ impl ShardLoad {
         R: Clock + Threads + Wait + Clone + Drop + Send + 'static,
     {
         let keys = self.fill(rt)?;
-        let order = self.order()?;
+        let counts = &mut self.sample.counts;
+        counts.resets = counts.resets.wrapping_add(keys.len() as u64);
+        let moved = self.moved(keys.as_slice())?;
+        self.deal(rt, moved.as_slice(), 1)
+    }
+
+    // The keys in a shuffled order, each with the deadline to which its entry is reset.
+    fn moved(&mut self, keys: &[Key]) -> Result<Vec<(Key, u64)>> {
+        let keys = self.shuffled(keys)?;
         let deadlines = self.draws.deadlines(self.alloc, self.now, keys.len())?;
         let mut moved = Vec::with_capacity(self.alloc, keys.len())?;
-        for (index, when) in order.iter().zip(deadlines.iter()) {
-            moved.push((*keys.get(*index).ok_or(Refusal::NoEntry)?, *when))?;
+        for (key, when) in keys.iter().zip(deadlines.iter()) {
+            moved.push((*key, *when))?;
         }
-        let mut works = Vec::new(self.alloc);
-        for mine in self.dealt(moved.as_slice(), 1)? {
-            works.push(Work::Reset(mine))?;
-        }
-        self.timed(rt, works, moved.len())?;
-        let counts = &mut self.sample.counts;
-        counts.resets = counts.resets.wrapping_add(moved.len() as u64);
-        Ok(())
+        Ok(moved)
     }
 
     fn remove<R>(&mut self, rt: &R) -> Result<()>
@@ -315,45 +333,48 @@ impl ShardLoad {
         R: Clock + Threads + Wait + Clone + Drop + Send + 'static,
     {
         let keys = self.fill(rt)?;
-        let order = self.order()?;
-        let ended = self.chosen(keys.as_slice(), order.as_slice())?;
-        let mut works = Vec::new(self.alloc);
-        for mine in self.dealt(ended.as_slice(), 1)? {
-            works.push(Work::Remove(mine))?;
-        }
-        self.timed(rt, works, ended.len())?;
         let counts = &mut self.sample.counts;
-        counts.removes = counts.removes.wrapping_add(ended.len() as u64);
-        Ok(())
+        counts.removes = counts.removes.wrapping_add(keys.len() as u64);
+        let ended = self.shuffled(keys.as_slice())?;
+        self.deal(rt, ended.as_slice(), 1)
     }
 
-    // Each thread goes over all shards once, and each begins elsewhere. One with a shard of its own polls that alone.
     fn poll<R>(&mut self, rt: &R, bursts: bool) -> Result<()>
     where
         R: Clock + Threads + Wait + Clone + Drop + Send + 'static,
     {
         let keys = self.fill(rt)?;
-        let shards = self.shards.shards();
-        let visits = match self.route {
-            Route::Drawn => shards,
-            Route::Own => 1,
-        };
+        let works = self.rounds(bursts)?;
+        self.timed(rt, works, keys.len())
+    }
+
+    // Each thread goes over all shards once, and each begins elsewhere. One with a shard of its own polls that alone.
+    fn rounds(&self, bursts: bool) -> Result<Vec<Work>> {
         let mut works = Vec::new(self.alloc);
         for thread in 0..self.threads {
-            let (first, _) = part(shards, thread, self.threads);
-            let round = Round {
-                first,
-                visits,
-                tick: self.now.wrapping_add(IDLE),
-                entries: self.entries,
-            };
+            let round = self.round_of(thread);
             works.push(if bursts {
                 Work::PollBursts(round)
             } else {
                 Work::Poll(round)
             })?;
         }
-        self.timed(rt, works, keys.len())
+        Ok(works)
+    }
+
+    fn round_of(&self, thread: usize) -> Round {
+        let shards = self.shards.shards();
+        let (first, _) = part(shards, thread, self.threads);
+        let visits = match self.route {
+            Route::Drawn => shards,
+            Route::Own => 1,
+        };
+        Round {
+            first,
+            visits,
+            tick: self.now.wrapping_add(IDLE),
+            entries: self.entries,
+        }
     }
 
     // Does each thread's work, and counts it: in this thread if it is alone, else in threads of their own.
@@ -361,60 +382,118 @@ impl ShardLoad {
     where
         R: Clock + Threads + Wait + Clone + Drop + Send + 'static,
     {
-        let alone = works.len() == 1;
-        let ended = if alone {
-            self.in_turn(rt, works)?
+        self.sample.spend(0, operations);
+        if works.len() == 1 {
+            self.in_turn(rt, works)
         } else {
-            self.at_once(rt, works)?
-        };
-        for (work, done) in ended {
-            if let Some(handle) = work.into_handle() {
-                self.handles.push(handle)?;
-            }
-            let sample = &mut self.sample;
-            sample.nanoseconds = sample.nanoseconds.wrapping_add(done.nanoseconds);
-            sample.counts.outs = sample.counts.outs.wrapping_add(done.outs);
-            sample.counts.values = sample.counts.values.wrapping_add(done.values);
+            self.at_once(rt, works)
         }
-        let operations = operations as u64;
-        self.sample.operations = self.sample.operations.wrapping_add(operations);
+    }
+
+    fn in_turn<R: Clock + Wait>(&mut self, rt: &R, works: Vec<Work>) -> Result<()> {
+        for work in works {
+            let done = work.run(rt, self.alloc, &*self.shards)?;
+            self.take(done)?;
+        }
         Ok(())
     }
 
-    fn in_turn<R: Clock + Wait>(&self, rt: &R, works: Vec<Work>) -> Result<Vec<(Work, Done)>> {
-        let mut ended = Vec::new(self.alloc);
-        for mut work in works {
-            let done = work.run(rt, self.alloc, &*self.shards)?;
-            ended.push((work, done))?;
-        }
-        Ok(ended)
-    }
-
     // Does each work in a thread of its own, which begins once all of them are there.
-    fn at_once<R>(&self, rt: &R, works: Vec<Work>) -> Result<Vec<(Work, Done)>>
+    fn at_once<R>(&mut self, rt: &R, works: Vec<Work>) -> Result<()>
     where
         R: Clock + Threads + Wait + Clone + Drop + Send + 'static,
     {
-        let (alloc, threads) = (self.alloc, works.len() as u64);
-        let ready = Arc::new(alloc, AtomicU64::new(0))?;
-        let mut running = Vec::new(alloc);
-        for mut work in works {
-            let (clock, ready) = (rt.clone()?, Arc::try_clone(&ready)?);
-            let shards = Arc::try_clone(&self.shards)?;
-            let child = thread::spawn(rt, move || {
-                wait_for_all(&clock, &ready, threads);
-                let done = work.run(&clock, alloc, &*shards);
-                (work, done)
-            });
+        let running = self.start(rt, works)?;
+        for child in running {
+            let done = child.join(rt)?;
+            self.take(done)?;
+        }
+        Ok(())
+    }
+
+    // Takes a thread's handle back, and adds what its calls took and gave.
+    fn take(&mut self, done: Done) -> Result<()> {
+        let Done {
+            nanoseconds,
+            keys: _keys,
+            handle,
+            outs,
+            values,
+        } = done;
+        let Sample { counts, .. } = &mut self.sample;
+        counts.outs = counts.outs.wrapping_add(outs);
+        counts.values = counts.values.wrapping_add(values);
+        self.sample.spend(nanoseconds, 0);
+        if let Some(handle) = handle {
+            self.handles.push(handle)?;
+        }
+        Ok(())
+    }
+
+    fn start<R>(&self, rt: &R, works: Vec<Work>) -> Result<Vec<JoinHandle<Result<Done>>>>
+    where
+        R: Clock + Threads + Wait + Clone + Drop + Send + 'static,
+    {
+        let threads = works.len() as u64;
+        let ready = Arc::new(self.alloc, AtomicU64::new(0))?;
+        let mut running = Vec::new(self.alloc);
+        for work in works {
+            let beside = self.beside(rt, &ready, threads)?;
+            let child = thread::spawn(rt, move || beside.run(work));
             running.push(child.map_err(|_| anyhow!("no thread could be made"))?)?;
         }
-        let mut ended = Vec::new(alloc);
-        for child in running {
-            let (work, done) = child.join(rt);
-            ended.push((work, done?))?;
-        }
-        Ok(ended)
+        Ok(running)
     }
+
+    fn beside<R: Clone + Drop>(
+        &self,
+        rt: &R,
+        ready: &Arc<AtomicU64>,
+        threads: u64,
+    ) -> Result<Beside<R>> {
+        let clock = rt.clone()?;
+        let ready = Arc::try_clone(ready)?;
+        let shards = Arc::try_clone(&self.shards)?;
+        Ok(Beside {
+            clock,
+            ready,
+            threads,
+            alloc: self.alloc,
+            shards,
+        })
+    }
+}
+
+// What a thread has beside its work.
+#[derive(Drop)]
+struct Beside<R> {
+    clock: R,
+    ready: Arc<AtomicU64>,
+    threads: u64,
+    alloc: Global,
+    shards: Arc<Shards>,
+}
+
+impl<R: Clock + Wait> Beside<R> {
+    // Does a work once all threads are there.
+    fn run(&self, work: Work) -> Result<Done> {
+        wait_for_all(&self.clock, &self.ready, self.threads);
+        work.run(&self.clock, self.alloc, &*self.shards)
+    }
+}
+
+// A handle for each thread.
+fn handles_of<R: Wait>(
+    rt: &R,
+    alloc: Global,
+    queue: &Shards,
+    threads: usize,
+) -> Result<Vec<Handle>> {
+    let mut handles = Vec::new(alloc);
+    for _ in 0..threads {
+        handles.push(queue.handle(rt)?)?;
+    }
+    Ok(handles)
 }
 
 // Counts this thread, and waits until so many are counted.

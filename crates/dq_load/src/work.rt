@@ -2,6 +2,7 @@
 
 use crate::plan::BURST;
 use crate::queues::Refusal;
+use crate::sample::nanoseconds_since;
 use anyhow::Result;
 use dq_core::Turn;
 use dq_shards::{Handle, ShardState, SharedDelayQueue};
@@ -40,6 +41,34 @@ pub enum Work {
     PollBursts(Round),
 }
 
+/// What is dealt out to threads.
+pub trait Dealt: Copy + Drop {
+    /// The work of a thread that gets these, so many of them in a burst.
+    fn work(mine: Vec<Self>, burst: usize) -> Work;
+}
+
+impl Dealt for Begun {
+    fn work(mine: Vec<Begun>, burst: usize) -> Work {
+        if burst == 1 {
+            Work::Insert(mine)
+        } else {
+            Work::InsertBursts(mine)
+        }
+    }
+}
+
+impl Dealt for (Key, u64) {
+    fn work(mine: Vec<(Key, u64)>, _burst: usize) -> Work {
+        Work::Reset(mine)
+    }
+}
+
+impl Dealt for Key {
+    fn work(mine: Vec<Key>, _burst: usize) -> Work {
+        Work::Remove(mine)
+    }
+}
+
 /// A thread that polls goes over so many shards once, and begins at one of them.
 #[derive(Clone, Copy, Debug)]
 pub struct Round {
@@ -50,11 +79,12 @@ pub struct Round {
     pub entries: usize,
 }
 
-/// What a thread's calls gave: keys, and the number and the sum of the values that came out.
+/// What a thread's calls gave: keys, and the number and the sum of the values that came out. A handle is given back.
 #[derive(Drop)]
 pub struct Done {
     pub nanoseconds: u64,
     pub keys: Vec<Key>,
+    pub handle: Option<Handle>,
     pub outs: u64,
     pub values: u64,
 }
@@ -64,6 +94,7 @@ impl Done {
         Done {
             nanoseconds: 0,
             keys: Vec::new(alloc),
+            handle: None,
             outs: 0,
             values: 0,
         }
@@ -77,15 +108,22 @@ impl Done {
 
 impl Work {
     /// Does the work, and times it.
-    pub fn run<R: Clock + Wait>(&mut self, rt: &R, alloc: Global, shards: &Shards) -> Result<Done> {
-        let since = Instant::now(rt)?;
-        let mut done = self.call(rt, alloc, shards)?;
-        done.nanoseconds = u64::try_from(since.elapsed(rt)?.as_nanos())?;
+    pub fn run<R: Clock + Wait>(self, rt: &R, alloc: Global, shards: &Shards) -> Result<Done> {
+        let (mut work, mut done) = (self, Done::new(alloc));
+        work.timed(rt, shards, &mut done)?;
+        done.handle = work.into_handle();
         Ok(done)
     }
 
-    /// The handle of a work that has one.
-    pub fn into_handle(self) -> Option<Handle> {
+    fn timed<R: Clock + Wait>(&mut self, rt: &R, shards: &Shards, done: &mut Done) -> Result<()> {
+        let since = Instant::now(rt)?;
+        self.call(rt, shards, done)?;
+        done.nanoseconds = nanoseconds_since(rt, since)?;
+        Ok(())
+    }
+
+    // The handle of a work that has one.
+    fn into_handle(self) -> Option<Handle> {
         match self {
             Work::Extend {
                 handle,
@@ -99,22 +137,20 @@ impl Work {
         }
     }
 
-    fn call<R: Wait>(&mut self, rt: &R, alloc: Global, shards: &Shards) -> Result<Done, Refusal> {
-        let mut done = Done::new(alloc);
+    fn call<R: Wait>(&mut self, rt: &R, shards: &Shards, done: &mut Done) -> Result<(), Refusal> {
         match self {
-            Work::Insert(begun) => insert_all(rt, shards, begun.as_slice(), &mut done)?,
-            Work::InsertBursts(begun) => insert_bursts(rt, shards, begun.as_slice(), &mut done)?,
+            Work::Insert(begun) => insert_all(rt, shards, begun.as_slice(), done),
+            Work::InsertBursts(begun) => insert_bursts(rt, shards, begun.as_slice(), done),
             Work::Extend {
                 handle,
                 keys,
                 later,
-            } => extend_all(handle, keys.as_slice(), *later)?,
-            Work::Reset(moved) => reset_all(rt, shards, moved.as_slice(), &mut done)?,
-            Work::Remove(keys) => remove_all(rt, shards, keys.as_slice(), &mut done)?,
-            Work::Poll(round) => poll_all(rt, shards, round, &mut done)?,
-            Work::PollBursts(round) => poll_bursts(rt, shards, round, &mut done)?,
+            } => extend_all(handle, keys.as_slice(), *later),
+            Work::Reset(moved) => reset_all(rt, shards, moved.as_slice(), done),
+            Work::Remove(keys) => remove_all(rt, shards, keys.as_slice(), done),
+            Work::Poll(round) => poll_all(rt, shards, round, done),
+            Work::PollBursts(round) => poll_bursts(rt, shards, round, done),
         }
-        Ok(done)
     }
 }
 

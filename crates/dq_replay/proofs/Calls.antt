@@ -15,7 +15,7 @@ use Rattle.dq_core.specs.Sweeps.{Clears}
 use Rattle.dq_replay.specs.declared.session.Lease.{Lease}
 use Rattle.dq_replay.specs.Script.{with_lease, deadline_of}
 use Rattle.dq_replay.specs.Leases.{lease_of, with_lease_if, live_of, vacant, live_lease, key_at, AreKeyed, NameTable, found_in, IsPutIn, one_if}
-use Rattle.dq_replay.specs.LeasesState.{leases_state, AreLeases, IsLiveKey, OfLiveKey, IsSameQueue, IsResetTo, IsExtendedTo, IsEndedLease, IsToldOf, NoLeaseDue, IsLeaseOut, IsResting, moved_lease, without_lease, ResetsLease, ExtendsLease, EndsLease, ExpiresLease}
+use Rattle.dq_replay.specs.LeasesState.{leases_state, AreLeases, OfLiveKey, IsSameQueue, IsResetTo, IsExtendedTo, IsEndedLease, IsToldOf, NoLeaseDue, IsLeaseOut, IsResting, moved_lease, without_lease, ResetsLease, ExtendsLease, EndsLease, ExpiresLease}
 use Rattle.dq_replay.proofs.Ordered.{length-with_lease}
 use Rattle.dq_replay.proofs.LiveSlots.{put_here, put_there, inside_slots, live_set, live_here}
 use Rattle.dq_replay.proofs.Keyed.{keyed_put}

@@ -1,5 +1,5 @@
 -- What no call by the key of a live name refuses.
-use Rattle.std.proofs.Common.{◌≡◌, ℕ, ◌<◌, ◌≤◌, inl, inr, List, ap, arith}
+use Rattle.std.proofs.Common.{ℕ, ◌≤◌, inl, inr, List, ap, arith}
 use Rattle.dq_ticks.specs.Keys.{KeyName}
 use Rattle.dq_ticks.specs.declared.TheConstants.{LAST_TICK}
 use Rattle.dq_core.specs.declared.words.CallError.{CallError}

@@ -1,3 +1,4 @@
+mod calls;
 mod cases;
 mod draining;
 mod each_shard;
@@ -14,3 +15,14 @@ mod swapped;
 mod sweeping;
 mod threads;
 mod twins;
+
+use std::fmt::{Debug, Display};
+use std::process::Abort;
+
+// A call answers so. Else the test ends: it names the call and shows both.
+fn same<T>(rt: &impl Abort, call: impl Display + Copy, answer: T, expected: T)
+where
+    T: PartialEq + Debug + Drop,
+{
+    assert_eq!(rt; answer, expected, "{call}");
+}

@@ -1,5 +1,6 @@
 //! The live entries of a queue over plain words, one after the other, and the value of one of them.
 
+use super::same;
 use dq_core::{CoreConfig, DelayCore, VecWords};
 use dq_ticks::{EntryId, Key};
 use std::alloc::Global;
@@ -32,9 +33,9 @@ fn lists(rt: &impl Abort, queue: &Queue, expected: &[(Key, u64, &str)]) {
     let mut rest = expected.iter();
     for entry in queue.entries() {
         let listed = (entry.key, entry.deadline, entry.value.as_str());
-        assert_eq!(rt; rest.next(), Some(&listed));
+        same(rt, "entries", rest.next(), Some(&listed));
     }
-    assert!(rt; rest.next().is_none());
+    same(rt, "entries", rest.next(), None);
 }
 
 fn value_of<'a>(queue: &'a Queue, entry: &EntryId) -> Option<&'a str> {
@@ -49,7 +50,7 @@ fn wears_a_slot(rt: &impl Abort, alloc: Global, queue: &mut Queue) -> Result<(),
         lists(rt, queue, &[(key, 5, name)]);
         queue.remove(&key.entry())?;
     }
-    assert_eq!(rt; queue.worn(), 1);
+    same(rt, "worn", queue.worn(), 1);
     Ok(())
 }
 
@@ -58,15 +59,15 @@ fn is_reset(queue: &mut Queue, entry: &EntryId, when: u64) -> Result<Key, Fail> 
 }
 
 fn is_extended(rt: &impl Abort, queue: &mut Queue, key: &Key, when: u64) {
-    assert_eq!(rt; queue.extend(key, when), Ok(when));
+    same(rt, "extend", queue.extend(key, when), Ok(when));
 }
 
 fn is_cancelled(rt: &impl Abort, queue: &mut Queue, key: &Key, when: u64) {
-    assert_eq!(rt; queue.cancel(key), Ok(when));
+    same(rt, "cancel", queue.cancel(key), Ok(when));
 }
 
 fn is_swept(rt: &impl Abort, queue: &mut Queue, removed: usize) {
-    assert_eq!(rt; queue.sweep(), removed);
+    same(rt, "sweep", queue.sweep(), removed);
 }
 
 // The queue of the test below, which drops it.
@@ -79,12 +80,19 @@ fn lists_what_lives(rt: &impl Abort, alloc: Global, queue: &mut Queue) -> Result
     is_cancelled(rt, queue, &cancelled, 30);
     let live = [(reset, 20, "reset"), (extended, 50, "extended")];
     lists(rt, queue, &live);
-    assert_eq!(rt; value_of(queue, &early.entry()), Some("reset"));
-    assert_eq!(rt; value_of(queue, &cancelled.entry()), Some("cancelled"));
+    let (early, cancelled) = (early.entry(), cancelled.entry());
+    same(rt, "get", value_of(queue, &early), Some("reset"));
+    same(rt, "get", value_of(queue, &cancelled), Some("cancelled"));
     is_swept(rt, queue, 1);
-    assert_eq!(rt; value_of(queue, &cancelled.entry()), None);
+    same(rt, "get", value_of(queue, &cancelled), None);
     lists(rt, queue, &live);
     Ok(())
+}
+
+fn lists_all_along(rt: &impl Abort, alloc: Global, queue: &mut Queue) -> Result<(), Fail> {
+    lists(rt, queue, &[]);
+    wears_a_slot(rt, alloc, queue)?;
+    lists_what_lives(rt, alloc, queue)
 }
 
 // A worn slot, one whose entry was reset, one whose entry is cancelled and still linked, one whose entry was extended, and
@@ -92,7 +100,5 @@ fn lists_what_lives(rt: &impl Abort, alloc: Global, queue: &mut Queue) -> Result
 #[test]
 fn live_entries_are_listed_once(rt: HostRuntime) -> Result<(), Fail> {
     let mut queue = queue_of_five(rt.alloc())?;
-    lists(&rt, &queue, &[]);
-    wears_a_slot(&rt, rt.alloc(), &mut queue)?;
-    lists_what_lives(&rt, rt.alloc(), &mut queue)
+    lists_all_along(&rt, rt.alloc(), &mut queue)
 }

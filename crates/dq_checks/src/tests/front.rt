@@ -1,6 +1,7 @@
 //! The front door: queues made by their capacity, and an insert that `?` takes.
 
 use super::queues::issued;
+use super::same;
 use dq_core::{BadNumber, CoreConfig, CoreError, DelayCore, Turn, VecWords};
 use dq_ticks::{LAST_STAMP, LAST_TICK};
 use dq_words::{Caller, Keeper, shared_queue};
@@ -19,7 +20,7 @@ fn a_config_of_a_capacity(rt: HostRuntime) -> Result<(), Fail> {
         capacity: 7,
         last_stamp: LAST_STAMP,
     };
-    assert_eq!(rt; CoreConfig::of(7), config);
+    same(&rt, "of", CoreConfig::of(7), config);
     Ok(())
 }
 
@@ -33,13 +34,14 @@ fn takes_two(rt: &impl Abort, queue: &mut DelayCore<char, VecWords>) -> Result<(
     queue.insert_or_drop('b', 20)?;
     queue.insert_or_drop('a', 10)?;
     let full = CoreError::Full { linked: 2, worn: 0 };
-    assert_eq!(rt; refused(queue, 5), Some(full));
-    let late = CoreError::TooFar { limit: LAST_TICK };
-    assert_eq!(rt; refused(queue, LAST_TICK.saturating_add(1)), Some(late));
+    same(rt, "insert", refused(queue, 5), Some(full));
+    let late = LAST_TICK.saturating_add(1);
+    let too_far = CoreError::TooFar { limit: LAST_TICK };
+    same(rt, "late insert", refused(queue, late), Some(too_far));
     let Turn::Out(first) = queue.poll(10)? else {
         return Err(Fail::from("nothing came out"));
     };
-    assert_eq!(rt; (first.value, first.deadline), ('a', 10));
+    same(rt, "poll", (first.value, first.deadline), ('a', 10));
     Ok(())
 }
 
@@ -56,11 +58,11 @@ fn waits_longer(
     caller: &mut Caller,
 ) -> Result<(), Fail> {
     let key = queue.insert_or_drop('a', 10)?;
-    assert_eq!(rt; caller.extend(&key, 30), Ok(30));
+    same(rt, "extend", caller.extend(&key, 30), Ok(30));
     let Turn::Waiting { next } = queue.poll(10)? else {
         return Err(Fail::from("it came out before its deadline"));
     };
-    assert_eq!(rt; next, 30);
+    same(rt, "poll", next, 30);
     Ok(())
 }
 
@@ -73,13 +75,12 @@ fn a_queue_that_callers_extend(rt: HostRuntime) -> Result<(), Fail> {
 
 #[test]
 fn capacities_out_of_range(rt: HostRuntime) -> Result<(), Fail> {
-    for capacity in [0, 65537] {
-        assert_eq!(rt;
-            plain_queue(rt.alloc(), capacity).err(),
-            Some(CoreError::BadConfig)
-        );
-        let shared = shared_queue::<char, Global>(rt.alloc(), capacity);
-        assert_eq!(rt; shared.err(), Some(CoreError::BadConfig));
+    let bad = Some(CoreError::BadConfig);
+    let capacities: &[usize] = &[0, 65537];
+    for capacity in capacities {
+        let plain = plain_queue(rt.alloc(), *capacity);
+        let shared = shared_queue::<char, Global>(rt.alloc(), *capacity);
+        same(&rt, *capacity, (plain.err(), shared.err()), (bad, bad));
     }
     Ok(())
 }
@@ -100,7 +101,7 @@ fn numbers_out_of_range_are_named(rt: HostRuntime) -> Result<(), Fail> {
             capacity: *capacity,
             last_stamp: *last_stamp,
         };
-        assert_eq!(rt; config.check().err(), *bad);
+        same(&rt, "check", (config, config.check().err()), (config, *bad));
     }
     Ok(())
 }

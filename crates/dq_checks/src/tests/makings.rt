@@ -2,6 +2,7 @@
 
 ghost use Rattle.dq_core.specs.Words.{AreFresh};
 
+use super::same;
 use dq_core::{CoreConfig, CoreError, DelayCore, PlainQueue, Slots, VecWords, Words};
 use dq_ticks::LAST_STAMP;
 use dq_wheel::{Wheel, WheelError};
@@ -13,7 +14,7 @@ use std::process::Abort;
 use std::test::Fail;
 
 // What is made, with room for a number of entries.
-#[derive(Clone, Copy, Debug)]
+#[derive(Clone, Copy, Debug, PartialEq)]
 enum Making {
     Wheel,
     Slots,
@@ -26,7 +27,20 @@ enum Making {
 
 type Heap<'a> = RefusingHeap<&'a LocalHeap>;
 
-// Whether a queue is made over words that are there already. Where it isn't, they come back.
+fn takes_an_entry<W: Words>(queue: &mut DelayCore<char, W, &Heap>) -> bool {
+    queue.insert('v', 5).is_ok()
+}
+
+// That no queue is made is as it should be where memory is refused, and the words come back.
+fn is_refused(error: CoreError, come_back: bool) -> Result<bool, CoreError> {
+    if error == CoreError::NoMemory && come_back {
+        Ok(false)
+    } else {
+        Err(error)
+    }
+}
+
+// Whether a queue is made over words that are there already.
 fn is_queue_made<W: Words + Drop>(heap: &Heap, words: W) -> Result<bool, CoreError>
     requires { AreFresh (W.known words) (W.counts words) }
 {
@@ -37,9 +51,8 @@ fn is_queue_made<W: Words + Drop>(heap: &Heap, words: W) -> Result<bool, CoreErr
         last_stamp: LAST_STAMP,
     };
     match DelayCore::new(heap, config, words) {
-        Ok(mut queue) => Ok(queue.insert('v', 5).is_ok()),
-        Err((CoreError::NoMemory, words)) if words.rows() == capacity => Ok(false),
-        Err((error, _words)) => Err(error),
+        Ok(mut queue) => Ok(takes_an_entry(&mut queue)),
+        Err((error, words)) => is_refused(error, words.rows() == capacity),
     }
 }
 
@@ -76,57 +89,95 @@ fn is_made(alloc: Global, heap: &Heap, making: Making, capacity: u16) -> Result<
     }
 }
 
-// How many allocations a making has, each of which was refused. A refused making gives back all that it took.
+// Whether it is made over a heap that refuses one allocation, where it asks for that one.
+fn is_granted(
+    rt: &impl Abort,
+    alloc: Global,
+    heap: &Heap,
+    making: Making,
+    capacity: u16,
+) -> Result<bool, Fail> {
+    let is_made = is_made(alloc, heap, making, capacity)?;
+    same(rt, "refused", heap.has_refused(), !is_made);
+    Ok(is_made)
+}
+
+// Likewise, behind so many grants. A refused making gives back all that it took.
+fn is_granted_by(
+    rt: &impl Abort,
+    alloc: Global,
+    grants: u64,
+    making: Making,
+    capacity: u16,
+) -> Result<bool, Fail> {
+    let all = LocalHeap::new(alloc, 1 << 20)?;
+    let heap = RefusingHeap::new(&all, grants);
+    let is_made = is_granted(rt, alloc, &heap, making, capacity)?;
+    same(rt, "used", all.used(), 0);
+    Ok(is_made)
+}
+
+// How many allocations a making has, each of which was refused.
 fn refusals(rt: &impl Abort, alloc: Global, making: Making, capacity: u16) -> Result<u64, Fail> {
     for grants in 0..100u64 {
-        let all = LocalHeap::new(alloc, 1 << 20)?;
-        let heap = RefusingHeap::new(&all, grants);
-        let is_made = is_made(alloc, &heap, making, capacity)?;
-        assert_eq!(rt; all.used(), 0);
-        assert!(rt; is_made != heap.has_refused());
-        if is_made {
+        if is_granted_by(rt, alloc, grants, making, capacity)? {
             return Ok(grants);
         }
     }
-    assert!(rt; false, "each making was refused");
-    Ok(0)
+    panic!(rt; "each making was refused")
+}
+
+const ALLOCATIONS: &[(Making, u64)] = &[
+    // the row of entries and of the heads of the lists
+    (Making::Wheel, 1),
+    // the cells, and of those that are free the small stack and the bits
+    (Making::Slots, 3),
+    (Making::PlainWords, 1),
+    // the row of zeros, the table's words, its row of no slots, and the table itself
+    (Making::SharedWords, 4),
+    // the slots and the wheel: the words are there already
+    (Making::QueueOverPlainWords, 4),
+    (Making::QueueOverSharedWords, 4),
+    (Making::PlainTwin, 1),
+];
+
+fn are_refused(rt: &impl Abort, alloc: Global, capacity: u16) -> Result<(), Fail> {
+    for (making, allocations) in ALLOCATIONS {
+        let refused = refusals(rt, alloc, *making, capacity)?;
+        same(rt, capacity, (*making, refused), (*making, *allocations));
+    }
+    Ok(())
 }
 
 #[test]
 fn each_allocation_is_refused(rt: HostRuntime) -> Result<(), Fail> {
-    for (making, allocations) in [
-        // the row of entries and of the heads of the lists
-        (Making::Wheel, 1),
-        // the cells, and of those that are free the small stack and the bits
-        (Making::Slots, 3),
-        (Making::PlainWords, 1),
-        // the row of zeros, the table's words, its row of no slots, and the table itself
-        (Making::SharedWords, 4),
-        // the slots and the wheel: the words are there already
-        (Making::QueueOverPlainWords, 4),
-        (Making::QueueOverSharedWords, 4),
-        (Making::PlainTwin, 1),
-    ] {
-        for capacity in [4, 4096] {
-            let refused = refusals(&rt, rt.alloc(), making, capacity)?;
-            assert_eq!(rt; refused, allocations, "{making:?} at {capacity}");
-        }
+    are_refused(&rt, rt.alloc(), 4)?;
+    are_refused(&rt, rt.alloc(), 4096)
+}
+
+fn issues_all(rt: &impl Abort, heap: &Heap, capacity: usize) -> Result<(), Fail> {
+    let mut keeper = Keeper::new(heap, capacity)?;
+    for _ in 0..HANDLE_LIMIT {
+        keeper.issue()?;
     }
+    same(
+        rt,
+        capacity,
+        (keeper.out(), heap.has_refused()),
+        (1024, false),
+    );
     Ok(())
 }
 
 // Over a heap that refuses what comes behind the keeper's own allocations.
+fn issues_without_memory(rt: &impl Abort, alloc: Global, capacity: usize) -> Result<(), Fail> {
+    let all = LocalHeap::new(alloc, 1 << 20)?;
+    let heap = RefusingHeap::new(&all, 4);
+    issues_all(rt, &heap, capacity)
+}
+
 #[test]
 fn callers_take_no_memory(rt: HostRuntime) -> Result<(), Fail> {
-    for capacity in [4, 4096] {
-        let all = LocalHeap::new(rt.alloc(), 1 << 20)?;
-        let heap = RefusingHeap::new(&all, 4);
-        let mut keeper = Keeper::new(&heap, capacity)?;
-        for _ in 0..HANDLE_LIMIT {
-            keeper.issue()?;
-        }
-        assert_eq!(rt; keeper.out(), 1024);
-        assert!(rt; !heap.has_refused());
-    }
-    Ok(())
+    issues_without_memory(&rt, rt.alloc(), 4)?;
+    issues_without_memory(&rt, rt.alloc(), 4096)
 }

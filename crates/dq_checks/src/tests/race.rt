@@ -1,5 +1,6 @@
 // A caller that extends, a caller that cancels and the keeper's own queue, each in a thread of its own.
 use super::queues::{issued, over_shared};
+use super::same;
 use dq_core::{CoreError, DelayCore, Turn};
 use dq_ticks::{Key, LAST_STAMP};
 use dq_words::{Caller, Keeper};
@@ -82,19 +83,23 @@ fn agree(rt: &impl Abort, extended: &Answers, cancelled: &Answers, expired: &Ans
         } else {
             (due, 0)
         };
-        assert_eq!(rt; (expired[deadline], cancelled[deadline]), answers);
+        let told = (expired[deadline], cancelled[deadline]);
+        same(rt, deadline, told, answers);
     }
 }
 
 // Nothing is live, and what was inserted expired or was cancelled.
 fn adds_up(rt: &impl Abort, core: &mut Core, cancels: u64) {
-    assert_eq!(rt; core.returned(), Ok(cancels));
+    same(rt, "returned", core.returned(), Ok(cancels));
     let tally = core.tally();
-    assert_eq!(rt;
+    same(
+        rt,
+        "tally",
         (tally.inserted, tally.removed, tally.cancelled, tally.linked),
-        (200, 0, cancels, 0)
+        (200, 0, cancels, 0),
     );
-    assert_eq!(rt; tally.expired.checked_add(cancels), Some(200));
+    let ended = tally.expired.checked_add(cancels);
+    same(rt, "expired and cancelled", ended, Some(200));
 }
 
 // What the three threads answer: the extends and the cancels, and the polls.
@@ -157,7 +162,7 @@ fn extends_and_cancels_race_with_polls(rt: HostRuntime) -> Result<(), Fail> {
     let mut extender = issued(&mut core)?;
     let mut canceller = issued(&mut core)?;
     let cancels = contest(&rt, rt.alloc(), &mut core, &mut extender, &mut canceller)?;
-    assert_eq!(rt; ends(extender, canceller), (cancels, 0));
+    same(&rt, "give back", ends(extender, canceller), (cancels, 0));
     adds_up(&rt, &mut core, cancels);
     Ok(())
 }

@@ -4,7 +4,8 @@ ghost use Rattle.std.specs.Prelude.{IfOk};
 ghost use Rattle.dq_core.specs.Words.{AreFresh};
 
 use super::queues::issued;
-use dq_core::{CallError, CoreConfig, CoreError, DelayCore, RenewError, VecWords, Words};
+use super::same;
+use dq_core::{CallError, CoreConfig, CoreError, DelayCore, Look, RenewError, VecWords, Words};
 use dq_ticks::{Key, LAST_STAMP};
 use dq_words::{Caller, Keeper};
 use std::alloc::Global;
@@ -61,13 +62,37 @@ fn renewed<W: Anew>(
     }
 }
 
-// Whether the owner finds nothing by a key.
-fn is_unknown<W: Anew>(queue: &mut DelayCore<String, W>, key: &Key) -> bool {
+// A renewal under that number, over so many fresh words, answers so.
+fn renews<W: Anew>(
+    rt: &impl Abort,
+    alloc: Global,
+    queue: &mut DelayCore<String, W>,
+    under: (u32, usize),
+    answer: Result<(), RenewError>,
+) -> Result<(), Fail> {
+    let (number, rows) = under;
+    let renewed = renewed(alloc, queue, number, rows)?;
+    same(rt, "renew", (under, renewed), (under, answer));
+    Ok(())
+}
+
+// The owner finds nothing by a key.
+fn is_unknown<W: Anew>(rt: &impl Abort, queue: &mut DelayCore<String, W>, key: &Key) {
     let entry = key.entry();
-    matches!(queue.reset(&entry, 9), Err(CoreError::Missing))
-        && matches!(queue.remove(&entry), Err(CoreError::Missing))
-        && matches!(queue.deadline(&entry), Err(CoreError::Missing))
-        && queue.place(&entry).is_none()
+    let reset = queue.reset(&entry, 9);
+    let removed = queue.remove(&entry).err();
+    let (deadline, place) = (queue.deadline(&entry), queue.place(&entry));
+    same(
+        rt,
+        "calls by an entry",
+        (reset, removed, deadline, place),
+        (
+            Err(CoreError::Missing),
+            Some(CoreError::Missing),
+            Err(CoreError::Missing),
+            None,
+        ),
+    );
 }
 
 // What a generation is asked with.
@@ -99,17 +124,28 @@ fn wear<R: Abort, W: Anew>(
             Ok(key) => key,
             Err(error) => {
                 let worn = round.capacity;
-                assert_eq!(rt; error, CoreError::Full { linked: 0, worn });
+                same(rt, turn, error, CoreError::Full { linked: 0, worn });
                 break;
             }
         };
-        assert_eq!(rt; taken_out(queue, &key)?, key);
+        same(rt, turn, taken_out(queue, &key)?, key);
         last = Some(key);
         used = used.saturating_add(1);
     }
     let stamps = (round.capacity as u64).saturating_mul(u64::from(round.last_stamp));
-    assert_eq!(rt; used, stamps);
+    same(rt, "inserts", used, stamps);
     Ok(last)
+}
+
+// Keeps a key of the last eight generations each.
+fn keeps(old: &mut Vec<Key>, key: Option<Key>) -> Result<(), Fail> {
+    if let Some(key) = key {
+        if old.len() == 8 {
+            old.remove(0);
+        }
+        old.push(key)?;
+    }
+    Ok(())
 }
 
 // One generation: the queue is worn out, old keys are refused, and it is renewed.
@@ -119,33 +155,43 @@ fn generation<R: Abort, W: Anew>(
     round: &mut Round,
 ) -> Result<(), Fail> {
     let key = wear(rt, queue, round)?;
+    let (alloc, rows) = (round.alloc, round.capacity);
     let number = queue.shard();
     let next = number.saturating_add(1);
-    let again = renewed(round.alloc, queue, number, round.capacity)?;
-    assert_eq!(rt; again, Err(RenewError::UsedNumber { number }));
-    let wrong = renewed(round.alloc, queue, next, round.capacity.saturating_add(1))?;
-    assert_eq!(rt; wrong, Err(RenewError::WrongRows));
-    assert_eq!(rt; renewed(round.alloc, queue, next, round.capacity)?, Ok(()));
-    assert_eq!(rt; (queue.shard(), queue.worn(), queue.len()), (next, 0, 0));
-    if let Some(key) = key {
-        if round.old.len() == 8 {
-            round.old.remove(0);
-        }
-        round.old.push(key)?;
-    }
+    let used = Err(RenewError::UsedNumber { number });
+    renews(rt, alloc, queue, (number, rows), used)?;
+    let wrong = Err(RenewError::WrongRows);
+    renews(rt, alloc, queue, (next, rows.saturating_add(1)), wrong)?;
+    renews(rt, alloc, queue, (next, rows), Ok(()))?;
+    let now = (queue.shard(), queue.worn(), queue.len());
+    same(rt, "number, worn and linked", now, (next, 0, 0));
+    keeps(round.old, key)?;
     for key in round.old.iter() {
-        let found = is_unknown(queue, key);
-        assert!(rt; found);
+        is_unknown(rt, queue, key);
     }
     Ok(())
 }
 
-// So many generations of a queue of two slots. In each an entry is linked while the old keys are asked for.
+// So many generations. In each an entry is linked while the old keys are asked for.
+fn generations<R: Abort, W: Anew>(
+    rt: &R,
+    queue: &mut DelayCore<String, W>,
+    round: &mut Round,
+    count: u32,
+) -> Result<(), Fail> {
+    for _turn in 0..count {
+        generation(rt, queue, round)?;
+    }
+    same(rt, "generations", queue.shard(), count);
+    holds(rt, round.alloc, queue, count.saturating_add(1))
+}
+
+// So many generations of a queue of two slots.
 fn lasts<R: Abort, W: Anew>(
     rt: &R,
     alloc: Global,
     last_stamp: u32,
-    generations: u32,
+    count: u32,
 ) -> Result<(), Fail> {
     let capacity = 2;
     let mut queue: DelayCore<String, W> = queue(alloc, capacity, last_stamp)?;
@@ -156,11 +202,7 @@ fn lasts<R: Abort, W: Anew>(
         last_stamp,
         old: &mut old,
     };
-    for _turn in 0..generations {
-        generation(rt, &mut queue, &mut round)?;
-    }
-    assert_eq!(rt; queue.shard(), generations);
-    holds(rt, alloc, &mut queue, generations.saturating_add(1))
+    generations(rt, &mut queue, &mut round, count)
 }
 
 // While an entry is linked, no renewal goes.
@@ -171,9 +213,9 @@ fn holds<R: Abort, W: Anew>(
     number: u32,
 ) -> Result<(), Fail> {
     let key = queue.insert_or_drop(format!(in alloc; "held")?, 7)?;
-    let linked = renewed(alloc, queue, number, 2)?;
-    assert_eq!(rt; linked, Err(RenewError::StillLinked { linked: 1 }));
-    assert_eq!(rt; queue.deadline(&key.entry()), Ok(7));
+    let linked = Err(RenewError::StillLinked { linked: 1 });
+    renews(rt, alloc, queue, (number, 2), linked)?;
+    same(rt, "deadline", queue.deadline(&key.entry()), Ok(7));
     Ok(())
 }
 
@@ -201,50 +243,75 @@ fn followed<R: Abort, W: Anew>(
     number: u32,
 ) -> Result<(Key, Key), Fail> {
     let old = queue.insert_or_drop(format!(in alloc; "old")?, 5)?;
-    assert_eq!(rt; taken_out(queue, &old)?, old);
-    assert_eq!(rt; renewed(alloc, queue, number, 1)?, Ok(()));
+    same(rt, "remove", taken_out(queue, &old)?, old);
+    renews(rt, alloc, queue, (number, 1), Ok(()))?;
     let new = queue.insert_or_drop(format!(in alloc; "new")?, 6)?;
     Ok((old, new))
 }
 
 // The queue's own calls by a key.
 fn is_unknown_to_all(rt: &impl Abort, queue: &mut DelayCore<String, VecWords>, key: &Key) {
-    assert_eq!(rt; queue.extend(key, 9), Err(CallError::Unknown));
-    assert_eq!(rt; queue.cancel(key), Err(CallError::Unknown));
-    assert_eq!(rt; queue.look(key), Err(CallError::Unknown));
-    let found = is_unknown(queue, key);
-    assert!(rt; found);
+    same(rt, "extend", queue.extend(key, 9), Err(CallError::Unknown));
+    same(rt, "cancel", queue.cancel(key), Err(CallError::Unknown));
+    same(rt, "look", queue.look(key), Err(CallError::Unknown));
+    is_unknown(rt, queue, key);
 }
 
-// Calls by key of the owner, with a key from before a renewal, while another entry has its slot and its stamp.
-#[test]
-fn old_keys_never_reach_a_new_entry(rt: HostRuntime) -> Result<(), Fail> {
-    let mut queue: DelayCore<String, VecWords> = queue(rt.alloc(), 1, LAST_STAMP)?;
-    let (old, new) = followed(&rt, rt.alloc(), &mut queue, 3)?;
-    let same = (new.entry().index(), new.stamp()) == (old.entry().index(), old.stamp());
-    assert!(rt; same);
-    is_unknown_to_all(&rt, &mut queue, &old);
-    assert_eq!(rt; queue.deadline(&new.entry()), Ok(6));
+// A key from before a renewal, while another entry has its slot and its stamp.
+fn old_key_is_unknown<R: Abort>(
+    rt: &R,
+    alloc: Global,
+    queue: &mut DelayCore<String, VecWords>,
+) -> Result<(), Fail> {
+    let (old, new) = followed(rt, alloc, queue, 3)?;
+    same(
+        rt,
+        "slot and stamp",
+        (new.entry().index(), new.stamp()),
+        (old.entry().index(), old.stamp()),
+    );
+    is_unknown_to_all(rt, queue, &old);
+    same(rt, "deadline", queue.deadline(&new.entry()), Ok(6));
     Ok(())
 }
 
-// Neither call reaches the entry.
-fn is_refused(rt: &impl Abort, caller: &mut Caller, key: &Key) {
-    let cancelled = caller.cancel(key);
-    assert!(rt; cancelled.is_err());
-    let extended = caller.extend(key, 90);
-    assert!(rt; extended.is_err());
+// Calls by key of the owner.
+#[test]
+fn old_keys_never_reach_a_new_entry(rt: HostRuntime) -> Result<(), Fail> {
+    let mut queue: DelayCore<String, VecWords> = queue(rt.alloc(), 1, LAST_STAMP)?;
+    old_key_is_unknown(&rt, rt.alloc(), &mut queue)
 }
 
 // A caller from before a renewal stays at the words from before, and the queue's new entry doesn't feel it.
+fn old_caller_stays<R: Abort>(
+    rt: &R,
+    alloc: Global,
+    queue: &mut DelayCore<String, Keeper>,
+    caller: &mut Caller,
+) -> Result<(), Fail> {
+    let (_old, new) = followed(rt, alloc, queue, 1)?;
+    let how = Look::LookRemoved(5);
+    same(
+        rt,
+        "cancel",
+        caller.cancel(&new),
+        Err(CallError::Ended { how }),
+    );
+    same(
+        rt,
+        "extend",
+        caller.extend(&new, 90),
+        Err(CallError::Ended { how }),
+    );
+    same(rt, "deadline", queue.deadline(&new.entry()), Ok(6));
+    Ok(())
+}
+
 #[test]
 fn old_callers_stay_at_the_old_words(rt: HostRuntime) -> Result<(), Fail> {
     let mut queue: DelayCore<String, Keeper> = queue(rt.alloc(), 1, LAST_STAMP)?;
     let mut caller = issued(&mut queue)?;
-    let (_old, new) = followed(&rt, rt.alloc(), &mut queue, 1)?;
-    is_refused(&rt, &mut caller, &new);
-    assert_eq!(rt; queue.deadline(&new.entry()), Ok(6));
-    Ok(())
+    old_caller_stays(&rt, rt.alloc(), &mut queue, &mut caller)
 }
 
 // Inserts into one slot and takes out in turn, and renews where the slot is worn: how often it was renewed.
@@ -264,7 +331,7 @@ fn goes_on(
         }
         let key = queue.insert_or_drop(turn, turn)?;
         let removed = queue.remove(&key.entry())?;
-        assert_eq!(rt; removed.value, turn);
+        same(rt, "remove", removed.value, turn);
     }
     Ok(renewals)
 }
@@ -273,6 +340,7 @@ fn goes_on(
 #[test]
 fn three_million_inserts_go_on(rt: HostRuntime) -> Result<(), Fail> {
     let mut queue: DelayCore<u64, VecWords> = DelayCore::with_capacity(rt.alloc(), 1)?;
-    assert_eq!(rt; goes_on(&rt, rt.alloc(), &mut queue)?, 2);
+    let renewals = goes_on(&rt, rt.alloc(), &mut queue)?;
+    same(&rt, "renewals", renewals, 2);
     Ok(())
 }

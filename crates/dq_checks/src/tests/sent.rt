@@ -1,5 +1,6 @@
 //! A keeper and a caller are sent to a thread, by value.
 
+use super::same;
 use dq_core::{CallError, Words};
 use dq_ticks::{EntryId, Key};
 use dq_words::{Caller, Keeper};
@@ -23,8 +24,8 @@ fn a_keeper_and_a_caller_are_sent(rt: HostRuntime) -> Result<(), Fail> {
     keeper.begin(0, 1, 10);
     let key = Key::new(EntryId::new(0, 0, 1), 1);
     let extending = thread::spawn(&rt, move || extend_once(caller, key))?;
-    assert_eq!(rt; extending.join(&rt), (Ok(50), 0));
+    same(&rt, "extend", extending.join(&rt), (Ok(50), 0));
     let auditing = thread::spawn(&rt, move || audit(keeper))?;
-    assert_eq!(rt; auditing.join(&rt), (0, Ok(0)));
+    same(&rt, "audit", auditing.join(&rt), (0, Ok(0)));
     Ok(())
 }

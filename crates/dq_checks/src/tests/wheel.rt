@@ -1,122 +1,74 @@
 //! The wheel alone, its places and its ways, over a table of ticks.
 
+use super::same;
+use super::wheel_calls::Call::{
+    Advance, Arrive, Law, Least, Link, Moved, NextWake, Occupied, Pop, Settle, Stands, Tick, Unlink,
+};
+use super::wheel_calls::{advance, arrive, each_answers, link, plays, settle, stands};
 use dq_ticks::{CAPACITY_LIMIT, LAST_TICK, REACH, digit, level_of, slot_start};
-use dq_wheel::{Place, Wheel, WheelError, wakes_are_ahead};
+use dq_wheel::{Place, Wheel, WheelError};
 use linked_list_allocator::LocalHeap;
-use std::alloc::Allocator;
+use std::alloc::Global;
 use std::process::Abort;
 use std::test::Fail;
 
-// Links an index where the wheel allows it.
-fn link<A: Allocator>(rt: &impl Abort, wheel: &mut Wheel<A>, index: usize, filed: u64) {
-    assert!(rt; index < wheel.capacity());
-    assert!(rt; wheel.tick() <= filed && filed <= LAST_TICK && filed <= wheel.tick() + REACH);
-    match wheel.filed(index) {
-        None => wheel.link(index, filed),
-        Some(_) => assert!(rt; false, "index {index} is linked"),
-    }
-}
-
-// Unlinks an index that is linked.
-fn unlink<A: Allocator>(rt: &impl Abort, wheel: &mut Wheel<A>, index: usize) {
-    assert!(rt; index < wheel.capacity());
-    match wheel.filed(index) {
-        Some(_) => wheel.unlink(index),
-        None => assert!(rt; false, "index {index} is loose"),
-    }
-}
-
-// Advances a wheel of which nothing is due.
-fn advance<A: Allocator>(rt: &impl Abort, wheel: &mut Wheel<A>, limit: u64) -> bool {
-    assert!(rt; wheel.tick() <= limit && limit <= LAST_TICK);
-    match wheel.pop_due() {
-        None => wheel.advance(limit),
-        Some(index) => {
-            assert!(rt; false, "index {index} is due");
-            false
-        }
-    }
-}
-
-// Arrives with a wheel of which nothing is due.
-fn arrive<A: Allocator>(rt: &impl Abort, wheel: &mut Wheel<A>, limit: u64) -> bool {
-    assert!(rt; wheel.tick() <= limit && limit <= LAST_TICK);
-    match wheel.pop_due() {
-        None => wheel.arrive(limit),
-        Some(index) => {
-            assert!(rt; false, "index {index} is due");
-            false
-        }
-    }
-}
-
-// Takes out what is due, links what has a later deadline anew, and counts how many were due.
-fn settle<A: Allocator>(rt: &impl Abort, wheel: &mut Wheel<A>, deadlines: &[u64]) -> u64 {
-    let mut due = 0u64;
-    for _turn in 0..deadlines.len() {
-        let Some(index) = wheel.pop_due() else {
-            break;
-        };
-        due = due.wrapping_add(1);
-        match deadlines.get(index) {
-            Some(deadline) if wheel.tick() < *deadline => link(rt, wheel, index, *deadline),
-            _ => {}
-        }
-    }
-    due
-}
-
-fn place<A: Allocator>(rt: &impl Abort, wheel: &Wheel<A>, index: usize) -> Place {
-    assert!(rt; index < wheel.capacity());
-    wheel.place(index)
-}
-
-fn moves<A: Allocator>(rt: &impl Abort, wheel: &Wheel<A>, index: usize) -> u8 {
-    assert!(rt; index < wheel.capacity());
-    wheel.moves(index)
-}
-
 #[test]
 fn wheel_cascade(rt: HostRuntime) -> Result<(), Fail> {
-    let mut wheel = Wheel::new(rt.alloc(), 2)?;
-    link(&rt, &mut wheel, 0, 130);
-    assert_eq!(rt;
-        (wheel.occupancy(1), wheel.least(), moves(&rt, &wheel, 0)),
-        (4, Some(0), 0)
+    let calls = &[
+        Link(0, 130),
+        Occupied(1, 4),
+        Least(Some(0)),
+        Stands(0, Some(130), Place::InSlot { level: 1, slot: 2 }, 0),
+        Advance(128, true),
+        Occupied(1, 0),
+        Occupied(0, 4),
+        Stands(0, Some(130), Place::InSlot { level: 0, slot: 2 }, 1),
+        Advance(129, false),
+        Tick(129),
+        Advance(130, true),
+        Stands(0, Some(130), Place::Due, 1),
+        Moved(1),
+        Pop(Some(0)),
+        Pop(None),
+        Stands(0, None, Place::Loose, 0),
+        Moved(1),
+    ];
+    plays(&rt, rt.alloc(), 2, calls)
+}
+
+// Where the empty wheel goes to a tick, an index that is filed then stands there, and its slot is the next wake.
+fn waits_at(rt: &impl Abort, wheel: &mut Wheel, tick: u64, filed: u64, slot: (Place, u64)) {
+    let (place, wake) = slot;
+    let reached = advance(rt, wheel, tick);
+    link(rt, wheel, 0, filed);
+    let stands = stands(rt, wheel, 0);
+    same(
+        rt,
+        filed,
+        (reached, wheel.tick(), stands, wheel.next_wake()),
+        (false, tick, (Some(filed), place, 0), Some(wake)),
     );
-    assert!(rt; advance(&rt, &mut wheel, 128));
-    assert_eq!(rt;
-        (
-            wheel.occupancy(1),
-            wheel.occupancy(0),
-            moves(&rt, &wheel, 0)
-        ),
-        (0, 4, 1)
-    );
-    assert!(rt; !advance(&rt, &mut wheel, 129));
-    assert_eq!(rt; wheel.tick(), 129);
-    assert!(rt; advance(&rt, &mut wheel, 130));
-    assert_eq!(rt;
-        (place(&rt, &wheel, 0), moves(&rt, &wheel, 0), wheel.moved()),
-        (Place::Due, 1, 1)
-    );
-    assert_eq!(rt; (wheel.pop_due(), wheel.pop_due()), (Some(0), None));
-    assert_eq!(rt;
-        (place(&rt, &wheel, 0), moves(&rt, &wheel, 0), wheel.moved()),
-        (Place::Loose, 0, 1)
-    );
+}
+
+fn waits(
+    rt: &impl Abort,
+    alloc: Global,
+    tick: u64,
+    filed: u64,
+    slot: (Place, u64),
+) -> Result<(), Fail> {
+    let mut wheel = Wheel::new(alloc, 1)?;
+    waits_at(rt, &mut wheel, tick, filed, slot);
     Ok(())
 }
 
 #[test]
 fn beyond_one_lap(rt: HostRuntime) -> Result<(), Fail> {
+    let slot = (Place::InSlot { level: 5, slot: 0 }, 68719476736);
     // The tick that the empty wheel goes to, and the tick filed then.
-    for (tick, filed) in [(68719476735, 68719476736), (5, 68719476740)] {
-        let mut wheel = Wheel::new(rt.alloc(), 1)?;
-        assert!(rt; !advance(&rt, &mut wheel, tick));
-        link(&rt, &mut wheel, 0, filed);
-        assert_eq!(rt; place(&rt, &wheel, 0), Place::InSlot { level: 5, slot: 0 });
-        assert_eq!(rt; wheel.next_wake(), Some(68719476736));
+    let rows: &[(u64, u64)] = &[(68719476735, 68719476736), (5, 68719476740)];
+    for (tick, filed) in rows {
+        waits(&rt, rt.alloc(), *tick, *filed, slot)?;
     }
     Ok(())
 }
@@ -142,7 +94,7 @@ fn slot_of(rt: &impl Abort, tick: u64, filed: u64) -> (Place, u64) {
 
 #[test]
 fn places_by_tick(rt: HostRuntime) -> Result<(), Fail> {
-    for (tick, filed) in [
+    let rows: &[(u64, u64)] = &[
         (0, 63),
         (0, 64),
         (63, 64),
@@ -154,95 +106,98 @@ fn places_by_tick(rt: HostRuntime) -> Result<(), Fail> {
         (4096, 5000),
         (4992, 5000),
         (0, REACH),
-    ] {
-        let mut wheel = Wheel::new(rt.alloc(), 1)?;
-        assert!(rt; !advance(&rt, &mut wheel, tick));
-        link(&rt, &mut wheel, 0, filed);
-        let (slot, start) = slot_of(&rt, tick, filed);
-        assert_eq!(rt; place(&rt, &wheel, 0), slot, "{filed} at {tick}");
-        assert_eq!(rt; wheel.next_wake(), Some(start), "{filed} at {tick}");
+    ];
+    for (tick, filed) in rows {
+        let slot = slot_of(&rt, *tick, *filed);
+        waits(&rt, rt.alloc(), *tick, *filed, slot)?;
     }
-    let mut wheel = Wheel::new(rt.alloc(), 1)?;
-    link(&rt, &mut wheel, 0, 0);
-    assert_eq!(rt;
-        (place(&rt, &wheel, 0), wheel.next_wake()),
-        (Place::Due, Some(0))
-    );
-    Ok(())
+    let at_once = &[
+        Link(0, 0),
+        Stands(0, Some(0), Place::Due, 0),
+        NextWake(Some(0)),
+    ];
+    plays(&rt, rt.alloc(), 1, at_once)
 }
 
 #[test]
 fn unlinks_from_a_shared_slot(rt: HostRuntime) -> Result<(), Fail> {
-    let mut wheel = Wheel::new(rt.alloc(), 3)?;
-    for (index, filed) in [(0, 70), (1, 65), (2, 127)] {
-        link(&rt, &mut wheel, index, filed);
-    }
-    wheel.law();
-    wakes_are_ahead();
     // The first, the last and the one between leave in turn: the slot's bit stays until the last one left.
-    for (index, least, occupied) in [(1, Some(0), 2), (2, Some(0), 2), (0, None, 0)] {
-        unlink(&rt, &mut wheel, index);
-        assert_eq!(rt;
-            (place(&rt, &wheel, index), wheel.least(), wheel.occupancy(1)),
-            (Place::Loose, least, occupied)
-        );
-    }
-    assert_eq!(rt; (wheel.next_wake(), wheel.moved()), (None, 0));
-    Ok(())
+    let calls = &[
+        Link(0, 70),
+        Link(1, 65),
+        Link(2, 127),
+        Law,
+        Unlink(1),
+        Stands(1, None, Place::Loose, 0),
+        Least(Some(0)),
+        Occupied(1, 2),
+        Unlink(2),
+        Stands(2, None, Place::Loose, 0),
+        Least(Some(0)),
+        Occupied(1, 2),
+        Unlink(0),
+        Stands(0, None, Place::Loose, 0),
+        Least(None),
+        Occupied(1, 0),
+        NextWake(None),
+        Moved(0),
+    ];
+    plays(&rt, rt.alloc(), 3, calls)
 }
 
 #[test]
 fn bad_configs(rt: HostRuntime) {
-    for (capacity, error) in [(0, WheelError::BadConfig), (65537, WheelError::BadConfig)] {
-        match Wheel::new(rt.alloc(), capacity) {
-            Ok(_) => assert!(rt; false, "{capacity}"),
-            Err(refusal) => assert_eq!(rt; refusal, error),
-        }
+    for capacity in [0, 65537] {
+        let made = Wheel::new(rt.alloc(), capacity);
+        same(&rt, capacity, made.err(), Some(WheelError::BadConfig));
     }
+}
+
+// What the next wake of a wheel is, whose memory is taken from that heap.
+fn wake_over(rt: &impl Abort, heap: &LocalHeap) -> Result<Option<u64>, WheelError> {
+    let mut wheel = Wheel::new(heap, 4)?;
+    link(rt, &mut wheel, 3, 9);
+    Ok(wheel.next_wake())
+}
+
+// A heap of that size suffices or doesn't, and has all its memory back.
+fn suffices(
+    rt: &impl Abort,
+    alloc: Global,
+    size: usize,
+    made: Result<Option<u64>, WheelError>,
+) -> Result<(), Fail> {
+    let heap = LocalHeap::new(alloc, size)?;
+    same(rt, size, wake_over(rt, &heap), made);
+    same(rt, size, heap.used(), 0);
+    Ok(())
 }
 
 #[test]
 fn refused_memory(rt: HostRuntime) -> Result<(), Fail> {
     // The rows of four indexes and of the heads take 24 bytes each.
-    for (size, made) in [(0, false), (9296, false), (9312, true)] {
-        let heap = LocalHeap::new(rt.alloc(), size)?;
-        match Wheel::new(&heap, 4) {
-            Ok(mut wheel) => {
-                assert!(rt; made, "{size}");
-                link(&rt, &mut wheel, 3, 9);
-                assert_eq!(rt; wheel.next_wake(), Some(9));
-            }
-            Err(refusal) => assert_eq!(rt;
-                (made, refusal),
-                (false, WheelError::NoMemory),
-                "{size}"
-            ),
-        }
-        assert_eq!(rt; heap.used(), 0);
-    }
-    Ok(())
+    suffices(&rt, rt.alloc(), 0, Err(WheelError::NoMemory))?;
+    suffices(&rt, rt.alloc(), 9296, Err(WheelError::NoMemory))?;
+    suffices(&rt, rt.alloc(), 9312, Ok(Some(9)))
 }
 
-#[test]
-fn full_wheel_to_the_last_tick(rt: HostRuntime) -> Result<(), Fail> {
-    let mut wheel = Wheel::new(rt.alloc(), CAPACITY_LIMIT)?;
-    assert_eq!(rt; wheel.capacity(), CAPACITY_LIMIT);
-    // The tick of an index is its number in the high digits and the same number turned in the low ones.
+// The tick of an index is its number in the high digits and the same number turned in the low ones.
+fn fill(rt: &impl Abort, wheel: &mut Wheel) {
     for index in 0..65536usize {
-        link(
-            &rt,
-            &mut wheel,
-            index,
-            index as u64 * 1048576 + (65535 - index as u64),
-        );
+        let tick = index as u64 * 1048576 + (65535 - index as u64);
+        link(rt, wheel, index, tick);
     }
+}
+
+// Pops until the last tick: how many were popped, and the tick of the last one.
+fn empty(rt: &impl Abort, wheel: &mut Wheel) -> (u64, u64) {
     let mut popped = 0u64;
     let mut last = 0;
     for _ in 0..10_000_000u64 {
         match wheel.pop_due() {
             Some(index) => {
                 // The ticks rise with the numbers.
-                assert_eq!(rt; index as u64, popped);
+                same(rt, "pop", index as u64, popped);
                 popped = popped.wrapping_add(1);
                 last = wheel.tick();
             }
@@ -252,100 +207,114 @@ fn full_wheel_to_the_last_tick(rt: HostRuntime) -> Result<(), Fail> {
             }
         }
     }
-    assert_eq!(rt;
-        (popped, last, wheel.tick()),
-        (65536, 68718428160, LAST_TICK)
-    );
-    assert_eq!(rt;
-        (wheel.next_wake(), wheel.least(), wheel.occupancy(5)),
-        (None, None, 0)
-    );
+    (popped, last)
+}
+
+fn fills_and_empties(rt: &impl Abort, wheel: &mut Wheel) {
+    same(rt, "capacity", wheel.capacity(), CAPACITY_LIMIT);
+    fill(rt, wheel);
+    same(rt, "pops", empty(rt, wheel), (65536, 68718428160));
+    let end = &[Tick(LAST_TICK), NextWake(None), Least(None), Occupied(5, 0)];
+    each_answers(rt, wheel, end);
+}
+
+#[test]
+fn full_wheel_to_the_last_tick(rt: HostRuntime) -> Result<(), Fail> {
+    let mut wheel = Wheel::new(rt.alloc(), CAPACITY_LIMIT)?;
+    fills_and_empties(&rt, &mut wheel);
     Ok(())
+}
+
+const DEADLINES: [u64; 4] = [130, 191, 200, 5000];
+
+// The limit, whether a wake is up to it, the tick then, how many are due, and the next wake once they were settled.
+const ARRIVALS: &[(u64, bool, u64, u64, Option<u64>)] = &[
+    (100, false, 100, 0, Some(128)),
+    (LAST_TICK, true, 128, 2, Some(130)),
+    (129, false, 129, 0, Some(130)),
+    (130, true, 130, 1, Some(191)),
+    (LAST_TICK, true, 191, 1, Some(192)),
+    (LAST_TICK, true, 192, 1, Some(200)),
+    (LAST_TICK, true, 200, 1, Some(4096)),
+    (LAST_TICK, true, 4096, 1, Some(4992)),
+    (LAST_TICK, true, 4992, 1, Some(5000)),
+    (LAST_TICK, true, 5000, 1, None),
+    (LAST_TICK, false, LAST_TICK, 0, None),
+];
+
+fn arrives(rt: &impl Abort, wheel: &mut Wheel) {
+    each_answers(
+        rt,
+        wheel,
+        &[Link(0, 130), Link(1, 191), Link(2, 200), Link(3, 5000)],
+    );
+    for (limit, reached, tick, due, next) in ARRIVALS {
+        let arrived = (arrive(rt, wheel, *limit), wheel.tick());
+        let settled = (settle(rt, wheel, &DEADLINES), wheel.next_wake());
+        same(
+            rt,
+            *tick,
+            (arrived, settled),
+            ((*reached, *tick), (*due, *next)),
+        );
+    }
+    // No index went from a level to a lower one.
+    same(rt, "moved", wheel.moved(), 0);
 }
 
 #[test]
 fn arrives_at_each_slot(rt: HostRuntime) -> Result<(), Fail> {
-    let deadlines = [130, 191, 200, 5000];
     let mut wheel = Wheel::new(rt.alloc(), 4)?;
-    for index in 0..4 {
-        link(&rt, &mut wheel, index, deadlines[index]);
-    }
-    // The limit, whether a wake is up to it, the tick then, how many are due, and the next wake once they were settled.
-    for (limit, reached, tick, due, next) in [
-        (100, false, 100, 0, Some(128)),
-        (LAST_TICK, true, 128, 2, Some(130)),
-        (129, false, 129, 0, Some(130)),
-        (130, true, 130, 1, Some(191)),
-        (LAST_TICK, true, 191, 1, Some(192)),
-        (LAST_TICK, true, 192, 1, Some(200)),
-        (LAST_TICK, true, 200, 1, Some(4096)),
-        (LAST_TICK, true, 4096, 1, Some(4992)),
-        (LAST_TICK, true, 4992, 1, Some(5000)),
-        (LAST_TICK, true, 5000, 1, None),
-        (LAST_TICK, false, LAST_TICK, 0, None),
-    ] {
-        assert_eq!(rt; arrive(&rt, &mut wheel, limit), reached, "{tick}");
-        assert_eq!(rt; wheel.tick(), tick);
-        assert_eq!(rt; settle(&rt, &mut wheel, &deadlines), due, "{tick}");
-        assert_eq!(rt; wheel.next_wake(), next, "{tick}");
-    }
-    // No index went from a level to a lower one.
-    assert_eq!(rt; wheel.moved(), 0);
+    arrives(&rt, &mut wheel);
     Ok(())
 }
 
 #[test]
 fn due_while_a_slot_is_open(rt: HostRuntime) -> Result<(), Fail> {
-    let mut wheel = Wheel::new(rt.alloc(), 5)?;
-    for (index, filed) in [(0, 130), (1, 191), (2, 150), (3, 200)] {
-        link(&rt, &mut wheel, index, filed);
-    }
-    assert!(rt; arrive(&rt, &mut wheel, 128));
-    // The three of the slot are due, filed at its start. The fourth waits in the next slot of level 1.
-    for (index, filed, stands) in [
-        (0, Some(128), Place::Due),
-        (1, Some(128), Place::Due),
-        (2, Some(128), Place::Due),
-        (3, Some(200), Place::InSlot { level: 1, slot: 3 }),
-        (4, None, Place::Loose),
-    ] {
-        assert!(rt; index < wheel.capacity());
-        assert_eq!(rt;
-            (wheel.filed(index), place(&rt, &wheel, index)),
-            (filed, stands),
-            "{index}"
-        );
-    }
-    assert_eq!(rt;
-        (wheel.occupancy(0), wheel.occupancy(1), wheel.next_wake()),
-        (0, 8, Some(128))
-    );
-    // One leaves from between, and one is filed at the tick itself: it is due with the others.
-    unlink(&rt, &mut wheel, 2);
-    link(&rt, &mut wheel, 4, 128);
-    wheel.law();
-    assert_eq!(rt; settle(&rt, &mut wheel, &[130, 191, 150, 200, 128]), 3);
-    assert_eq!(rt; (wheel.least(), wheel.next_wake()), (Some(0), Some(130)));
-    Ok(())
+    let calls = &[
+        Link(0, 130),
+        Link(1, 191),
+        Link(2, 150),
+        Link(3, 200),
+        Arrive(128, true),
+        // The three of the slot are due, filed at its start. The fourth waits in the next slot of level 1.
+        Stands(0, Some(128), Place::Due, 0),
+        Stands(1, Some(128), Place::Due, 0),
+        Stands(2, Some(128), Place::Due, 0),
+        Stands(3, Some(200), Place::InSlot { level: 1, slot: 3 }, 0),
+        Stands(4, None, Place::Loose, 0),
+        Occupied(0, 0),
+        Occupied(1, 8),
+        NextWake(Some(128)),
+        // One leaves from between, and one is filed at the tick itself: it is due with the others.
+        Unlink(2),
+        Link(4, 128),
+        Law,
+        Settle(&[130, 191, 150, 200, 128], 3),
+        Least(Some(0)),
+        NextWake(Some(130)),
+    ];
+    plays(&rt, rt.alloc(), 5, calls)
 }
 
 #[test]
 fn arrives_a_lap_ahead(rt: HostRuntime) -> Result<(), Fail> {
-    let mut wheel = Wheel::new(rt.alloc(), 2)?;
-    assert!(rt; !arrive(&rt, &mut wheel, 5));
-    link(&rt, &mut wheel, 0, 68719476740);
-    assert!(rt; arrive(&rt, &mut wheel, LAST_TICK));
-    // While the top level's own slot is open, an index is filed as far ahead as the wheel reaches.
-    link(&rt, &mut wheel, 1, 68719476736 + REACH);
-    assert_eq!(rt;
-        (wheel.tick(), place(&rt, &wheel, 0), place(&rt, &wheel, 1)),
-        (
-            68719476736,
-            Place::Due,
-            Place::InSlot { level: 5, slot: 63 }
-        )
-    );
-    assert_eq!(rt; settle(&rt, &mut wheel, &[68719476740]), 1);
-    assert_eq!(rt; wheel.next_wake(), Some(68719476740));
-    Ok(())
+    let calls = &[
+        Arrive(5, false),
+        Link(0, 68719476740),
+        Arrive(LAST_TICK, true),
+        // While the top level's own slot is open, an index is filed as far ahead as the wheel reaches.
+        Link(1, 68719476736 + REACH),
+        Tick(68719476736),
+        Stands(0, Some(68719476736), Place::Due, 0),
+        Stands(
+            1,
+            Some(68719476736 + REACH),
+            Place::InSlot { level: 5, slot: 63 },
+            0,
+        ),
+        Settle(&[68719476740], 1),
+        NextWake(Some(68719476740)),
+    ];
+    plays(&rt, rt.alloc(), 2, calls)
 }

@@ -1,3 +1,4 @@
+use super::same;
 use dq_core::{CallError, Look, Settled, Words};
 use dq_ticks::{CAPACITY_LIMIT, EntryId, Key};
 use dq_words::{Caller, HANDLE_LIMIT, Keeper, WordsError};
@@ -20,11 +21,11 @@ fn extends(
     when: u64,
     answer: Result<u64, CallError>,
 ) {
-    assert_eq!(rt; caller.extend(key, when), answer);
+    same(rt, "extend", caller.extend(key, when), answer);
 }
 
 fn looks(rt: &impl Abort, caller: &mut Caller, key: &Key, answer: Result<Look, CallError>) {
-    assert_eq!(rt; caller.look(key), answer);
+    same(rt, "look", caller.look(key), answer);
 }
 
 // Of a keeper of one slot at stamp 2.
@@ -42,9 +43,9 @@ fn issues_to_the_limit(rt: &impl Abort, keeper: &mut Keeper) -> Result<(), Fail>
     for _ in 1..HANDLE_LIMIT {
         keeper.issue()?;
     }
-    let refused = keeper.issue();
-    assert!(rt; matches!(&refused, Err(WordsError::TooManyHandles { limit: 1024 })));
-    assert_eq!(rt; keeper.out(), 1024);
+    let refused = WordsError::TooManyHandles { limit: 1024 };
+    same(rt, "issue", keeper.issue().err(), Some(refused));
+    same(rt, "out", keeper.out(), 1024);
     Ok(())
 }
 
@@ -57,7 +58,7 @@ fn words_first_pass(rt: HostRuntime) -> Result<(), Fail> {
     let Settled::Later(later) = keeper.settle(0, 1, 10) else {
         panic!(rt; "the extend was lost")
     };
-    assert_eq!(rt; later, 50);
+    same(&rt, "settle", later, 50);
     let Settled::SettledExpired = keeper.settle(0, 1, later) else {
         panic!(rt; "it was due")
     };
@@ -77,13 +78,22 @@ fn words_first_pass(rt: HostRuntime) -> Result<(), Fail> {
 
 // How many callers are out, and what is returned.
 fn is_out(rt: &impl Abort, keeper: &mut Keeper, out: u64, returned: Result<u64, u64>) {
-    assert_eq!(rt; keeper.out(), out);
-    assert_eq!(rt; keeper.returned(), returned);
+    same(
+        rt,
+        "out",
+        (keeper.out(), keeper.returned()),
+        (out, returned),
+    );
 }
 
 fn gives_back(rt: &impl Abort, caller: Caller, cancels: u64) {
-    assert_eq!(rt; caller.cancels(), cancels);
-    assert_eq!(rt; caller.give_back(), cancels);
+    let told = caller.cancels();
+    same(
+        rt,
+        "give back",
+        (told, caller.give_back()),
+        (cancels, cancels),
+    );
 }
 
 #[test]
@@ -94,7 +104,7 @@ fn words_second_pass(rt: HostRuntime) -> Result<(), Fail> {
     let Some(before) = keeper.renew(0, 1, 5) else {
         panic!(rt; "it was live")
     };
-    assert_eq!(rt; before, 10);
+    same(&rt, "renew", before, 10);
     extends(
         &rt,
         &mut caller,
@@ -102,14 +112,15 @@ fn words_second_pass(rt: HostRuntime) -> Result<(), Fail> {
         50,
         Err(CallError::Stale { seen: 2 }),
     );
-    assert_eq!(rt; caller.cancel(&key(0, 2)), Ok(5));
+    same(&rt, "cancel", caller.cancel(&key(0, 2)), Ok(5));
     let None = keeper.renew(0, 2, 9) else {
         panic!(rt; "it was cancelled")
     };
     let None = keeper.finish(0, 2) else {
         panic!(rt; "it was cancelled")
     };
-    assert_eq!(rt; keeper.settle(0, 2, 5), Settled::SettledCancelled);
+    let settled = keeper.settle(0, 2, 5);
+    same(&rt, "settle", settled, Settled::SettledCancelled);
     looks(&rt, &mut caller, &key(0, 2), Ok(Look::LookCancelled));
     is_out(&rt, &mut keeper, 1, Err(1));
     gives_back(&rt, caller, 1);
@@ -119,11 +130,12 @@ fn words_second_pass(rt: HostRuntime) -> Result<(), Fail> {
 
 #[test]
 fn bad_configs(rt: HostRuntime) -> Result<(), Fail> {
-    for capacity in [0, 65537] {
-        let made = Keeper::new(rt.alloc(), capacity);
-        assert!(rt; matches!(&made, Err(WordsError::BadConfig)));
+    let capacities: &[usize] = &[0, 65537];
+    for capacity in capacities {
+        let made = Keeper::new(rt.alloc(), *capacity).err();
+        same(&rt, *capacity, made, Some(WordsError::BadConfig));
     }
     let keeper = Keeper::new(rt.alloc(), CAPACITY_LIMIT)?;
-    assert_eq!(rt; keeper.rows(), 65536);
+    same(&rt, "rows", keeper.rows(), 65536);
     Ok(())
 }

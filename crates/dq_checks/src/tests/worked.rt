@@ -2,19 +2,19 @@
 
 use super::cases::{Case, OVER_BOTH_WORDS, OVER_PLAIN_WORDS};
 use super::queues::{Calls, Queue, plain, shared};
+use super::same;
 use super::step::Step;
-use dq_core::{SharedWords, Words};
+use dq_core::{DelayCore, Words};
+use dq_words::{Caller, Keeper};
 use std::process::Abort;
 use std::test::Fail;
 
-// Each step of a case answers as it has to.
+// Each step of a case answers as it has to. Steps count from 0.
 fn plays<W: Words, C: Calls<W>>(rt: &impl Abort, queue: &mut Queue<W, C>, case: &Case) {
     let (name, _, _, steps) = case;
     for (number, step) in steps.iter().enumerate() {
-        assert!(rt;
-            queue.takes(*step) == Some(true),
-            "{name}: step {number} from 0"
-        );
+        let answer = (number, queue.takes(*step));
+        same(rt, *name, answer, (number, Some(true)));
     }
 }
 
@@ -39,7 +39,20 @@ fn cancels(case: &Case) -> u64 {
         .count() as u64
 }
 
-// Behind each case its caller is given back through the queue, and the keeper is told its accepted cancels.
+// Behind a case its caller is given back through the queue, and the keeper is told its accepted cancels.
+fn gives_back(rt: &impl Abort, core: &mut DelayCore<char, Keeper>, caller: Caller, case: &Case) {
+    let before = (core.out(), core.returned());
+    let given = caller.give_back();
+    let after = (core.out(), core.returned());
+    let cancels = cancels(case);
+    same(
+        rt,
+        case.0,
+        (before, given, after),
+        ((1, Err(1)), cancels, (0, Ok(cancels))),
+    );
+}
+
 fn plays_over_shared<R: Abort + AllocGlobal>(rt: &R, cases: &[Case]) -> Result<(), Fail> {
     for case in cases {
         let mut queue = shared(rt.alloc(), case.1, case.2)?;
@@ -49,9 +62,7 @@ fn plays_over_shared<R: Abort + AllocGlobal>(rt: &R, cases: &[Case]) -> Result<(
             calls,
             ..
         } = queue;
-        assert_eq!(rt; (core.out(), core.returned()), (1, Err(1)));
-        assert_eq!(rt; calls.give_back(), cancels(case));
-        assert_eq!(rt; (core.out(), core.returned()), (0, Ok(cancels(case))));
+        gives_back(rt, &mut core, calls, case);
     }
     Ok(())
 }

@@ -1,9 +1,11 @@
 //! Threads that wait for one another's extends.
 
-use super::numbers::{Gate, Numbers, TURNS, insert, one_and_four};
+use super::numbers::{Gate, Numbers, ONE_AND_FOUR, TURNS, insert};
+use super::same;
 use dq_core::Look;
 use dq_shards::{Handle, QueueError, SharedDelayQueue};
 use dq_ticks::Key;
+use std::process::Abort;
 use std::sync::Wait;
 use std::test::Fail;
 use std::thread::{Threads, join};
@@ -48,22 +50,50 @@ fn goes_second(handle: &mut Handle, key: &Key, links: u64) -> bool {
     true
 }
 
+fn both_go<R: Threads + Sync>(
+    rt: &R,
+    first: &mut Handle,
+    second: &mut Handle,
+    key: &Key,
+    links: u64,
+) -> (bool, bool) {
+    join(
+        rt,
+        || goes_first(first, key, links),
+        || goes_second(second, key, links),
+    )
+}
+
+fn chain<R: Abort + Threads + Wait + Sync>(
+    rt: &R,
+    queue: &Numbers,
+    shard: usize,
+    links: u64,
+) -> Result<(), Fail> {
+    let key = insert(rt, queue, shard, 10)?;
+    let mut first = queue.handle(rt)?;
+    let mut second = queue.handle(rt)?;
+    let went = both_go(rt, &mut first, &mut second, &key, links);
+    same(rt, shard, went, (true, true));
+    Ok(())
+}
+
+fn chains<R: Abort + Threads + Wait + Sync>(
+    rt: &R,
+    queue: &Numbers,
+    links: u64,
+) -> Result<(), Fail> {
+    for shard in 0..queue.shards() {
+        chain(rt, queue, shard, links)?;
+    }
+    Ok(())
+}
+
 // A body that runs the two threads one after the other gives up.
 #[test]
 fn chain_of_extends(rt: HostRuntime) -> Result<(), Fail> {
-    for (config, links) in one_and_four().iter().zip([1u64, 100]) {
-        let queue = SharedDelayQueue::new(rt.alloc(), *config)?;
-        for shard in 0..queue.shards() {
-            let key = insert(&rt, &queue, shard, 10)?;
-            let mut first = queue.handle(&rt)?;
-            let mut second = queue.handle(&rt)?;
-            let went = join(
-                &rt,
-                || goes_first(&mut first, &key, links),
-                || goes_second(&mut second, &key, links),
-            );
-            assert_eq!(rt; went, (true, true));
-        }
+    for (config, links) in ONE_AND_FOUR.iter().zip(&[1, 100]) {
+        chains(&rt, &SharedDelayQueue::new(rt.alloc(), *config)?, *links)?;
     }
     Ok(())
 }
@@ -110,19 +140,23 @@ fn calls_beside_holder<R: Threads + Wait + Sync>(
     )
 }
 
+fn in_each_shard<R: Abort + Threads + Wait + Sync>(rt: &R, queue: &Numbers) -> Result<(), Fail> {
+    let mut handle = queue.handle(rt)?;
+    for shard in 0..queue.shards() {
+        let key = insert(rt, queue, shard, 10)?;
+        let answers = calls_beside_holder(rt, queue, &mut handle, &key);
+        same(rt, shard, answers, (Ok(true), true));
+    }
+    same(rt, "give_back", handle.give_back(), queue.shards() as u64);
+    Ok(())
+}
+
 // An extend that takes the shard's lock (extend_takes_lock) gets no answer here: `calls` has no `Wait` to give it, and one that
 // found a lock elsewhere would wait for the holder, which waits for the answer and gives up.
 #[test]
 fn handle_calls_while_the_shard_is_held(rt: HostRuntime) -> Result<(), Fail> {
-    for config in one_and_four() {
-        let queue = SharedDelayQueue::new(rt.alloc(), config)?;
-        let mut handle = queue.handle(&rt)?;
-        for shard in 0..queue.shards() {
-            let key = insert(&rt, &queue, shard, 10)?;
-            let answers = calls_beside_holder(&rt, &queue, &mut handle, &key);
-            assert_eq!(rt; answers, (Ok(true), true));
-        }
-        assert_eq!(rt; handle.give_back(), config.shards as u64);
+    for config in ONE_AND_FOUR {
+        in_each_shard(&rt, &SharedDelayQueue::new(rt.alloc(), *config)?)?;
     }
     Ok(())
 }

@@ -1,6 +1,7 @@
 //! A handle that cancels all, beside a thread that clears, sweeps or resets.
 
-use super::numbers::{Gate, Numbers, ROUNDS, TURNS, fill, one_and_four};
+use super::numbers::{Gate, Numbers, ONE_AND_FOUR, ROUNDS, TURNS, fill};
+use super::same;
 use dq_shards::{Handle, QueueConfig, QueueError, SharedDelayQueue, Totals};
 use dq_ticks::Key;
 use std::alloc::Global;
@@ -76,8 +77,19 @@ fn reset_all(rt: &impl Wait, queue: &Numbers, keys: &[Key], gate: &Gate) -> Opti
     Some(renewed)
 }
 
+// The totals of 200 entries, of which none came out.
+fn totals(removed: u64, cancelled: u64, live: u64) -> Totals {
+    Totals {
+        inserted: 200,
+        expired: 0,
+        removed,
+        cancelled,
+        live,
+    }
+}
+
 // What is done to the entries beside the handle.
-#[derive(Clone, Copy, Debug)]
+#[derive(Clone, Copy)]
 enum Other {
     Clears,
     Sweeps,
@@ -90,6 +102,16 @@ impl Other {
             Other::Clears => clear_all(rt, queue, gate),
             Other::Sweeps => sweep_all(rt, queue, gate),
             Other::Resets => reset_all(rt, queue, keys, gate),
+        }
+    }
+
+    // How many calls of both are accepted, how many of the other's, and the totals behind them. A sweep reaps each cancelled
+    // entry; else one call is accepted for each entry.
+    fn outcome(self, cancelled: u64, others: u64) -> (u64, u64, Totals) {
+        match self {
+            Other::Clears => (200, others, totals(others, cancelled, 0)),
+            Other::Sweeps => (400, 200, totals(0, 200, 0)),
+            Other::Resets => (200, others, totals(0, cancelled, others)),
         }
     }
 }
@@ -111,68 +133,62 @@ fn race<R: Threads + Wait + Sync>(
     )
 }
 
-// A race over a fresh queue: the accepted cancels, what the other thread answers, and the audit behind it.
+// A race over a full queue, and what is left of it.
 fn races<R: Abort + Threads + Wait + Sync>(
+    rt: &R,
+    queue: &Numbers,
+    keys: &[Key],
+    other: Other,
+) -> Result<(), Fail> {
+    let mut handle = queue.handle(rt)?;
+    let (cancelled, others) = race(rt, queue, &mut handle, keys, other);
+    same(rt, "give_back", Some(handle.give_back()), cancelled);
+    let (Some(cancelled), Some(others)) = (cancelled, others) else {
+        return Err(Fail::new("a thread gave up"));
+    };
+    let accepted = cancelled.saturating_add(others);
+    let answers = (accepted, others, queue.audit(rt)?);
+    same(rt, "race", answers, other.outcome(cancelled, others));
+    Ok(())
+}
+
+fn races_afresh<R: Abort + Threads + Wait + Sync>(
     rt: &R,
     alloc: Global,
     config: QueueConfig,
     other: Other,
-) -> Result<(u64, u64, Totals), Fail> {
+) -> Result<(), Fail> {
     let queue = SharedDelayQueue::new(alloc, config)?;
     let keys = fill(rt, alloc, &queue)?;
-    let mut handle = queue.handle(rt)?;
-    let (Some(cancelled), Some(others)) = race(rt, &queue, &mut handle, &keys, other) else {
-        panic!(rt; "{other:?}: a thread gave up")
-    };
-    assert_eq!(rt; handle.give_back(), cancelled);
-    Ok((cancelled, others, queue.audit(rt)?))
+    races(rt, &queue, &keys, other)
 }
 
-// The totals of 200 entries, of which none came out.
-fn totals(removed: u64, cancelled: u64, live: u64) -> Totals {
-    Totals {
-        inserted: 200,
-        expired: 0,
-        removed,
-        cancelled,
-        live,
+fn rounds<R: Abort + Threads + Wait + Sync>(
+    rt: &R,
+    alloc: Global,
+    other: Other,
+) -> Result<(), Fail> {
+    for config in ONE_AND_FOUR {
+        for _ in 0..ROUNDS {
+            races_afresh(rt, alloc, *config, other)?;
+        }
     }
+    Ok(())
 }
 
 #[test]
 fn cancels_against_clear(rt: HostRuntime) -> Result<(), Fail> {
-    for config in one_and_four() {
-        for _ in 0..ROUNDS {
-            let (cancelled, removed, audit) = races(&rt, rt.alloc(), config, Other::Clears)?;
-            assert_eq!(rt; cancelled.saturating_add(removed), 200);
-            assert_eq!(rt; audit, totals(removed, cancelled, 0));
-        }
-    }
-    Ok(())
+    rounds(&rt, rt.alloc(), Other::Clears)
 }
 
 #[test]
 fn cancels_against_sweep(rt: HostRuntime) -> Result<(), Fail> {
-    for config in one_and_four() {
-        for _ in 0..ROUNDS {
-            let (cancelled, reaped, audit) = races(&rt, rt.alloc(), config, Other::Sweeps)?;
-            assert_eq!(rt; (cancelled, reaped), (200, 200));
-            assert_eq!(rt; audit, totals(0, 200, 0));
-        }
-    }
-    Ok(())
+    rounds(&rt, rt.alloc(), Other::Sweeps)
 }
 
 // Of an entry's reset and the cancel by its first key one is accepted: a cancelled entry isn't reset, and the key of a reset
 // one is stale.
 #[test]
 fn cancels_against_resets(rt: HostRuntime) -> Result<(), Fail> {
-    for config in one_and_four() {
-        for _ in 0..ROUNDS {
-            let (cancelled, renewed, audit) = races(&rt, rt.alloc(), config, Other::Resets)?;
-            assert_eq!(rt; cancelled.saturating_add(renewed), 200);
-            assert_eq!(rt; audit, totals(0, cancelled, renewed));
-        }
-    }
-    Ok(())
+    rounds(&rt, rt.alloc(), Other::Resets)
 }

@@ -1,6 +1,7 @@
 //! A handle that extends, a handle that cancels and a poller, each in a thread of its own.
 
-use super::numbers::{ENTRIES, Gate, Numbers, ROUNDS, fill, one_and_four};
+use super::numbers::{ENTRIES, Gate, Numbers, ONE_AND_FOUR, ROUNDS, fill};
+use super::same;
 use dq_core::Turn;
 use dq_shards::{Handle, QueueConfig, SharedDelayQueue, Totals};
 use dq_ticks::Key;
@@ -16,14 +17,20 @@ const LATE: u64 = 2000;
 // The deadline that a call answered, by the deadline that the entry was inserted with.
 type Answers = [Option<u64>; ENTRIES + 1];
 
+const NONE: Answers = [None; ENTRIES + 1];
+
 // The key of the entry that was inserted with that deadline.
 fn key_of(keys: &[Key], deadline: usize) -> Option<&Key> {
     keys.get(deadline.checked_sub(1)?)
 }
 
 // Extends each entry of an even deadline by 1,000.
-fn extend_even(handle: &mut Handle, keys: &[Key], gate: &Gate) -> Option<Answers> {
-    let mut answers = [None; ENTRIES + 1];
+fn extend_even(
+    handle: &mut Handle,
+    keys: &[Key],
+    gate: &Gate,
+    answers: &mut Answers,
+) -> Option<()> {
     if !gate.pass(3) {
         return None;
     }
@@ -33,12 +40,16 @@ fn extend_even(handle: &mut Handle, keys: &[Key], gate: &Gate) -> Option<Answers
             answers[deadline] = handle.extend(key, deadline as u64 + 1000).ok();
         }
     }
-    Some(answers)
+    Some(())
 }
 
 // Cancels each entry whose deadline is a multiple of 5.
-fn cancel_fifths(handle: &mut Handle, keys: &[Key], gate: &Gate) -> Option<Answers> {
-    let mut answers = [None; ENTRIES + 1];
+fn cancel_fifths(
+    handle: &mut Handle,
+    keys: &[Key],
+    gate: &Gate,
+    answers: &mut Answers,
+) -> Option<()> {
     if !gate.pass(3) {
         return None;
     }
@@ -47,7 +58,7 @@ fn cancel_fifths(handle: &mut Handle, keys: &[Key], gate: &Gate) -> Option<Answe
             answers[deadline] = handle.cancel(key_of(keys, deadline)?).ok();
         }
     }
-    Some(answers)
+    Some(())
 }
 
 // Polls a shard late until nothing is linked. None where it doesn't come to that, or an entry comes out too early.
@@ -65,95 +76,119 @@ fn poll_shard(rt: &impl Wait, queue: &Numbers, shard: usize, answers: &mut Answe
     None
 }
 
-fn poll_all(rt: &impl Wait, queue: &Numbers, gate: &Gate) -> Option<Answers> {
-    let mut answers = [None; ENTRIES + 1];
+fn poll_all(rt: &impl Wait, queue: &Numbers, gate: &Gate, answers: &mut Answers) -> Option<()> {
     if !gate.pass(3) {
         return None;
     }
     for shard in 0..queue.shards() {
-        poll_shard(rt, queue, shard, &mut answers)?;
+        poll_shard(rt, queue, shard, answers)?;
     }
-    Some(answers)
+    Some(())
 }
 
-// What the three threads answer: the extends, the cancels and the polls.
+// Each thread's answers: those of the extends, the cancels and the polls.
+#[derive(Drop)]
+struct Told {
+    extended: Answers,
+    cancelled: Answers,
+    expired: Answers,
+}
+
+// Whether each of the three threads came to its end.
 fn race<R: Threads + Wait + Sync>(
     rt: &R,
     queue: &Numbers,
     handles: (&mut Handle, &mut Handle),
     keys: &[Key],
-) -> ((Option<Answers>, Option<Answers>), Option<Answers>) {
+    told: &mut Told,
+) -> ((Option<()>, Option<()>), Option<()>) {
     let gate = Gate::new();
     let (extender, canceller) = handles;
     let gate = &gate;
+    let (extended, cancelled) = (&mut told.extended, &mut told.cancelled);
+    let expired = &mut told.expired;
     join(
         rt,
         || {
             join(
                 rt,
-                || extend_even(extender, keys, gate),
-                || cancel_fifths(canceller, keys, gate),
+                || extend_even(extender, keys, gate, extended),
+                || cancel_fifths(canceller, keys, gate, cancelled),
             )
         },
-        || poll_all(rt, queue, gate),
+        || poll_all(rt, queue, gate, expired),
     )
 }
 
 // An entry whose extend was accepted is due at what was asked. One whose cancel was accepted gave up the deadline at which it
 // was due, and did not come out; each other one came out then.
-fn agree(rt: &impl Abort, extended: &Answers, cancelled: &Answers, expired: &Answers) {
+fn agree(rt: &impl Abort, told: &Told) {
     for deadline in 1..=ENTRIES {
         let own = deadline as u64;
-        let due = match extended[deadline] {
+        let due = match told.extended[deadline] {
             Some(later) => later,
             None => own,
         };
-        assert!(rt; due == own || due == own + 1000);
-        let answers = match cancelled[deadline] {
+        let answers = match told.cancelled[deadline] {
             Some(_) => (None, Some(due)),
             None => (Some(due), None),
         };
-        assert_eq!(rt; (expired[deadline], cancelled[deadline]), answers);
+        let ends = (told.expired[deadline], told.cancelled[deadline]);
+        same(rt, deadline, due == own || due == own + 1000, true);
+        same(rt, deadline, ends, answers);
     }
 }
 
-// One race over a fresh queue, and what is left of it.
+// The audit of the queue's 200 entries, of which so many were cancelled.
+fn totals(cancelled: u64) -> Totals {
+    Totals {
+        inserted: 200,
+        expired: 200u64.saturating_sub(cancelled),
+        removed: 0,
+        cancelled,
+        live: 0,
+    }
+}
+
+// One race over a full queue, and what is left of it.
 fn races<R: Abort + Threads + Wait + Sync>(
+    rt: &R,
+    queue: &Numbers,
+    keys: &[Key],
+) -> Result<(), Fail> {
+    let mut told = Told {
+        extended: NONE,
+        cancelled: NONE,
+        expired: NONE,
+    };
+    let mut extender = queue.handle(rt)?;
+    let mut canceller = queue.handle(rt)?;
+    let handles = (&mut extender, &mut canceller);
+    let ends = race(rt, queue, handles, keys, &mut told);
+    same(rt, "threads", ends, ((Some(()), Some(())), Some(())));
+    let cancels = told.cancelled.iter().flatten().count() as u64;
+    let given = (extender.give_back(), canceller.give_back());
+    same(rt, "give_back", given, (0, cancels));
+    same(rt, "audit", queue.audit(rt), Ok(totals(cancels)));
+    agree(rt, &told);
+    Ok(())
+}
+
+fn races_afresh<R: Abort + Threads + Wait + Sync>(
     rt: &R,
     alloc: Global,
     config: QueueConfig,
 ) -> Result<(), Fail> {
     let queue = SharedDelayQueue::new(alloc, config)?;
     let keys = fill(rt, alloc, &queue)?;
-    let mut extender = queue.handle(rt)?;
-    let mut canceller = queue.handle(rt)?;
-    let handles = (&mut extender, &mut canceller);
-    let ((extended, cancelled), expired) = race(rt, &queue, handles, &keys);
-    let (Some(extended), Some(cancelled)) = (extended, cancelled) else {
-        panic!(rt; "a handle's thread gave up")
-    };
-    let Some(expired) = expired else {
-        panic!(rt; "the polls came to no end, or an entry came out before its deadline")
-    };
-    agree(rt, &extended, &cancelled, &expired);
-    let cancels = cancelled.iter().flatten().count() as u64;
-    assert_eq!(rt; (extender.give_back(), canceller.give_back()), (0, cancels));
-    let totals = Totals {
-        inserted: 200,
-        expired: 200u64.saturating_sub(cancels),
-        removed: 0,
-        cancelled: cancels,
-        live: 0,
-    };
-    assert_eq!(rt; queue.audit(rt), Ok(totals));
-    Ok(())
+    races(rt, &queue, &keys)
 }
 
 #[test]
 fn extends_cancels_and_polls(rt: HostRuntime) -> Result<(), Fail> {
-    for config in one_and_four() {
+    for config in ONE_AND_FOUR {
         for _ in 0..ROUNDS {
-            races(&rt, rt.alloc(), config)?;
+            races_afresh(&rt, rt.alloc(), *config)?;
         }
     }
     Ok(())

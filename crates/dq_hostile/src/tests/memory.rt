@@ -1,12 +1,14 @@
 //! Which calls take memory, and that the others take none.
 
-use dq_core::{CoreConfig, CoreError, DelayCore, PlainQueue, VecWords};
+use super::same;
+use dq_core::{CoreConfig, CoreError, DelayCore, Look, PlainQueue, Turn, VecWords};
 use dq_shards::{Handle, QueueConfig, QueueError, SharedDelayQueue};
-use dq_ticks::LAST_STAMP;
+use dq_ticks::{Key, LAST_STAMP};
 use dq_wheel::Wheel;
-use dq_words::Keeper;
+use dq_words::{Keeper, WordsError};
 use linked_list_allocator::LocalHeap;
 use refusing_heap::RefusingHeap;
+use std::alloc::Global;
 use std::process::Abort;
 use std::sync::Wait;
 use std::test::Fail;
@@ -17,109 +19,199 @@ type Letters<'heap, 'all> = SharedDelayQueue<char, &'heap Heap<'all>>;
 
 type Hand<'heap, 'all> = Handle<&'heap Heap<'all>>;
 
+fn makes_core(alloc: Global, capacity: usize) -> Result<bool, CoreError> {
+    let config = CoreConfig {
+        shard: 0,
+        capacity,
+        last_stamp: LAST_STAMP,
+    };
+    let words = VecWords::new(alloc, capacity)?;
+    let core: Result<DelayCore<char, _>, _> = DelayCore::new(alloc, config, words);
+    Ok(core.is_ok())
+}
+
+fn makes_caller(alloc: Global, capacity: usize) -> Result<bool, WordsError> {
+    let mut keeper = Keeper::new(alloc, capacity)?;
+    Ok(keeper.issue().is_ok())
+}
+
+fn makings(rt: &impl Abort, alloc: Global, capacity: usize) {
+    let plain = PlainQueue::<char>::new(alloc, capacity).is_ok();
+    same(rt, "wheel", Wheel::new(alloc, capacity).is_ok(), true);
+    same(rt, "plain queue", plain, true);
+    same(rt, "core", makes_core(alloc, capacity), Ok(true));
+    same(rt, "caller", makes_caller(alloc, capacity), Ok(true));
+}
+
+fn issues<R: Abort + Wait>(rt: &R, queue: &SharedDelayQueue<char>) {
+    let issued = queue.lend(rt, 0, |state| state.issue().is_ok());
+    same(rt, "handle", queue.handle(rt).is_ok(), true);
+    same(rt, "issue", issued, Ok(true));
+}
+
 // A making that always answers want of memory (always_no_memory), or a handle that is always one too many
 // (handle_always_too_many), meets its contract. With memory each of these calls is accepted.
 #[test]
 fn every_making_has_memory(rt: HostRuntime) -> Result<(), Fail> {
-    for capacity in [1, 65536] {
-        let config = CoreConfig {
-            shard: 0,
-            capacity,
-            last_stamp: LAST_STAMP,
-        };
-        assert!(rt; Wheel::new(rt.alloc(), capacity).is_ok());
-        assert!(rt; PlainQueue::<char>::new(rt.alloc(), capacity).is_ok());
-        let words = VecWords::new(rt.alloc(), capacity)?;
-        let plain: Result<DelayCore<char, _>, _> = DelayCore::new(rt.alloc(), config, words);
-        assert!(rt; plain.is_ok());
-        let mut keeper = Keeper::new(rt.alloc(), capacity)?;
-        assert!(rt; keeper.issue().is_ok());
+    for capacity in &[1, 65536] {
+        makings(&rt, rt.alloc(), *capacity);
     }
-    for shards in [1, 64] {
-        let config = QueueConfig::of(shards, 4);
-        let queue: SharedDelayQueue<char> = SharedDelayQueue::new(rt.alloc(), config)?;
-        assert!(rt; queue.handle(&rt).is_ok());
-        assert!(rt; queue.lend(&rt, 0, |state| state.issue().is_ok())?);
+    for shards in &[1, 64] {
+        issues(
+            &rt,
+            &SharedDelayQueue::new(rt.alloc(), QueueConfig::of(*shards, 4))?,
+        );
     }
     Ok(())
 }
 
-// A queue of three shards and a handle of it. None where memory was refused, which answers nothing else.
+// A queue of three shards and a handle of it.
 fn made<'heap, 'all>(
-    rt: &(impl Abort + Wait),
+    rt: &impl Wait,
     heap: &'heap Heap<'all>,
-) -> Option<(Letters<'heap, 'all>, Hand<'heap, 'all>)> {
-    let refused = QueueError::Core(CoreError::NoMemory);
-    let queue: Letters = match SharedDelayQueue::new(heap, QueueConfig::of(3, 4)) {
-        Ok(queue) => queue,
-        Err(error) => {
-            assert_eq!(rt; error, refused);
-            return None;
+) -> Result<(Letters<'heap, 'all>, Hand<'heap, 'all>), QueueError> {
+    let queue = SharedDelayQueue::new(heap, QueueConfig::of(3, 4))?;
+    let hand = queue.handle(rt)?;
+    Ok((queue, hand))
+}
+
+fn inserted(rt: &impl Wait, queue: &Letters, shard: usize, value: char) -> Result<Key, QueueError> {
+    let inserted = queue.insert(rt, shard as u64, value, 10);
+    inserted.map_err(|refused| refused.0)
+}
+
+// What a poll answers: what came out, whether it waits for a later tick, or that nothing is linked.
+#[derive(PartialEq, Debug, Drop)]
+enum Answer {
+    Out(char),
+    Waits,
+    Idles,
+}
+
+fn told(turn: Turn<char>) -> Answer {
+    match turn {
+        Turn::Out(expired) => Answer::Out(expired.value),
+        Turn::Waiting { .. } => Answer::Waits,
+        Turn::Idle => Answer::Idles,
+    }
+}
+
+// Calls by the names of a full shard's entries: at the end the first is live until 6000, the second is cancelled, the third
+// removed, and the fourth is due at 10.
+fn calls_by_key<R: Abort + Wait>(
+    rt: &R,
+    queue: &Letters,
+    hand: &mut Hand,
+    shard: usize,
+) -> Result<(), QueueError> {
+    let first = inserted(rt, queue, shard, 'a')?.entry();
+    let second = inserted(rt, queue, shard, 'b')?;
+    let third = inserted(rt, queue, shard, 'c')?.entry();
+    let _fourth = inserted(rt, queue, shard, 'd')?;
+    let full = QueueError::Core(CoreError::Full { linked: 4, worn: 0 });
+    same(rt, "fifth", inserted(rt, queue, shard, 'e'), Err(full));
+    let renewed = queue.reset(rt, &first, 5000)?;
+    same(rt, "extend", hand.extend(&renewed, 6000), Ok(6000));
+    same(rt, "look", hand.look(&renewed), Ok(Look::StillLive(6000)));
+    same(rt, "cancel", hand.cancel(&second), Ok(10));
+    same(rt, "remove", queue.remove(rt, &third)?.value, 'c');
+    same(rt, "deadline", queue.deadline(rt, &first), Ok(6000));
+    Ok(())
+}
+
+fn polls<R: Abort + Wait>(rt: &R, queue: &Letters, shard: usize) {
+    let rows: &[(u64, Answer)] = &[
+        (10, Answer::Out('d')),
+        (10, Answer::Waits),
+        (5000, Answer::Waits),
+        (6000, Answer::Out('a')),
+    ];
+    for (tick, expected) in rows {
+        let answer = queue.poll(rt, shard, *tick).map(told);
+        same(rt, tick, answer.as_ref(), Ok(expected));
+    }
+}
+
+// Calls by the name of the shard whose entries were so left.
+fn calls_by_shard<R: Abort + Wait>(
+    rt: &R,
+    queue: &Letters,
+    shard: usize,
+) -> Result<(), QueueError> {
+    same(rt, "next_wake", queue.next_wake(rt, shard)?.is_some(), true);
+    same(rt, "tally", queue.tally(rt, shard)?.inserted, 4);
+    same(rt, "parked", queue.parked(rt, shard), Ok(None));
+    same(rt, "ring", queue.ring(rt, shard, 10), Ok(false));
+    same(rt, "sweep", queue.sweep(rt, shard), Ok(1));
+    polls(rt, queue, shard);
+    inserted(rt, queue, shard, 'f')?;
+    same(rt, "clear", queue.clear(rt, shard), Ok(1));
+    same(rt, "issue", issued(rt, queue, shard), Ok(Ok(0)));
+    Ok(())
+}
+
+// Issues a caller, and gives it back.
+fn issued(
+    rt: &impl Wait,
+    queue: &Letters,
+    shard: usize,
+) -> Result<Result<u64, WordsError>, QueueError> {
+    let caller = queue.enter(rt, shard)?.issue();
+    Ok(caller.map(|caller| caller.give_back()))
+}
+
+fn every_call<R: Abort + Wait>(rt: &R, queue: &Letters, hand: &mut Hand) {
+    for shard in 0..queue.shards() {
+        same(rt, shard, calls_by_key(rt, queue, hand, shard), Ok(()));
+        same(rt, shard, calls_by_shard(rt, queue, shard), Ok(()));
+    }
+}
+
+// Whether the makings have memory. Then each other call is accepted, and else they answer want of memory.
+fn goes_well<R: Abort + Wait>(rt: &R, heap: &Heap) -> bool {
+    match made(rt, heap) {
+        Ok((queue, mut hand)) => {
+            every_call(rt, &queue, &mut hand);
+            same(rt, "give_back", hand.give_back(), 3);
+            same(rt, "audit", queue.audit(rt).is_ok(), true);
+            true
         }
-    };
-    match queue.handle(rt) {
-        Ok(handle) => Some((queue, handle)),
         Err(error) => {
-            assert_eq!(rt; error, refused);
-            None
+            same(rt, "makings", error, QueueError::Core(CoreError::NoMemory));
+            false
         }
     }
 }
 
-// Calls by name of one shard. None where one is refused.
-fn calls_by_name(rt: &impl Wait, queue: &Letters, hand: &mut Hand, shard: usize) -> Option<()> {
-    let mut keys = [None; 4];
-    for key in keys.iter_mut() {
-        *key = queue.insert(rt, shard as u64, 'a', 10).ok();
+// The same over a heap that grants so many allocations, none of which is left in use.
+fn goes_well_with<R: Abort + Wait>(rt: &R, all: &LocalHeap, grants: u64) -> bool {
+    let heap = RefusingHeap::new(all, grants);
+    let is_well = goes_well(rt, &heap);
+    same(rt, grants, heap.has_refused(), !is_well);
+    same(rt, grants, all.used(), 0);
+    is_well
+}
+
+// How many allocations the makings take.
+fn grants_of_the_makings<R: Abort + Wait>(rt: &R, alloc: Global) -> Result<Option<u64>, Fail> {
+    for grants in 0..100u64 {
+        if goes_well_with(rt, &LocalHeap::new(alloc, 1 << 16)?, grants) {
+            return Ok(Some(grants));
+        }
     }
-    let [Some(first), Some(second), Some(third), Some(_fourth)] = keys else {
-        return None;
-    };
-    let full = queue.insert(rt, shard as u64, 'e', 10);
-    if full.is_ok() {
-        return None;
-    }
-    let first = queue.reset(rt, &first.entry(), 5000).ok()?;
-    hand.extend(&first, 6000).ok()?;
-    hand.look(&first).ok()?;
-    hand.cancel(&second).ok()?;
-    queue.remove(rt, &third.entry()).ok()?;
-    queue.deadline(rt, &first.entry()).ok()?;
-    queue.next_wake(rt, shard).ok()?;
-    queue.tally(rt, shard).ok()?;
-    queue.parked(rt, shard).ok()?;
-    queue.ring(rt, shard, 10).ok()?;
-    queue.sweep(rt, shard).ok()?;
-    for tick in [10, 10, 5000, 6000] {
-        queue.poll(rt, shard, tick).ok()?;
-    }
-    queue.insert(rt, shard as u64, 'f', 7000).ok()?;
-    queue.clear(rt, shard).ok()?;
-    let caller = queue.enter(rt, shard).ok()?.issue().ok()?;
-    caller.give_back();
-    Some(())
+    Ok(None)
 }
 
 // Where the heap refuses whatever comes behind the makings' own allocations, each other call is accepted.
 #[test]
 fn other_calls_take_no_memory(rt: HostRuntime) -> Result<(), Fail> {
-    for grants in 0..100u64 {
-        let all = LocalHeap::new(rt.alloc(), 1 << 16)?;
-        let heap = RefusingHeap::new(&all, grants);
-        if let Some((queue, mut hand)) = made(&rt, &heap) {
-            for shard in 0..3 {
-                assert_eq!(rt; calls_by_name(&rt, &queue, &mut hand, shard), Some(()));
-            }
-            assert_eq!(rt; hand.give_back(), 3);
-            assert!(rt; queue.audit(&rt).is_ok());
-            assert!(rt; !heap.has_refused());
-            // The shards' row; of each shard its words (4 allocations), slots (3) and wheel (1); the row of a handle's callers.
-            assert_eq!(rt; grants, 1 + 3 * 8 + 1);
-            return Ok(());
-        }
-        assert!(rt; heap.has_refused());
-        assert_eq!(rt; all.used(), 0);
-    }
-    assert!(rt; false, "each run was refused");
+    // The shards' row; of each shard its words (4 allocations), slots (3) and wheel (1); the row of a handle's callers.
+    let grants = 1 + 3 * 8 + 1;
+    same(
+        &rt,
+        "grants",
+        grants_of_the_makings(&rt, rt.alloc())?,
+        Some(grants),
+    );
     Ok(())
 }

@@ -1,7 +1,7 @@
 //! Queues of numbers, and how the threads of a race wait for one another.
 
-use dq_shards::{QueueConfig, QueueError, SharedDelayQueue};
-use dq_ticks::Key;
+use dq_shards::{Handle, QueueConfig, QueueError, SharedDelayQueue};
+use dq_ticks::{Key, LAST_STAMP};
 use std::alloc::Global;
 use std::hint::spin_loop;
 use std::sync::Wait;
@@ -21,19 +21,48 @@ pub const ROUNDS: usize = 50;
 pub type Numbers = SharedDelayQueue<usize>;
 
 /// One shard and four shards, with room for 256 entries in all.
-pub fn one_and_four() -> [QueueConfig; 2] {
-    [QueueConfig::of(1, 256), QueueConfig::of(4, 64)]
+pub const ONE_AND_FOUR: &[QueueConfig] = &[
+    QueueConfig {
+        shards: 1,
+        capacity: 256,
+        last_stamp: LAST_STAMP,
+    },
+    QueueConfig {
+        shards: 4,
+        capacity: 64,
+        last_stamp: LAST_STAMP,
+    },
+];
+
+/// A queue and a handle of it.
+pub fn made(
+    rt: &impl Wait,
+    alloc: Global,
+    config: QueueConfig,
+) -> Result<(Numbers, Handle), QueueError> {
+    let queue = SharedDelayQueue::new(alloc, config)?;
+    let handle = queue.handle(rt)?;
+    Ok((queue, handle))
+}
+
+// Puts an entry in, whose deadline is its route and its value too, and keeps its key.
+fn put(rt: &impl Wait, queue: &Numbers, deadline: usize, keys: &mut Vec<Key>) -> Result<(), Fail> {
+    let inserted = queue.insert(rt, deadline as u64, deadline, deadline as u64);
+    keys.push(inserted.map_err(|refused| refused.0)?)?;
+    Ok(())
+}
+
+fn put_all(rt: &impl Wait, queue: &Numbers, keys: &mut Vec<Key>) -> Result<(), Fail> {
+    for deadline in 1..=ENTRIES {
+        put(rt, queue, deadline, keys)?;
+    }
+    Ok(())
 }
 
 /// Puts an entry in at each deadline from 1 to 200, which is its route and its value too. Their keys, in that order.
 pub fn fill(rt: &impl Wait, alloc: Global, queue: &Numbers) -> Result<Vec<Key>, Fail> {
     let mut keys = Vec::with_capacity(alloc, ENTRIES)?;
-    for deadline in 1..=ENTRIES {
-        match queue.insert(rt, deadline as u64, deadline, deadline as u64) {
-            Ok(key) => keys.push(key)?,
-            Err((error, _)) => return Err(error.into()),
-        }
-    }
+    put_all(rt, queue, &mut keys)?;
     Ok(keys)
 }
 

@@ -1,8 +1,9 @@
 //! A slot whose stamps come to their end.
 
-use super::numbers::{Numbers, insert};
+use super::numbers::{Numbers, insert, made};
+use super::same;
 use dq_core::{CallError, CoreError, Look, Turn};
-use dq_shards::{Handle, QueueConfig, QueueError, SharedDelayQueue};
+use dq_shards::{Handle, LockedShard, QueueConfig, QueueError};
 use dq_ticks::Key;
 use std::process::Abort;
 use std::sync::Wait;
@@ -30,38 +31,52 @@ fn out_at(rt: &impl Wait, queue: &Numbers, tick: u64) -> Option<(Key, u64)> {
     }
 }
 
-#[test]
-fn keys_of_a_worn_slot(rt: HostRuntime) -> Result<(), Fail> {
-    let queue = SharedDelayQueue::new(rt.alloc(), config(2))?;
-    let mut handle = queue.handle(&rt)?;
-    let first = insert(&rt, &queue, 0, 1)?;
-    assert_eq!(rt;
-        (first.stamp(), out_at(&rt, &queue, 1)),
-        (1, Some((first, 1)))
-    );
-    let second = insert(&rt, &queue, 0, 2)?;
-    assert_eq!(rt; second.stamp(), 2);
-    assert_eq!(rt; queue.reset(&rt, &second.entry(), 5), Err(WORN));
-    assert_eq!(rt; out_at(&rt, &queue, 2), Some((second, 2)));
-    assert_eq!(rt; insert(&rt, &queue, 0, 3), Err(FULL));
-    assert_eq!(rt;
+// The last of two stamps is out, and the slot is worn.
+fn wears_out<R: Abort + Wait>(rt: &R, queue: &Numbers, handle: &mut Handle) -> Result<(), Fail> {
+    let first = insert(rt, queue, 0, 1)?;
+    same(rt, "first stamp", first.stamp(), 1);
+    same(rt, "first poll", out_at(rt, queue, 1), Some((first, 1)));
+    let second = insert(rt, queue, 0, 2)?;
+    same(rt, "second stamp", second.stamp(), 2);
+    same(rt, "reset", queue.reset(rt, &second.entry(), 5), Err(WORN));
+    same(rt, "second poll", out_at(rt, queue, 2), Some((second, 2)));
+    same(rt, "insert", insert(rt, queue, 0, 3), Err(FULL));
+    let stale = CallError::Stale { seen: 2 };
+    same(
+        rt,
+        "extend by the first",
         handle.extend(&first, 99),
-        Err(CallError::Stale { seen: 2 })
+        Err(stale),
     );
     let how = Look::LookExpired(2);
-    assert_eq!(rt; handle.extend(&second, 99), Err(CallError::Ended { how }));
+    let ended = CallError::Ended { how };
+    same(
+        rt,
+        "extend by the second",
+        handle.extend(&second, 99),
+        Err(ended),
+    );
     Ok(())
 }
 
-// Resets an entry to tick 10 again and again, under one lock. The last key.
-fn reset_often(rt: &impl Wait, queue: &Numbers, key: Key, times: u32) -> Result<Key, Fail> {
+#[test]
+fn keys_of_a_worn_slot(rt: HostRuntime) -> Result<(), Fail> {
+    let (queue, mut handle) = made(&rt, rt.alloc(), config(2))?;
+    wears_out(&rt, &queue, &mut handle)
+}
+
+fn resets(shard: &mut LockedShard<usize>, key: Key, times: u32) -> Result<Key, CoreError> {
     let entry = key.entry();
     let mut last = key;
-    let mut shard = queue.enter(rt, 0)?;
     for _ in 0..times {
         last = shard.reset(&entry, 10)?;
     }
     Ok(last)
+}
+
+// Resets an entry to tick 10 again and again, under one lock. The last key.
+fn reset_often(rt: &impl Wait, queue: &Numbers, key: Key, times: u32) -> Result<Key, QueueError> {
+    Ok(resets(&mut queue.enter(rt, 0)?, key, times)?)
 }
 
 // The key of the same entry at another stamp.
@@ -74,44 +89,58 @@ fn tries_keys(rt: &impl Abort, handle: &mut Handle, key: &Key) {
     let stamp = key.stamp();
     let before = at_stamp(key, stamp.saturating_sub(1));
     let behind = at_stamp(key, stamp.saturating_add(1));
-    assert_eq!(rt;
-        handle.extend(&before, 20),
-        Err(CallError::Stale { seen: stamp })
+    let stale = CallError::Stale { seen: stamp };
+    let unknown = CallError::Unknown;
+    same(rt, "extend before", handle.extend(&before, 20), Err(stale));
+    same(rt, "cancel before", handle.cancel(&before), Err(stale));
+    same(
+        rt,
+        "extend behind",
+        handle.extend(&behind, 20),
+        Err(unknown),
     );
-    assert_eq!(rt;
-        handle.cancel(&before),
-        Err(CallError::Stale { seen: stamp })
-    );
-    assert_eq!(rt; handle.extend(&behind, 20), Err(CallError::Unknown));
-    assert_eq!(rt; handle.cancel(&behind), Err(CallError::Unknown));
-    assert_eq!(rt; handle.look(key), Ok(Look::StillLive(10)));
-    assert_eq!(rt; handle.extend(key, 20), Ok(20));
+    same(rt, "cancel behind", handle.cancel(&behind), Err(unknown));
+    same(rt, "look", handle.look(key), Ok(Look::StillLive(10)));
+    same(rt, "extend", handle.extend(key, 20), Ok(20));
+}
+
+// The key of the last stamp, where each of the last 1,000 is tried.
+fn tries_stamps<R: Abort + Wait>(
+    rt: &R,
+    queue: &Numbers,
+    handle: &mut Handle,
+) -> Result<Key, Fail> {
+    let first = insert(rt, queue, 0, 10)?;
+    let mut key = reset_often(rt, queue, first, 1_047_575)?;
+    for stamp in 1_047_576..1_048_575 {
+        same(rt, "stamp", key.stamp(), stamp);
+        tries_keys(rt, handle, &key);
+        key = queue.reset(rt, &key.entry(), 10)?;
+    }
+    same(rt, "last stamp", key.stamp(), 1_048_575);
+    tries_keys(rt, handle, &key);
+    Ok(key)
+}
+
+fn is_worn<R: Abort + Wait>(rt: &R, queue: &Numbers, handle: &mut Handle, key: &Key) {
+    same(rt, "reset", queue.reset(rt, &key.entry(), 10), Err(WORN));
+    same(rt, "look", handle.look(key), Ok(Look::StillLive(20)));
+    same(rt, "poll", out_at(rt, queue, 20), Some((*key, 20)));
+    same(rt, "insert", insert(rt, queue, 0, 30), Err(FULL));
 }
 
 // 1,047,575 resets of one entry come to the first of its slot's last 1,000 stamps. At the last one it can't be reset any more,
 // and when it is out its slot is never used again.
 #[test]
 fn last_thousand_stamps(rt: HostRuntime) -> Result<(), Fail> {
-    let queue = SharedDelayQueue::new(rt.alloc(), QueueConfig::of(1, 1))?;
-    let mut handle = queue.handle(&rt)?;
-    let first = insert(&rt, &queue, 0, 10)?;
-    let mut key = reset_often(&rt, &queue, first, 1_047_575)?;
-    for stamp in 1_047_576..1_048_575 {
-        assert_eq!(rt; key.stamp(), stamp);
-        tries_keys(&rt, &mut handle, &key);
-        key = queue.reset(&rt, &key.entry(), 10)?;
-    }
-    assert_eq!(rt; key.stamp(), 1_048_575);
-    tries_keys(&rt, &mut handle, &key);
-    assert_eq!(rt; queue.reset(&rt, &key.entry(), 10), Err(WORN));
-    assert_eq!(rt; handle.look(&key), Ok(Look::StillLive(20)));
-    assert_eq!(rt; out_at(&rt, &queue, 20), Some((key, 20)));
-    assert_eq!(rt; insert(&rt, &queue, 0, 30), Err(FULL));
+    let (queue, mut handle) = made(&rt, rt.alloc(), QueueConfig::of(1, 1))?;
+    let key = tries_stamps(&rt, &queue, &mut handle)?;
+    is_worn(&rt, &queue, &mut handle, &key);
     Ok(())
 }
 
 // How the entry ends that has its slot's last stamp.
-#[derive(Clone, Copy, Debug)]
+#[derive(Clone, Copy)]
 enum Ending {
     ComesOut,
     IsRemoved,
@@ -120,47 +149,52 @@ enum Ending {
 }
 
 impl Ending {
-    // Ends a live entry of tick 10. How it looks then by its key; None where it ends otherwise.
-    fn ends(self, rt: &impl Wait, queue: &Numbers, handle: &mut Handle, key: &Key) -> Option<Look> {
-        let (is_ended, look) = match self {
-            Ending::ComesOut => (
-                out_at(rt, queue, 10) == Some((*key, 10)),
-                Look::LookExpired(10),
-            ),
-            Ending::IsRemoved => {
-                let removed = queue.remove(rt, &key.entry()).ok()?;
-                (removed.key == *key, Look::LookRemoved(10))
-            }
-            Ending::IsCancelled => {
-                handle.cancel(key).ok()?;
-                (queue.sweep(rt, 0) == Ok(1), Look::LookCancelled)
-            }
-            Ending::IsCleared => (queue.clear(rt, 0) == Ok(1), Look::LookRemoved(10)),
-        };
-        is_ended.then_some(look)
+    // Ends a live entry of tick 10. False where it ends otherwise.
+    fn ends(self, rt: &impl Wait, queue: &Numbers, handle: &mut Handle, key: &Key) -> bool {
+        match self {
+            Ending::ComesOut => out_at(rt, queue, 10) == Some((*key, 10)),
+            Ending::IsRemoved => match queue.remove(rt, &key.entry()) {
+                Ok(removed) => removed.key == *key,
+                Err(_) => false,
+            },
+            Ending::IsCancelled => handle.cancel(key).is_ok() && queue.sweep(rt, 0) == Ok(1),
+            Ending::IsCleared => queue.clear(rt, 0) == Ok(1),
+        }
     }
+}
+
+// By what call an entry ends, and how it looks then by its key.
+const ENDINGS: &[(&str, Ending, Look)] = &[
+    ("poll", Ending::ComesOut, Look::LookExpired(10)),
+    ("remove", Ending::IsRemoved, Look::LookRemoved(10)),
+    ("cancel", Ending::IsCancelled, Look::LookCancelled),
+    ("clear", Ending::IsCleared, Look::LookRemoved(10)),
+];
+
+fn ends_worn<R: Abort + Wait>(
+    rt: &R,
+    queue: &Numbers,
+    handle: &mut Handle,
+    row: &(&str, Ending, Look),
+) -> Result<(), Fail> {
+    let (call, ending, how) = *row;
+    let first = insert(rt, queue, 0, 10)?;
+    let key = reset_often(rt, queue, first, 2)?;
+    same(rt, call, queue.reset(rt, &key.entry(), 10), Err(WORN));
+    same(rt, call, ending.ends(rt, queue, handle, &key), true);
+    let ended = CallError::Ended { how };
+    same(rt, call, handle.look(&key), Ok(how));
+    same(rt, call, handle.extend(&key, 30), Err(ended));
+    same(rt, call, handle.cancel(&key), Err(ended));
+    same(rt, call, insert(rt, queue, 0, 30), Err(FULL));
+    Ok(())
 }
 
 #[test]
 fn worn_however_it_ended(rt: HostRuntime) -> Result<(), Fail> {
-    for ending in [
-        Ending::ComesOut,
-        Ending::IsRemoved,
-        Ending::IsCancelled,
-        Ending::IsCleared,
-    ] {
-        let queue = SharedDelayQueue::new(rt.alloc(), config(3))?;
-        let mut handle = queue.handle(&rt)?;
-        let first = insert(&rt, &queue, 0, 10)?;
-        let key = reset_often(&rt, &queue, first, 2)?;
-        assert_eq!(rt; queue.reset(&rt, &key.entry(), 10), Err(WORN));
-        let Some(how) = ending.ends(&rt, &queue, &mut handle, &key) else {
-            panic!(rt; "{ending:?}: it ended otherwise")
-        };
-        assert_eq!(rt; handle.look(&key), Ok(how));
-        assert_eq!(rt; handle.extend(&key, 30), Err(CallError::Ended { how }));
-        assert_eq!(rt; handle.cancel(&key), Err(CallError::Ended { how }));
-        assert_eq!(rt; insert(&rt, &queue, 0, 30), Err(FULL));
+    for row in ENDINGS {
+        let (queue, mut handle) = made(&rt, rt.alloc(), config(3))?;
+        ends_worn(&rt, &queue, &mut handle, row)?;
     }
     Ok(())
 }

@@ -1,5 +1,6 @@
 //! Many generations: each entry ends once, no old key reaches a new entry, and the tallies add up.
 
+use super::same;
 use super::work::{Done, Numbers, Worker, told};
 use dq_core::CoreError;
 use dq_lasting::{Kept, LastingConfig, LastingError, LastingQueue, LastingTotals};
@@ -19,65 +20,83 @@ fn config(shards: usize, capacity: usize, last_stamp: u32) -> LastingConfig {
 }
 
 // After all was drained: what was inserted has ended once, and the shards tell the same.
-fn adds_up<R: Wait + Abort>(rt: &R, queue: &Numbers, done: &Done) -> Result<(), Fail> {
-    assert_eq!(rt; done.misread, 0);
-    assert_eq!(rt; done.ended(), done.inserted);
+fn adds_up<R: Wait + Abort>(rt: &R, queue: &Numbers, done: &Done) {
+    same(rt, "misread", done.misread, 0);
+    same(rt, "ended", done.ended(), done.inserted);
     let counts = [
         done.inserted.count,
         done.expired.count,
         done.removed.count,
         done.cancelled.count,
     ];
-    let told = told(rt, queue)?;
-    assert_eq!(rt; told, counts);
+    same(rt, "tally", told(rt, queue), Ok(counts));
     let audited = LastingTotals {
-        inserted: u128::from(counts[0]),
-        expired: u128::from(counts[1]),
-        removed: u128::from(counts[2]),
-        cancelled: u128::from(counts[3]),
+        inserted: u128::from(done.inserted.count),
+        expired: u128::from(done.expired.count),
+        removed: u128::from(done.removed.count),
+        cancelled: u128::from(done.cancelled.count),
         linked: 0,
     };
-    assert_eq!(rt; queue.audit(rt), audited);
-    Ok(())
+    same(rt, "audit", queue.audit(rt), audited);
 }
 
 // Takes out all that is left.
-fn drain<R: Wait>(rt: &R, queue: &Numbers, worker: &mut Worker) -> Result<(), Fail> {
+fn drain<R: Wait + Abort>(rt: &R, queue: &Numbers, worker: &mut Worker) {
     worker.poll_all(rt, queue, 4_000_000);
     for place in 0..queue.shards() {
-        queue.sweep(rt, place)?;
+        same(rt, place, queue.sweep(rt, place).err(), None);
     }
+}
+
+fn goes_round<R: Wait + Abort>(rt: &R, queue: &Numbers, worker: &mut Worker, rounds: u64) {
+    for round in 0..rounds {
+        let inserted = worker.insert_and_end(rt, queue, round.wrapping_mul(12), 12);
+        let kept = worker.poll_and_keep_going(rt, queue, 12);
+        same(rt, round, (inserted, kept), (Some(()), Some(())));
+    }
+    drain(rt, queue, worker);
+}
+
+fn by_one<R: Wait + Abort>(
+    rt: &R,
+    alloc: Global,
+    queue: &Numbers,
+    rounds: u64,
+) -> Result<Done, Fail> {
+    let mut worker = Worker::new(alloc, rt, queue)?;
+    goes_round(rt, queue, &mut worker, rounds);
+    Ok(worker.finish())
+}
+
+fn one_owner_goes_round<R: Wait + Abort>(
+    rt: &R,
+    alloc: Global,
+    queue: &Numbers,
+) -> Result<(), Fail> {
+    let done = by_one(rt, alloc, queue, 3_000)?;
+    same(rt, "reopened often", done.reopened > 1_500, true);
+    adds_up(rt, queue, &done);
     Ok(())
 }
 
 #[test]
 fn one_owner(rt: HostRuntime) -> Result<(), Fail> {
     let alloc = rt.alloc();
-    for (last_stamp, rounds) in [(2u32, 3_000u64), (3, 3_000)] {
-        let queue: Numbers = LastingQueue::new(alloc, config(2, 4, last_stamp))?;
-        let mut worker = Worker::new(alloc, &rt, &queue)?;
-        for round in 0..rounds {
-            let inserted = worker.insert_and_end(&rt, &queue, round.wrapping_mul(12), 12);
-            let kept = worker.poll_and_keep_going(&rt, &queue, 12);
-            assert_eq!(rt; (inserted, kept), (Some(()), Some(())));
-        }
-        drain(&rt, &queue, &mut worker)?;
-        let done = worker.finish();
-        let often = done.reopened > rounds / 2;
-        assert!(rt; often);
-        adds_up(&rt, &queue, &done)?;
+    for last_stamp in 2..4u32 {
+        let queue = LastingQueue::new(alloc, config(2, 4, last_stamp))?;
+        one_owner_goes_round(&rt, alloc, &queue)?;
     }
     Ok(())
 }
 
 // Three threads that insert and one that polls and keeps the queue going.
-fn four<R: Threads + Wait + Sync>(
+fn four<R: Threads + Wait + Sync + Abort>(
     rt: &R,
     queue: &Numbers,
-    workers: (Worker, Worker, Worker, Worker),
+    (one, two): (&mut Worker, &mut Worker),
+    (three, poller): (&mut Worker, &mut Worker),
     turns: u64,
-) -> (Worker, Worker, Worker, Worker) {
-    let (mut one, mut two, mut three, mut poller) = workers;
+) {
     let went = join(
         rt,
         || {
@@ -95,31 +114,40 @@ fn four<R: Threads + Wait + Sync>(
             )
         },
     );
-    if went != ((true, true), (true, true)) {
-        poller.done.misread = 1_000;
-    }
-    (one, two, three, poller)
+    same(rt, "each thread", went, ((true, true), (true, true)));
+}
+
+fn two_workers<R: Wait>(rt: &R, alloc: Global, queue: &Numbers) -> Result<(Worker, Worker), Fail> {
+    let one = Worker::new(alloc, rt, queue)?;
+    let two = Worker::new(alloc, rt, queue)?;
+    Ok((one, two))
+}
+
+fn by_four<R: Threads + Wait + Sync + Abort>(
+    rt: &R,
+    alloc: Global,
+    queue: &Numbers,
+) -> Result<Done, Fail> {
+    let (mut one, mut two) = two_workers(rt, alloc, queue)?;
+    let (mut three, mut poller) = two_workers(rt, alloc, queue)?;
+    four(
+        rt,
+        queue,
+        (&mut one, &mut two),
+        (&mut three, &mut poller),
+        4_000,
+    );
+    drain(rt, queue, &mut poller);
+    let inserted = one.finish().with(two.finish()).with(three.finish());
+    Ok(inserted.with(poller.finish()))
 }
 
 #[test]
 fn four_threads_over_four_shards(rt: HostRuntime) -> Result<(), Fail> {
     let alloc = rt.alloc();
-    for last_stamp in [2u32, 3] {
-        let queue: Numbers = LastingQueue::new(alloc, config(4, 8, last_stamp))?;
-        let workers = (
-            Worker::new(alloc, &rt, &queue)?,
-            Worker::new(alloc, &rt, &queue)?,
-            Worker::new(alloc, &rt, &queue)?,
-            Worker::new(alloc, &rt, &queue)?,
-        );
-        let (one, two, three, mut poller) = four(&rt, &queue, workers, 4_000);
-        drain(&rt, &queue, &mut poller)?;
-        let done = one
-            .finish()
-            .with(two.finish())
-            .with(three.finish())
-            .with(poller.finish());
-        adds_up(&rt, &queue, &done)?;
+    for last_stamp in 2..4u32 {
+        let queue = LastingQueue::new(alloc, config(4, 8, last_stamp))?;
+        adds_up(&rt, &queue, &by_four(&rt, alloc, &queue)?);
     }
     Ok(())
 }
@@ -141,30 +169,39 @@ fn insert_and_remove<R: Wait>(
     }
 }
 
-// Each shard has one slot with all of its stamps. Where those of the first are spent it refuses an entry, and is closed and
-// opened again, while the second takes a few.
-#[test]
-fn one_slot_goes_on(rt: HostRuntime) -> Result<(), Fail> {
-    let alloc = rt.alloc();
-    let queue: Numbers = LastingQueue::new(alloc, LastingConfig::of(2, 1))?;
+// How often an insert was refused, and a shard was closed and opened again.
+fn goes_on<R: Wait>(rt: &R, alloc: Global, queue: &Numbers) -> Result<(u64, u64, u64), Fail> {
     let (mut refused, mut closed, mut reopened) = (0u64, 0u64, 0u64);
     for turn in 0..3_000_000u64 {
-        let is_taken = insert_and_remove(&rt, alloc, &queue, turn)?;
+        let is_taken = insert_and_remove(rt, alloc, queue, turn)?;
         if !is_taken {
             refused = refused.wrapping_add(1);
         }
         if !is_taken || turn % 16 == 0 {
-            match queue.keep_going(&rt, alloc)? {
+            match queue.keep_going(rt, alloc)? {
                 Kept::Closed { .. } => closed = closed.wrapping_add(1),
                 Kept::Reopened { .. } => reopened = reopened.wrapping_add(1),
                 Kept::Fine | Kept::Drains { .. } => {}
             }
         }
     }
-    assert_eq!(rt; (refused, closed, reopened), (2, 2, 2));
-    let first = queue.tally(&rt, 0)?;
-    assert_eq!(rt; first.past.inserted, 2 * u64::from(LAST_STAMP));
-    let audited = queue.audit(&rt);
-    assert_eq!(rt; (audited.inserted, audited.removed), (2_999_998, 2_999_998));
+    Ok((refused, closed, reopened))
+}
+
+fn first_goes_on<R: Wait + Abort>(rt: &R, alloc: Global, queue: &Numbers) -> Result<(), Fail> {
+    same(rt, "steps", goes_on(rt, alloc, queue)?, (2, 2, 2));
+    let first = queue.tally(rt, 0)?;
+    same(rt, "tally", first.past.inserted, 2 * u64::from(LAST_STAMP));
+    let audited = queue.audit(rt);
+    let counts = (audited.inserted, audited.removed);
+    same(rt, "audit", counts, (2_999_998, 2_999_998));
     Ok(())
+}
+
+// Each shard has one slot with all of its stamps. Where those of the first are spent it refuses an entry, and is closed and
+// opened again, while the second takes a few.
+#[test]
+fn one_slot_goes_on(rt: HostRuntime) -> Result<(), Fail> {
+    let queue = LastingQueue::new(rt.alloc(), LastingConfig::of(2, 1))?;
+    first_goes_on(&rt, rt.alloc(), &queue)
 }

@@ -1,5 +1,6 @@
 //! Each allocation of a lasting queue, of a handle and of a shard's opening is refused in turn, and counted.
 
+use super::same;
 use dq_core::CoreError;
 use dq_lasting::{HandleError, Kept, LastingConfig, LastingQueue, ReopenError};
 use linked_list_allocator::LocalHeap;
@@ -27,7 +28,7 @@ fn goes_beside<R: Abort + Wait>(rt: &R, queue: &Letters) {
         Ok(key) => Some(key.entry().shard()),
         Err(_refused) => None,
     };
-    assert_eq!(rt; shard, Some(1));
+    same(rt, "insert", shard, Some(1));
 }
 
 // A shard that is closed and empty is opened again, once more where memory was refused first, and tells whether it was.
@@ -40,7 +41,7 @@ fn reopens<'heap, 'all, R: Abort + Wait>(
     for _ in 0..2 {
         match queue.keep_going(rt, heap) {
             Ok(kept) => {
-                assert_eq!(rt; kept, Kept::Reopened { place: 0 });
+                same(rt, "keep_going", kept, Kept::Reopened { place: 0 });
                 return Ok(was_refused);
             }
             Err(ReopenError::NoMemory) => was_refused = true,
@@ -61,7 +62,7 @@ fn refused_in<R: Abort>(
         return Ok(Refused::InReopen);
     }
     match took {
-        Ok(took) => assert_eq!(rt; took, 1),
+        Ok(took) => same(rt, "renew", took, 1),
         Err(HandleError::NoMemory) => return Ok(Refused::InHandle),
         Err(error) => return Err(error.into()),
     }
@@ -96,15 +97,19 @@ fn goes<R: Abort + Wait>(rt: &R, heap: &Heap) -> Result<Refused, Fail> {
     goes_on(rt, heap, &queue)
 }
 
-// A queue of two shards takes a row of them, and eight times for each: four for its words, three for its slots, one for its
-// wheel. A handle takes a row of callers, and an opening the words anew.
-#[test]
-fn each_allocation_refused(rt: HostRuntime) -> Result<(), Fail> {
-    let all = LocalHeap::new(rt.alloc(), 1 << 20)?;
+// Over a heap of so many grants: where memory was refused, as the heap tells too.
+fn refused_at<R: Abort + Wait>(rt: &R, all: &LocalHeap, grants: u64) -> Result<Refused, Fail> {
+    let heap = RefusingHeap::new(all, grants);
+    let refused = goes(rt, &heap)?;
+    same(rt, grants, heap.has_refused(), refused != Refused::Nowhere);
+    Ok(refused)
+}
+
+// How often memory was refused where, until it isn't.
+fn counted<R: Abort + Wait>(rt: &R, all: &LocalHeap) -> Result<[u64; 4], Fail> {
     let mut counts = [0u64; 4];
     for grants in 0..64u64 {
-        let heap = RefusingHeap::new(&all, grants);
-        let refused = goes(&rt, &heap)?;
+        let refused = refused_at(rt, all, grants)?;
         let at = match refused {
             Refused::InNew => 0,
             Refused::InHandle => 1,
@@ -112,12 +117,24 @@ fn each_allocation_refused(rt: HostRuntime) -> Result<(), Fail> {
             Refused::Nowhere => 3,
         };
         counts[at] = counts[at].wrapping_add(1);
-        assert_eq!(rt; heap.has_refused(), refused != Refused::Nowhere);
         if refused == Refused::Nowhere {
             break;
         }
     }
-    assert_eq!(rt; all.used(), 0);
-    assert_eq!(rt; counts, [17, 1, 4, 1]);
+    Ok(counts)
+}
+
+fn counts_each<R: Abort + Wait>(rt: &R, all: &LocalHeap) -> Result<(), Fail> {
+    let counts = counted(rt, all)?;
+    same(rt, "used", all.used(), 0);
+    same(rt, "refused", counts, [17, 1, 4, 1]);
     Ok(())
+}
+
+// A queue of two shards takes a row of them, and eight times for each: four for its words, three for its slots, one for its
+// wheel. A handle takes a row of callers, and an opening the words anew.
+#[test]
+fn each_allocation_refused(rt: HostRuntime) -> Result<(), Fail> {
+    let all = LocalHeap::new(rt.alloc(), 1 << 20)?;
+    counts_each(&rt, &all)
 }

@@ -1,11 +1,14 @@
 //! A stream of one place: what it gives, when it waits and is woken, and how it tells its faults.
 
-use super::steps::Texts;
-use super::tasks::{Scene, queue_and_task};
-use dq_lasting::{Kept, LastingError, LastingFault, LastingStream, Ticks};
+use self::Step::{Beside, Gives};
+use super::play::Call::{Close, Insert, KeepGoing, Ring, Woken};
+use super::play::{Call, Player, Texts, queue_and_player};
+use super::same;
+use dq_lasting::{Kept, LastingConfig, LastingError, LastingFault, LastingStream, Ticks};
 use dq_ticks::LAST_TICK;
 use futures::StreamExt;
 use futures::task::Poll;
+use futures::test::MockTask;
 use std::cell::Cell;
 use std::process::Abort;
 use std::sync::Wait;
@@ -32,144 +35,185 @@ enum Seen {
     Ends,
 }
 
-impl<'a, R: Abort + Wait> Scene<'a, R> {
-    // A stream of a place.
-    fn stream<'t>(
-        &self,
+const LATE: Seen = Seen::Fault(LastingFault::TickTooLarge { limit: LAST_TICK });
+
+// Polls a stream once.
+fn polled<R: Wait>(task: &MockTask, stream: &mut Stream<'_, '_, R>) -> Seen {
+    match task.poll(&mut stream.next()) {
+        Poll::Pending => Seen::Waits,
+        Poll::Ready(None) => Seen::Ends,
+        Poll::Ready(Some(Err(fault))) => Seen::Fault(fault),
+        Poll::Ready(Some(Ok(expired))) => Seen::Out(expired.deadline),
+    }
+}
+
+#[derive(Clone, Copy)]
+enum Step {
+    /// A call of the queue.
+    Beside(Call),
+    /// What the stream gives at a tick.
+    Gives(u64, Seen),
+}
+
+// A stream, and the tick that it is told.
+#[derive(Drop)]
+struct Watched<'q, 't, R: Wait> {
+    rt: &'q R,
+    queue: &'q Texts,
+    tick: &'t Cell<u64>,
+    stream: Stream<'q, 't, R>,
+}
+
+impl<'q, 't, R: Abort + Wait> Watched<'q, 't, R> {
+    fn new(
+        rt: &'q R,
+        queue: &'q Texts,
         place: usize,
         tick: &'t Cell<u64>,
-    ) -> Result<Stream<'a, 't, R>, LastingError> {
-        match LastingStream::new(self.rt, self.queue, place, SetTick(tick)) {
-            Ok(stream) => Ok(stream),
+    ) -> Result<Watched<'q, 't, R>, LastingError> {
+        match LastingStream::new(rt, queue, place, SetTick(tick)) {
+            Ok(stream) => Ok(Watched {
+                rt,
+                queue,
+                tick,
+                stream,
+            }),
             Err((error, _ticks)) => Err(error),
         }
     }
 
-    // Polls a stream once.
-    fn polled(&self, stream: &mut Stream<'_, '_, R>) -> Seen {
-        match self.task.mock.poll(&mut stream.next()) {
-            Poll::Pending => Seen::Waits,
-            Poll::Ready(None) => Seen::Ends,
-            Poll::Ready(Some(Err(fault))) => Seen::Fault(fault),
-            Poll::Ready(Some(Ok(expired))) => Seen::Out(expired.deadline),
-        }
-    }
-
-    fn gives(&self, stream: &mut Stream<'_, '_, R>, seen: Seen) {
-        assert_eq!(self.rt; self.polled(stream), seen);
-    }
-
-    // Polls a stream at each of those ticks in turn.
-    fn gives_at(&self, stream: &mut Stream<'_, '_, R>, tick: &Cell<u64>, row: &[(u64, Seen)]) {
-        for (at, seen) in row.iter() {
-            tick.set(*at);
-            self.gives(stream, *seen);
+    // Its player polls it.
+    fn steps(&mut self, player: &mut Player, steps: &[Step]) {
+        for (number, step) in steps.iter().enumerate() {
+            match *step {
+                Beside(call) => player.makes(self.rt, self.queue, number, call),
+                Gives(tick, seen) => {
+                    self.tick.set(tick);
+                    same(
+                        self.rt,
+                        number,
+                        polled(&player.task.mock, &mut self.stream),
+                        seen,
+                    )
+                }
+            }
         }
     }
 }
 
-fn one_stream_gives<R: Abort + Wait>(scene: &Scene<'_, R>, tick: &Cell<u64>) -> Result<(), Fail> {
-    let mut stream = scene.stream(0, tick)?;
-    let row = [
-        (2u64, Seen::Waits),
-        (7, Seen::Out(3)),
-        (7, Seen::Out(7)),
-        (7, Seen::Waits),
+// A stream of a place, which is dropped when it has done its steps.
+fn streams<R: Abort + Wait>(
+    rt: &R,
+    queue: &Texts,
+    player: &mut Player,
+    place: usize,
+    steps: &[Step],
+) -> Result<(), LastingError> {
+    let tick = Cell::new(0);
+    Watched::new(rt, queue, place, &tick)?.steps(player, steps);
+    Ok(())
+}
+
+// The first stream is of place 0, and isn't dropped before the second one, of place 1.
+fn two_at_once<R: Abort + Wait>(
+    rt: &R,
+    queue: &Texts,
+    player: &mut Player,
+) -> Result<(), LastingError> {
+    let tick = Cell::new(0);
+    let mut first = Watched::new(rt, queue, 0, &tick)?;
+    first.steps(player, &[Gives(20, Seen::Out(12)), Gives(20, Seen::Waits)]);
+    streams(rt, queue, player, 1, &[Gives(20, Seen::Out(1))])
+}
+
+// Where a stream is dropped its place keeps what it has, and another stream gives it.
+fn gives_what_is_due<R: Abort + Wait>(rt: &R, queue: &Texts, player: &mut Player) {
+    let inserts = &[
+        Insert(0, 7, Ok(0)),
+        Insert(0, 3, Ok(0)),
+        Insert(0, 12, Ok(0)),
+        Insert(1, 1, Ok(1)),
     ];
-    scene.gives_at(&mut stream, tick, &row);
-    // Where a stream is dropped its place keeps what it has, and another stream gives it.
-    drop(stream);
-    Ok(())
-}
-
-fn others_give<R: Abort + Wait>(scene: &Scene<'_, R>, tick: &Cell<u64>) -> Result<(), Fail> {
-    let mut next = scene.stream(0, tick)?;
-    scene.gives(&mut next, Seen::Out(12));
-    scene.gives(&mut next, Seen::Waits);
-    let mut beside = scene.stream(1, tick)?;
-    scene.gives(&mut beside, Seen::Out(1));
-    Ok(())
+    player.plays(rt, queue, inserts);
+    let steps = &[
+        Gives(2, Seen::Waits),
+        Gives(7, Seen::Out(3)),
+        Gives(7, Seen::Out(7)),
+        Gives(7, Seen::Waits),
+    ];
+    same(
+        rt,
+        "one stream",
+        streams(rt, queue, player, 0, steps),
+        Ok(()),
+    );
+    same(rt, "two streams", two_at_once(rt, queue, player), Ok(()));
 }
 
 #[test]
 fn lasting_stream_gives_what_is_due(rt: HostRuntime) -> Result<(), Fail> {
-    let (queue, task) = queue_and_task(&rt)?;
-    let scene = Scene::new(&rt, &queue, &task);
-    let tick = Cell::new(0);
-    for (route, when) in [(0u64, 7u64), (0, 3), (0, 12), (1, 1)] {
-        scene.put(route, when)?;
-    }
-    one_stream_gives(&scene, &tick)?;
-    tick.set(20);
-    others_give(&scene, &tick)
-}
-
-// Nothing is linked at first, and then an entry whose tick comes.
-fn woken_at_its_tick<R: Abort + Wait>(
-    scene: &Scene<'_, R>,
-    stream: &mut Stream<'_, '_, R>,
-) -> Result<(), Fail> {
-    scene.gives(stream, Seen::Waits);
-    scene.is_woken_now(false);
-    scene.put(0, 10)?;
-    scene.is_woken_once();
-    scene.gives(stream, Seen::Waits);
-    for (at, is_rung) in [(9u64, false), (10, true)] {
-        scene.rings(0, at, Ok(is_rung));
-        scene.is_woken_now(is_rung);
-    }
+    let (queue, mut player) = queue_and_player(&rt, LastingConfig::of(2, 4))?;
+    gives_what_is_due(&rt, &queue, &mut player);
     Ok(())
 }
 
-// The shard is closed and opened again.
-fn woken_as_it_goes_on<R: Abort + Wait>(
-    scene: &Scene<'_, R>,
-    stream: &mut Stream<'_, '_, R>,
-) -> Result<(), Fail> {
-    scene.queue.close(scene.rt, 0)?;
-    scene.is_woken_now(true);
-    scene.gives(stream, Seen::Waits);
-    scene.keeps_going(Kept::Reopened { place: 0 });
-    scene.is_woken_now(true);
-    scene.gives(stream, Seen::Waits);
-    let renewed = scene.put(0, 10)?;
-    assert_eq!(scene.rt;
-        (renewed.entry().shard(), scene.task.was_woken()),
-        (2, true)
-    );
-    scene.gives(stream, Seen::Out(10));
-    Ok(())
+fn waits_and_is_woken<R: Abort + Wait>(rt: &R, queue: &Texts, player: &mut Player) {
+    let steps = &[
+        Gives(0, Seen::Waits),
+        Beside(Woken(false)),
+        Beside(Insert(0, 10, Ok(0))),
+        Beside(Woken(true)),
+        Beside(Woken(false)),
+        Gives(0, Seen::Waits),
+        Beside(Ring(0, 9, Ok(false))),
+        Beside(Woken(false)),
+        Beside(Ring(0, 10, Ok(true))),
+        Beside(Woken(true)),
+        Gives(10, Seen::Out(10)),
+        Gives(10, Seen::Waits),
+        Beside(Close(0)),
+        Beside(Woken(true)),
+        Gives(10, Seen::Waits),
+        Beside(KeepGoing(Kept::Reopened { place: 0 })),
+        Beside(Woken(true)),
+        Gives(10, Seen::Waits),
+        Beside(Insert(0, 10, Ok(2))),
+        Beside(Woken(true)),
+        Gives(10, Seen::Out(10)),
+    ];
+    same(rt, "stream", streams(rt, queue, player, 0, steps), Ok(()));
 }
 
 // A stream waits while nothing is linked, until its tick, and while its shard is closed and opened again.
 #[test]
 fn lasting_stream_waits_and_is_woken(rt: HostRuntime) -> Result<(), Fail> {
-    let (queue, task) = queue_and_task(&rt)?;
-    let scene = Scene::new(&rt, &queue, &task);
-    let tick = Cell::new(0);
-    let mut stream = scene.stream(0, &tick)?;
-    woken_at_its_tick(&scene, &mut stream)?;
-    tick.set(10);
-    scene.gives(&mut stream, Seen::Out(10));
-    scene.gives(&mut stream, Seen::Waits);
-    woken_as_it_goes_on(&scene, &mut stream)
+    let (queue, mut player) = queue_and_player(&rt, LastingConfig::of(2, 4))?;
+    waits_and_is_woken(&rt, &queue, &mut player);
+    Ok(())
+}
+
+// It goes on after a fault, and nothing was noted.
+fn tells_its_faults<R: Abort + Wait>(rt: &R, queue: &Texts, player: &mut Player) {
+    let unknown = Err(LastingError::Unknown);
+    same(
+        rt,
+        "no such place",
+        streams(rt, queue, player, 2, &[]),
+        unknown,
+    );
+    player.plays(rt, queue, &[Insert(0, 5, Ok(0))]);
+    let steps = &[
+        Gives(LAST_TICK + 1, LATE),
+        Gives(LAST_TICK + 1, LATE),
+        Gives(4, Seen::Waits),
+        Gives(5, Seen::Out(5)),
+    ];
+    same(rt, "stream", streams(rt, queue, player, 0, steps), Ok(()));
 }
 
 #[test]
 fn lasting_stream_tells_its_faults(rt: HostRuntime) -> Result<(), Fail> {
-    let (queue, task) = queue_and_task(&rt)?;
-    let scene = Scene::new(&rt, &queue, &task);
-    let tick = Cell::new(LAST_TICK + 1);
-    let refused = scene.stream(2, &tick).err();
-    assert_eq!(rt; refused, Some(LastingError::Unknown));
-    scene.put(0, 5)?;
-    let mut stream = scene.stream(0, &tick)?;
-    let late = LastingFault::TickTooLarge { limit: LAST_TICK };
-    for _ in 0..2 {
-        scene.gives(&mut stream, Seen::Fault(late));
-    }
-    // It goes on, and nothing was noted.
-    let row = [(4u64, Seen::Waits), (5, Seen::Out(5))];
-    scene.gives_at(&mut stream, &tick, &row);
+    let (queue, mut player) = queue_and_player(&rt, LastingConfig::of(2, 4))?;
+    tells_its_faults(&rt, &queue, &mut player);
     Ok(())
 }

@@ -1,49 +1,57 @@
 //! The limits of a queue and of its words.
 
+use super::queues::queue;
+use super::same;
 use dq_core::{CoreConfig, CoreError, DelayCore, VecWords, Words};
 use std::alloc::Global;
+use std::process::Abort;
 use std::test::Fail;
 
 // Why no queue is made of that many words, and how many came back; None where one is made.
 fn refusal(
     alloc: Global,
-    capacity: usize,
-    last_stamp: u32,
+    config: CoreConfig,
     rows: usize,
 ) -> Result<Option<(CoreError, usize)>, CoreError> {
+    let words = VecWords::new(alloc, rows)?;
+    let made: Result<DelayCore<char, VecWords>, (CoreError, VecWords)> = DelayCore::new(
+        alloc, config, words,
+    );
+    Ok(made.err().map(|refused| (refused.0, refused.1.rows())))
+}
+
+// A queue of those numbers is refused, or made.
+fn refuses(
+    rt: &impl Abort,
+    alloc: Global,
+    (capacity, last_stamp, rows): (usize, u32, usize),
+    answer: Result<Option<(CoreError, usize)>, CoreError>,
+) {
     let config = CoreConfig {
         shard: 0,
         capacity,
         last_stamp,
     };
-    let words = VecWords::new(alloc, rows)?;
-    let made: Result<DelayCore<char, VecWords>, (CoreError, VecWords)> = DelayCore::new(
-        alloc, config, words,
-    );
-    match made {
-        Ok(_queue) => Ok(None),
-        Err((error, words)) => Ok(Some((error, words.rows()))),
-    }
+    same(rt, capacity, refusal(alloc, config, rows), answer);
 }
 
 #[test]
-fn bad_configs(rt: HostRuntime) -> Result<(), Fail> {
+fn bad_configs(rt: HostRuntime) {
     let bad = CoreError::BadConfig;
-    for (capacity, last_stamp, rows) in [
+    let refused: &[(usize, u32, usize)] = &[
         (0, 1, 1),
         (65537, 1, 65536),
         (4, 0, 4),
         (4, 1048576, 4),
         (4, 1, 3),
-    ] {
-        let refused = refusal(rt.alloc(), capacity, last_stamp, rows);
-        assert_eq!(rt; refused, Ok(Some((bad, rows))), "capacity {capacity}");
+    ];
+    for numbers in refused {
+        refuses(&rt, rt.alloc(), *numbers, Ok(Some((bad, numbers.2))));
     }
-    assert_eq!(rt; refusal(rt.alloc(), 65536, 1048575, 65536), Ok(None));
-    for capacity in [0, 65537] {
-        assert_eq!(rt; refusal(rt.alloc(), 1, 1, capacity), Err(bad));
+    refuses(&rt, rt.alloc(), (65536, 1048575, 65536), Ok(None));
+    for rows in &[0, 65537] {
+        refuses(&rt, rt.alloc(), (1, 1, *rows), Err(bad));
     }
-    Ok(())
 }
 
 fn moved<T: Send>(value: T) -> T {
@@ -56,16 +64,16 @@ fn queue_of_one(alloc: Global) -> Result<DelayCore<char, VecWords>, CoreError> {
         capacity: 1,
         last_stamp: 1,
     };
-    match DelayCore::new(alloc, config, VecWords::new(alloc, 1)?) {
-        Ok(queue) => Ok(queue),
-        Err((error, _words)) => Err(error),
-    }
+    queue(alloc, config)
+}
+
+fn inserts(rt: &impl Abort, queue: &mut DelayCore<char, VecWords>) {
+    same(rt, "insert", queue.insert('v', 0).is_ok(), true);
 }
 
 #[test]
 fn queue_and_words_are_send(rt: HostRuntime) -> Result<(), Fail> {
-    let mut queue = moved(queue_of_one(rt.alloc())?);
-    assert!(rt; queue.insert('v', 0).is_ok());
-    assert_eq!(rt; moved(VecWords::new(rt.alloc(), 2)?).rows(), 2);
+    inserts(&rt, &mut moved(queue_of_one(rt.alloc())?));
+    same(&rt, "rows", moved(VecWords::new(rt.alloc(), 2)?).rows(), 2);
     Ok(())
 }

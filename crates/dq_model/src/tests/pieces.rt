@@ -1,10 +1,10 @@
 //! Polls in pieces, with every other call between two of them: the queue and the slow model of it agree after each.
 
 use super::model::LAST;
+use super::same;
 use super::same_calls::Both;
 use dq_core::{Piece, Turn};
 use draws::Draw;
-use std::alloc::Global;
 use std::process::Abort;
 use std::test::Fail;
 
@@ -119,29 +119,42 @@ fn some_steps(draw: &mut Draw) -> u32 {
 }
 
 // 5,000 calls on a fresh queue and on its model, and then pieces until it is empty.
-fn agree_at(rt: &impl Abort, alloc: Global, capacity: usize, last_stamp: u32) -> Result<(), Fail> {
-    let mut both = Both::new(alloc, capacity, last_stamp)?;
+fn agree_at(rt: &impl Abort, both: &mut Both, capacity: usize) {
     let mut draw = Draw::new(13);
     for turn in 0..5000u64 {
-        assert!(rt;
-            both.piece_or_call(turn, &mut draw),
-            "call {turn} at capacity {capacity}"
+        let at = (turn, capacity);
+        same(
+            rt,
+            "call, capacity",
+            (at, both.piece_or_call(turn, &mut draw)),
+            (at, true),
         );
         let is_answered = turn % 16 != 0 || both.comes_to_an_answer(some_steps(&mut draw));
-        assert!(rt;
-            is_answered,
-            "Working after call {turn} at capacity {capacity}"
+        same(
+            rt,
+            "not Working after call, capacity",
+            (at, is_answered),
+            (at, true),
         );
-        assert!(rt; both.agree(), "after call {turn} at capacity {capacity}");
+        same(rt, "after call, capacity", (at, both.agree()), (at, true));
     }
-    assert!(rt; both.is_drained(), "at capacity {capacity}");
-    Ok(())
+    same(
+        rt,
+        "drained at capacity",
+        (capacity, both.is_drained()),
+        (capacity, true),
+    );
 }
 
 #[test]
 fn pieces_agree_with_the_model(rt: HostRuntime) -> Result<(), Fail> {
-    for (capacity, last_stamp) in [(1, 3), (3, 1048575), (64, 3), (64, 1048575)] {
-        agree_at(&rt, rt.alloc(), capacity, last_stamp)?;
+    let sizes: &[(usize, u32)] = &[(1, 3), (3, 1048575), (64, 3), (64, 1048575)];
+    for (capacity, last_stamp) in sizes {
+        agree_at(
+            &rt,
+            &mut Both::new(rt.alloc(), *capacity, *last_stamp)?,
+            *capacity,
+        );
     }
     Ok(())
 }

@@ -1,7 +1,10 @@
 //! The row of plain words by itself, without a queue above it.
 
-use dq_core::{CallError, Look, Settled, VecWords, Words};
+use super::same;
+use dq_core::{CallError, CoreError, Look, Settled, VecWords, Words};
 use dq_ticks::{EntryId, Key};
+use std::alloc::Global;
+use std::process::Abort;
 use std::test::Fail;
 
 // The key of an entry of shard 0 that was born at stamp 1.
@@ -9,23 +12,67 @@ fn key(index: u32, stamp: u32) -> Key {
     Key::new(EntryId::new(0, index, 1), stamp)
 }
 
-#[test]
-fn plain_words_limits(rt: HostRuntime) -> Result<(), Fail> {
+// A row of one word, which is live at its first stamp until tick 10.
+fn one_word(alloc: Global) -> Result<VecWords, CoreError> {
+    let mut words = VecWords::new(alloc, 1)?;
+    words.begin(0, 1, 10);
+    Ok(words)
+}
+
+// No call by a key that was never given out is taken.
+fn refuses_forged(rt: &impl Abort, words: &mut VecWords, forged: &Key) {
+    let unknown = CallError::Unknown;
     let too_far = CallError::TooFar {
         limit: 4398046511103,
     };
-    let mut words = VecWords::new(rt.alloc(), 1)?;
-    words.begin(0, 1, 10);
-    for forged in [key(9, 1), key(0, 0), key(0, 9)] {
-        assert_eq!(rt; words.extend(&forged, 68719476736), Err(CallError::Unknown));
-        assert_eq!(rt; words.extend(&forged, 4398046511104), Err(too_far));
-        assert_eq!(rt; words.cancel(&forged), Err(CallError::Unknown));
-        assert_eq!(rt; words.look_key(&forged), Err(CallError::Unknown));
-    }
+    same(
+        rt,
+        "extend",
+        words.extend(forged, 68719476736),
+        Err(unknown),
+    );
+    same(
+        rt,
+        "extend",
+        words.extend(forged, 4398046511104),
+        Err(too_far),
+    );
+    same(rt, "cancel", words.cancel(forged), Err(unknown));
+    same(rt, "look", words.look_key(forged), Err(unknown));
+}
+
+// A live word is extended to the last tick, and not beyond it.
+fn extends_to_the_last_tick(rt: &impl Abort, words: &mut VecWords) {
     let first = key(0, 1);
-    assert_eq!(rt; words.extend(&first, 4398046511104), Err(too_far));
-    assert_eq!(rt; words.extend(&first, 4398046511103), Ok(4398046511103));
-    assert_eq!(rt; words.look_key(&first), Ok(Look::StillLive(4398046511103)));
+    let too_far = CallError::TooFar {
+        limit: 4398046511103,
+    };
+    same(
+        rt,
+        "extend",
+        words.extend(&first, 4398046511104),
+        Err(too_far),
+    );
+    same(
+        rt,
+        "extend",
+        words.extend(&first, 4398046511103),
+        Ok(4398046511103),
+    );
+    let live = Look::StillLive(4398046511103);
+    same(rt, "look", words.look_key(&first), Ok(live));
+}
+
+fn limits(rt: &impl Abort, words: &mut VecWords) {
+    for (index, stamp) in &[(9, 1), (0, 0), (0, 9)] {
+        refuses_forged(rt, words, &key(*index, *stamp));
+    }
+    extends_to_the_last_tick(rt, words);
+}
+
+#[test]
+fn plain_words_limits(rt: HostRuntime) -> Result<(), Fail> {
+    limits(&rt, &mut one_word(rt.alloc())?);
     Ok(())
 }
 
@@ -34,18 +81,38 @@ fn plain_words_end_once(rt: HostRuntime) -> Result<(), Fail> {
     let mut words = VecWords::new(rt.alloc(), 1)?;
     let first = key(0, 1);
     words.begin(0, 1, 10);
-    assert_eq!(rt; words.extend(&first, 50), Ok(50));
-    assert_eq!(rt; words.settle(0, 1, 10), Settled::Later(50));
-    assert_eq!(rt; words.settle(0, 1, 50), Settled::SettledExpired);
+    same(&rt, "extend", words.extend(&first, 50), Ok(50));
+    same(&rt, "settle", words.settle(0, 1, 10), Settled::Later(50));
+    same(
+        &rt,
+        "settle",
+        words.settle(0, 1, 50),
+        Settled::SettledExpired,
+    );
     let how = Look::LookExpired(50);
-    assert_eq!(rt; words.look_key(&first), Ok(how));
-    assert_eq!(rt; words.extend(&first, 60), Err(CallError::Ended { how }));
-    assert_eq!(rt; words.cancel(&first), Err(CallError::Ended { how }));
+    same(&rt, "look", words.look_key(&first), Ok(how));
+    same(
+        &rt,
+        "extend",
+        words.extend(&first, 60),
+        Err(CallError::Ended { how }),
+    );
+    same(
+        &rt,
+        "cancel",
+        words.cancel(&first),
+        Err(CallError::Ended { how }),
+    );
     words.begin(0, 2, 60);
     let stale = CallError::Stale { seen: 2 };
-    assert_eq!(rt; words.look_key(&first), Err(stale));
-    assert_eq!(rt; words.cancel(&first), Err(stale));
-    assert_eq!(rt; words.cancel(&key(0, 2)), Ok(60));
-    assert_eq!(rt; words.settle(0, 2, 60), Settled::SettledCancelled);
+    same(&rt, "look", words.look_key(&first), Err(stale));
+    same(&rt, "cancel", words.cancel(&first), Err(stale));
+    same(&rt, "cancel", words.cancel(&key(0, 2)), Ok(60));
+    same(
+        &rt,
+        "settle",
+        words.settle(0, 2, 60),
+        Settled::SettledCancelled,
+    );
     Ok(())
 }

@@ -1,6 +1,7 @@
 //! The queue and the slow model of it are given the same calls, drawn by a fixed generator, and agree after each.
 
 use super::model::{Expected, LAST, SlowQueue};
+use super::same;
 use dq_core::{CoreConfig, DelayCore, PlainQueue, PlainTurn, Turn, VecWords};
 use dq_ticks::{EntryId, Key};
 use draws::Draw;
@@ -214,30 +215,36 @@ fn queue(
 }
 
 // 2,000 calls on a fresh queue and on its model.
-fn agree_at(rt: &impl Abort, alloc: Global, capacity: usize, last_stamp: u32) -> Result<(), Fail> {
-    let mut both = Both::new(alloc, capacity, last_stamp)?;
+fn agree_at(rt: &impl Abort, both: &mut Both, capacity: usize) {
     let mut draw = Draw::new(11);
     for turn in 0..2000u64 {
-        assert!(rt;
-            both.call(turn, &mut draw),
-            "call {turn} at capacity {capacity}"
+        let at = (turn, capacity);
+        same(
+            rt,
+            "call, capacity",
+            (at, both.call(turn, &mut draw)),
+            (at, true),
         );
-        assert!(rt; both.agree(), "after call {turn} at capacity {capacity}");
+        same(rt, "after call, capacity", (at, both.agree()), (at, true));
     }
-    Ok(())
 }
 
 #[test]
 fn the_queue_agrees_with_its_model(rt: HostRuntime) -> Result<(), Fail> {
-    for (capacity, last_stamp) in [
+    let sizes: &[(usize, u32)] = &[
         (1, 3),
         (3, 3),
         (64, 3),
         (1, 1048575),
         (3, 1048575),
         (64, 1048575),
-    ] {
-        agree_at(&rt, rt.alloc(), capacity, last_stamp)?;
+    ];
+    for (capacity, last_stamp) in sizes {
+        agree_at(
+            &rt,
+            &mut Both::new(rt.alloc(), *capacity, *last_stamp)?,
+            *capacity,
+        );
     }
     Ok(())
 }
@@ -299,13 +306,14 @@ fn call_twice(
 #[test]
 fn the_queue_agrees_with_its_plain_twin(rt: HostRuntime) -> Result<(), Fail> {
     let mut core = queue(rt.alloc(), 0, 16, 1048575)?;
-    let mut plain = PlainQueue::new(rt.alloc(), 16)?;
+    twins_agree(&rt, &mut core, &mut PlainQueue::new(rt.alloc(), 16)?);
+    Ok(())
+}
+
+// 300 calls on a fresh queue and on its plain twin.
+fn twins_agree(rt: &impl Abort, core: &mut DelayCore<u64, VecWords>, plain: &mut PlainQueue<u64>) {
     let mut draw = Draw::new(5);
     for turn in 0..300u64 {
-        assert!(rt;
-            call_twice(&mut core, &mut plain, turn, &mut draw),
-            "call {turn}"
-        );
+        same(rt, turn, call_twice(core, plain, turn, &mut draw), true);
     }
-    Ok(())
 }

@@ -1,7 +1,9 @@
 //! Many entries come out under one lock.
 
+use super::calls::polls;
+use super::same;
 use dq_core::Turn;
-use dq_shards::{QueueConfig, QueueError, ShardState, SharedDelayQueue};
+use dq_shards::{QueueConfig, ShardState, SharedDelayQueue};
 use std::process::Abort;
 use std::sync::Wait;
 use std::test::Fail;
@@ -24,30 +26,37 @@ fn drain(state: &mut ShardState<u64>, tick: u64) -> Option<(usize, u64)> {
     Some((out, sum))
 }
 
+type Numbers = SharedDelayQueue<u64>;
+
 // So many of shard 1 come out up to a tick, and their values add up.
-fn are_drained<R: Abort + Wait>(
-    rt: &R,
-    queue: &SharedDelayQueue<u64>,
-    tick: u64,
-    answer: (usize, u64),
-) -> Result<(), QueueError> {
-    let drained = queue.lend(rt, 1, |state| drain(state, tick))?;
-    assert_eq!(rt; drained, Some(answer));
-    Ok(())
+fn are_drained<R: Abort + Wait>(rt: &R, queue: &Numbers, tick: u64, answer: (usize, u64)) {
+    let drained = queue.lend(rt, 1, |state| drain(state, tick));
+    same(rt, tick, drained, Ok(Some(answer)));
+}
+
+fn come_out<R: Abort + Wait>(rt: &R, queue: &Numbers) {
+    for number in 1..101u64 {
+        // 101 is a prime, so these are the deadlines from 1 to 100 in another order.
+        let deadline = number * 37 % 101;
+        same(
+            rt,
+            number,
+            queue.insert(rt, 1, deadline, deadline).is_ok(),
+            true,
+        );
+    }
+    are_drained(rt, queue, 60, (60, 1830));
+    polls(rt, queue, (1, 60), Ok((None, Some(61))));
+    are_drained(rt, queue, 200, (40, 3220));
+    polls(rt, queue, (1, 200), Ok((None, None)));
 }
 
 // Fails where `lend` lends the state of another shard (lend_of_another_shard), since the entries are inserted by name.
 #[test]
 fn many_outs_under_one_lock(rt: HostRuntime) -> Result<(), Fail> {
-    let queue = SharedDelayQueue::new(rt.alloc(), QueueConfig::of(2, 128))?;
-    for number in 1..101u64 {
-        // 101 is a prime, so these are the deadlines from 1 to 100 in another order.
-        let deadline = number * 37 % 101;
-        assert!(rt; queue.insert(&rt, 1, deadline, deadline).is_ok());
-    }
-    are_drained(&rt, &queue, 60, (60, 1830))?;
-    assert!(rt; matches!(queue.poll(&rt, 1, 60), Ok(Turn::Waiting { .. })));
-    are_drained(&rt, &queue, 200, (40, 3220))?;
-    assert!(rt; matches!(queue.poll(&rt, 1, 200), Ok(Turn::Idle)));
+    come_out(
+        &rt,
+        &SharedDelayQueue::new(rt.alloc(), QueueConfig::of(2, 128))?,
+    );
     Ok(())
 }

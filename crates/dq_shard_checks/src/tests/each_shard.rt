@@ -1,7 +1,9 @@
 //! Each of 64 shards is its own.
 
-use dq_core::{Look, Turn};
-use dq_shards::{Handle, QueueConfig, QueueError, SharedDelayQueue};
+use super::calls::{ends, polls};
+use super::same;
+use dq_core::Look;
+use dq_shards::{Handle, QueueConfig, QueueError, SharedDelayQueue, Totals};
 use dq_ticks::Key;
 use std::process::Abort;
 use std::sync::Wait;
@@ -22,7 +24,7 @@ fn is_filed<R: Abort + Wait>(rt: &R, queue: &Numbers, shard: usize, key: &Key, w
         shard,
         |state| (state.shard() as usize, state.filed(&key.entry())),
     );
-    assert_eq!(rt; seen, Ok((shard, Some(when))));
+    same(rt, shard, seen, Ok((shard, Some(when))));
 }
 
 fn is_extended<R: Abort + Wait>(
@@ -32,8 +34,8 @@ fn is_extended<R: Abort + Wait>(
     key: &Key,
     when: u64,
 ) {
-    assert_eq!(rt; handle.extend(key, when), Ok(when));
-    assert_eq!(rt; queue.deadline(rt, &key.entry()), Ok(when));
+    same(rt, "extend", handle.extend(key, when), Ok(when));
+    same(rt, "deadline", queue.deadline(rt, &key.entry()), Ok(when));
 }
 
 fn is_reset<R: Abort + Wait>(
@@ -44,14 +46,18 @@ fn is_reset<R: Abort + Wait>(
     when: u64,
 ) -> Result<Key, QueueError> {
     let key = queue.reset(rt, &key.entry(), when)?;
-    assert_eq!(rt; handle.look(&key), Ok(Look::StillLive(when)));
+    same(rt, "look", handle.look(&key), Ok(Look::StillLive(when)));
     Ok(key)
 }
 
 fn comes_out<R: Abort + Wait>(rt: &R, queue: &Numbers, shard: usize, key: Key, when: u64) {
-    let turn = queue.poll(rt, shard, when);
-    assert!(rt; matches!(&turn, Ok(Turn::Out(out)) if out.key == key && out.value == shard));
-    assert!(rt; matches!(queue.poll(rt, shard, when), Ok(Turn::Idle)));
+    polls(
+        rt,
+        queue,
+        (shard, when),
+        Ok((Some((key, shard, when)), None)),
+    );
+    polls(rt, queue, (shard, when), Ok((None, None)));
 }
 
 // Each call that names a shard reaches the one entry of that shard.
@@ -64,17 +70,48 @@ fn reaches_its_own<R: Abort + Wait>(
 ) -> Result<(), QueueError> {
     let when = first_deadline(shard);
     let (extended, reset) = (when.saturating_add(100), when.saturating_add(200));
-    assert_eq!(rt; key.entry().shard() as usize, shard);
+    same(rt, "shard", key.entry().shard() as usize, shard);
     is_filed(rt, queue, shard, &key, when);
-    assert_eq!(rt;
-        queue.next_wake(rt, shard).map(|wake| wake.is_some()),
-        Ok(true)
-    );
+    let slot_start = when.saturating_sub(when % 64);
+    same(rt, shard, queue.next_wake(rt, shard), Ok(Some(slot_start)));
     is_extended(rt, queue, handle, &key, extended);
     let key = is_reset(rt, queue, handle, &key, reset)?;
-    assert_eq!(rt; queue.sweep(rt, shard), Ok(0));
+    same(rt, "sweep", queue.sweep(rt, shard), Ok(0));
     comes_out(rt, queue, shard, key, reset);
-    assert_eq!(rt; queue.tally(rt, shard).map(|tally| tally.expired), Ok(1));
+    same(rt, shard, queue.tally(rt, shard)?.expired, 1);
+    Ok(())
+}
+
+fn fill_and_reach<R: Abort + Wait>(
+    rt: &R,
+    queue: &Numbers,
+    handle: &mut Handle,
+    keys: &mut Vec<Key>,
+) -> Result<(), Fail> {
+    for shard in 0..SHARDS {
+        keys.push(queue.insert_or_drop(rt, shard as u64, shard, first_deadline(shard))?)?;
+    }
+    for (shard, key) in keys.iter().enumerate() {
+        reaches_its_own(rt, queue, handle, shard, *key)?;
+    }
+    Ok(())
+}
+
+fn are_their_own<R: Abort + Wait>(
+    rt: &R,
+    queue: &Numbers,
+    keys: &mut Vec<Key>,
+) -> Result<(), Fail> {
+    let mut handle = queue.handle(rt)?;
+    fill_and_reach(rt, queue, &mut handle, keys)?;
+    let totals = Totals {
+        inserted: 64,
+        expired: 64,
+        removed: 0,
+        cancelled: 0,
+        live: 0,
+    };
+    ends(rt, queue, handle, totals);
     Ok(())
 }
 
@@ -82,22 +119,5 @@ fn reaches_its_own<R: Abort + Wait>(
 #[test]
 fn each_of_64_shards_is_its_own(rt: HostRuntime) -> Result<(), Fail> {
     let queue: Numbers = SharedDelayQueue::new(rt.alloc(), QueueConfig::of(SHARDS, 2))?;
-    let mut handle = queue.handle(&rt)?;
-    let mut keys = Vec::new(rt.alloc());
-    for shard in 0..SHARDS {
-        keys.push(queue.insert_or_drop(&rt, shard as u64, shard, first_deadline(shard))?)?;
-    }
-    for shard in 0..SHARDS {
-        let Some(key) = keys.get(shard) else {
-            break;
-        };
-        reaches_its_own(&rt, &queue, &mut handle, shard, *key)?;
-    }
-    assert_eq!(rt; handle.give_back(), 0);
-    let totals = queue.audit(&rt);
-    assert_eq!(rt;
-        totals.map(|totals| (totals.inserted, totals.expired)),
-        Ok((64, 64))
-    );
-    Ok(())
+    are_their_own(&rt, &queue, &mut Vec::new(rt.alloc()))
 }

@@ -1,38 +1,59 @@
 //! How handles are issued, audited and given back.
 
-use dq_core::{CoreError, Turn};
+use super::calls::{insert, polls};
+use super::play::Letters;
+use super::same;
+use dq_core::CoreError;
 use dq_shards::{Handle, HandlesOut, QueueConfig, QueueError, SharedDelayQueue, Totals};
-use dq_ticks::Key;
 use std::process::Abort;
 use std::sync::Wait;
 use std::test::Fail;
 
-type Letters = SharedDelayQueue<char>;
-
-fn insert<R: Wait>(rt: &R, queue: &Letters, value: char, when: u64) -> Result<Key, QueueError> {
-    queue
-        .insert(rt, 0, value, when)
-        .map_err(|refused| refused.0)
-}
-
-// Gives a handle back, and answers its accepted cancels and what an audit then tells.
-fn give_back<R: Wait>(
+// A handle is given back, which made so many cancels, and an audit answers then.
+fn gives_back<R: Abort + Wait>(
     rt: &R,
     queue: &Letters,
     handle: Handle,
-) -> (u64, Result<Totals, HandlesOut>) {
-    (handle.give_back(), queue.audit(rt))
+    (cancels, audit): (u64, Result<Totals, HandlesOut>),
+) {
+    same(rt, "give_back", handle.give_back(), cancels);
+    same(rt, "audit", queue.audit(rt), audit);
 }
 
 // An entry expires, one is removed, and the handle cancels one.
 fn ends_three<R: Abort + Wait>(rt: &R, queue: &Letters, handle: &mut Handle) -> Result<(), Fail> {
-    let _expires = insert(rt, queue, 'a', 10)?;
-    let removed = insert(rt, queue, 'b', 20)?;
-    let cancelled = insert(rt, queue, 'c', 30)?;
-    let turn = queue.poll(rt, 0, 10);
-    assert!(rt; matches!(&turn, Ok(Turn::Out(out)) if out.value == 'a'));
-    assert_eq!(rt; queue.remove(rt, &removed.entry())?.deadline, 20);
-    assert_eq!(rt; handle.cancel(&cancelled)?, 30);
+    let expires = insert(rt, queue, 0, 'a', 10)?;
+    let removed = insert(rt, queue, 0, 'b', 20)?;
+    let cancelled = insert(rt, queue, 0, 'c', 30)?;
+    polls(rt, queue, (0, 10), Ok((Some((expires, 'a', 10)), None)));
+    same(
+        rt,
+        "remove",
+        queue.remove(rt, &removed.entry())?.deadline,
+        20,
+    );
+    same(rt, "cancel", handle.cancel(&cancelled), Ok(30));
+    Ok(())
+}
+
+fn ends_three_by_one_of_two<R: Abort + Wait>(rt: &R, queue: &Letters) -> Result<(), Fail> {
+    let mut handle = queue.handle(rt)?;
+    ends_three(rt, queue, &mut handle)?;
+    gives_back(rt, queue, handle, (1, Err(HandlesOut { out: 1 })));
+    Ok(())
+}
+
+fn audits<R: Abort + Wait>(rt: &R, queue: &Letters) -> Result<(), Fail> {
+    let handle = queue.handle(rt)?;
+    ends_three_by_one_of_two(rt, queue)?;
+    let totals = Totals {
+        inserted: 3,
+        expired: 1,
+        removed: 1,
+        cancelled: 1,
+        live: 0,
+    };
+    gives_back(rt, queue, handle, (0, Ok(totals)));
     Ok(())
 }
 
@@ -41,32 +62,17 @@ fn ends_three<R: Abort + Wait>(rt: &R, queue: &Letters, handle: &mut Handle) -> 
 #[test]
 fn audit_after_give_back(rt: HostRuntime) -> Result<(), Fail> {
     let queue = SharedDelayQueue::new(rt.alloc(), QueueConfig::of(1, 4))?;
-    let (mut first, second) = (queue.handle(&rt)?, queue.handle(&rt)?);
-    ends_three(&rt, &queue, &mut first)?;
-    let out = Err(HandlesOut { out: 1 });
-    assert_eq!(rt; give_back(&rt, &queue, first), (1, out));
-    let totals = Totals {
-        inserted: 3,
-        expired: 1,
-        removed: 1,
-        cancelled: 1,
-        live: 0,
-    };
-    assert_eq!(rt; give_back(&rt, &queue, second), (0, Ok(totals)));
-    Ok(())
+    audits(&rt, &queue)
 }
 
-fn extends_inside_lend<R: Abort + Wait>(
-    rt: &R,
-    queue: &Letters,
-    handle: &mut Handle,
-) -> Result<(), QueueError> {
-    let key = insert(rt, queue, 'a', 10)?;
+fn extends_inside_lend<R: Abort + Wait>(rt: &R, queue: &Letters) -> Result<(), Fail> {
+    let key = insert(rt, queue, 0, 'a', 10)?;
+    let mut handle = queue.handle(rt)?;
     let extended = queue.lend(rt, 0, |state| {
         let extended = handle.extend(&key, 50);
         (extended, state.deadline(&key.entry()))
-    })?;
-    assert_eq!(rt; extended, (Ok(50), Ok(50)));
+    });
+    same(rt, "extend", extended, Ok((Ok(50), Ok(50))));
     Ok(())
 }
 
@@ -74,8 +80,7 @@ fn extends_inside_lend<R: Abort + Wait>(
 #[test]
 fn extend_inside_lend(rt: HostRuntime) -> Result<(), Fail> {
     let queue = SharedDelayQueue::new(rt.alloc(), QueueConfig::of(1, 4))?;
-    let mut handle = queue.handle(&rt)?;
-    Ok(extends_inside_lend(&rt, &queue, &mut handle)?)
+    extends_inside_lend(&rt, &queue)
 }
 
 // Makes so many handles and gives each back.
@@ -87,22 +92,26 @@ fn make_handles<R: Wait>(rt: &R, queue: &Letters, count: u64) -> Result<(), Queu
 }
 
 fn is_at_the_limit<R: Abort + Wait>(rt: &R, queue: &Letters) {
-    let beyond = queue.handle(rt);
-    assert!(rt; matches!(&beyond, Err(QueueError::TooManyHandles { limit: 1024 })));
+    let too_many = QueueError::TooManyHandles { limit: 1024 };
+    same(rt, "handle", queue.handle(rt).err(), Some(too_many));
+}
+
+fn limits<R: Abort + Wait>(rt: &R, queue: &Letters) -> Result<(), Fail> {
+    make_handles(rt, queue, 1024)?;
+    is_at_the_limit(rt, queue);
+    polls(rt, queue, (0, 68719476736), Ok((None, None)));
+    let limit = 4398046511103;
+    let too_large = QueueError::Core(CoreError::TickTooLarge { limit });
+    polls(rt, queue, (0, 4398046511104), Err(too_large));
+    polls(rt, queue, (1, 0), Err(QueueError::Unknown));
+    Ok(())
 }
 
 // Fails where a queue always refuses a handle as too many (handle_always_too_many).
 #[test]
 fn handle_limit(rt: HostRuntime) -> Result<(), Fail> {
     let queue: Letters = SharedDelayQueue::new(rt.alloc(), QueueConfig::of(1, 4))?;
-    make_handles(&rt, &queue, 1024)?;
-    is_at_the_limit(&rt, &queue);
-    assert!(rt; matches!(queue.poll(&rt, 0, 68719476736), Ok(Turn::Idle)));
-    let limit = 4398046511103;
-    let too_large = QueueError::Core(CoreError::TickTooLarge { limit });
-    assert!(rt; matches!(queue.poll(&rt, 0, 4398046511104), Err(error) if error == too_large));
-    assert!(rt; matches!(queue.poll(&rt, 1, 0), Err(QueueError::Unknown)));
-    Ok(())
+    limits(&rt, &queue)
 }
 
 // The callers of a shard that are out.
@@ -118,17 +127,19 @@ fn leave_handles_out<R: Wait>(rt: &R, queue: &Letters, count: u64) -> Result<(),
     Ok(())
 }
 
+fn issues_by_lend<R: Abort + Wait>(rt: &R, queue: &Letters) -> Result<(), Fail> {
+    let _caller = queue.lend(rt, 1, |state| state.issue())??;
+    leave_handles_out(rt, queue, 1023)?;
+    is_at_the_limit(rt, queue);
+    same(rt, "out", out(rt, queue, 0), Ok(1023));
+    same(rt, "out", out(rt, queue, 1), Ok(1024));
+    Ok(())
+}
+
 #[test]
 fn issue_by_lend(rt: HostRuntime) -> Result<(), Fail> {
     let queue: Letters = SharedDelayQueue::new(rt.alloc(), QueueConfig::of(2, 4))?;
-    let _caller = queue.lend(&rt, 1, |state| state.issue())??;
-    leave_handles_out(&rt, &queue, 1023)?;
-    is_at_the_limit(&rt, &queue);
-    assert_eq!(rt;
-        (out(&rt, &queue, 0), out(&rt, &queue, 1)),
-        (Ok(1023), Ok(1024))
-    );
-    Ok(())
+    issues_by_lend(&rt, &queue)
 }
 
 // Issues so many callers in a shard and gives each back.
@@ -151,9 +162,18 @@ fn refused_handles_give_back<R: Abort + Wait>(rt: &R, queue: &Letters) {
         is_at_the_limit(rt, queue);
     }
     for shard in 0..3 {
-        assert_eq!(rt; out(rt, queue, shard), Ok(1), "shard {shard}");
+        same(rt, shard, out(rt, queue, shard), Ok(1));
     }
-    assert_eq!(rt; issues_nothing(rt, queue, 0), Ok(true));
+    same(rt, "issue", issues_nothing(rt, queue, 0), Ok(true));
+}
+
+fn refuses_handles<R: Abort + Wait>(rt: &R, queue: &Letters) -> Result<(), Fail> {
+    let handle = queue.handle(rt)?;
+    issue_callers(rt, queue, 2, 1023)?;
+    refused_handles_give_back(rt, queue);
+    same(rt, "give_back", handle.give_back(), 0);
+    same(rt, "audit", queue.audit(rt).is_ok(), true);
+    Ok(())
 }
 
 // Fails where a refused `handle` keeps what it issued (handle_keeps_what_it_issued): what it issued in the shards before stays
@@ -161,12 +181,7 @@ fn refused_handles_give_back<R: Abort + Wait>(rt: &R, queue: &Letters) {
 #[test]
 fn refused_handle_gives_back(rt: HostRuntime) -> Result<(), Fail> {
     let queue: Letters = SharedDelayQueue::new(rt.alloc(), QueueConfig::of(3, 1))?;
-    let handle = queue.handle(&rt)?;
-    issue_callers(&rt, &queue, 2, 1023)?;
-    refused_handles_give_back(&rt, &queue);
-    assert_eq!(rt; give_back(&rt, &queue, handle).0, 0);
-    assert!(rt; queue.audit(&rt).is_ok());
-    Ok(())
+    refuses_handles(&rt, &queue)
 }
 
 // An entry of the shard, whose one caller is the handle's, is cancelled by it.
@@ -177,11 +192,22 @@ fn is_cancelled<R: Abort + Wait>(
     shard: u64,
 ) -> Result<(), QueueError> {
     let when = 10 + shard % 3;
-    let key = queue
-        .insert(rt, shard, 'v', when)
-        .map_err(|refused| refused.0)?;
-    assert_eq!(rt; out(rt, queue, shard as usize), Ok(1), "shard {shard}");
-    assert_eq!(rt; handle.cancel(&key), Ok(when), "shard {shard}");
+    let key = insert(rt, queue, shard, 'v', when)?;
+    same(rt, shard, out(rt, queue, shard as usize), Ok(1));
+    same(rt, shard, handle.cancel(&key), Ok(when));
+    Ok(())
+}
+
+fn cancels_in_each_shard<R: Abort + Wait>(rt: &R, queue: &Letters) -> Result<(), Fail> {
+    let mut handle = queue.handle(rt)?;
+    for shard in 0..3u64 {
+        is_cancelled(rt, queue, &mut handle, shard)?;
+    }
+    same(rt, "cancels", handle.cancels(), 3);
+    same(rt, "give_back", handle.give_back(), 3);
+    for shard in 0..3 {
+        same(rt, shard, queue.sweep(rt, shard), Ok(1));
+    }
     Ok(())
 }
 
@@ -189,13 +215,5 @@ fn is_cancelled<R: Abort + Wait>(
 #[test]
 fn handle_has_a_caller_of_each_shard(rt: HostRuntime) -> Result<(), Fail> {
     let queue: Letters = SharedDelayQueue::new(rt.alloc(), QueueConfig::of(3, 1))?;
-    let mut handle = queue.handle(&rt)?;
-    for shard in 0..3u64 {
-        is_cancelled(&rt, &queue, &mut handle, shard)?;
-    }
-    assert_eq!(rt; (handle.cancels(), handle.give_back()), (3, 3));
-    for shard in 0..3 {
-        assert_eq!(rt; queue.sweep(&rt, shard), Ok(1), "shard {shard}");
-    }
-    Ok(())
+    cancels_in_each_shard(&rt, &queue)
 }

@@ -1,5 +1,6 @@
 //! Each allocation of a queue of shards, of a handle and of a caller is refused in turn, and counted.
 
+use super::same;
 use dq_core::CoreError;
 use dq_shards::{QueueConfig, QueueError, SharedDelayQueue};
 use dq_words::HANDLE_LIMIT;
@@ -26,7 +27,7 @@ enum Refused {
 // Each shard has so many callers out.
 fn are_out<R: Abort + Wait>(rt: &R, queue: &Letters, out: u64) -> Result<(), QueueError> {
     for shard in 0..queue.shards() {
-        assert_eq!(rt; queue.enter(rt, shard)?.out(), out, "shard {shard}");
+        same(rt, shard, queue.enter(rt, shard)?.out(), out);
     }
     Ok(())
 }
@@ -36,7 +37,7 @@ fn is_handle_made<R: Abort + Wait>(rt: &R, queue: &Letters) -> Result<bool, Queu
     match queue.handle(rt) {
         Ok(handle) => {
             let counted = are_out(rt, queue, 1);
-            assert_eq!(rt; handle.give_back(), 0);
+            same(rt, "give_back", handle.give_back(), 0);
             counted?;
             Ok(true)
         }
@@ -48,19 +49,46 @@ fn is_handle_made<R: Abort + Wait>(rt: &R, queue: &Letters) -> Result<bool, Queu
     }
 }
 
-// A queue is made, and a handle, once more where the first was refused.
-fn makes<R: Abort + Wait>(rt: &R, heap: &Heap, shards: usize) -> Result<Refused, QueueError> {
-    let queue: Letters = match SharedDelayQueue::new(heap, QueueConfig::of(shards, 4)) {
-        Ok(queue) => queue,
-        Err(NO_MEMORY) => return Ok(Refused::InNew),
-        Err(error) => return Err(error),
-    };
-    assert!(rt; !heap.has_refused());
-    if is_handle_made(rt, &queue)? {
+// A handle is made, once more where the first was refused.
+fn makes_handle<R: Abort + Wait>(
+    rt: &R,
+    heap: &Heap,
+    queue: &Letters,
+) -> Result<Refused, QueueError> {
+    same(rt, "new", heap.has_refused(), false);
+    if is_handle_made(rt, queue)? {
         return Ok(Refused::Nowhere);
     }
-    assert!(rt; is_handle_made(rt, &queue)?);
+    same(rt, "handle", is_handle_made(rt, queue), Ok(true));
     Ok(Refused::InHandle)
+}
+
+// A queue is made, and a handle of it.
+fn makes<R: Abort + Wait>(rt: &R, heap: &Heap, shards: usize) -> Result<Refused, QueueError> {
+    match SharedDelayQueue::new(heap, QueueConfig::of(shards, 4)) {
+        Ok(queue) => makes_handle(rt, heap, &queue),
+        Err(NO_MEMORY) => Ok(Refused::InNew),
+        Err(error) => Err(error),
+    }
+}
+
+// Where memory is refused past so many grants. None of it is in use then.
+fn makes_over<R: Abort + Wait>(
+    rt: &R,
+    all: &LocalHeap,
+    grants: u64,
+    shards: usize,
+) -> Result<Refused, QueueError> {
+    let heap = RefusingHeap::new(all, grants);
+    let refused = makes(rt, &heap, shards)?;
+    let has_refused = refused != Refused::Nowhere;
+    same(
+        rt,
+        grants,
+        (all.used(), heap.has_refused()),
+        (0, has_refused),
+    );
+    Ok(refused)
 }
 
 // How many allocations were refused in the making of a queue, and of a handle.
@@ -71,11 +99,7 @@ where
     let (mut in_new, mut in_handle) = (0usize, 0usize);
     for grants in 0..100u64 {
         let all = LocalHeap::new(rt.alloc(), 1 << 16)?;
-        let heap = RefusingHeap::new(&all, grants);
-        let refused = makes(rt, &heap, shards)?;
-        assert_eq!(rt; all.used(), 0, "of {grants} grants");
-        assert_eq!(rt; heap.has_refused(), refused != Refused::Nowhere);
-        match refused {
+        match makes_over(rt, &all, grants, shards)? {
             Refused::InNew => in_new = in_new.saturating_add(1),
             Refused::InHandle => in_handle = in_handle.saturating_add(1),
             Refused::Nowhere => return Ok((in_new, in_handle)),
@@ -89,8 +113,8 @@ where
 // handle takes a row of callers.
 #[test]
 fn each_allocation_is_refused(rt: HostRuntime) -> Result<(), Fail> {
-    assert_eq!(rt; refusals(&rt, 1)?, (9, 1));
-    assert_eq!(rt; refusals(&rt, 3)?, (25, 1));
+    same(&rt, "1 shard", refusals(&rt, 1)?, (9, 1));
+    same(&rt, "3 shards", refusals(&rt, 3)?, (25, 1));
     Ok(())
 }
 
@@ -102,14 +126,22 @@ fn issue_callers<R: Wait>(rt: &R, queue: &Letters, count: u64) -> Result<(), Fai
     Ok(())
 }
 
+fn take_no_memory<R: Abort + Wait>(rt: &R, heap: &Heap, queue: &Letters) -> Result<(), Fail> {
+    issue_callers(rt, queue, HANDLE_LIMIT)?;
+    same(rt, "issue", heap.has_refused(), false);
+    same(rt, "handle", is_handle_made(rt, queue), Ok(false));
+    same(rt, "handle", heap.has_refused(), true);
+    Ok(())
+}
+
+fn issues<R: Abort + Wait>(rt: &R, heap: &Heap) -> Result<(), Fail> {
+    let queue: Letters = SharedDelayQueue::new(heap, QueueConfig::of(3, 4))?;
+    take_no_memory(rt, heap, &queue)
+}
+
 // Over a heap that refuses what comes behind the queue's own allocations.
 #[test]
 fn issued_callers_take_no_memory(rt: HostRuntime) -> Result<(), Fail> {
     let all = LocalHeap::new(rt.alloc(), 1 << 16)?;
-    let heap = RefusingHeap::new(&all, 25);
-    let queue: Letters = SharedDelayQueue::new(&heap, QueueConfig::of(3, 4))?;
-    issue_callers(&rt, &queue, HANDLE_LIMIT)?;
-    assert!(rt; !heap.has_refused());
-    assert!(rt; !is_handle_made(&rt, &queue)? && heap.has_refused());
-    Ok(())
+    issues(&rt, &RefusingHeap::new(&all, 25))
 }

@@ -1,8 +1,10 @@
 //! One thread polls a shard in pieces, and another inserts into it meanwhile.
 
+use super::same;
 use dq_core::{Piece, Turn};
 use dq_shards::{QueueConfig, SharedDelayQueue};
 use std::alloc::AllocGlobal;
+use std::process::Abort;
 use std::sync::Wait;
 use std::test::Fail;
 use std::thread::{Threads, join};
@@ -15,7 +17,7 @@ const ENTRIES: u64 = 200;
 const MOST_WORKING: u64 = 20 * ENTRIES;
 
 // What a thread saw that polls in pieces.
-#[derive(Clone, Copy, Debug, Drop, PartialEq, Eq)]
+#[derive(Clone, Copy, Drop)]
 struct Came {
     outs: u64,
     sum: u64,
@@ -67,20 +69,25 @@ fn beside<R: Threads + Wait + Sync + AllocGlobal>(rt: &R, queue: &Boxes) -> (Cam
     join(rt, || drain(rt, queue), || fill(rt, queue, ENTRIES / 2))
 }
 
+fn all_come<R: Abort + Threads + Wait + Sync + AllocGlobal>(
+    rt: &R,
+    queue: &Boxes,
+) -> Result<(), Fail> {
+    same(rt, "insert", fill(rt, queue, 0), 100);
+    let (came, accepted) = beside(rt, queue);
+    same(rt, "insert", accepted, 100);
+    same(rt, "poll_some", (came.outs, came.sum), (200, 19_900));
+    same(rt, came.working, came.working <= MOST_WORKING, true);
+    let tally = queue.tally(rt, 1)?;
+    let counted = (tally.inserted, tally.expired, tally.linked);
+    same(rt, "tally", counted, (200, 200, 0));
+    same(rt, "audit", queue.audit(rt).is_ok(), true);
+    Ok(())
+}
+
 // Each entry ends once: so many came, their values add up, and the shard counted each once.
 #[test]
 fn a_thread_inserts_between_pieces(rt: HostRuntime) -> Result<(), Fail> {
     let queue: Boxes = SharedDelayQueue::new(rt.alloc(), QueueConfig::of(2, 256))?;
-    assert_eq!(rt; fill(&rt, &queue, 0), 100);
-    let (came, accepted) = beside(&rt, &queue);
-    assert_eq!(rt; accepted, 100);
-    assert_eq!(rt; (came.outs, came.sum), (200, 19_900), "{came:?}");
-    assert!(rt; came.working <= MOST_WORKING, "{came:?}");
-    let tally = queue.tally(&rt, 1)?;
-    assert_eq!(rt;
-        (tally.inserted, tally.expired, tally.linked),
-        (200, 200, 0)
-    );
-    assert!(rt; queue.audit(&rt).is_ok());
-    Ok(())
+    all_come(&rt, &queue)
 }

@@ -1,8 +1,9 @@
 //! Two queues are given the same calls; one is polled whole, the other in pieces. Each gives the same entries out, in the same
 //! order. No two deadlines are the same, so the order is one.
 
+use super::same;
 use dq_core::{Piece, Turn};
-use dq_shards::{Handle, QueueConfig, QueueError, SharedDelayQueue};
+use dq_shards::{Handle, HandlesOut, QueueConfig, QueueError, SharedDelayQueue, Totals};
 use dq_ticks::Key;
 use draws::Draw;
 use linked_list_allocator::LocalHeap;
@@ -99,7 +100,7 @@ fn drain<R: Abort + Wait>(
 ) -> Result<u64, Fail> {
     for came in 0..10_000u64 {
         let (whole, pieces) = (one.whole(rt, tick)?, other.in_pieces(rt, tick, most)?);
-        assert_eq!(rt; whole, pieces, "at tick {tick}, by {most}");
+        same(rt, tick, (most, pieces), (most, whole));
         if whole.is_none() {
             return Ok(came);
         }
@@ -119,11 +120,7 @@ fn call_both<'heap, R: Abort + Wait>(
     let blocks = (tick / 512 + 1).saturating_add(draw.below(1 << (turn % 14)));
     let when = blocks.saturating_mul(512).saturating_add(turn);
     let accepted = one.call(rt, heap, kind, value, when)?;
-    assert_eq!(rt;
-        other.call(rt, heap, kind, value, when)?,
-        accepted,
-        "turn {turn}"
-    );
+    same(rt, turn, other.call(rt, heap, kind, value, when)?, accepted);
     Ok(())
 }
 
@@ -145,19 +142,33 @@ fn give_the_same<'heap, R: Abort + Wait>(
         }
     }
     came = came.saturating_add(drain(rt, one, other, 1 << 40, 3)?);
-    assert!(rt; came >= 100, "{came} came");
+    same(rt, came, came >= 100, true);
+    same(rt, "used", heap.used(), 0);
     Ok(())
+}
+
+// Gives the handle back, and audits.
+fn end<R: Wait>(rt: &R, side: Side) -> (u64, Result<Totals, HandlesOut>) {
+    let Side { queue, handle, .. } = side;
+    (handle.give_back(), queue.audit(rt))
+}
+
+fn end_alike<R: Abort + Wait>(rt: &R, one: Side, other: Side) -> Result<(), HandlesOut> {
+    let ended = end(rt, one);
+    same(rt, "end", end(rt, other), ended);
+    let _totals = ended.1?;
+    Ok(())
+}
+
+fn are_twins<R: Abort + Wait + AllocGlobal>(rt: &R, heap: &LocalHeap) -> Result<(), Fail> {
+    let mut one = Side::new(rt, rt.alloc())?;
+    let mut other = Side::new(rt, rt.alloc())?;
+    give_the_same(rt, heap, &mut one, &mut other)?;
+    Ok(end_alike(rt, one, other)?)
 }
 
 #[test]
 fn pieces_give_what_whole_polls_give(rt: HostRuntime) -> Result<(), Fail> {
     let heap = LocalHeap::new(rt.alloc(), 1 << 16)?;
-    let mut one = Side::new(&rt, rt.alloc())?;
-    let mut other = Side::new(&rt, rt.alloc())?;
-    give_the_same(&rt, &heap, &mut one, &mut other)?;
-    assert_eq!(rt; one.handle.give_back(), other.handle.give_back());
-    let totals = one.queue.audit(&rt)?;
-    assert_eq!(rt; totals, other.queue.audit(&rt)?);
-    assert_eq!(rt; heap.used(), 0);
-    Ok(())
+    are_twins(&rt, &heap)
 }

@@ -1,8 +1,10 @@
 //! A shard is polled in pieces, with its lock free between them: by name and by `lend`, and with a poller that
 //! is parked meanwhile.
 
+use super::play::Way;
+use super::same;
 use dq_core::{CoreError, Piece, Turn};
-use dq_shards::{QueueConfig, QueueError, SharedDelayQueue};
+use dq_shards::{Handle, QueueConfig, QueueError, SharedDelayQueue};
 use dq_ticks::Key;
 use futures::task::{Context, Poll, Source, Waker};
 use futures::test::MockTask;
@@ -38,27 +40,32 @@ const LAST: u64 = 4398046511103;
 
 const TOO_LARGE: Told = Told::Refused(QueueError::Core(CoreError::TickTooLarge { limit: LAST }));
 
-// Pieces of shards of which shard 1 has entries at 5, 70 and 130: the shard, the tick and the steps of each, and its answer.
-// Value n is of the n-th of them.
-const ROWS: &[(usize, u64, u32, Told)] = &[
-    (1, LAST + 1, 1, TOO_LARGE),
-    (2, LAST + 1, 1, Told::Refused(QueueError::Unknown)),
-    (1, 3, 0, Told::Working),
-    (1, 3, 1, Told::Working),
-    (1, 3, 1, Told::Waiting(5)),
-    (1, 5, 1, Told::Working),
-    (1, 5, 1, Told::Out(1, 5)),
-    (1, 5, 1, Told::Waiting(64)),
+// The values and the deadlines of the entries of shard 1.
+const ENTRIES: &[(u64, u64)] = &[(1, 5), (2, 70), (3, 130)];
+
+// A piece: its shard, its tick and its steps.
+type Asked = (usize, u64, u32);
+
+// Pieces of shards of which shard 1 has these entries, and their answers.
+const ROWS: &[(Asked, Told)] = &[
+    ((1, LAST + 1, 1), TOO_LARGE),
+    ((2, LAST + 1, 1), Told::Refused(QueueError::Unknown)),
+    ((1, 3, 0), Told::Working),
+    ((1, 3, 1), Told::Working),
+    ((1, 3, 1), Told::Waiting(5)),
+    ((1, 5, 1), Told::Working),
+    ((1, 5, 1), Told::Out(1, 5)),
+    ((1, 5, 1), Told::Waiting(64)),
     // At 64 a slot is opened, and its one entry is filed anew.
-    (1, 64, 2, Told::Working),
-    (1, 0, 1, Told::Waiting(70)),
-    (1, 70, 2, Told::Out(2, 70)),
+    ((1, 64, 2), Told::Working),
+    ((1, 0, 1), Told::Waiting(70)),
+    ((1, 70, 2), Told::Out(2, 70)),
     // To 128, filed anew, to 130, and out.
-    (1, 200, 3, Told::Working),
-    (1, 200, 1, Told::Out(3, 130)),
-    (1, 200, 1, Told::Working),
-    (1, 200, 1, Told::Idle),
-    (0, 200, 2, Told::Idle),
+    ((1, 200, 3), Told::Working),
+    ((1, 200, 1), Told::Out(3, 130)),
+    ((1, 200, 1), Told::Working),
+    ((1, 200, 1), Told::Idle),
+    ((0, 200, 2), Told::Idle),
 ];
 
 // Puts a box in.
@@ -72,30 +79,7 @@ fn put<'heap, R: Wait>(
     Ok(queue.insert_or_drop(rt, route, Box::new(heap, value)?, when)?)
 }
 
-fn boxes<'heap, R: Wait + AllocGlobal>(
-    rt: &R,
-    heap: &'heap LocalHeap,
-) -> Result<Boxes<'heap>, Fail> {
-    let queue: Boxes = SharedDelayQueue::new(rt.alloc(), QueueConfig::of(2, 4))?;
-    for entry in [(1, 5), (2, 70), (3, 130)] {
-        let _key = put(rt, &queue, heap, 1, entry)?;
-    }
-    Ok(queue)
-}
-
-#[test]
-fn pieces_by_name(rt: HostRuntime) -> Result<(), Fail> {
-    let heap = LocalHeap::new(rt.alloc(), 1 << 12)?;
-    let queue = boxes(&rt, &heap)?;
-    for (number, (shard, tick, most, answer)) in ROWS.iter().enumerate() {
-        let piece = tell(queue.poll_some(&rt, *shard, *tick, *most));
-        assert_eq!(rt; piece, *answer, "row {number} from 0");
-    }
-    assert_eq!(rt; heap.used(), 0);
-    Ok(())
-}
-
-fn by_lend<R: Wait>(rt: &R, queue: &Boxes, shard: usize, tick: u64, most: u32) -> Told {
+fn by_lend<R: Wait>(rt: &R, queue: &Boxes, (shard, tick, most): Asked) -> Told {
     let answer = queue.lend(
         rt,
         shard,
@@ -104,16 +88,48 @@ fn by_lend<R: Wait>(rt: &R, queue: &Boxes, shard: usize, tick: u64, most: u32) -
     answer.unwrap_or_else(Told::Refused)
 }
 
+fn piece<R: Wait>(rt: &R, queue: &Boxes, way: Way, asked: Asked) -> Told {
+    match way {
+        Way::ByName => tell(queue.poll_some(rt, asked.0, asked.1, asked.2)),
+        Way::ByLend => by_lend(rt, queue, asked),
+    }
+}
+
+fn fill_and_poll<'heap, R: Abort + Wait>(
+    rt: &R,
+    queue: &Boxes<'heap>,
+    heap: &'heap LocalHeap,
+    way: Way,
+) -> Result<(), Fail> {
+    for entry in ENTRIES {
+        let _key = put(rt, queue, heap, 1, *entry)?;
+    }
+    for (number, (asked, answer)) in ROWS.iter().enumerate() {
+        same(rt, number, piece(rt, queue, way, *asked), *answer);
+    }
+    same(rt, "used", heap.used(), 0);
+    Ok(())
+}
+
+fn comes_in_pieces<R: Abort + Wait + AllocGlobal>(
+    rt: &R,
+    heap: &LocalHeap,
+    way: Way,
+) -> Result<(), Fail> {
+    let queue: Boxes = SharedDelayQueue::new(rt.alloc(), QueueConfig::of(2, 4))?;
+    fill_and_poll(rt, &queue, heap, way)
+}
+
+#[test]
+fn pieces_by_name(rt: HostRuntime) -> Result<(), Fail> {
+    let heap = LocalHeap::new(rt.alloc(), 1 << 12)?;
+    comes_in_pieces(&rt, &heap, Way::ByName)
+}
+
 #[test]
 fn pieces_by_lend(rt: HostRuntime) -> Result<(), Fail> {
     let heap = LocalHeap::new(rt.alloc(), 1 << 12)?;
-    let queue = boxes(&rt, &heap)?;
-    for (number, (shard, tick, most, answer)) in ROWS.iter().enumerate() {
-        let piece = by_lend(&rt, &queue, *shard, *tick, *most);
-        assert_eq!(rt; piece, *answer, "row {number} from 0");
-    }
-    assert_eq!(rt; heap.used(), 0);
-    Ok(())
+    comes_in_pieces(&rt, &heap, Way::ByLend)
 }
 
 // The waker of the task that is polled.
@@ -141,8 +157,42 @@ fn works<R: Abort + Wait>(
     queue: &Boxes,
     task: &MockTask,
 ) -> (bool, Result<Option<u64>, QueueError>) {
-    assert_eq!(rt; tell(queue.poll_some(rt, 0, 5, 1)), Told::Working);
+    same(
+        rt,
+        "poll_some",
+        tell(queue.poll_some(rt, 0, 5, 1)),
+        Told::Working,
+    );
     (task.is_woken(), queue.parked(rt, 0))
+}
+
+fn cancel_and_poll<'heap, R: Abort + Wait>(
+    rt: &R,
+    queue: &Boxes<'heap>,
+    heap: &'heap LocalHeap,
+    handle: &mut Handle,
+    task: &MockTask,
+) -> Result<(), Fail> {
+    let key = put(rt, queue, heap, 0, (7, 5))?;
+    same(rt, "cancel", handle.cancel(&key), Ok(5));
+    park(rt, queue, task, &Source::new())?;
+    // The wheel arrives: the poller waits for what is due.
+    same(rt, "arrives", works(rt, queue, task), (false, Ok(Some(5))));
+    same(rt, "reaps", works(rt, queue, task), (true, Ok(None)));
+    same(rt, "used", heap.used(), 0);
+    Ok(())
+}
+
+fn leaves_nothing<'heap, R: Abort + Wait>(
+    rt: &R,
+    queue: &Boxes<'heap>,
+    heap: &'heap LocalHeap,
+    task: &MockTask,
+) -> Result<(), Fail> {
+    let mut handle = queue.handle(rt)?;
+    cancel_and_poll(rt, queue, heap, &mut handle, task)?;
+    same(rt, "give_back", handle.give_back(), 1);
+    Ok(())
 }
 
 // The last entry was cancelled, and a piece that is told as Working reaps it. Whoever waits then has nothing to wait for.
@@ -150,14 +200,6 @@ fn works<R: Abort + Wait>(
 fn a_piece_that_leaves_nothing_wakes(rt: HostRuntime) -> Result<(), Fail> {
     let heap = LocalHeap::new(rt.alloc(), 1 << 12)?;
     let queue: Boxes = SharedDelayQueue::new(rt.alloc(), QueueConfig::of(1, 4))?;
-    let (task, name) = (MockTask::new(&rt)?, Source::new());
-    let key = put(&rt, &queue, &heap, 0, (7, 5))?;
-    let mut handle = queue.handle(&rt)?;
-    assert_eq!(rt; handle.cancel(&key), Ok(5));
-    park(&rt, &queue, &task, &name)?;
-    // The wheel arrives: the poller waits for what is due.
-    assert_eq!(rt; works(&rt, &queue, &task), (false, Ok(Some(5))));
-    assert_eq!(rt; works(&rt, &queue, &task), (true, Ok(None)));
-    assert_eq!(rt; (heap.used(), handle.give_back()), (0, 1));
-    Ok(())
+    let task = MockTask::new(&rt)?;
+    leaves_nothing(&rt, &queue, &heap, &task)
 }

@@ -1,5 +1,6 @@
 //! Two threads insert into two shards.
 
+use super::same;
 use dq_shards::{QueueConfig, QueueError, SharedDelayQueue};
 use std::sync::Wait;
 use std::test::Fail;
@@ -36,7 +37,7 @@ fn tallies<R: Wait>(rt: &R, queue: &SharedDelayQueue<u64>) -> Result<(u64, u64),
 #[test]
 fn two_threads_two_shards(rt: HostRuntime) -> Result<(), Fail> {
     let queue = SharedDelayQueue::new(rt.alloc(), QueueConfig::of(2, 256))?;
-    assert_eq!(rt; fill_twice(&rt, &queue), (100, 100));
-    assert_eq!(rt; tallies(&rt, &queue)?, (200, 200));
+    same(&rt, "insert", fill_twice(&rt, &queue), (100, 100));
+    same(&rt, "tally", tallies(&rt, &queue), Ok((200, 200)));
     Ok(())
 }

@@ -1,10 +1,11 @@
 //! What a stream leaves as it was.
 
-use super::streams::{
-    Letters, Seen, Task, TickOf, fill, letters, letters_and_task, out, stream_of,
-};
+use super::same;
+use super::steps::Step::{Parked, Ring, Woken};
+use super::steps::each_answers;
+use super::streams::{Letters, Seen, Task, TickOf, fill, letters_and_task, letters_and_tasks, put};
 use dq_shards::{Handle, QueueError};
-use std::cell::Cell;
+use dq_stream::ExpiredStream;
 use std::process::Abort;
 use std::sync::Wait;
 use std::test::Fail;
@@ -32,60 +33,61 @@ fn leaves_the_others<R: Abort + Wait>(
     rt: &R,
     queue: &Letters,
     task: &Task,
+    stream: &mut ExpiredStream<'_, char, TickOf<'_>, R>,
     before: (Left, Left),
-) -> Result<(), Fail> {
-    let tick = Cell::new(0);
-    let mut stream = stream_of(rt, queue, 1, TickOf(&tick))?;
-    for (at, seen) in [
-        (10, out('b', 10, 10)),
+) {
+    let polls: &[(u64, Seen)] = &[
+        (10, Seen::Out('b', 10, 10)),
         (10, Seen::Waits),
-        (40, out('b', 30, 40)),
+        (40, Seen::Out('b', 30, 40)),
         (40, Seen::Ends),
-    ] {
-        tick.set(at);
-        task.sees(rt, &mut stream, seen);
-        assert_eq!(rt; others_left(rt, queue), Ok(before));
+    ];
+    for (number, (tick, seen)) in polls.iter().enumerate() {
+        let after = (task.poll(stream, *tick), others_left(rt, queue));
+        same(rt, number, after, (*seen, Ok(before)));
     }
-    Ok(())
 }
 
+// The queue has two letters in each shard.
 fn are_left_by_a_stream<R: Abort + Wait>(
     rt: &R,
     queue: &Letters,
     own: &Task,
     others: (&Task, &Task),
 ) -> Result<(), Fail> {
-    for (shard, letter) in [(0, 'a'), (1, 'b'), (2, 'c')] {
-        fill(rt, queue, shard, &[(letter, 10), (letter, 30)])?;
-    }
     others.0.waits(rt, queue, 0)?;
     others.1.waits(rt, queue, 2)?;
     let before = others_left(rt, queue)?;
-    assert_eq!(rt; before.0, (2, 0, Some(10), Some(10)));
-    leaves_the_others(rt, queue, own, before)?;
-    assert_eq!(rt;
-        (others.0.was_woken(), others.1.was_woken()),
-        (false, false)
-    );
+    same(rt, "before", before.0, (2, 0, Some(10), Some(10)));
+    let mut stream = own.stream(rt, queue, 1)?;
+    leaves_the_others(rt, queue, own, &mut stream, before);
+    let woken = (others.0.was_woken(), others.1.was_woken());
+    same(rt, "woken", woken, (false, false));
     Ok(())
+}
+
+fn fill_three_shards(rt: &impl Wait, queue: &Letters) -> Result<(), QueueError> {
+    fill(rt, queue, 0, &[('a', 10), ('a', 30)])?;
+    fill(rt, queue, 1, &[('b', 10), ('b', 30)])?;
+    fill(rt, queue, 2, &[('c', 10), ('c', 30)])
 }
 
 // Fails where a poll of a stream does something in another shard: gives, loses or reaps an entry, notes a tick, or wakes a
 // poller there.
 #[test]
 fn a_stream_leaves_the_other_shards(rt: HostRuntime) -> Result<(), Fail> {
-    let queue = letters(rt.alloc(), 3)?;
-    let (own, first, last) = (Task::new(&rt)?, Task::new(&rt)?, Task::new(&rt)?);
+    let own = Task::new(&rt)?;
+    let (queue, first, last) = letters_and_tasks(&rt, 3)?;
+    fill_three_shards(&rt, &queue)?;
     are_left_by_a_stream(&rt, &queue, &own, (&first, &last))
 }
 
 fn stays_parked<R: Abort + Wait>(rt: &R, queue: &Letters, task: &Task) -> Result<(), Fail> {
-    let tick = Cell::new(0);
-    let mut stream = stream_of(rt, queue, 0, TickOf(&tick))?;
-    task.sees(rt, &mut stream, Seen::Waits);
-    let _other = stream_of(rt, queue, 0, TickOf(&tick))?;
-    task.is_left(rt, queue, Some(10), false);
-    task.is_rung(rt, queue, 10, true);
+    let mut stream = task.stream(rt, queue, 0)?;
+    task.sees(rt, &mut stream, 0, Seen::Waits);
+    let _other = task.stream(rt, queue, 0)?;
+    let steps = &[Parked(Some(10)), Woken(false), Ring(10, true)];
+    each_answers(rt, queue, task, &mut stream, steps);
     Ok(())
 }
 
@@ -101,27 +103,40 @@ fn cancels_the_last<R: Abort + Wait>(
     queue: &Letters,
     handle: &mut Handle,
 ) -> Result<(), Fail> {
-    let Some(later) = fill(rt, queue, 0, &[('v', 10), ('w', 1000)])? else {
-        return Err(Fail::new("no key"));
-    };
-    assert_eq!(rt; handle.cancel(&later), Ok(1000));
+    put(rt, queue, 0, 'v', 10)?;
+    let later = put(rt, queue, 0, 'w', 1000)?;
+    same(rt, "cancel", handle.cancel(&later), Ok(1000));
     Ok(())
 }
 
-fn reaps_what_is_due<R: Abort + Wait>(rt: &R, queue: &Letters, task: &Task) -> Result<(), Fail> {
-    let tick = Cell::new(0);
-    let mut stream = stream_of(rt, queue, 0, TickOf(&tick))?;
-    for (at, seen, linked) in [
+fn reaps_what_is_due<R: Abort + Wait>(
+    rt: &R,
+    queue: &Letters,
+    task: &Task,
+    stream: &mut ExpiredStream<'_, char, TickOf<'_>, R>,
+) -> Result<(), Fail> {
+    let polls: &[(u64, Seen, usize)] = &[
         (0, Seen::Waits, 2),
-        (10, out('v', 10, 10), 1),
+        (10, Seen::Out('v', 10, 10), 1),
         (10, Seen::Waits, 1),
         (1000, Seen::Ends, 0),
-    ] {
-        tick.set(at);
-        task.sees(rt, &mut stream, seen);
-        assert_eq!(rt; left(rt, queue, 0)?.0, linked);
+    ];
+    for (number, (tick, seen, linked)) in polls.iter().enumerate() {
+        let after = (task.poll(stream, *tick), left(rt, queue, 0)?.0);
+        same(rt, number, after, (*seen, *linked));
     }
     Ok(())
+}
+
+fn sweeps_nothing<R: Abort + Wait>(
+    rt: &R,
+    queue: &Letters,
+    task: &Task,
+    handle: &mut Handle,
+) -> Result<(), Fail> {
+    cancels_the_last(rt, queue, handle)?;
+    let mut stream = task.stream(rt, queue, 0)?;
+    reaps_what_is_due(rt, queue, task, &mut stream)
 }
 
 // Fails where a poll of a stream sweeps its shard, before or behind its own poll: it reaps what comes due alone.
@@ -129,6 +144,5 @@ fn reaps_what_is_due<R: Abort + Wait>(rt: &R, queue: &Letters, task: &Task) -> R
 fn a_poll_sweeps_nothing(rt: HostRuntime) -> Result<(), Fail> {
     let (queue, task) = letters_and_task(&rt, &[])?;
     let mut handle = queue.handle(&rt)?;
-    cancels_the_last(&rt, &queue, &mut handle)?;
-    reaps_what_is_due(&rt, &queue, &task)
+    sweeps_nothing(&rt, &queue, &task, &mut handle)
 }

@@ -1,15 +1,16 @@
 //! Streams under the executors of `futures`.
 
-use super::streams::{Letters, TickOf, fill, letters, stream_of};
+use super::same;
+use super::streams::{Letters, TickOf, Told, fill, letters, stream_of};
 use dq_core::Expired;
-use dq_shards::{QueueConfig, SharedDelayQueue};
+use dq_shards::{QueueConfig, QueueError, SharedDelayQueue};
 use dq_stream::{ExpiredStream, StreamFault};
 use futures::executor::{block_on, run_all};
 use futures::future::Either;
 use futures::task::{Context, Poll};
 use futures::{Future, Stream, StreamExt, stream};
-use std::alloc::{AllocGlobal, Global};
-use std::cell::Cell;
+use std::alloc::AllocGlobal;
+use std::process::Abort;
 use std::random::RandomSource;
 use std::sync::Wait;
 use std::sync::atomic::AtomicU64;
@@ -19,30 +20,46 @@ use std::test::Fail;
 type Items = Vec<Result<Expired<char>, StreamFault>>;
 
 // All that a stream gives at a tick after the last deadline.
-fn collected<R>(rt: &R, queue: &Letters) -> Result<Items, Fail>
+fn collected<R>(rt: &R, queue: &Letters, told: &Told) -> Result<Items, Fail>
 where
     R: AllocGlobal + RandomSource + Wait,
 {
-    let tick = Cell::new(10000);
-    let stream = stream_of(rt, queue, 0, TickOf(&tick))?;
+    let stream = stream_of(rt, queue, 0, TickOf(told))?;
     Ok(block_on(rt, stream.collect(rt.alloc()))??)
 }
 
-fn deadlines_of(alloc: Global, items: Items) -> Result<Vec<u64>, Fail> {
-    let mut deadlines = Vec::new(alloc);
-    for item in items {
-        deadlines.push(item?.deadline)?;
+fn deadline_of(item: &Result<Expired<char>, StreamFault>) -> Result<u64, StreamFault> {
+    match item {
+        Ok(expired) => Ok(expired.deadline),
+        Err(fault) => Err(*fault),
     }
-    Ok(deadlines)
+}
+
+fn have_deadlines(
+    rt: &impl Abort,
+    items: &[Result<Expired<char>, StreamFault>],
+    deadlines: &[u64],
+) {
+    same(rt, "how many", items.len(), deadlines.len());
+    for (item, deadline) in items.iter().zip(deadlines) {
+        same(rt, *deadline, deadline_of(item), Ok(*deadline));
+    }
+}
+
+fn gives_three<R>(rt: &R, queue: &Letters) -> Result<(), Fail>
+where
+    R: Abort + AllocGlobal + RandomSource + Wait,
+{
+    fill(rt, queue, 0, &[('a', 5), ('b', 70), ('c', 5000)])?;
+    let items = collected(rt, queue, &Told::at(10000))?;
+    have_deadlines(rt, &items, &[5, 70, 5000]);
+    Ok(())
 }
 
 #[test]
 fn three_in_order_collected(rt: HostRuntime) -> Result<(), Fail> {
     let queue = letters(rt.alloc(), 1)?;
-    fill(&rt, &queue, 0, &[('a', 5), ('b', 70), ('c', 5000)])?;
-    let deadlines = deadlines_of(rt.alloc(), collected(&rt, &queue)?)?;
-    assert_eq!(rt; deadlines.as_slice(), [5, 70, 5000].as_slice());
-    Ok(())
+    gives_three(&rt, &queue)
 }
 
 // What the tasks of an executor share.
@@ -113,20 +130,54 @@ impl<R: Wait> Future for Time<'_, R> {
     }
 }
 
-// Each value is a digit of the sum, which so says how often it came.
-fn put_digits<R: Wait>(rt: &R, queue: &SharedDelayQueue<u64>) -> Result<(), Fail> {
-    for (shard, value, when) in [
-        (0, 1, 3),
-        (1, 10, 1),
-        (0, 100, 70),
-        (1, 1000, 70),
-        (0, 10000, 128),
-        (1, 100000, 130),
-    ] {
-        if queue.insert(rt, shard, value, when).is_err() {
-            return Err(Fail::new("an insert was refused"));
-        }
+// The shard, the value and the deadline of each entry. A value is a digit of the sum, which so says how often it came.
+const DIGITS: &[(u64, u64, u64)] = &[
+    (0, 1, 3),
+    (1, 10, 1),
+    (0, 100, 70),
+    (1, 1000, 70),
+    (0, 10000, 128),
+    (1, 100000, 130),
+];
+
+fn put_digits(rt: &impl Wait, queue: &SharedDelayQueue<u64>) -> Result<(), QueueError> {
+    for (shard, value, when) in DIGITS {
+        queue.insert_or_drop(rt, *shard, *value, *when)?;
     }
+    Ok(())
+}
+
+// A reader of a shard, or the time.
+type Work<'w, R> = Either<Reader<'w, R>, Time<'w, R>>;
+
+fn reader_of<'w, R: Wait>(
+    rt: &'w R,
+    queue: &'w SharedDelayQueue<u64>,
+    world: &'w World,
+    shard: usize,
+) -> Result<Work<'w, R>, QueueError> {
+    match ExpiredStream::new(rt, queue, shard, TickIn(world)) {
+        Ok(stream) => Ok(Either::Left(Reader { world, stream })),
+        Err((error, _)) => Err(error),
+    }
+}
+
+// Adds a reader of each shard, and the time.
+fn add_work<'w, R: Wait>(
+    rt: &'w R,
+    queue: &'w SharedDelayQueue<u64>,
+    world: &'w World,
+    work: &mut Vec<Work<'w, R>>,
+) -> Result<(), Fail> {
+    work.push(reader_of(rt, queue, world, 0)?)?;
+    work.push(reader_of(rt, queue, world, 1)?)?;
+    let time = Time {
+        world,
+        rt,
+        queue,
+        last: 200,
+    };
+    work.push(Either::Right(time))?;
     Ok(())
 }
 
@@ -136,34 +187,31 @@ where
     R: AllocGlobal + RandomSource + Wait,
 {
     let mut work = Vec::new(rt.alloc());
-    for shard in 0..2 {
-        match ExpiredStream::new(rt, queue, shard, TickIn(world)) {
-            Ok(stream) => work.push(Either::Left(Reader { world, stream }))?,
-            Err((error, _)) => return Err(error.into()),
-        }
-    }
-    work.push(Either::Right(Time {
-        world,
-        rt,
-        queue,
-        last: 200,
-    }))?;
+    add_work(rt, queue, world, &mut work)?;
     run_all(rt, stream::iter(work))?;
+    Ok(())
+}
+
+fn gives_each_digit<R>(rt: &R, queue: &SharedDelayQueue<u64>) -> Result<(), Fail>
+where
+    R: Abort + AllocGlobal + RandomSource + Wait,
+{
+    put_digits(rt, queue)?;
+    let world = World {
+        tick: AtomicU64::new(0),
+        sum: AtomicU64::new(0),
+        polls: AtomicU64::new(0),
+    };
+    run_in_turn(rt, queue, &world)?;
+    same(rt, "the sum", world.sum.load(SeqCst), 111111);
+    // A stream that waits isn't polled at each tick.
+    let polls = world.polls.load(SeqCst);
+    same(rt, polls, polls < 30, true);
     Ok(())
 }
 
 #[test]
 fn two_streams_in_turn(rt: HostRuntime) -> Result<(), Fail> {
     let queue = SharedDelayQueue::new(rt.alloc(), QueueConfig::of(2, 8))?;
-    put_digits(&rt, &queue)?;
-    let world = World {
-        tick: AtomicU64::new(0),
-        sum: AtomicU64::new(0),
-        polls: AtomicU64::new(0),
-    };
-    run_in_turn(&rt, &queue, &world)?;
-    assert_eq!(rt; world.sum.load(SeqCst), 111111);
-    // A stream that waits isn't polled at each tick.
-    assert!(rt; world.polls.load(SeqCst) < 30);
-    Ok(())
+    gives_each_digit(&rt, &queue)
 }

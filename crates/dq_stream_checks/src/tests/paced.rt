@@ -1,15 +1,17 @@
 //! Streams that make at most so many steps a poll.
 
-use super::streams::{Letters, TickOf, fill, letters, stream_of};
+use super::same;
+use super::streams::{Letters, TickOf, Told, fill, letters, stream_of};
 use dq_core::Expired;
+use dq_shards::QueueError;
 use dq_stream::{PacedStream, StreamFault};
 use futures::StreamExt;
 use futures::task::Poll;
 use futures::test::MockTask;
-use std::alloc::{AllocGlobal, Global};
-use std::cell::Cell;
+use std::alloc::AllocGlobal;
 use std::num::NonZeroU32;
 use std::process::Abort;
+use std::random::RandomSource;
 use std::sync::Wait;
 use std::test::Fail;
 
@@ -24,126 +26,146 @@ fn seen(polled: Poll<Option<Result<Expired<char>, StreamFault>>>) -> Given {
     }
 }
 
-// The letters that a paced stream gives until it gives none, and how often it was at work and woken before one.
+// Gives out the letters of a paced stream until it gives none, and answers how often it was at work and woken before one.
 fn given<R: Wait>(
     task: &MockTask,
     stream: &mut PacedStream<'_, char, TickOf<'_>, R>,
-    alloc: Global,
-) -> Result<(Vec<char>, usize), Fail> {
-    let (mut out, mut works) = (Vec::with_capacity(alloc, 8)?, 0usize);
+    out: &mut Vec<char>,
+) -> Result<usize, Fail> {
+    let mut works = 0usize;
     for _poll in 0..1000u64 {
         match seen(task.poll(&mut stream.next())) {
             Poll::Pending if task.is_woken() => works = works.saturating_add(1),
-            Poll::Ready(Some(letter)) => drop(out.push(letter)),
-            _ => return Ok((out, works)),
+            Poll::Ready(Some(letter)) => out.push(letter)?,
+            _ => return Ok(works),
         }
     }
     Err(Fail::new("at work for ever"))
 }
 
-// Eight letters in a slot of a higher level, all due at one tick.
-fn full_slot<R: Wait>(rt: &R, queue: &Letters) -> Result<(), Fail> {
-    for letter in ['a', 'b', 'c', 'd', 'e', 'f', 'g', 'h'] {
-        fill(rt, queue, 0, &[(letter, 5000)])?;
-    }
-    Ok(())
+// A stream of shard 0 that makes so many steps a poll.
+fn paced<'q, R: Wait>(
+    rt: &'q R,
+    queue: &'q Letters,
+    told: &'q Told,
+    steps: NonZeroU32,
+) -> Result<PacedStream<'q, char, TickOf<'q>, R>, QueueError> {
+    Ok(stream_of(rt, queue, 0, TickOf(told))?.paced(steps))
 }
 
 // What a stream of a queue that was told this tick gives by so many steps a poll.
-fn given_at<R: Wait + AllocGlobal>(
+fn given_at<R: Wait>(
     rt: &R,
     queue: &Letters,
     task: &MockTask,
-    at: u64,
+    tick: u64,
     steps: NonZeroU32,
-) -> Result<(Vec<char>, usize), Fail> {
-    let tick = Cell::new(at);
-    let mut stream = stream_of(rt, queue, 0, TickOf(&tick))?.paced(steps);
-    given(task, &mut stream, rt.alloc())
+    out: &mut Vec<char>,
+) -> Result<usize, Fail> {
+    let told = Told::at(tick);
+    let mut stream = paced(rt, queue, &told, steps)?;
+    given(task, &mut stream, out)
 }
 
-fn gives_in_order<R>(
-    rt: &R,
-    queue: &Letters,
-    task: &MockTask,
-    steps: NonZeroU32,
-) -> Result<(), Fail>
+// Eight letters in a slot of a higher level, all due at one tick.
+const FULL_SLOT: &[(char, u64)] = &[
+    ('a', 5000),
+    ('b', 5000),
+    ('c', 5000),
+    ('d', 5000),
+    ('e', 5000),
+    ('f', 5000),
+    ('g', 5000),
+    ('h', 5000),
+];
+
+// A queue of one shard with these letters in it, and a task.
+fn queue_and_task<R>(rt: &R, entries: &[(char, u64)]) -> Result<(Letters, MockTask), Fail>
 where
-    R: Abort + AllocGlobal + Wait,
+    R: AllocGlobal + RandomSource + Wait,
 {
-    fill(
-        rt,
-        queue,
-        0,
-        &[('c', 5000), ('a', 3), ('b', 70), ('d', 300000)],
-    )?;
-    let (out, _) = given_at(rt, queue, task, 400000, steps)?;
-    assert_eq!(rt; &out[..], &['a', 'b', 'c', 'd'][..]);
+    let task = MockTask::new(rt)?;
+    let queue = letters(rt.alloc(), 1)?;
+    fill(rt, &queue, 0, entries)?;
+    Ok((queue, task))
+}
+
+const FOUR: &[(char, u64)] = &[('c', 5000), ('a', 3), ('b', 70), ('d', 300000)];
+
+fn gives_in_order<R>(rt: &R, steps: u32) -> Result<(), Fail>
+where
+    R: Abort + AllocGlobal + RandomSource + Wait,
+{
+    let Some(paces) = NonZeroU32::new(steps) else {
+        return Err(Fail::new("no steps"));
+    };
+    let mut out = Vec::with_capacity(rt.alloc(), 8)?;
+    let (queue, task) = queue_and_task(rt, FOUR)?;
+    given_at(rt, &queue, &task, 400000, paces, &mut out)?;
+    same(rt, steps, &out[..], &['a', 'b', 'c', 'd'][..]);
     Ok(())
 }
 
 // Fails where a paced stream gives another letter than its stream, or none for ever, by whatever steps.
 #[test]
 fn paced_gives_what_the_stream_gives(rt: HostRuntime) -> Result<(), Fail> {
-    for steps in [1, 2, 17] {
-        let Some(steps) = NonZeroU32::new(steps) else {
-            continue;
-        };
-        let (queue, task) = (letters(rt.alloc(), 1)?, MockTask::new(&rt)?);
-        gives_in_order(&rt, &queue, &task, steps)?;
-    }
+    gives_in_order(&rt, 1)?;
+    gives_in_order(&rt, 2)?;
+    gives_in_order(&rt, 17)
+}
+
+// Polls a new stream of a full slot once, by one step a poll, and turns it back.
+fn is_at_work<R: Abort + Wait>(rt: &R, queue: &Letters, task: &MockTask) -> Result<(), Fail> {
+    let told = Told::at(5000);
+    let mut stream = paced(rt, queue, &told, NonZeroU32::MIN)?;
+    let polled = seen(task.poll(&mut stream.next()));
+    same(rt, "poll", polled, Poll::Pending);
+    drop(stream.into_inner());
     Ok(())
 }
 
 fn waits_at_work<R: Abort + Wait>(rt: &R, queue: &Letters, task: &MockTask) -> Result<(), Fail> {
-    full_slot(rt, queue)?;
-    let tick = Cell::new(5000);
-    let mut stream = stream_of(rt, queue, 0, TickOf(&tick))?.paced(NonZeroU32::MIN);
-    assert_eq!(rt; seen(task.poll(&mut stream.next())), Poll::Pending);
-    assert_eq!(rt; (queue.parked(rt, 0)?, task.is_woken()), (None, true));
+    let told = Told::at(5000);
+    let mut stream = paced(rt, queue, &told, NonZeroU32::MIN)?;
+    let polled = seen(task.poll(&mut stream.next()));
+    same(rt, "poll", polled, Poll::Pending);
+    let left = (queue.parked(rt, 0), task.is_woken());
+    same(rt, "parked", left, (Ok(None), true));
     Ok(())
 }
 
 // Fails where a poll that stops at its work parks its task, or doesn't wake it.
 #[test]
 fn paced_waits_at_work_and_is_woken(rt: HostRuntime) -> Result<(), Fail> {
-    let (queue, task) = (letters(rt.alloc(), 1)?, MockTask::new(&rt)?);
+    let (queue, task) = queue_and_task(&rt, FULL_SLOT)?;
     waits_at_work(&rt, &queue, &task)
 }
 
-// How often a stream of a full slot was at work, by so many steps a poll.
+// How often a stream of a full slot is at work, by so many steps a poll. It gives all letters.
 fn works_of<R>(rt: &R, queue: &Letters, task: &MockTask, steps: NonZeroU32) -> Result<usize, Fail>
 where
     R: Abort + AllocGlobal + Wait,
 {
-    full_slot(rt, queue)?;
-    let (out, at_work) = given_at(rt, queue, task, 5000, steps)?;
-    assert_eq!(rt; out.len(), 8);
-    Ok(at_work)
+    let mut out = Vec::with_capacity(rt.alloc(), 8)?;
+    let works = given_at(rt, queue, task, 5000, steps, &mut out)?;
+    same(rt, "how many", out.len(), 8);
+    Ok(works)
+}
+
+fn works_of_a_new_queue<R>(rt: &R, steps: NonZeroU32) -> Result<usize, Fail>
+where
+    R: Abort + AllocGlobal + RandomSource + Wait,
+{
+    let (queue, task) = queue_and_task(rt, FULL_SLOT)?;
+    works_of(rt, &queue, &task, steps)
 }
 
 // Fails where a poll makes more steps than its own: a full slot then needs no more polls by one step than by many.
 #[test]
 fn paced_makes_at_most_its_steps(rt: HostRuntime) -> Result<(), Fail> {
-    let (few, many) = (NonZeroU32::MIN, NonZeroU32::MAX);
-    let mut works = [0usize, 0];
-    for (place, steps) in [(0usize, few), (1, many)] {
-        let (queue, task) = (letters(rt.alloc(), 1)?, MockTask::new(&rt)?);
-        let at_work = works_of(&rt, &queue, &task, steps)?;
-        if let Some(count) = works.get_mut(place) {
-            *count = at_work;
-        }
-    }
-    assert!(rt; works[0] >= 8 && works[1] == 0, "{} {}", works[0], works[1]);
-    Ok(())
-}
-
-// Polls a new stream once, by one step a poll, and turns it back.
-fn is_at_work<R: Abort + Wait>(rt: &R, queue: &Letters, task: &MockTask) -> Result<(), Fail> {
-    let tick = Cell::new(5000);
-    let mut stream = stream_of(rt, queue, 0, TickOf(&tick))?.paced(NonZeroU32::MIN);
-    assert_eq!(rt; seen(task.poll(&mut stream.next())), Poll::Pending);
-    drop(stream.into_inner());
+    let few = works_of_a_new_queue(&rt, NonZeroU32::MIN)?;
+    let many = works_of_a_new_queue(&rt, NonZeroU32::MAX)?;
+    same(&rt, few, (few >= 8, many), (true, 0));
     Ok(())
 }
 
@@ -151,18 +173,16 @@ fn loses_nothing<R>(rt: &R, queue: &Letters, task: &MockTask) -> Result<(), Fail
 where
     R: Abort + AllocGlobal + Wait,
 {
-    full_slot(rt, queue)?;
     for _turn in 0..3u64 {
         is_at_work(rt, queue, task)?;
     }
-    let (out, _) = given_at(rt, queue, task, 5000, NonZeroU32::MIN)?;
-    assert_eq!(rt; out.len(), 8);
+    works_of(rt, queue, task, NonZeroU32::MIN)?;
     Ok(())
 }
 
 // Fails where a stream that is dropped, or turned back, in the midst of its work takes a letter with it.
 #[test]
 fn paced_dropped_loses_nothing(rt: HostRuntime) -> Result<(), Fail> {
-    let (queue, task) = (letters(rt.alloc(), 1)?, MockTask::new(&rt)?);
+    let (queue, task) = queue_and_task(&rt, FULL_SLOT)?;
     loses_nothing(&rt, &queue, &task)
 }

@@ -1,10 +1,13 @@
 //! What becomes of a parked task with each call by name.
 
-use super::streams::{Letters, Task, letters, letters_and_task, put};
+use super::same;
+use super::streams::{Letters, Task, letters_and_task, letters_and_tasks, put};
 use dq_core::CoreError;
 use dq_shards::QueueError;
 use dq_ticks::Key;
+use std::alloc::AllocGlobal;
 use std::process::Abort;
+use std::random::RandomSource;
 use std::sync::Wait;
 use std::test::Fail;
 
@@ -19,23 +22,12 @@ fn left<R: Wait>(
 
 // Puts two letters in, of which a handle that is given back cancels the second.
 fn puts_and_cancels<R: Abort + Wait>(rt: &R, queue: &Letters) -> Result<(Key, Key), Fail> {
+    let live = put(rt, queue, 0, 'v', 10)?;
+    let cancelled = put(rt, queue, 0, 'c', 30)?;
     let mut handle = queue.handle(rt)?;
-    let (live, cancelled) = (put(rt, queue, 0, 'v', 10)?, put(rt, queue, 0, 'c', 30)?);
-    assert_eq!(rt;
-        (handle.cancel(&cancelled), handle.give_back()),
-        (Ok(30), 1)
-    );
+    let answers = (handle.cancel(&cancelled), handle.give_back());
+    same(rt, "cancel", answers, (Ok(30), 1));
     Ok((live, cancelled))
-}
-
-fn tallies_none_cancelled<R: Abort + Wait>(rt: &R, queue: &Letters) -> Result<(), Fail> {
-    assert_eq!(rt; queue.tally(rt, 0)?.cancelled, 0);
-    Ok(())
-}
-
-fn audits_one_cancelled<R: Abort + Wait>(rt: &R, queue: &Letters) -> Result<(), Fail> {
-    assert_eq!(rt; queue.audit(rt)?.cancelled, 1);
-    Ok(())
 }
 
 // Makes one of the six calls that only tell.
@@ -45,12 +37,17 @@ where
 {
     let was_cancelled = Err(QueueError::Core(CoreError::WasCancelled));
     match told {
-        0 => assert_eq!(rt; queue.deadline(rt, &live.entry()), Ok(10)),
-        1 => assert_eq!(rt; queue.deadline(rt, &cancelled.entry()), was_cancelled),
-        2 => assert_eq!(rt; queue.next_wake(rt, 0), Ok(Some(10))),
-        3 => tallies_none_cancelled(rt, queue)?,
-        4 => assert_eq!(rt; queue.parked(rt, 0), Ok(Some(10))),
-        _ => audits_one_cancelled(rt, queue)?,
+        0 => same(rt, told, queue.deadline(rt, &live.entry()), Ok(10)),
+        1 => same(
+            rt,
+            told,
+            queue.deadline(rt, &cancelled.entry()),
+            was_cancelled,
+        ),
+        2 => same(rt, told, queue.next_wake(rt, 0), Ok(Some(10))),
+        3 => same(rt, told, queue.tally(rt, 0)?.cancelled, 0),
+        4 => same(rt, told, queue.parked(rt, 0), Ok(Some(10))),
+        _ => same(rt, told, queue.audit(rt)?.cancelled, 1),
     }
     Ok(())
 }
@@ -60,8 +57,8 @@ fn stays_parked<R: Abort + Wait>(rt: &R, queue: &Letters, task: &Task) -> Result
     task.waits(rt, queue, 0)?;
     for told in 0..6 {
         tells(rt, queue, &live, &cancelled, told)?;
-        let after = (left(rt, queue, 0)?, task.was_woken());
-        assert_eq!(rt; after, ((Some(10), 2), false), "call {told}");
+        let after = (left(rt, queue, 0), task.was_woken());
+        same(rt, told, after, (Ok((Some(10), 2)), false));
     }
     task.is_rung(rt, queue, 10, true);
     Ok(())
@@ -75,7 +72,7 @@ fn what_only_tells_changes_nothing(rt: HostRuntime) -> Result<(), Fail> {
 }
 
 // A call that may change when a shard wakes.
-#[derive(Clone, Copy, Debug)]
+#[derive(Clone, Copy)]
 enum Change {
     Insert(u64),
     Reset(u64),
@@ -136,50 +133,55 @@ fn parks_and_makes<R: Abort + Wait>(
 fn wakes_its_own<R: Abort + Wait>(
     rt: &R,
     queue: &Letters,
-    task: &Task,
-    other: &Task,
+    (task, other): (&Task, &Task),
+    row: usize,
     case: Case,
 ) -> Result<(), Fail> {
     parks_and_makes(rt, queue, task, other, case)?;
-    let (change, is_alone, wakes) = case;
+    let (_, _, wakes) = case;
     let woken = (task.was_woken(), other.was_woken(), task.was_woken());
-    assert_eq!(rt;
-        woken,
-        (wakes, false, false),
-        "{change:?}, alone: {is_alone}"
-    );
-    let parked = (queue.parked(rt, 0)?, queue.parked(rt, 1)?);
+    same(rt, row, woken, (wakes, false, false));
+    let parked = (queue.parked(rt, 0), queue.parked(rt, 1));
     let stays = if wakes { None } else { Some(10) };
-    assert_eq!(rt; parked, (stays, Some(20)), "{change:?}, alone: {is_alone}");
+    same(rt, row, parked, (Ok(stays), Ok(Some(20))));
     task.is_rung(rt, queue, 10, !wakes);
-    assert_eq!(rt; (queue.ring(rt, 1, 20)?, other.was_woken()), (true, true));
+    let rung = (queue.ring(rt, 1, 20), other.was_woken());
+    same(rt, row, rung, (Ok(true), true));
     Ok(())
+}
+
+const CASES: &[Case] = &[
+    (Change::Insert(5), true, true),
+    (Change::Insert(30), true, false),
+    (Change::Reset(5), true, true),
+    (Change::Reset(30), true, false),
+    (Change::Remove, true, true),
+    (Change::Remove, false, false),
+    (Change::Poll(10), true, true),
+    (Change::Poll(10), false, false),
+    (Change::Poll(5), true, false),
+    (Change::Sweep, true, true),
+    (Change::Sweep, false, false),
+    (Change::SweepSome, true, true),
+    (Change::SweepSome, false, false),
+    (Change::Reap, true, true),
+    (Change::Reap, false, false),
+    (Change::Clear, false, true),
+];
+
+fn wakes_its_own_in_a_new_queue<R>(rt: &R, row: usize, case: Case) -> Result<(), Fail>
+where
+    R: Abort + AllocGlobal + RandomSource + Wait,
+{
+    let (queue, task, other) = letters_and_tasks(rt, 2)?;
+    wakes_its_own(rt, &queue, (&task, &other), row, case)
 }
 
 // Fails where a change loses a poller, wakes one that may wait, or wakes one of another shard.
 #[test]
 fn each_change_wakes_its_own_poller(rt: HostRuntime) -> Result<(), Fail> {
-    for case in [
-        (Change::Insert(5), true, true),
-        (Change::Insert(30), true, false),
-        (Change::Reset(5), true, true),
-        (Change::Reset(30), true, false),
-        (Change::Remove, true, true),
-        (Change::Remove, false, false),
-        (Change::Poll(10), true, true),
-        (Change::Poll(10), false, false),
-        (Change::Poll(5), true, false),
-        (Change::Sweep, true, true),
-        (Change::Sweep, false, false),
-        (Change::SweepSome, true, true),
-        (Change::SweepSome, false, false),
-        (Change::Reap, true, true),
-        (Change::Reap, false, false),
-        (Change::Clear, false, true),
-    ] {
-        let queue = letters(rt.alloc(), 2)?;
-        let (task, other) = (Task::new(&rt)?, Task::new(&rt)?);
-        wakes_its_own(&rt, &queue, &task, &other, case)?;
+    for (row, case) in CASES.iter().enumerate() {
+        wakes_its_own_in_a_new_queue(&rt, row, *case)?;
     }
     Ok(())
 }

@@ -1,5 +1,6 @@
 //! A poller that is parked in the place of another one.
 
+use super::same;
 use super::streams::{Letters, fill, letters};
 use dq_core::Turn;
 use dq_shards::LockedShard;
@@ -39,12 +40,13 @@ fn wakes_the_second<R: Abort + Wait>(
 ) -> Result<(), Fail> {
     let name = Source::new();
     fill(rt, queue, 0, &[('v', 10)])?;
-    for task in [first, second] {
-        parks(rt, queue, task, &name)?;
-    }
-    assert_eq!(rt; (first.is_woken(), second.is_woken()), (false, false));
-    assert_eq!(rt; queue.ring(rt, 0, 10)?, true);
-    assert_eq!(rt; (first.is_woken(), second.is_woken()), (false, true));
+    parks(rt, queue, first, &name)?;
+    parks(rt, queue, second, &name)?;
+    let woken = (first.is_woken(), second.is_woken());
+    same(rt, "parked", woken, (false, false));
+    same(rt, "ring", queue.ring(rt, 0, 10), Ok(true));
+    let woken = (first.is_woken(), second.is_woken());
+    same(rt, "rung", woken, (false, true));
     Ok(())
 }
 

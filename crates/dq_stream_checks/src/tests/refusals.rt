@@ -1,12 +1,13 @@
 //! What a stream refuses, and what it leaves then.
 
-use super::streams::{
-    Letters, Seen, Task, TickOf, Ticks, fill, letters, letters_and_task, out, parks, stream_of,
-};
+use super::same;
+use super::steps::Step::{Asked, Parked, Poll, Put, Woken};
+use super::steps::{each_answers, play_over};
+use super::streams::Seen::{Ends, Out, Waits};
+use super::streams::{Letters, Seen, Task, TickOf, Told, letters, letters_and_task};
 use dq_shards::{QueueConfig, QueueError, SharedDelayQueue};
 use dq_stream::{ExpiredStream, StreamFault, TickSource};
 use linked_list_allocator::LocalHeap;
-use std::cell::Cell;
 use std::process::Abort;
 use std::sync::Wait;
 use std::test::Fail;
@@ -20,30 +21,31 @@ fn gives_to_another<R: Abort + Wait>(
     rt: &R,
     queue: &Letters,
     task: &Task,
-    ended: &mut ExpiredStream<'_, char, Ticks<'_>, R>,
+    ended: &mut ExpiredStream<'_, char, TickOf<'_>, R>,
 ) -> Result<(), Fail> {
-    let tick = Cell::new(5);
-    let mut other = stream_of(rt, queue, 0, TickOf(&tick))?;
-    task.sees(rt, &mut other, out('w', 5, 5));
-    task.sees(rt, &mut other, Seen::Waits);
-    task.sees(rt, ended, Seen::Ends);
-    parks(rt, queue, 0, Some(10));
+    let mut other = task.stream(rt, queue, 0)?;
+    let goes_on = &[Poll(5, Out('w', 5, 5)), Poll(5, Waits)];
+    each_answers(rt, queue, task, &mut other, goes_on);
+    let stays = &[Poll(10, Ends), Parked(Some(10))];
+    each_answers(rt, queue, task, ended, stays);
     Ok(())
 }
 
 fn ends_for_good<R: Abort + Wait>(rt: &R, queue: &Letters, task: &Task) -> Result<(), Fail> {
-    let asked = Cell::new(0);
-    let ticks = Ticks::of(&[0, LIMIT + 1], &asked);
-    let mut stream = stream_of(rt, queue, 0, ticks)?;
-    task.sees(rt, &mut stream, Seen::Waits);
-    task.sees(rt, &mut stream, TOO_LARGE);
-    task.is_left(rt, queue, None, false);
-    fill(rt, queue, 0, &[('w', 5)])?;
-    for _ in 0..3 {
-        task.sees(rt, &mut stream, Seen::Ends);
-    }
-    assert_eq!(rt; asked.get(), 2);
-    parks(rt, queue, 0, None);
+    let mut stream = task.stream(rt, queue, 0)?;
+    let steps = &[
+        Poll(0, Waits),
+        Poll(LIMIT + 1, TOO_LARGE),
+        Parked(None),
+        Woken(false),
+        Put('w', 5),
+        Poll(5, Ends),
+        Poll(10, Ends),
+        Poll(LIMIT, Ends),
+        Asked(2),
+        Parked(None),
+    ];
+    each_answers(rt, queue, task, &mut stream, steps);
     gives_to_another(rt, queue, task, &mut stream)
 }
 
@@ -53,65 +55,93 @@ fn refused_tick_ends_for_good(rt: HostRuntime) -> Result<(), Fail> {
     ends_for_good(&rt, &queue, &task)
 }
 
-fn ends_beside_the_lock<R: Abort + Wait>(rt: &R, queue: &Letters, task: &Task) -> Result<(), Fail> {
-    let tick = Cell::new(LIMIT + 1);
-    let mut stream = stream_of(rt, queue, 0, TickOf(&tick))?;
-    task.sees(rt, &mut stream, TOO_LARGE);
+fn ends_beside_the_lock<R: Abort + Wait>(
+    rt: &R,
+    queue: &Letters,
+    task: &Task,
+    stream: &mut ExpiredStream<'_, char, TickOf<'_>, R>,
+) -> Result<(), Fail> {
+    task.sees(rt, stream, LIMIT + 1, TOO_LARGE);
     let shard = queue.enter(rt, 0)?;
-    assert_eq!(rt; (task.poll(&mut stream), shard.len()), (Seen::Ends, 0));
+    same(rt, "poll", (task.poll(stream, 0), shard.len()), (Ends, 0));
     Ok(())
+}
+
+fn takes_no_lock<R: Abort + Wait>(rt: &R, queue: &Letters, task: &Task) -> Result<(), Fail> {
+    let mut stream = task.stream(rt, queue, 0)?;
+    ends_beside_the_lock(rt, queue, task, &mut stream)
 }
 
 // Doesn't end where a stream that has ended takes its shard's lock, which this thread holds.
 #[test]
 fn ended_stream_takes_no_lock(rt: HostRuntime) -> Result<(), Fail> {
     let (queue, task) = letters_and_task(&rt, &[])?;
-    ends_beside_the_lock(&rt, &queue, &task)
-}
-
-fn takes_the_last<R: Abort + Wait>(rt: &R, queue: &Letters, task: &Task) -> Result<(), Fail> {
-    let asked = Cell::new(0);
-    let ticks = Ticks::of(&[LIMIT - 1, LIMIT, LIMIT + 1], &asked);
-    let mut stream = stream_of(rt, queue, 0, ticks)?;
-    task.sees(rt, &mut stream, Seen::Waits);
-    parks(rt, queue, 0, Some(LIMIT));
-    task.sees(rt, &mut stream, out('v', LIMIT, LIMIT));
-    task.sees(rt, &mut stream, TOO_LARGE);
-    Ok(())
+    takes_no_lock(&rt, &queue, &task)
 }
 
 #[test]
 fn last_tick_is_taken(rt: HostRuntime) -> Result<(), Fail> {
-    let (queue, task) = letters_and_task(&rt, &[('v', LIMIT)])?;
-    takes_the_last(&rt, &queue, &task)
+    play_over(
+        &rt,
+        &[('v', LIMIT)],
+        &[
+            Poll(LIMIT - 1, Waits),
+            Parked(Some(LIMIT)),
+            Poll(LIMIT, Out('v', LIMIT, LIMIT)),
+            Poll(LIMIT + 1, TOO_LARGE),
+            Asked(3),
+        ],
+    )
+}
+
+// Why a stream of the shard is refused, and the tick that the source tells which comes back. None for a stream.
+fn refused(rt: &impl Wait, queue: &Letters, shard: usize) -> Option<(QueueError, u64)> {
+    let told = Told::at(7);
+    match ExpiredStream::new(rt, queue, shard, TickOf(&told)) {
+        Ok(_) => None,
+        Err((error, mut source)) => Some((error, source.now())),
+    }
+}
+
+fn gives_the_source_back<R: Abort + Wait>(rt: &R, queue: &Letters) {
+    let unknown = Some((QueueError::Unknown, 7));
+    same(rt, 1, refused(rt, queue, 1), None);
+    same(rt, 2, refused(rt, queue, 2), unknown);
+    same(rt, usize::MAX, refused(rt, queue, usize::MAX), unknown);
 }
 
 #[test]
 fn unknown_shard_gives_the_source_back(rt: HostRuntime) -> Result<(), Fail> {
     let queue = letters(rt.alloc(), 2)?;
-    let tick = Cell::new(7);
-    assert!(rt; ExpiredStream::new(&rt, &queue, 1, TickOf(&tick)).is_ok());
-    for shard in [2, usize::MAX] {
-        let Err((error, mut source)) = ExpiredStream::new(&rt, &queue, shard, TickOf(&tick)) else {
-            return Err(Fail::new("a stream of no shard"));
-        };
-        assert_eq!(rt; (error, source.now()), (QueueError::Unknown, 7));
-    }
+    gives_the_source_back(&rt, &queue);
+    Ok(())
+}
+
+fn says<R: Abort + AllocGlobal>(rt: &R, fault: StreamFault, text: &str) -> Result<(), Fail> {
+    same(rt, text, format!(in rt.alloc(); "{fault}")?.as_str(), text);
     Ok(())
 }
 
 #[test]
 fn faults_say_why(rt: HostRuntime) -> Result<(), Fail> {
-    for (fault, text) in [
-        (
-            StreamFault::TickTooLarge { limit: LIMIT },
-            "the tick is beyond the last tick, 4398046511103",
-        ),
-        (StreamFault::NoMemory, "out of memory"),
-    ] {
-        assert_eq!(rt; format!(in rt.alloc(); "{fault}")?.as_str(), text);
-    }
-    Ok(())
+    let too_large = StreamFault::TickTooLarge { limit: LIMIT };
+    says(
+        &rt,
+        too_large,
+        "the tick is beyond the last tick, 4398046511103",
+    )?;
+    says(&rt, StreamFault::NoMemory, "out of memory")
+}
+
+// A stream of a queue in some heap gives its entry, and ends.
+fn gives_one<R: Abort + Wait>(
+    rt: &R,
+    task: &Task,
+    stream: &mut ExpiredStream<'_, char, TickOf<'_>, R, &LocalHeap>,
+) {
+    task.sees(rt, stream, 0, Waits);
+    task.sees(rt, stream, 10, Out('v', 10, 10));
+    task.sees(rt, stream, 10, Ends);
 }
 
 // A stream gives the entry of a queue in this heap, and ends.
@@ -121,16 +151,13 @@ fn gives_out_of_a_heap<R: Abort + Wait>(
     queue: &SharedDelayQueue<char, &LocalHeap>,
     task: &Task,
 ) -> Result<(), Fail> {
-    let tick = Cell::new(0);
+    same(rt, "insert", queue.insert(rt, 0, 'v', 10).is_ok(), true);
     let used = heap.used();
-    let Ok(mut stream) = ExpiredStream::new(rt, queue, 0, TickOf(&tick)) else {
+    let Ok(mut stream) = ExpiredStream::new(rt, queue, 0, TickOf(&task.told)) else {
         return Err(Fail::new("no stream"));
     };
-    task.sees(rt, &mut stream, Seen::Waits);
-    tick.set(10);
-    task.sees(rt, &mut stream, out('v', 10, 10));
-    task.sees(rt, &mut stream, Seen::Ends);
-    assert_eq!(rt; heap.used(), used);
+    gives_one(rt, task, &mut stream);
+    same(rt, "used", heap.used(), used);
     Ok(())
 }
 
@@ -138,9 +165,6 @@ fn gives_out_of_a_heap<R: Abort + Wait>(
 fn polls_take_none_of_the_queues_memory(rt: HostRuntime) -> Result<(), Fail> {
     let heap = LocalHeap::new(rt.alloc(), 1 << 16)?;
     let queue = SharedDelayQueue::new(&heap, QueueConfig::of(1, 2))?;
-    if queue.insert(&rt, 0, 'v', 10).is_err() {
-        return Err(Fail::new("an insert was refused"));
-    }
     let task = Task::new(&rt)?;
     gives_out_of_a_heap(&rt, &heap, &queue, &task)
 }

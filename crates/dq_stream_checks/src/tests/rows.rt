@@ -1,127 +1,102 @@
 //! The worked rows of a stream.
 
-use super::streams::{
-    Letters, Seen, Task, Ticks, fill, letters_and_task, out, parks, put, stream_of,
-};
+use super::same;
+use super::steps::Step::{Asked, Parked, Poll, Put, Ring, Woken};
+use super::steps::{Change, change_while_parked, play, play_over};
+use super::streams::Seen::{Ends, Fault, Out, Waits};
+use super::streams::{Letters, Task, letters_and_task};
+use dq_shards::LockedShard;
+use dq_stream::StreamFault;
 use dq_stream::parking::park_with;
-use dq_stream::{ExpiredStream, StreamFault};
-use dq_ticks::Key;
-use std::cell::Cell;
 use std::process::Abort;
 use std::sync::Wait;
 use std::test::Fail;
 
-// A stream that ended for now goes on, up to a tick that is refused.
-fn goes_on_to_a_refusal<R: Abort + Wait>(
-    rt: &R,
-    queue: &Letters,
-    task: &Task,
-    stream: &mut ExpiredStream<'_, char, Ticks<'_>, R>,
-    asked: &Cell<usize>,
-) -> Result<(), Fail> {
-    fill(rt, queue, 0, &[('x', 20)])?;
-    task.sees(rt, stream, out('x', 20, 20));
-    let limit = 4398046511103;
-    task.sees(rt, stream, Seen::Fault(StreamFault::TickTooLarge { limit }));
-    assert_eq!(rt; asked.get(), 6);
-    fill(rt, queue, 0, &[('y', 20)])?;
-    task.sees(rt, stream, Seen::Ends);
-    assert_eq!(rt; asked.get(), 6);
-    Ok(())
-}
-
-fn goes_by_hand<R: Abort + Wait>(rt: &R, queue: &Letters, task: &Task) -> Result<(), Fail> {
-    let asked = Cell::new(0);
-    let ticks = Ticks::of(&[0, 10, 10, 10, 20, 4398046511104], &asked);
-    let mut stream = stream_of(rt, queue, 0, ticks)?;
-    task.sees(rt, &mut stream, Seen::Waits);
-    parks(rt, queue, 0, Some(10));
-    fill(rt, queue, 0, &[('w', 5)])?;
-    assert_eq!(rt; (task.was_woken(), task.was_woken()), (true, false));
-    parks(rt, queue, 0, None);
-    task.sees(rt, &mut stream, out('w', 5, 10));
-    task.sees(rt, &mut stream, out('v', 10, 10));
-    task.sees(rt, &mut stream, Seen::Ends);
-    goes_on_to_a_refusal(rt, queue, task, &mut stream, &asked)
-}
-
+// Ended for now it goes on, up to a tick that is refused. After that it gives not even what is due.
 #[test]
 fn stream_by_hand(rt: HostRuntime) -> Result<(), Fail> {
-    let (queue, task) = letters_and_task(&rt, &[('v', 10)])?;
-    goes_by_hand(&rt, &queue, &task)
-}
-
-fn rings_at_its_tick<R: Abort + Wait>(rt: &R, queue: &Letters, task: &Task) -> Result<(), Fail> {
-    let asked = Cell::new(0);
-    let ticks = Ticks::of(&[0], &asked);
-    let mut stream = stream_of(rt, queue, 0, ticks)?;
-    task.sees(rt, &mut stream, Seen::Waits);
-    parks(rt, queue, 0, Some(10));
-    task.is_rung(rt, queue, 9, false);
-    task.is_rung(rt, queue, 10, true);
-    parks(rt, queue, 0, None);
-    task.is_rung(rt, queue, 10, false);
-    Ok(())
+    play_over(
+        &rt,
+        &[('v', 10)],
+        &[
+            Poll(0, Waits),
+            Parked(Some(10)),
+            Put('w', 5),
+            Woken(true),
+            Woken(false),
+            Parked(None),
+            Poll(10, Out('w', 5, 10)),
+            Poll(10, Out('v', 10, 10)),
+            Poll(10, Ends),
+            Put('x', 20),
+            Poll(20, Out('x', 20, 20)),
+            Poll(
+                4398046511104,
+                Fault(StreamFault::TickTooLarge {
+                    limit: 4398046511103,
+                }),
+            ),
+            Asked(6),
+            Put('y', 20),
+            Poll(20, Ends),
+            Asked(6),
+        ],
+    )
 }
 
 #[test]
 fn ring_wakes_once(rt: HostRuntime) -> Result<(), Fail> {
-    let (queue, task) = letters_and_task(&rt, &[('v', 10)])?;
-    rings_at_its_tick(&rt, &queue, &task)
-}
-
-fn is_removed<R: Abort + Wait>(rt: &R, queue: &Letters, key: &Key) -> Result<(), Fail> {
-    assert_eq!(rt; queue.remove(rt, &key.entry())?.value, 'v');
-    Ok(())
-}
-
-fn is_woken_by_a_removal<R: Abort + Wait>(
-    rt: &R,
-    queue: &Letters,
-    task: &Task,
-) -> Result<(), Fail> {
-    let key = put(rt, queue, 0, 'v', 10)?;
-    let asked = Cell::new(0);
-    let ticks = Ticks::of(&[0, 0], &asked);
-    let mut stream = stream_of(rt, queue, 0, ticks)?;
-    task.sees(rt, &mut stream, Seen::Waits);
-    parks(rt, queue, 0, Some(10));
-    is_removed(rt, queue, &key)?;
-    assert_eq!(rt; (task.was_woken(), task.was_woken()), (true, false));
-    parks(rt, queue, 0, None);
-    task.sees(rt, &mut stream, Seen::Ends);
-    assert_eq!(rt; task.was_woken(), false);
-    Ok(())
+    play_over(
+        &rt,
+        &[('v', 10)],
+        &[
+            Poll(0, Waits),
+            Parked(Some(10)),
+            Ring(9, false),
+            Ring(10, true),
+            Parked(None),
+            Ring(10, false),
+        ],
+    )
 }
 
 #[test]
 fn parked_then_removed(rt: HostRuntime) -> Result<(), Fail> {
     let (queue, task) = letters_and_task(&rt, &[])?;
-    is_woken_by_a_removal(&rt, &queue, &task)
+    change_while_parked(
+        &rt,
+        &queue,
+        &task,
+        Change::Remove,
+        &[
+            Woken(true),
+            Woken(false),
+            Parked(None),
+            Poll(0, Ends),
+            Woken(false),
+        ],
+    )
+}
+
+fn refuses_no_waker(rt: &impl Abort, shard: &mut LockedShard<'_, char>) -> Result<(), Fail> {
+    let Some(next) = shard.next_wake() else {
+        return Err(Fail::new("no wake"));
+    };
+    let refused = Err(StreamFault::NoMemory);
+    same(rt, "park", park_with(shard, next, None), refused);
+    Ok(())
 }
 
 // The shard is held in here alone.
 fn parks_no_waker<R: Abort + Wait>(rt: &R, queue: &Letters) -> Result<(), Fail> {
     let mut shard = queue.enter(rt, 0)?;
-    let Some(next) = shard.next_wake() else {
-        return Err(Fail::new("no wake"));
-    };
-    assert_eq!(rt;
-        park_with(&mut shard, next, None),
-        Err(StreamFault::NoMemory)
-    );
-    Ok(())
+    refuses_no_waker(rt, &mut shard)
 }
 
 fn refuses_then_parks<R: Abort + Wait>(rt: &R, queue: &Letters, task: &Task) -> Result<(), Fail> {
     parks_no_waker(rt, queue)?;
-    parks(rt, queue, 0, None);
-    let asked = Cell::new(0);
-    let ticks = Ticks::of(&[0], &asked);
-    let mut stream = stream_of(rt, queue, 0, ticks)?;
-    task.sees(rt, &mut stream, Seen::Waits);
-    parks(rt, queue, 0, Some(10));
-    Ok(())
+    same(rt, "parked", queue.parked(rt, 0), Ok(None));
+    play(rt, queue, task, &[Poll(0, Waits), Parked(Some(10))])
 }
 
 #[test]

@@ -1,5 +1,7 @@
-//! Streams over a queue of letters, the ticks that they are told, and the tasks that poll them.
+//! Streams over a queue of letters, the ticks that they are told, and the tasks that poll them. A test makes what it owns and
+//! lends it to what it shows: an error on the way then drops nothing, which is much of what there is to prove.
 
+use super::same;
 use dq_shards::{QueueConfig, QueueError, SharedDelayQueue};
 use dq_stream::{ExpiredStream, StreamFault, TickSource};
 use dq_ticks::Key;
@@ -20,39 +22,31 @@ pub fn letters(alloc: Global, shards: usize) -> Result<Letters, QueueError> {
     SharedDelayQueue::new(alloc, QueueConfig::of(shards, 8))
 }
 
-/// Puts letters in, each with its deadline, and answers the key of the last.
+/// Puts a letter in, and answers its key.
+pub fn put(
+    rt: &impl Wait,
+    queue: &Letters,
+    shard: u64,
+    value: char,
+    when: u64,
+) -> Result<Key, QueueError> {
+    queue.insert_or_drop(rt, shard, value, when)
+}
+
+/// Puts letters in, each with its deadline.
 pub fn fill(
     rt: &impl Wait,
     queue: &Letters,
     shard: u64,
     entries: &[(char, u64)],
-) -> Result<Option<Key>, QueueError> {
-    let mut last = None;
+) -> Result<(), QueueError> {
     for (value, when) in entries {
-        match queue.insert(rt, shard, *value, *when) {
-            Ok(key) => last = Some(key),
-            Err((error, _)) => return Err(error),
-        }
+        put(rt, queue, shard, *value, *when)?;
     }
-    Ok(last)
+    Ok(())
 }
 
-/// Puts a letter in, and answers its key.
-pub fn put<R: Wait>(
-    rt: &R,
-    queue: &Letters,
-    shard: u64,
-    value: char,
-    when: u64,
-) -> Result<Key, Fail> {
-    match fill(rt, queue, shard, &[(value, when)])? {
-        Some(key) => Ok(key),
-        None => Err(Fail::new("no key")),
-    }
-}
-
-/// A queue of one shard with these letters in it, and a task. A test makes them and lends them to what it shows: an error
-/// on the way then drops nothing, which is much of what there is to prove.
+/// A queue of one shard with these letters in it, and a task.
 pub fn letters_and_task<R>(rt: &R, entries: &[(char, u64)]) -> Result<(Letters, Task), Fail>
 where
     R: AllocGlobal + RandomSource + Wait,
@@ -63,39 +57,47 @@ where
     Ok((queue, task))
 }
 
-/// Fails unless a poller is parked in the shard until this tick, or none is.
-pub fn parks<R: Abort + Wait>(rt: &R, queue: &Letters, shard: usize, until: Option<u64>) {
-    assert_eq!(rt; queue.parked(rt, shard), Ok(until));
+/// A queue of so many shards, and two tasks.
+pub fn letters_and_tasks<R>(rt: &R, shards: usize) -> Result<(Letters, Task, Task), Fail>
+where
+    R: AllocGlobal + RandomSource + Wait,
+{
+    let queue = letters(rt.alloc(), shards)?;
+    let first = Task::new(rt)?;
+    let second = Task::new(rt)?;
+    Ok((queue, first, second))
 }
 
-/// Tells ticks that were set beforehand, and 0 once it has told them all. It counts how often it was asked.
+/// The tick that streams are told, and how often they asked for it.
 #[derive(Drop)]
-pub struct Ticks<'t> {
-    ticks: &'t [u64],
-    asked: &'t Cell<usize>,
+pub struct Told {
+    tick: Cell<u64>,
+    asked: Cell<usize>,
 }
 
-impl<'t> Ticks<'t> {
-    pub fn of(ticks: &'t [u64], asked: &'t Cell<usize>) -> Ticks<'t> {
-        Ticks { ticks, asked }
+impl Told {
+    pub fn at(tick: u64) -> Told {
+        Told {
+            tick: Cell::new(tick),
+            asked: Cell::new(0),
+        }
     }
-}
 
-impl TickSource for Ticks<'_> {
-    fn now(&mut self) -> u64 {
-        let asked = self.asked.get();
-        self.asked.set(asked.saturating_add(1));
-        self.ticks.get(asked).copied().unwrap_or(0)
+    /// How often it was asked for.
+    pub fn asked(&self) -> usize {
+        self.asked.get()
     }
 }
 
 /// Tells the tick that is set.
 #[derive(Drop)]
-pub struct TickOf<'t>(pub &'t Cell<u64>);
+pub struct TickOf<'t>(pub &'t Told);
 
 impl TickSource for TickOf<'_> {
     fn now(&mut self) -> u64 {
-        self.0.get()
+        let told = self.0;
+        told.asked.set(told.asked.get().saturating_add(1));
+        told.tick.get()
     }
 }
 
@@ -116,51 +118,51 @@ pub fn stream_of<'q, S: TickSource, R: Wait>(
 #[derive(Clone, Copy, Debug, PartialEq, Eq)]
 pub enum Seen {
     Waits,
-    Out {
-        value: char,
-        deadline: u64,
-        noted: u64,
-    },
+    /// A letter came out: its value, its deadline and the greatest tick that was noted.
+    Out(char, u64, u64),
     Fault(StreamFault),
     Ends,
 }
 
-/// A letter that came out.
-pub fn out(value: char, deadline: u64, noted: u64) -> Seen {
-    Seen::Out {
-        value,
-        deadline,
-        noted,
-    }
-}
-
-/// A task that polls streams.
+/// A task that polls streams, and the tick that its own streams are told.
 #[derive(Drop)]
 pub struct Task {
     mock: MockTask,
+    pub told: Told,
 }
 
 impl Task {
     pub fn new<R: RandomSource + AllocGlobal>(rt: &R) -> Result<Task, Fail> {
         Ok(Task {
             mock: MockTask::new(rt)?,
+            told: Told::at(0),
         })
     }
 
-    /// Polls a stream once.
+    /// A stream of its own.
+    pub fn stream<'q, R: Wait>(
+        &'q self,
+        rt: &'q R,
+        queue: &'q Letters,
+        shard: usize,
+    ) -> Result<ExpiredStream<'q, char, TickOf<'q>, R>, QueueError> {
+        stream_of(rt, queue, shard, TickOf(&self.told))
+    }
+
+    /// Polls a stream once, at this tick where it is its own.
     pub fn poll<S: TickSource, R: Wait, A: Allocator>(
         &self,
         stream: &mut ExpiredStream<'_, char, S, R, A>,
+        tick: u64,
     ) -> Seen {
+        self.told.tick.set(tick);
         match self.mock.poll(&mut stream.next()) {
             Poll::Pending => Seen::Waits,
             Poll::Ready(None) => Seen::Ends,
             Poll::Ready(Some(Err(fault))) => Seen::Fault(fault),
-            Poll::Ready(Some(Ok(expired))) => Seen::Out {
-                value: expired.value,
-                deadline: expired.deadline,
-                noted: expired.noted,
-            },
+            Poll::Ready(Some(Ok(expired))) => {
+                Seen::Out(expired.value, expired.deadline, expired.noted)
+            }
         }
     }
 
@@ -171,33 +173,21 @@ impl Task {
         was_woken
     }
 
-    /// Fails unless a poll of a stream answers this.
+    /// Fails unless a poll of a stream, at this tick where it is its own, answers this.
     pub fn sees<S: TickSource, R: Abort + Wait, A: Allocator>(
         &self,
         rt: &R,
         stream: &mut ExpiredStream<'_, char, S, R, A>,
+        tick: u64,
         seen: Seen,
     ) {
-        assert_eq!(rt; self.poll(stream), seen);
-    }
-
-    /// Fails unless a poller is parked in shard 0 until this tick, or none is, and this task was woken or wasn't.
-    pub fn is_left<R: Abort + Wait>(
-        &self,
-        rt: &R,
-        queue: &Letters,
-        until: Option<u64>,
-        woken: bool,
-    ) {
-        assert_eq!(rt; (queue.parked(rt, 0), self.was_woken()), (Ok(until), woken));
+        same(rt, tick, self.poll(stream, tick), seen);
     }
 
     /// Rings shard 0. Fails unless that wakes this task, or wakes none.
     pub fn is_rung<R: Abort + Wait>(&self, rt: &R, queue: &Letters, tick: u64, woken: bool) {
-        assert_eq!(rt;
-            (queue.ring(rt, 0, tick), self.was_woken()),
-            (Ok(woken), woken)
-        );
+        let rung = (queue.ring(rt, 0, tick), self.was_woken());
+        same(rt, tick, rung, (Ok(woken), woken));
     }
 
     /// Fails unless a new stream of the shard, at tick 0, waits. It drops the stream.
@@ -207,9 +197,8 @@ impl Task {
         queue: &Letters,
         shard: usize,
     ) -> Result<(), QueueError> {
-        let tick = Cell::new(0);
-        let mut stream = stream_of(rt, queue, shard, TickOf(&tick))?;
-        self.sees(rt, &mut stream, Seen::Waits);
+        let mut stream = self.stream(rt, queue, shard)?;
+        self.sees(rt, &mut stream, 0, Seen::Waits);
         Ok(())
     }
 }

@@ -1,7 +1,9 @@
 //! A stream in one thread, and the time in another.
 
-use dq_shards::{QueueConfig, SharedDelayQueue};
-use dq_stream::{ExpiredStream, TickSource};
+use super::same;
+use dq_core::Expired;
+use dq_shards::{QueueConfig, QueueError, SharedDelayQueue};
+use dq_stream::{ExpiredStream, StreamFault, TickSource};
 use futures::StreamExt;
 use futures::executor::block_on;
 use std::alloc::AllocGlobal;
@@ -10,7 +12,7 @@ use std::sync::Wait;
 use std::sync::atomic::AtomicU64;
 use std::sync::atomic::Ordering::SeqCst;
 use std::test::Fail;
-use std::thread::join;
+use std::thread::{Threads, join};
 
 const ENTRIES: u64 = 100;
 
@@ -24,18 +26,8 @@ impl TickSource for SharedTick<'_> {
     }
 }
 
-// Whether the stream gave all entries up to its end, in the order of their deadlines, and none before its tick.
-fn all_came<R: Wait + RandomSource + AllocGlobal>(
-    rt: &R,
-    queue: &SharedDelayQueue<u64>,
-    tick: &AtomicU64,
-) -> bool {
-    let Ok(stream) = ExpiredStream::new(rt, queue, 0, SharedTick(tick)) else {
-        return false;
-    };
-    let Ok(Ok(items)) = block_on(rt, stream.collect(rt.alloc())) else {
-        return false;
-    };
+// Whether all entries came, in the order of their deadlines, and none before its tick.
+fn are_all(items: &[Result<Expired<u64>, StreamFault>]) -> bool {
     let mut came: u64 = 0;
     for item in items {
         let Ok(expired) = item else {
@@ -49,6 +41,21 @@ fn all_came<R: Wait + RandomSource + AllocGlobal>(
     came == ENTRIES
 }
 
+// Whether the stream gave all entries up to its end.
+fn all_came<R: Wait + RandomSource + AllocGlobal>(
+    rt: &R,
+    queue: &SharedDelayQueue<u64>,
+    tick: &AtomicU64,
+) -> bool {
+    let Ok(stream) = ExpiredStream::new(rt, queue, 0, SharedTick(tick)) else {
+        return false;
+    };
+    match block_on(rt, stream.collect(rt.alloc())) {
+        Ok(Ok(items)) => are_all(&items),
+        _ => false,
+    }
+}
+
 // Goes on tick by tick, and rings the shard at each.
 fn go_on<R: Wait>(rt: &R, queue: &SharedDelayQueue<u64>, tick: &AtomicU64) {
     for now in 1..=10 * ENTRIES {
@@ -57,17 +64,30 @@ fn go_on<R: Wait>(rt: &R, queue: &SharedDelayQueue<u64>, tick: &AtomicU64) {
     }
 }
 
+fn fill(rt: &impl Wait, queue: &SharedDelayQueue<u64>) -> Result<(), QueueError> {
+    for value in 0..ENTRIES {
+        queue.insert_or_drop(rt, 0, value, 10 * value + 1)?;
+    }
+    Ok(())
+}
+
+fn came_beside<R>(rt: &R, queue: &SharedDelayQueue<u64>, tick: &AtomicU64) -> bool
+where
+    R: AllocGlobal + RandomSource + Sync + Threads + Wait,
+{
+    let (came, ()) = join(rt, || all_came(rt, queue, tick), || go_on(rt, queue, tick));
+    came
+}
+
 #[test]
 fn woken_from_another_thread(rt: HostRuntime) -> Result<(), Fail> {
     let queue = SharedDelayQueue::new(rt.alloc(), QueueConfig::of(1, 128))?;
-    for value in 0..ENTRIES {
-        if queue.insert(&rt, 0, value, 10 * value + 1).is_err() {
-            return Err(Fail::new("an insert was refused"));
-        }
-    }
-    let tick = AtomicU64::new(0);
-    let (rt, queue, tick) = (&rt, &queue, &tick);
-    let (came, ()) = join(rt, || all_came(rt, queue, tick), || go_on(rt, queue, tick));
-    assert!(rt; came);
+    fill(&rt, &queue)?;
+    same(
+        &rt,
+        "came",
+        came_beside(&rt, &queue, &AtomicU64::new(0)),
+        true,
+    );
     Ok(())
 }

@@ -1,22 +1,28 @@
 //! Whose task a shard wakes, and how often.
 
-use super::streams::{
-    Letters, Seen, Task, TickOf, fill, letters, letters_and_task, out, parks, stream_of,
-};
-use dq_shards::QueueError;
-use std::alloc::AllocGlobal;
-use std::cell::Cell;
+use super::same;
+use super::steps::Step::{Parked, Poll, Put, Ring, Woken};
+use super::steps::{play, play_over};
+use super::streams::Seen::{Out, Waits};
+use super::streams::{Letters, Task, fill, letters_and_task, letters_and_tasks};
 use std::process::Abort;
 use std::sync::Wait;
 use std::test::Fail;
 
+// Puts a letter in shard 0. Fails unless a poller was parked before, and the task is woken by it.
+fn is_woken_by<R: Abort + Wait>(rt: &R, queue: &Letters, task: &Task, entry: (char, u64)) {
+    let before = (queue.parked(rt, 0), task.was_woken());
+    same(rt, "before", before, (Ok(Some(10)), false));
+    same(rt, "insert", fill(rt, queue, 0, &[entry]), Ok(()));
+    let after = (queue.parked(rt, 0), task.was_woken());
+    same(rt, "after", after, (Ok(None), true));
+}
+
 fn wakes_though_dropped<R: Abort + Wait>(rt: &R, queue: &Letters, task: &Task) -> Result<(), Fail> {
     task.waits(rt, queue, 0)?;
-    task.is_left(rt, queue, Some(10), false);
-    fill(rt, queue, 0, &[('w', 5)])?;
-    task.is_left(rt, queue, None, true);
+    is_woken_by(rt, queue, task, ('w', 5));
     fill(rt, queue, 0, &[('x', 3)])?;
-    assert_eq!(rt; task.was_woken(), false);
+    same(rt, "woken again", task.was_woken(), false);
     Ok(())
 }
 
@@ -26,112 +32,95 @@ fn dropped_while_parked(rt: HostRuntime) -> Result<(), Fail> {
     wakes_though_dropped(&rt, &queue, &task)
 }
 
-fn are_woken(rt: &impl Abort, first: &Task, second: &Task, woken: (bool, bool)) {
-    assert_eq!(rt; (first.was_woken(), second.was_woken()), woken);
-}
-
+// The first task stays asleep the whole time: what wakes it would show until it is asked.
 fn wakes_the_second<R: Abort + Wait>(
     rt: &R,
     queue: &Letters,
     first: &Task,
     second: &Task,
 ) -> Result<(), Fail> {
+    fill(rt, queue, 0, &[('v', 10)])?;
     first.waits(rt, queue, 0)?;
-    let tick = Cell::new(0);
-    let mut stream = stream_of(rt, queue, 0, TickOf(&tick))?;
-    second.sees(rt, &mut stream, Seen::Waits);
-    are_woken(rt, first, second, (false, false));
-    parks(rt, queue, 0, Some(10));
-    queue.ring(rt, 0, 10)?;
-    are_woken(rt, first, second, (false, true));
+    let steps = &[
+        Poll(0, Waits),
+        Woken(false),
+        Parked(Some(10)),
+        Ring(10, true),
+    ];
+    play(rt, queue, second, steps)?;
+    same(rt, "the first", first.was_woken(), false);
     Ok(())
 }
 
 #[test]
 fn new_stream_takes_the_poller_out(rt: HostRuntime) -> Result<(), Fail> {
-    let (queue, first) = letters_and_task(&rt, &[('v', 10)])?;
-    let second = Task::new(&rt)?;
+    let (queue, first, second) = letters_and_tasks(&rt, 1)?;
     wakes_the_second(&rt, &queue, &first, &second)
-}
-
-fn wakes_once<R: Abort + Wait>(rt: &R, queue: &Letters, task: &Task) -> Result<(), Fail> {
-    let tick = Cell::new(0);
-    let mut stream = stream_of(rt, queue, 0, TickOf(&tick))?;
-    task.sees(rt, &mut stream, Seen::Waits);
-    tick.set(9);
-    task.sees(rt, &mut stream, Seen::Waits);
-    fill(rt, queue, 0, &[('w', 20)])?;
-    task.is_left(rt, queue, Some(10), false);
-    task.is_rung(rt, queue, 10, true);
-    task.is_rung(rt, queue, 10, false);
-    Ok(())
 }
 
 #[test]
 fn polled_twice_is_woken_once(rt: HostRuntime) -> Result<(), Fail> {
-    let (queue, task) = letters_and_task(&rt, &[('v', 10)])?;
-    wakes_once(&rt, &queue, &task)
-}
-
-fn gives_and_parks_again<R: Abort + Wait>(
-    rt: &R,
-    queue: &Letters,
-    task: &Task,
-) -> Result<(), Fail> {
-    let tick = Cell::new(0);
-    let mut stream = stream_of(rt, queue, 0, TickOf(&tick))?;
-    task.sees(rt, &mut stream, Seen::Waits);
-    tick.set(10);
-    task.sees(rt, &mut stream, out('v', 10, 10));
-    task.is_left(rt, queue, None, false);
-    task.sees(rt, &mut stream, Seen::Waits);
-    parks(rt, queue, 0, Some(30));
-    Ok(())
+    play_over(
+        &rt,
+        &[('v', 10)],
+        &[
+            Poll(0, Waits),
+            Poll(9, Waits),
+            Put('w', 20),
+            Parked(Some(10)),
+            Woken(false),
+            Ring(10, true),
+            Ring(10, false),
+        ],
+    )
 }
 
 #[test]
 fn out_leaves_nothing_parked(rt: HostRuntime) -> Result<(), Fail> {
-    let (queue, task) = letters_and_task(&rt, &[('v', 10), ('w', 30)])?;
-    gives_and_parks_again(&rt, &queue, &task)
+    play_over(
+        &rt,
+        &[('v', 10), ('w', 30)],
+        &[
+            Poll(0, Waits),
+            Poll(10, Out('v', 10, 10)),
+            Parked(None),
+            Woken(false),
+            Poll(10, Waits),
+            Parked(Some(30)),
+        ],
+    )
 }
 
-// A queue of two shards, with a letter in each.
-fn two_shards<R: AllocGlobal + Wait>(rt: &R) -> Result<Letters, QueueError> {
-    let queue = letters(rt.alloc(), 2)?;
-    fill(rt, &queue, 0, &[('v', 10)])?;
-    fill(rt, &queue, 1, &[('w', 20)])?;
-    Ok(queue)
+fn are_woken(rt: &impl Abort, first: &Task, second: &Task, woken: (bool, bool)) {
+    same(rt, "woken", (first.was_woken(), second.was_woken()), woken);
 }
 
 // Both tasks are parked.
-fn wakes_one_by_one<R>(rt: &R, queue: &Letters, first: &Task, second: &Task) -> Result<(), Fail>
-where
-    R: Abort + Wait,
-{
-    fill(rt, queue, 1, &[('x', 5)])?;
+fn wakes_one_by_one<R: Abort + Wait>(rt: &R, queue: &Letters, first: &Task, second: &Task) {
+    let parked = (queue.parked(rt, 0), queue.parked(rt, 1));
+    same(rt, "parked", parked, (Ok(Some(10)), Ok(Some(20))));
+    same(rt, "insert", fill(rt, queue, 1, &[('x', 5)]), Ok(()));
     are_woken(rt, first, second, (false, true));
-    queue.ring(rt, 0, 10)?;
+    same(rt, "ring", queue.ring(rt, 0, 10), Ok(true));
     are_woken(rt, first, second, (true, false));
-    Ok(())
 }
 
 fn wakes_of_each_shard<R>(rt: &R, queue: &Letters, first: &Task, second: &Task) -> Result<(), Fail>
 where
     R: Abort + Wait,
 {
-    let tick = Cell::new(0);
-    let mut of_first = stream_of(rt, queue, 0, TickOf(&tick))?;
-    let mut of_second = stream_of(rt, queue, 1, TickOf(&tick))?;
-    first.sees(rt, &mut of_first, Seen::Waits);
-    second.sees(rt, &mut of_second, Seen::Waits);
-    parks(rt, queue, 0, Some(10));
-    parks(rt, queue, 1, Some(20));
-    wakes_one_by_one(rt, queue, first, second)
+    fill(rt, queue, 0, &[('v', 10)])?;
+    fill(rt, queue, 1, &[('w', 20)])?;
+    let mut of_first = first.stream(rt, queue, 0)?;
+    let mut of_second = second.stream(rt, queue, 1)?;
+    first.sees(rt, &mut of_first, 0, Waits);
+    second.sees(rt, &mut of_second, 0, Waits);
+    wakes_one_by_one(rt, queue, first, second);
+    Ok(())
 }
 
 #[test]
 fn each_shard_wakes_its_own_task(rt: HostRuntime) -> Result<(), Fail> {
-    let queue = two_shards(&rt)?;
-    let (first, second) = (Task::new(&rt)?, Task::new(&rt)?);
+    let (queue, first, second) = letters_and_tasks(&rt, 2)?;
     wakes_of_each_shard(&rt, &queue, &first, &second)
 }

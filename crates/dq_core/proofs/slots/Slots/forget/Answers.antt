@@ -1,5 +1,5 @@
 use Rattle.std.proofs.Common.{arith}
-use Rattle.dq_core.proofs.Renewing.{all_forgotten, none_held_at}
+use Rattle.dq_core.proofs.Renewing.{all_forgotten}
 use Rattle.dq_core.proofs.slots.Slots.forget.Goals as goal
 
 pub returns : goal.returns

@@ -1,7 +1,7 @@
 use Rattle.std.proofs.Common.{◌≡◌, ◌<◌, false, length, ap, arith}
 use Rattle.dq_core.specs.Slots.{is_held, row_at}
 use Rattle.dq_core.proofs.SlotRows.{read_is}
-use Rattle.dq_core.proofs.Renewing.{worn_forgotten, free_forgotten, worn_not_free}
+use Rattle.dq_core.proofs.Renewing.{worn_forgotten}
 use Rattle.dq_core.proofs.slots.Slots.forget_at.Goals as goal
 
 pub invariant_of-self : goal.invariant_of-self
