@@ -76,43 +76,24 @@ fn plain_words_limits(rt: HostRuntime) -> Result<(), Fail> {
     Ok(())
 }
 
+// A settle wants the word as it stands. So the comparisons stay in this body, where they tell what the calls before it answered.
 #[test]
 fn plain_words_end_once(rt: HostRuntime) -> Result<(), Fail> {
     let mut words = VecWords::new(rt.alloc(), 1)?;
     let first = key(0, 1);
     words.begin(0, 1, 10);
-    same(&rt, "extend", words.extend(&first, 50), Ok(50));
-    same(&rt, "settle", words.settle(0, 1, 10), Settled::Later(50));
-    same(
-        &rt,
-        "settle",
-        words.settle(0, 1, 50),
-        Settled::SettledExpired,
-    );
+    assert_eq!(rt; words.extend(&first, 50), Ok(50));
+    assert_eq!(rt; words.settle(0, 1, 10), Settled::Later(50));
+    assert_eq!(rt; words.settle(0, 1, 50), Settled::SettledExpired);
     let how = Look::LookExpired(50);
-    same(&rt, "look", words.look_key(&first), Ok(how));
-    same(
-        &rt,
-        "extend",
-        words.extend(&first, 60),
-        Err(CallError::Ended { how }),
-    );
-    same(
-        &rt,
-        "cancel",
-        words.cancel(&first),
-        Err(CallError::Ended { how }),
-    );
+    assert_eq!(rt; words.look_key(&first), Ok(how));
+    assert_eq!(rt; words.extend(&first, 60), Err(CallError::Ended { how }));
+    assert_eq!(rt; words.cancel(&first), Err(CallError::Ended { how }));
     words.begin(0, 2, 60);
     let stale = CallError::Stale { seen: 2 };
-    same(&rt, "look", words.look_key(&first), Err(stale));
-    same(&rt, "cancel", words.cancel(&first), Err(stale));
-    same(&rt, "cancel", words.cancel(&key(0, 2)), Ok(60));
-    same(
-        &rt,
-        "settle",
-        words.settle(0, 2, 60),
-        Settled::SettledCancelled,
-    );
+    assert_eq!(rt; words.look_key(&first), Err(stale));
+    assert_eq!(rt; words.cancel(&first), Err(stale));
+    assert_eq!(rt; words.cancel(&key(0, 2)), Ok(60));
+    assert_eq!(rt; words.settle(0, 2, 60), Settled::SettledCancelled);
     Ok(())
 }
