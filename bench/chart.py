@@ -1,4 +1,7 @@
-"""The bar charts of a run, as SVG of 900 pixels: panels of bars, each with its name and its number, on one logarithmic axis a chart."""
+"""The charts of a run, as SVG of 900 pixels: panels of numbers, each with its name, on an axis that is drawn.
+
+On a linear axis from 0 a number is a bar. On a logarithmic one it is a dot, since a bar's length would tell nothing there.
+"""
 
 import math
 from xml.sax.saxutils import escape
@@ -10,6 +13,10 @@ COLOURS = {
     "ours-owned": "#cc5a00",
     "ours": "#d55e00",
     "ours-shards": "#d55e00",
+    "rust": "#e07b39",
+    "rust-checked": "#f4a582",
+    "rust-shards": "#e07b39",
+    "rust-checked-shards": "#f4a582",
     "binding": "#f4a582",
     "adapter": "#f7c6ad",
     "adapter-handle": "#e98a5f",
@@ -22,6 +29,7 @@ COLOURS = {
     "heap-tight": "#0072b2",
     "heap-tight-locked": "#0072b2",
     "heap-indexed": "#7a9cc6",
+    "heap-indexed-locked": "#7a9cc6",
     "heap-push": "#9cc9e3",
     "heap-push-locked": "#9cc9e3",
     "hashed-wheel": "#009e73",
@@ -33,11 +41,13 @@ COLOURS = {
     "sleep": "#8c8c8c",
 }
 WIDTH, MARGIN, HEAD = 900, 14, 66
-BAR, STEP, TITLE, GAP = 11, 15, 22, 12
+BAR, STEP, TITLE, GAP = 11, 15, 22, 30
 # Room for the names on the left of a panel, and for the number on the right of its longest bar.
-NAME, NUMBER = 140, 52
-# What the front chart shows of each row: ours, the best heap that several threads can call, and what servers use now.
-FRONT = [["ours"], ["heap-best-locked", "heap-tight-locked", "heap-note-locked"], ["delay-queue-locked"]]
+NAME, NUMBER = 137, 40
+# What the front chart shows of each row: ours, the crate's, the fastest heap that several threads can call, and what servers use now.
+HEAPS = ["heap-best-locked", "heap-note-locked", "heap-push-locked"]
+FRONT = [["ours"], ["rust", "binding"], HEAPS, ["delay-queue-locked"]]
+FRONT_NAMES = {"ours": "ours, words that threads share", "rust": "ours, the crate", "binding": "ours, the older crate"}
 
 
 def text(x, y, words, size=11, anchor="start", weight="normal", fill="#222"):
@@ -50,8 +60,18 @@ def rectangle(x, y, wide, tall, fill, told=""):
     return f'<rect x="{x:.1f}" y="{y:.1f}" width="{wide:.1f}" height="{tall:.1f}" fill="{fill}">{title}</rect>'
 
 
+def dot(x, y, fill, told):
+    return f'<circle cx="{x:.1f}" cy="{y:.1f}" r="4.5" fill="{fill}" stroke="#444" stroke-width="0.7"><title>{escape(told)}</title></circle>'
+
+
+def beside(x, y, words):
+    """A number beside its bar or dot, over a white ground where a line of the axis goes through."""
+    yield rectangle(x - 1, y - 9, 6.1 * len(words) + 2, 11, "white")
+    yield text(x, y, words, 10.5, fill="#444")
+
+
 def number(value):
-    return f"{value:,.0f}" if value >= 10 else f"{value:.1f}"
+    return f"{value:,.0f}" if value >= 9.95 else f"{value:.1f}"
 
 
 def name_of(peer):
@@ -59,13 +79,10 @@ def name_of(peer):
 
 
 class Bar:
-    """A bar: its name, its colour, its number, and the lighter ones behind it, if it has some."""
+    """A bar: its name, its colour, its number and how that is written."""
 
-    def __init__(self, name, colour, value, told, *, further=()):
-        self.name, self.colour, self.value, self.told, self.further = name, colour, value, told, further
-
-    def most(self):
-        return max([self.value, *self.further])
+    def __init__(self, name, colour, value, told, written=number):
+        self.name, self.colour, self.value, self.told, self.written = name, colour, value, told, written(value)
 
 
 class Panel:
@@ -78,35 +95,64 @@ class Panel:
         return TITLE + STEP * len(self.bars) + GAP
 
     def values(self):
-        return [value for bar in self.bars if isinstance(bar, Bar) for value in (bar.value, bar.most())]
+        return [bar.value for bar in self.bars if isinstance(bar, Bar)]
 
     def draw(self, x, y, wide, axis, name_room):
         yield text(x, y + 14, self.title, 12, weight="bold")
-        room = wide - name_room - NUMBER
+        left, room = x + name_room, wide - name_room - NUMBER
+        foot = y + TITLE + STEP * len(self.bars)
+        for tick in axis.ticks:
+            at = left + axis.place(tick) * room
+            yield f'<line x1="{at:.1f}" y1="{y + TITLE - 2:.1f}" x2="{at:.1f}" y2="{foot:.1f}" stroke="#ddd"/>'
+            yield text(at, foot + 11, f"{tick:,g}{axis.unit}", 9.5, "middle", fill="#777")
         for place, bar in enumerate(self.bars):
             top = y + TITLE + place * STEP
             if isinstance(bar, str):
-                yield text(x, top + BAR, bar, 11, fill="#555")
+                yield text(left + 3, top + BAR, bar, 11, fill="#555")
                 continue
             if bar.name:
-                yield text(x + name_room - 5, top + BAR - 1.5, bar.name, 10.5, "end")
-            further = sorted(bar.further, reverse=True)
-            for value, light in [*zip(further, ["33", "66"]), (bar.value, "")]:
-                yield rectangle(x + name_room, top, max(axis(value) * room, 1.5), BAR, bar.colour + light, bar.told)
-            yield text(x + name_room + max(axis(bar.most()) * room, 1.5) + 4, top + BAR - 1.5, number(bar.most()), 10.5, fill="#444")
+                yield text(left - 5, top + BAR - 1.5, bar.name, 10.5, "end")
+            at = axis.place(bar.value) * room
+            if axis.has_zero:
+                yield rectangle(left, top, max(at, 1), BAR, bar.colour, bar.told)
+            else:
+                yield dot(left + at, top + BAR / 2, bar.colour, bar.told)
+            yield from beside(left + at + (4 if axis.has_zero else 8), top + BAR - 1.5, bar.written)
 
 
-def axis_of(panels):
-    """Where a number stands on a logarithmic axis from below the least number to the greatest."""
-    values = [value for panel in panels for value in panel.values()]
-    low = 10 ** math.floor(math.log10(max(min(values), 0.1)) - 0.2)
-    span = math.log(max(values) / low)
-    return lambda value: math.log(max(value, low) / low) / span
+class Logarithmic:
+    """One axis of a whole chart, whose ticks are the powers of ten."""
+
+    words, unit, has_zero = "Logarithmic axes: a line is ten times the one before.", "", False
+
+    def __init__(self, values):
+        self.low = 10 ** math.floor(math.log10(max(min(values), 0.1)))
+        self.span = math.log(max(values) / self.low)
+        powers = (self.low * 10**it for it in range(12))
+        self.ticks = [it for it in powers if it <= max(values)]
+
+    def place(self, value):
+        return math.log(max(value, self.low) / self.low) / self.span
 
 
-def drawn(title, lines, about, columns, legend=(), name_room=NAME):
-    """A chart of lines of panels."""
-    axis = axis_of([panel for line in lines for panel in line])
+class Linear:
+    """An axis of one panel, from 0 on, with one to three lines."""
+
+    words, has_zero = "Linear axes from 0, one a panel.", True
+
+    def __init__(self, values, unit=""):
+        self.greatest, self.unit = max(values), unit
+        step = 10 ** math.floor(math.log10(self.greatest))
+        step = next(it for it in (step / 5, step / 2, step, step * 2, step * 5) if self.greatest / it < 3)
+        self.ticks = [it * step for it in range(int(self.greatest / step) + 1)]
+
+    def place(self, value):
+        return value / self.greatest
+
+
+def drawn(title, lines, about, columns, legend=(), name_room=NAME, axis_of=None):
+    """A chart of lines of panels: on one logarithmic axis, or each on its own as `axis_of` makes it of its numbers."""
+    shared = Logarithmic([value for line in lines for panel in line for value in panel.values()])
     wide = (WIDTH - 2 * MARGIN - (columns - 1) * 18) / columns
     heights = [max(panel.height() for panel in line) for line in lines]
     tall = HEAD + sum(heights) + 26
@@ -125,9 +171,11 @@ def drawn(title, lines, about, columns, legend=(), name_room=NAME):
     y = HEAD
     for line, height in zip(lines, heights):
         for column, panel in enumerate(line):
+            axis = axis_of(panel.values()) if axis_of else shared
             parts.extend(panel.draw(MARGIN + column * (wide + 18), y, wide, axis, name_room))
         y += height
-    parts.append(text(MARGIN, tall - 9, f"{about[0].split(';')[0]}. One run: the ratios count. Logarithmic axis.", 10.5, fill="#555"))
+    words = Linear.words if axis_of else Logarithmic.words
+    parts.append(text(MARGIN, tall - 9, f"{about[0].split(';')[0]}. One run: the ratios count. {words}", 10.5, fill="#555"))
     return "\n".join([*parts, "</svg>"]) + "\n"
 
 
@@ -152,7 +200,7 @@ def grid(lines):
 def rows_chart(cases, about, title, rows):
     sizes = sorted({case.entries for case in cases if case.row in rows})
     lines = grid([[(f"{row}, {size:,} entries", found(cases, row, size)) for size in sizes] for row in rows])
-    return lines and drawn(title, lines, about, 3, [("Nanoseconds an operation, medians: shorter is faster", "")])
+    return lines and drawn(title, lines, about, 3, [("Nanoseconds an operation, medians: further left is faster", "")])
 
 
 def threads_chart(cases, about):
@@ -161,7 +209,7 @@ def threads_chart(cases, about):
     lines = grid([[(f"{many} thread{'s' * (many > 1)}, {size:,} entries", found(cases, "callers", size, many)) for size in sizes]
                   for many in threads])
     title = "An extend in its thread, beside the owner's polls"
-    return lines and drawn(title, lines, about, 3, [("Nanoseconds, medians: shorter is faster", "")])
+    return lines and drawn(title, lines, about, 3, [("Nanoseconds, medians: further left is faster", "")])
 
 
 def shards_chart(cases, about):
@@ -175,34 +223,37 @@ def shards_chart(cases, about):
 
     lines = grid([list(line(row)) for row in stored.SHARD_ROWS])
     title = f"The shared queue, {size:,} entries a shard"
-    return lines and drawn(title, lines, about, 3, [("Nanoseconds a call, medians: shorter is faster", "")])
+    return lines and drawn(title, lines, about, 3, [("Nanoseconds a call, medians: further left is faster", "")])
 
 
 def full_chart(cases, about):
     full = [(f"{case.call}, {case.threads} thread{'s' * (case.threads > 1)}", case) for case in cases if case.is_full]
     lines = grid([full[at:at + 3] for at in range(0, len(full), 3)])
-    return lines and drawn("64 full shards, 4.2 million entries", lines, about, 3, [("Nanoseconds a call: shorter is faster", "")])
+    return lines and drawn("64 full shards, 4.2 million entries", lines, about, 3, [("Nanoseconds a call: further left is faster", "")])
 
 
 def longest_chart(cases, about):
-    """The polls of the rows of the longest call: a half of them, 99.9 of 100, and the most."""
+    """The longest poll of each peer, in microseconds."""
+    def written(value):
+        return f"{value:,.0f}" if value >= 10 else f"{value:.1f}" if value >= 0.095 else f"{value:.2f}"
+
     def panel(case):
         bars = []
         for peer in stored.NAMES:
             if (peer, "poll") in case.spreads:
                 calls, half, _, three_nines, _, most = case.spreads[peer, "poll"]
                 words = f"{case}: {stored.NAMES[peer]}, {calls} polls: half {half}, 99.9% {three_nines}, all {most} ns"
-                bars.append(Bar(name_of(peer), COLOURS[peer], half, words, further=(three_nines, most)))
+                bars.append(Bar(name_of(peer), COLOURS[peer], most / 1000, words, written))
         return Panel(f"{case.row.removeprefix('longest-')}, {case.entries:,} entries", bars)
 
     shown = [[case for case in cases if case.row == row and case.spreads] for row in stored.LONGEST_ROWS]
     lines = [[panel(case) for case in line] for line in shown if line]
     return lines and drawn("The longest poll, after sessions were touched or cancelled", lines, about, 3,
-                           [("Nanoseconds: half of the polls (dark), 99.9% (lighter), and the longest of all (number)", "")])
+                           [("Microseconds of the longest of all polls: shorter is better", "")], axis_of=Linear)
 
 
 def front_chart(cases, about):
-    """A few groups that tell the most: for the first page."""
+    """A few groups that tell the most, each beside ours: for the first page."""
     groups = [
         ("An extend, beside the owner's polls",
          [(f"{many} thread{'s' * (many > 1)}", found(cases, "callers", 10_000, many)) for many in (1, 2, 4)]),
@@ -214,14 +265,20 @@ def front_chart(cases, about):
     for title, rows in groups:
         bars = []
         for words, case in rows:
-            series = [next((it for it in choices if case and it in case.samples), None) for choices in FRONT]
-            if None in series:
+            there = [[it for it in choices if case and it in case.samples] for choices in FRONT]
+            if not (there[0] and there[2] and there[3]):
                 return None
-            bars.append(words)
-            bars += [Bar("", COLOURS[peer], case.median(peer), told(case, peer)) for peer in series]
-            legend.update((("ours, words that threads share" if peer == "ours" else name_of(peer)), COLOURS[peer]) for peer in series)
+            series = [min(its, key=case.median) if its else None for its in there]
+            ours = case.median(series[0])
+            bars.append(f"{words} (ours {number(ours)} ns)")
+            for peer in filter(None, series):
+                colour = COLOURS[HEAPS[0]] if peer in HEAPS else COLOURS[peer]
+                words = "the fastest heap in a Mutex" if peer in HEAPS else FRONT_NAMES.get(peer, name_of(peer))
+                bars.append(Bar("", colour, case.median(peer) / ours, told(case, peer), lambda ratio: f"{number(ratio)}x"))
+                legend[words] = colour
         panels.append(Panel(title, bars))
-    return drawn("Nanoseconds, medians of 10,000 entries where no other number stands: shorter is faster", [panels], about, 3, legend.items(), name_room=8)
+    return drawn("How many times as long as ours: medians of 10,000 entries where no other number stands", [panels], about, 3,
+                 legend.items(), name_room=8, axis_of=lambda values: Linear(values, "x"))
 
 
 def charts(cases, about):

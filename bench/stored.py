@@ -4,6 +4,7 @@ results/NAME.tsv has what is said about the run, in lines that begin with `#`, a
 results/NAME.longest.tsv has how long the calls of the rows of the longest call took. The page and the charts are made of these two.
 """
 
+import itertools
 import pathlib
 import re
 import statistics
@@ -26,6 +27,8 @@ SIZES = [1_000, 10_000, 65_536]
 # Rows of the shared queue: each call by name, and inserts and polls in bursts under one lock.
 NAMED_ROWS = ["insert", "extend", "reset", "remove", "poll"]
 SHARD_ROWS = [*NAMED_ROWS, "insert-burst", "poll-burst"]
+# Rows of whole lives over shards, in which the polls that pay for what the calls left behind are within the time.
+LIFE_ROWS = WHOLE_ROWS
 # The same, where each thread has a shard of its own.
 OWN = "own-"
 # 64 full shards have 4.2 million entries. A round is long, so it is timed once.
@@ -38,7 +41,10 @@ BINDING = "binding"
 # By the calls that tokio_util's `DelayQueue` has, and beside them by a handle.
 ADAPTER, ADAPTER_HANDLE = "adapter", "adapter-handle"
 BINDING_SHARDS = "binding-shards"
-MINE = (OWNED, OURS, SHARDS, BINDING, ADAPTER, ADAPTER_HANDLE, BINDING_SHARDS)
+# By the cargo crate, without the bounds checks whose bounds are proved, and with them. A stored run before that crate has the binding.
+RUST, RUST_CHECKED, RUST_SHARDS, RUST_CHECKED_SHARDS = "rust", "rust-checked", "rust-shards", "rust-checked-shards"
+UNCHECKED = (RUST, RUST_SHARDS)
+MINE = (OWNED, OURS, SHARDS, RUST, RUST_CHECKED, BINDING, ADAPTER, ADAPTER_HANDLE, RUST_SHARDS, RUST_CHECKED_SHARDS, BINDING_SHARDS)
 # What stands behind the name of a peer that another build of the same code timed.
 AGAIN = "-again"
 # The most bytes that an entry is to take beside its value.
@@ -48,12 +54,16 @@ NAMES = {
     OWNED: "ours, one owner",
     OURS: "ours, shared",
     SHARDS: "ours, shards",
+    RUST: "ours, crate",
+    RUST_CHECKED: "ours, crate, checked",
     BINDING: "ours, binding",
     ADAPTER: "ours, `DelayQueue`'s calls",
     ADAPTER_HANDLE: "ours, those and a handle",
+    RUST_SHARDS: "ours, shards, crate",
+    RUST_CHECKED_SHARDS: "ours, shards, crate, checked",
     BINDING_SHARDS: "ours, shards, binding",
     "fetch-max": "bare `fetch_max`",
-    "heap-note": "heap, noting",
+    "heap-note": "heap, lazy",
     "heap-best": "heap, best",
     "heap-tight": "heap, tight",
     "heap-indexed": "heap, indexed",
@@ -61,9 +71,10 @@ NAMES = {
     "heap-push": "heap, pushing",
     "delay-queue": "`DelayQueue`",
     "sleep": "a `Sleep` each",
-    "heap-note-locked": "heap, noting, `Mutex`",
+    "heap-note-locked": "heap, lazy, `Mutex`",
     "heap-best-locked": "heap, best, `Mutex`",
     "heap-tight-locked": "heap, tight, `Mutex`",
+    "heap-indexed-locked": "heap, indexed, `Mutex`",
     "hashed-wheel-locked": "hashed wheel, `Mutex`",
     "heap-push-locked": "heap, pushing, `Mutex`",
     "delay-queue-locked": "`Mutex<DelayQueue>`",
@@ -82,6 +93,7 @@ class Case:
         self.call, _, shards = row.partition("/")
         self.shards = int(shards or 0)
         self.is_own = self.call.startswith(OWN)
+        self.is_life = self.shards > 0 and self.call.removeprefix(OWN) in LIFE_ROWS
         self.is_full = self.shards == FULL_SHARDS and entries == FULL_ENTRIES
         self.is_longest = row in LONGEST_ROWS
         self.samples = {}
@@ -123,7 +135,7 @@ class Case:
 
     def ours(self):
         """Ours beside which a peer stands: the queue of one owner where the row has one, else a shared one."""
-        return next((mine for mine in (OWNED, OURS, SHARDS) if mine in self.samples), OURS)
+        return next((mine for mine in (OWNED, OURS, SHARDS, RUST_SHARDS) if mine in self.samples), OURS)
 
     def ratio(self, peer, of=None, figure=None):
         """A peer's median over that of one of ours, or None. `figure` may be another number of the samples."""
@@ -146,8 +158,18 @@ def write_samples(all_cases, about, name):
         for (peer, call), (calls, *taken) in case.spreads.items():
             numbers = " ".join(map(str, taken))
             spreads.append(f"{peer}\t{case.row}\t{case.entries}\t{call}\t{calls}\t{numbers}")
-    (RESULTS / f"{name}.tsv").write_text("\n".join(lines) + "\n")
-    (RESULTS / f"{name}.longest.tsv").write_text("\n".join(spreads) + "\n")
+    for path, its_lines in zip(files_of(name), (lines, spreads)):
+        path.write_text("\n".join(its_lines) + "\n")
+
+
+def added(name):
+    """The names of the runs that were added to a stored one."""
+    return [path.stem for path in sorted(RESULTS.glob(f"{name}+*.tsv")) if not path.stem.endswith(".longest")]
+
+
+def files_of(name):
+    """The files that have a run's samples."""
+    return RESULTS / f"{name}.tsv", RESULTS / f"{name}.longest.tsv"
 
 
 def read(name):
@@ -185,7 +207,7 @@ def cell(case, peer):
     if peer not in case.samples:
         return ""
     text = f"{case.median(peer):.1f}/{case.best(peer):.1f}"
-    mine = (OWNED, OURS, SHARDS)
+    mine = (OWNED, OURS, SHARDS) if case.ours() != RUST_SHARDS else (RUST_SHARDS,)
     ratios = [case.ratio(peer, of) for of in mine if peer not in mine]
     told = ", ".join(f"{ratio:.2f}x" for ratio in ratios if ratio is not None)
     return f"{text} ({told})" if told else text
@@ -210,8 +232,10 @@ def owner_tables(all_cases):
 def shard_tables(all_cases):
     """The rows of the shared queue, in which each peer stands behind a lock for each shard."""
     heads = ("Row", "Shards", "Entries a shard", "Threads")
-    for title, is_own in (("The shared queue, in shards", False), ("The same, each thread with a shard of its own", True)):
-        shown = [case for case in all_cases if case.shards and case.is_own == is_own]
+    titles = ("The shared queue, in shards", "The same, each thread with a shard of its own",
+              "Whole lives over shards", "Whole lives, each thread with a shard of its own")
+    for title, (is_life, is_own) in zip(titles, itertools.product((False, True), repeat=2)):
+        shown = [case for case in all_cases if case.shards and case.is_own == is_own and case.is_life == is_life]
         if shown:
             yield title, table(heads, shown, peers_in(shown), lambda case: (
                 case.call.removeprefix(OWN), str(case.shards), f"{case.entries:,}", str(case.threads)))
@@ -356,10 +380,15 @@ def reach(all_cases):
     ]
 
 
+def kind_of(case):
+    """What a row is called where its shards don't count."""
+    return f"{case.call}/S" if case.shards else case.row
+
+
 def missing(all_cases, planned):
     """What the plan has and the run hasn't."""
-    known = {case.row.split("/")[0] for case in all_cases}
-    rows = list(dict.fromkeys(row for case in planned if (row := case.row.split("/")[0]) not in known))
+    known = set(map(kind_of, all_cases))
+    rows = list(dict.fromkeys(row for case in planned if (row := kind_of(case)) not in known))
     peers = [peer for peer in NAMES if peer not in EARLIER and not any(peer in case.samples for case in all_cases)]
     told = [f"{kind} {', '.join(f'`{it}`' for it in listed)}" for kind, listed in (("rows", rows), ("peers", peers)) if listed]
     if not any(AGAIN in peer for case in all_cases for peer in case.samples):
@@ -367,10 +396,29 @@ def missing(all_cases, planned):
     return "; ".join(told)
 
 
-def page_of(all_cases, about, planned):
-    """The page of a run."""
+def tables_of(all_cases, level):
+    """The lines of the tables of a run, each under its head."""
     tables = [*owner_tables(all_cases), *build_table(all_cases), *shard_tables(all_cases), *longest_tables(all_cases)]
-    left = missing(all_cases, planned)
+    return [line for title, lines in tables for line in ["", f"{level} {title}", "", *explained(title), *lines]]
+
+
+def added_of(all_cases, about):
+    """The part of a page that has a run which was added to its own."""
+    return [
+        "",
+        "## Another run: " + ", ".join(f"`{row}`" for row in dict.fromkeys(map(kind_of, all_cases))),
+        "",
+        "These rows were timed by themselves, at another time than all others on this page. No figure here stands beside one of another",
+        "run.",
+        "",
+        *(f"- {line}" for line in about),
+        *tables_of(all_cases, "###"),
+    ]
+
+
+def page_of(all_cases, about, planned, others=()):
+    """The page of a run, and of those that were added to it."""
+    left = missing([*all_cases, *(case for cases, _ in others for case in cases)], planned)
     return "\n".join([
         "# Nanoseconds an operation",
         "",
@@ -380,8 +428,9 @@ def page_of(all_cases, about, planned):
         "",
         *(f"- {line}" for line in about),
         *([f"- Not in this run yet: {left}"] if left else []),
-        *(line for title, lines in tables for line in ["", f"## {title}", "", *explained(title), *lines]),
+        *tables_of(all_cases, "##"),
         *reach(all_cases),
+        *(line for cases, its_about in others for line in added_of(cases, its_about)),
         "",
         "The counts of every round (inserts, extends, resets, removes, cancels, outs, and the sums of the values and of",
         "the deadlines that came out) were compared and are the same for all peers.",

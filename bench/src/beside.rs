@@ -6,18 +6,18 @@ use std::sync::atomic::{AtomicBool, Ordering};
 use std::thread;
 use std::time::Instant;
 
-use hontkhale::{Piece, SharedDelayQueue, Turn};
+use hontkhale::{Piece, QueueConfig, SharedDelayQueue, Turn};
 
 /// The steps of a piece, by the names of the ways to poll.
 const WAYS: [(&str, Option<u32>); 4] =
     [("whole", None), ("pieces-16", Some(16)), ("pieces-64", Some(64)), ("pieces-256", Some(256))];
 
 /// The tick at whose poll the slot of all entries opens, and a deadline in it: the slots there have 4,096 ticks.
-const OPENS: u64 = 4_096 * 16;
-const DEADLINE: u64 = OPENS + 2_048;
+pub const OPENS: u64 = 4_096 * 16;
+pub const DEADLINE: u64 = OPENS + 2_048;
 
 /// The deadline of what the other thread inserts.
-const LATER: u64 = 1 << 30;
+pub const LATER: u64 = 1 << 30;
 
 /// The nanoseconds of a run: the poller's longest call and all of them, and beside it the longest insert or remove, whichever
 /// met a longer poll; and how many inserts there were.
@@ -41,9 +41,9 @@ pub fn print_rounds(entries: usize, rounds: usize) {
 
 /// A queue of one shard with one free slot, whose other entries all lie in one slot of the wheel.
 fn filled(entries: usize) -> SharedDelayQueue<u64> {
-    let queue = SharedDelayQueue::with_capacity(1, entries).expect("a queue of that capacity");
+    let queue = SharedDelayQueue::new(QueueConfig::of(1, entries)).expect("a queue of that capacity");
     for value in 1..entries as u64 {
-        queue.insert(0, value, DEADLINE).expect("a slot is free");
+        queue.insert_or_drop(0, value, DEADLINE).expect("a slot is free");
     }
     queue
 }
@@ -99,16 +99,16 @@ fn poll(queue: &SharedDelayQueue<u64>, most: Option<u32>, begun: &AtomicBool) ->
 /// Inserts an entry and removes it until the other thread has polled: the longest of these calls, and the number of inserts.
 fn insert_until(queue: &SharedDelayQueue<u64>, begun: &AtomicBool, polled: &AtomicBool) -> (u64, u64) {
     for value in 0..FIRST {
-        let key = queue.insert(0, value, LATER).expect("a slot is free");
-        queue.remove(&key).expect("the entry is live");
+        let key = queue.insert_or_drop(0, value, LATER).expect("a slot is free");
+        queue.remove(&key.entry()).expect("the entry is live");
     }
     begun.store(true, Ordering::SeqCst);
     let (mut longest, mut inserts) = (0, 0);
     while !polled.load(Ordering::SeqCst) {
         let since = Instant::now();
-        let key = queue.insert(0, inserts, LATER).expect("a slot is free");
+        let key = queue.insert_or_drop(0, inserts, LATER).expect("a slot is free");
         let inserted = Instant::now();
-        queue.remove(&key).expect("the entry is live");
+        queue.remove(&key.entry()).expect("the entry is live");
         let calls = [inserted - since, inserted.elapsed()];
         longest = calls.iter().fold(longest, |longest, call| longest.max(call.as_nanos() as u64));
         inserts += 1;

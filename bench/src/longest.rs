@@ -4,7 +4,7 @@
 use std::fmt;
 use std::time::{Duration, Instant};
 
-use crate::plan::{BEAT, IDLE, LONG_BEATS, LONG_PASS, RUNS};
+use crate::plan::{steps, BEAT, IDLE, LONG_BEATS, LONG_PASS, RUNS};
 use crate::queue::Queue;
 use crate::rows::{Load, Sample};
 
@@ -123,7 +123,7 @@ impl<Q: Queue> Load<'_, Q> {
     /// Sessions begin within a beat, each is touched once in each of the beats after it, and then all expire. The queue is
     /// polled at each tick.
     fn idle_run(&mut self, touched: Touched, times: &mut Times) {
-        let steps = self.steps();
+        let steps = steps(self.entries);
         let mut keys = Vec::with_capacity(self.entries);
         for beat in 0..=LONG_BEATS {
             let order = if beat == 0 { (0..self.entries).collect() } else { self.draws.shuffled(self.entries) };

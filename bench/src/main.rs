@@ -1,27 +1,34 @@
 //! `peers time ROW ENTRIES THREADS ROUNDS [PEER..]`: times what servers use now in place of the shared delay queue.
 //! One line for each peer and round; README.md says what stands in it.
 
-#[cfg(feature = "binding")]
+#[cfg(feature = "rust")]
 mod adapter;
-#[cfg(feature = "binding")]
+#[cfg(feature = "rust")]
 mod beside;
 mod best;
-#[cfg(feature = "binding")]
-mod binding;
-#[cfg(feature = "binding")]
-mod binding_shards;
+#[cfg(feature = "rust")]
+mod erased;
+#[cfg(feature = "rust")]
+mod erased_shards;
+#[cfg(feature = "rust")]
+mod fair;
 mod floor;
 mod free;
 mod hashed;
 #[cfg(not(feature = "other-order"))]
 mod heap;
 mod indexed;
+#[cfg(feature = "rust")]
+mod keeps;
+mod lives;
 mod longest;
 mod plan;
 mod queue;
 mod rows;
 mod shards;
 mod sleep;
+#[cfg(feature = "rust")]
+mod through;
 mod tokio_queue;
 // The same code in another order: what a call takes hangs on where its build lays it too.
 #[cfg(feature = "other-order")]
@@ -29,17 +36,18 @@ mod heap;
 
 use std::process::ExitCode;
 
-#[cfg(feature = "binding")]
+#[cfg(feature = "rust")]
 use adapter::{Adapter, Touching};
 use best::BestHeap;
-#[cfg(feature = "binding")]
-use binding::Binding;
-#[cfg(feature = "binding")]
-use binding_shards::BindingShards;
+#[cfg(feature = "rust")]
+use erased::Erased;
+#[cfg(feature = "rust")]
+use erased_shards::ErasedShards;
 use floor::Floor;
 use hashed::HashedWheel;
 use heap::{Extending, HeapQueue};
 use indexed::IndexedHeap;
+use lives::Life;
 use longest::Touched;
 use plan::shard_room;
 use queue::{Locked, Queue, Sharded, Shared};
@@ -51,17 +59,21 @@ use tokio_queue::{PausedClock, TokioQueue, TurnedWithin};
 const USAGE: &str = "usage: peers time ROW ENTRIES THREADS ROUNDS [PEER..]
 rows: insert extend reset remove cancel poll insert+poll reset+poll remove+poll mixed churn heartbeat callers,
 longest-extend longest-reset longest-cancel,
-and over 1 to 64 shards insert/SHARDS extend/SHARDS reset/SHARDS remove/SHARDS poll/SHARDS insert-burst/SHARDS poll-burst/SHARDS;
-with own- before the first five, each of as many threads has a shard of its own
+and over 1 to 64 shards insert/SHARDS extend/SHARDS reset/SHARDS remove/SHARDS poll/SHARDS insert-burst/SHARDS poll-burst/SHARDS
+and whole lives insert+poll/SHARDS reset+poll/SHARDS remove+poll/SHARDS mixed/SHARDS churn/SHARDS heartbeat/SHARDS;
+with own- before all of these but the bursts, each of as many threads has a shard of its own
 entries: 1 to 65536, of each shard; threads: 1, and 1 to 64 for callers and over shards
-       peers beside ENTRIES ROUNDS, where it was built with the binding: a poll in pieces beside another thread's inserts";
+       peers beside ENTRIES ROUNDS, where it was built with our crates: a poll in pieces beside another thread's inserts
+       peers fair ENTRIES ROUNDS, likewise: what these inserts wait, for some ways to be fair
+       peers keeps ENTRIES ROUNDS, likewise: how long the calls take that keep a lasting queue going";
 
-/// What is timed: a row of one queue, the calls of a row one by one, or a row of shards and their number.
+/// What is timed: a row of one queue, the calls of a row one by one, or a row of shards, of bare calls or of whole lives, and their number.
 #[derive(Clone, Copy, Debug, PartialEq, Eq)]
 enum Timed {
     One(Row),
     Longest(Touched),
     Shards(Call, Route, usize),
+    Lives(Life, Route, usize),
 }
 
 impl Timed {
@@ -75,25 +87,29 @@ impl Timed {
             Some(name) => (name, Route::Own),
             None => (name, Route::Drawn),
         };
-        let (_, call) = Call::ALL.into_iter().find(|(known, _)| *known == name)?;
         let shards = shards.parse().ok().filter(|shards| (1..=64).contains(shards))?;
+        if let Some((_, life)) = Life::ALL.into_iter().find(|(known, _)| *known == name) {
+            return Some(Timed::Lives(life, route, shards));
+        }
+        let (_, call) = Call::ALL.into_iter().find(|(known, _)| *known == name)?;
         (route == Route::Drawn || !call.is_burst()).then_some(Timed::Shards(call, route, shards))
     }
 
     /// Whether so many threads may call.
     fn takes(self, threads: usize) -> bool {
         match self {
-            Timed::One(Row::Callers) | Timed::Shards(_, Route::Drawn, _) => (1..=64).contains(&threads),
-            Timed::Shards(_, Route::Own, shards) => threads == shards,
+            Timed::Shards(_, Route::Own, shards) | Timed::Lives(_, Route::Own, shards) => threads == shards,
+            Timed::One(Row::Callers) | Timed::Shards(..) | Timed::Lives(..) => (1..=64).contains(&threads),
             Timed::One(_) | Timed::Longest(_) => threads == 1,
         }
     }
 
     /// Whether it is a row of one queue, which our own queue can be.
     fn is_of_one(self) -> bool {
-        !matches!(self, Timed::Shards(..))
+        !matches!(self, Timed::Shards(..) | Timed::Lives(..))
     }
 }
+
 /// What one call of the program times.
 struct Asked {
     row_name: String,
@@ -130,18 +146,22 @@ impl Asked {
 /// shared. Our own queue is one of them by both of its crates, where the program is built with them.
 fn peers_of(timed: Timed) -> Vec<&'static str> {
     let mut peers = plain_peers_of(timed).to_vec();
-    if cfg!(feature = "binding") {
+    if cfg!(feature = "rust") {
         peers.extend(mine_of(timed));
     }
     peers
 }
 
-/// Our own queue as plain Rust has it. Only a handle is shared by callers.
+/// Our own queue as plain Rust has it, with the bounds checks or without. Only a handle is shared by callers. The adapter is timed
+/// with the checks, as a program has it that asks for nothing.
 fn mine_of(timed: Timed) -> &'static [&'static str] {
+    let is_unchecked = cfg!(feature = "proved-bounds");
     match timed {
-        Timed::One(Row::Callers) => &["binding", "adapter-handle"],
-        Timed::Shards(..) => &["binding-shards"],
-        Timed::One(_) | Timed::Longest(_) => &["binding", "adapter", "adapter-handle"],
+        Timed::Shards(..) | Timed::Lives(..) if is_unchecked => &["rust-shards"],
+        Timed::Shards(..) | Timed::Lives(..) => &["rust-checked-shards"],
+        _ if is_unchecked => &["rust"],
+        Timed::One(Row::Callers) => &["rust-checked", "adapter-handle"],
+        _ => &["rust-checked", "adapter", "adapter-handle"],
     }
 }
 
@@ -160,6 +180,15 @@ fn plain_peers_of(timed: Timed) -> Vec<&'static str> {
         Timed::Longest(_) => return vec!["delay-queue", "heap-note", "heap-best", "heap-indexed", "hashed-wheel"],
         Timed::Shards(..) => {
             return vec!["heap-note-locked", "heap-best-locked", "hashed-wheel-locked", "delay-queue-locked"]
+        }
+        Timed::Lives(..) => {
+            return vec![
+                "heap-note-locked",
+                "heap-best-locked",
+                "heap-indexed-locked",
+                "hashed-wheel-locked",
+                "delay-queue-locked",
+            ]
         }
         Timed::One(_) => &[],
     };
@@ -181,7 +210,7 @@ fn owned<'a, Q: Queue + 'a>(asked: &'a Asked, queue: Q, clock: &'a dyn Clock) ->
                 sample
             })
         }
-        Timed::Shards(..) => panic!("a row of shards wants shards"),
+        Timed::Shards(..) | Timed::Lives(..) => panic!("a row of shards wants shards"),
     };
     clock.within(&mut || load.pass(row));
     Box::new(move || {
@@ -212,14 +241,30 @@ fn locked_shards<'a, Q: Queue + Send + 'a>(asked: &'a Asked, one: impl Fn() -> Q
 
 /// The rounds of a queue of so many shards.
 fn sharded<'a, S: Sharded + 'a>(asked: &'a Asked, queue: impl Fn(usize) -> S, clock: &'a dyn Clock) -> Rounds<'a> {
-    let Timed::Shards(call, route, shards) = asked.timed else {
-        panic!("shards are of a row of shards");
-    };
-    let mut load = ShardLoad::new(queue(shards), clock, asked.entries, asked.threads, route);
-    clock.within(&mut || load.pass(call));
+    match asked.timed {
+        Timed::Shards(call, route, shards) => {
+            let load = ShardLoad::new(queue(shards), clock, asked.entries, asked.threads, route);
+            shard_rounds(load, move |load| load.pass(call), move |load| load.round(call))
+        }
+        Timed::Lives(life, route, shards) => {
+            let load = ShardLoad::new(queue(shards), clock, asked.entries, asked.threads, route);
+            shard_rounds(load, move |load| load.live(life), move |load| load.lives(life))
+        }
+        Timed::One(_) | Timed::Longest(_) => panic!("shards are of a row of shards"),
+    }
+}
+
+/// The rounds of a load. One pass warms up.
+fn shard_rounds<'a, S: Sharded + 'a>(
+    mut load: ShardLoad<'a, S>,
+    pass: impl Fn(&mut ShardLoad<'a, S>),
+    round: impl Fn(&mut ShardLoad<'a, S>) -> Sample + 'a,
+) -> Rounds<'a> {
+    let clock = load.clock;
+    clock.within(&mut || pass(&mut load));
     Box::new(move || {
         let mut sample = Sample::default();
-        clock.within(&mut || sample = load.round(call));
+        clock.within(&mut || sample = round(&mut load));
         sample
     })
 }
@@ -253,11 +298,11 @@ fn rounds_of_one<'a>(asked: &'a Asked, peer: &str, clocks: &'a Clocks<'a>) -> Ro
         "heap-best-locked" => shared(asked, Locked::new(BestHeap::new(entries)), &NoClock),
         "heap-indexed" => owned(asked, IndexedHeap::new(entries), &NoClock),
         "hashed-wheel" => owned(asked, HashedWheel::new(entries), &NoClock),
-        #[cfg(feature = "binding")]
-        "binding" => shared(asked, Binding::new(entries), &NoClock),
-        #[cfg(feature = "binding")]
+        #[cfg(feature = "rust")]
+        "rust" | "rust-checked" => shared(asked, Erased::new(entries), &NoClock),
+        #[cfg(feature = "rust")]
         "adapter" => owned(asked, Adapter::new(clock, entries, Touching::Owner), clock),
-        #[cfg(feature = "binding")]
+        #[cfg(feature = "rust")]
         "adapter-handle" => shared(asked, Adapter::new(clock, entries, Touching::Handle), clock),
         _ => shared(asked, Floor::new(entries), &NoClock),
     }
@@ -268,9 +313,10 @@ fn rounds_of_shards<'a>(asked: &'a Asked, peer: &str, clock: &'a PausedClock) ->
     match peer {
         "delay-queue-locked" => locked_shards(asked, || TokioQueue::new(clock, room), clock),
         "heap-best-locked" => locked_shards(asked, || BestHeap::new(room), &NoClock),
+        "heap-indexed-locked" => locked_shards(asked, || IndexedHeap::new(room), &NoClock),
         "hashed-wheel-locked" => locked_shards(asked, || HashedWheel::new(room), &NoClock),
-        #[cfg(feature = "binding")]
-        "binding-shards" => sharded(asked, |shards| BindingShards::new(shards, room), &NoClock),
+        #[cfg(feature = "rust")]
+        "rust-shards" | "rust-checked-shards" => sharded(asked, |shards| ErasedShards::new(shards, room), &NoClock),
         _ => locked_shards(asked, || HeapQueue::new(Extending::Note, room), &NoClock),
     }
 }
@@ -321,22 +367,28 @@ fn time(asked: &Asked) {
     }
 }
 
-/// The entries and the rounds of a poll beside another thread's inserts, where that is asked for.
-#[cfg(feature = "binding")]
-fn asked_beside(args: &[String]) -> Option<(usize, usize)> {
-    let [beside, entries, rounds] = args else {
+/// The entries and the rounds of a poll beside another thread's calls, where that is asked for by that name.
+#[cfg(feature = "rust")]
+fn asked_beside(name: &str, args: &[String]) -> Option<(usize, usize)> {
+    let [asked, entries, rounds] = args else {
         return None;
     };
     let entries = entries.parse().ok().filter(|entries| (2..=65_536).contains(entries))?;
-    (beside == "beside").then_some((entries, rounds.parse().ok()?))
+    (asked == name).then_some((entries, rounds.parse().ok()?))
 }
 
 fn main() -> ExitCode {
     let args: Vec<String> = std::env::args().skip(1).collect();
-    #[cfg(feature = "binding")]
-    if let Some((entries, rounds)) = asked_beside(&args) {
-        beside::print_rounds(entries, rounds);
-        return ExitCode::SUCCESS;
+    #[cfg(feature = "rust")]
+    for (name, print) in [
+        ("beside", beside::print_rounds as fn(usize, usize)),
+        ("fair", fair::print_ways),
+        ("keeps", keeps::print_rounds),
+    ] {
+        if let Some((entries, rounds)) = asked_beside(name, &args) {
+            print(entries, rounds);
+            return ExitCode::SUCCESS;
+        }
     }
     match Asked::read(&args) {
         Some(asked) => {
@@ -376,6 +428,17 @@ mod tests {
             if !call.is_burst() {
                 time(&asked(Timed::Shards(call, Route::Own, 4), 2_000, 4));
             }
+        }
+    }
+
+    /// The same over whole lives, whose counts no schedule changes.
+    #[test]
+    fn peers_agree_over_lives() {
+        for (_, life) in Life::ALL {
+            for (shards, threads) in [(1, 1), (3, 1), (1, 4), (4, 2)] {
+                time(&asked(Timed::Lives(life, Route::Drawn, shards), 700, threads));
+            }
+            time(&asked(Timed::Lives(life, Route::Own, 4), 300, 4));
         }
     }
 
@@ -426,9 +489,9 @@ mod tests {
         keeps_deadlines(IndexedHeap::new(4), &NoClock);
         keeps_deadlines(HashedWheel::new(4), &NoClock);
         keeps_deadlines(SleepQueue::new(&clocks[2], 4), &TurnedWithin(&clocks[2]));
-        #[cfg(feature = "binding")]
+        #[cfg(feature = "rust")]
         {
-            keeps_deadlines(Binding::new(4), &NoClock);
+            keeps_deadlines(Erased::new(4), &NoClock);
             for touching in [Touching::Owner, Touching::Handle] {
                 let clock = PausedClock::new();
                 keeps_deadlines(Adapter::new(&clock, 4, touching), &clock);

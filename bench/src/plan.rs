@@ -72,6 +72,11 @@ pub fn part(length: usize, thread: usize, threads: usize) -> Range<usize> {
     length * thread / threads..length * (thread + 1) / threads
 }
 
+/// For each of so many places in a beat, the ticks from the start of the beat.
+pub fn steps(entries: usize) -> Vec<u64> {
+    (0..entries as u64).map(|place| place * BEAT / entries as u64).collect()
+}
+
 /// The generator of Steele, Lea and Flood, "Fast splittable pseudorandom number generators" (2014).
 pub struct SplitMix64 {
     state: u64,

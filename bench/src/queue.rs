@@ -35,7 +35,7 @@ pub trait Shared: Queue {
 /// A queue in shards, which several threads call by name.
 pub trait Sharded: Sync {
     type Key: Copy + Send + Sync;
-    /// By what a thread extends.
+    /// By what a thread extends and cancels.
     type Toucher: Send;
 
     fn shards(&self) -> usize;
@@ -45,6 +45,8 @@ pub trait Sharded: Sync {
     fn insert_burst(&self, shard: usize, burst: &[Begun], keys: &mut Vec<Self::Key>);
     /// Raises a deadline, and gives the one in force.
     fn extend(&self, toucher: &mut Self::Toucher, key: Self::Key, deadline: u64) -> u64;
+    /// Ends an entry.
+    fn cancel(&self, toucher: &mut Self::Toucher, key: Self::Key);
     /// Sets a deadline, also to an earlier one.
     fn reset(&self, key: Self::Key, deadline: u64) -> Self::Key;
     /// Ends an entry and gives its value.

@@ -5,7 +5,9 @@ use std::thread;
 use std::time::{Duration, Instant};
 
 use crate::longest::Spread;
-use crate::plan::{passes, SplitMix64, BEAT, BEATS, HEARTBEATS, IDLE, KEPT, PASS, REST, SEED, STRIDE, TOUCHES, TURNS};
+use crate::plan::{
+    passes, steps, SplitMix64, BEAT, BEATS, HEARTBEATS, IDLE, KEPT, PASS, REST, SEED, STRIDE, TOUCHES, TURNS,
+};
 use crate::queue::{Extends, Parts, Queue, Shared};
 
 /// Where a peer reads the time from. It is moved outside of what is timed.
@@ -88,6 +90,20 @@ pub struct Counts {
     pub deadlines: u64,
 }
 
+impl Counts {
+    /// Adds what another thread did.
+    fn add(&mut self, other: &Counts) {
+        self.inserts += other.inserts;
+        self.extends += other.extends;
+        self.resets += other.resets;
+        self.removes += other.removes;
+        self.cancels += other.cancels;
+        self.outs += other.outs;
+        self.values = self.values.wrapping_add(other.values);
+        self.deadlines = self.deadlines.wrapping_add(other.deadlines);
+    }
+}
+
 /// One round of a row.
 #[derive(Clone, Copy, Debug, Default)]
 pub struct Sample {
@@ -96,6 +112,15 @@ pub struct Sample {
     pub counts: Counts,
     /// Of a row of the longest call: how long its calls took, by their kinds.
     pub spreads: Option<[Spread; 3]>,
+}
+
+impl Sample {
+    /// Adds what another thread did, and its time.
+    pub fn add(&mut self, other: &Sample) {
+        self.spent += other.spent;
+        self.operations += other.operations;
+        self.counts.add(&other.counts);
+    }
 }
 
 /// A queue under load, with its own copy of the plan.
@@ -279,15 +304,10 @@ impl<'a, Q: Queue> Load<'a, Q> {
         self.spend(since, keys.len());
     }
 
-    /// For each place in a beat, the ticks from the start of the beat.
-    pub fn steps(&self) -> Vec<u64> {
-        (0..self.entries as u64).map(|place| place * BEAT / self.entries as u64).collect()
-    }
-
     /// Idle timeouts: the sessions begin in one beat, each is touched once in each of the beats after it, and then most
     /// are cancelled and the others expire.
     fn mixed(&mut self) {
-        let steps = self.steps();
+        let steps = steps(self.entries);
         let keys = self.begin(&steps);
 
         for beat in 1..=BEATS {
@@ -319,7 +339,7 @@ impl<'a, Q: Queue> Load<'a, Q> {
     /// Requests with a time limit: in each beat each ends in a fresh order, and another begins at once in its place.
     /// The limits that are drawn lie past the next beat, so none expires before it ends. At last all expire.
     fn churn(&mut self) {
-        let steps = self.steps();
+        let steps = steps(self.entries);
         let mut keys = self.begin(&steps);
         for beat in 1..=HEARTBEATS {
             self.churn_beat(&mut keys, &steps, beat * BEAT);
@@ -350,7 +370,7 @@ impl<'a, Q: Queue> Load<'a, Q> {
 
     /// Heartbeats: each session is touched in each beat by a reset, in a fresh order. At last all expire.
     fn heartbeat(&mut self) {
-        let steps = self.steps();
+        let steps = steps(self.entries);
         let mut keys = self.begin(&steps);
         for beat in 1..=HEARTBEATS {
             self.heart_beat(&mut keys, &steps, beat * BEAT);

@@ -1,6 +1,7 @@
 //! The rows of a queue in shards, each behind a lock of its own, which threads call by name or in bursts under one
 //! lock: what is timed, and what is counted. README.md describes each in words.
 
+use std::mem;
 use std::sync::atomic::{AtomicUsize, Ordering};
 use std::thread;
 use std::time::{Duration, Instant};
@@ -58,8 +59,8 @@ pub struct Begun {
 /// What came out of the queue in one thread.
 #[derive(Default)]
 pub struct Gone {
-    outs: u64,
-    values: u64,
+    pub outs: u64,
+    pub values: u64,
 }
 
 impl Gone {
@@ -125,6 +126,10 @@ impl<Q: Queue + Send> Sharded for Shards<Q> {
         self.lend(shard, |queue| queue.extend(key, deadline))
     }
 
+    fn cancel(&self, (): &mut (), Placed { shard, key }: Placed<Q>) {
+        self.lend(shard, |queue| queue.cancel(key));
+    }
+
     fn reset(&self, Placed { shard, key }: Placed<Q>, deadline: u64) -> Placed<Q> {
         Placed { shard, key: self.lend(shard, |queue| queue.reset(key, deadline)) }
     }
@@ -161,26 +166,29 @@ impl<Q: Queue + Send> Sharded for Shards<Q> {
 
 /// A queue in shards under load, with its own copy of the plan.
 pub struct ShardLoad<'a, S: Sharded> {
-    queue: S,
-    clock: &'a dyn Clock,
-    draws: SplitMix64,
-    now: u64,
+    pub queue: S,
+    /// One for each thread.
+    pub touchers: Vec<S::Toucher>,
+    pub clock: &'a dyn Clock,
+    pub draws: SplitMix64,
+    pub now: u64,
     /// The entries of each shard.
-    entries: usize,
-    threads: usize,
-    route: Route,
-    sample: Sample,
+    pub entries: usize,
+    pub threads: usize,
+    pub route: Route,
+    pub sample: Sample,
 }
 
 impl<'a, S: Sharded> ShardLoad<'a, S> {
     pub fn new(queue: S, clock: &'a dyn Clock, entries: usize, threads: usize, route: Route) -> ShardLoad<'a, S> {
         assert!(route == Route::Drawn || queue.shards() == threads, "each thread has a shard of its own");
+        let touchers = (0..threads).map(|_| queue.toucher()).collect();
         let (draws, sample) = (SplitMix64::new(SEED), Sample::default());
-        ShardLoad { queue, clock, draws, now: 0, entries, threads, route, sample }
+        ShardLoad { queue, touchers, clock, draws, now: 0, entries, threads, route, sample }
     }
 
     /// The entries of all shards.
-    fn total(&self) -> usize {
+    pub fn total(&self) -> usize {
         self.entries * self.queue.shards()
     }
 
@@ -208,7 +216,7 @@ impl<'a, S: Sharded> ShardLoad<'a, S> {
     }
 
     /// Takes out what is left, and goes to the start of the next pass.
-    fn end_pass(&mut self) {
+    pub fn end_pass(&mut self) {
         let tick = self.now + shard_pass(self.total());
         self.clock.moment(tick);
         for shard in 0..self.queue.shards() {
@@ -248,7 +256,7 @@ impl<'a, S: Sharded> ShardLoad<'a, S> {
 
     /// The entries of a fill, of which so many at a time go to one shard; where each thread has a shard of its own, those
     /// in its places go there.
-    fn drawn(&mut self, burst: usize) -> Vec<Begun> {
+    pub fn drawn(&mut self, burst: usize) -> Vec<Begun> {
         if self.route == Route::Own {
             let deadlines = self.draws.deadlines(self.now, self.total()).into_iter().enumerate();
             let shard = |place| place / self.entries;
@@ -328,17 +336,19 @@ impl<'a, S: Sharded> ShardLoad<'a, S> {
         let mut lists = Vec::with_capacity(self.threads);
         for thread in 0..self.threads {
             let picks = self.picks(thread, each);
-            lists.push((self.queue.toucher(), picks.iter().map(|pick| keys[*pick]).collect::<Vec<_>>()));
+            lists.push(picks.iter().map(|pick| keys[*pick]).collect::<Vec<_>>());
         }
+        // A queue has but so many of them in its life, so they are kept from pass to pass.
+        let mut touchers = mem::take(&mut self.touchers);
+        let mut lists: Vec<_> = touchers.iter_mut().zip(lists).collect();
         let later = self.now + IDLE + 1;
         let extends = each * lists.len();
         self.timed(&mut lists, extends, |queue, (toucher, list)| {
-            let mut when = later;
-            for key in list {
+            for (key, when) in list.iter().zip(later..) {
                 assert!(queue.extend(toucher, *key, when) >= when, "an extend is never below what it asked");
-                when += 1;
             }
         });
+        self.touchers = touchers;
         self.sample.counts.extends += extends as u64;
     }
 

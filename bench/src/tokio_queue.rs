@@ -34,7 +34,7 @@ impl PausedClock {
     }
 
     /// Makes what reads this clock.
-    #[cfg(feature = "binding")]
+    #[cfg(feature = "rust")]
     pub fn enter<R>(&self, make: impl FnOnce() -> R) -> R {
         let _context = self.runtime.enter();
         make()

@@ -12,11 +12,6 @@ def seconds(capacity, shards, rate):
     return int(capacity) * int(shards) * tree.constant("LAST_STAMP") / int(rate)
 
 
-def lasts(capacity, shards, rate, unit):
-    """A time in a unit."""
-    return seconds(capacity, shards, rate) / dict(UNITS)[unit]
-
-
 def told(time):
     unit, size = next((it for it in UNITS if time >= 2 * it[1]), UNITS[-1])
     value = time / size

@@ -62,12 +62,27 @@ def bad_links(page):
             yield link
 
 
+# Pages whose programs another script types: `docs/figures/using`.
+TYPED = {"docs/USING.md"}
+
+
+def unbuilt_blocks(page):
+    """The lines at which a page has Rust that nothing builds: it quotes no file, and no crate has the page as its documentation."""
+    library = page.parent / "src" / "lib.rs"
+    is_documentation = library.exists() and 'doc = include_str!("../README.md")' in text_of(library)
+    if is_documentation or page.relative_to(TOP).as_posix() in TYPED:
+        return []
+    text = text_of(page)
+    quoted = {found.end(1) for found in QUOTE.finditer(text)}
+    return [text.count("\n", 0, it.start()) + 1 for it in re.finditer(r"(?m)^```rust\n", text) if it.end() not in quoted]
+
+
 PATH = re.compile(r"`([\w./-]+/[\w.-]+\.(?:rt|antt|md|rs|tsv|py|txt))`")
 
 
 def bad_paths(page):
-    """The files that a page names and that stand nowhere: below the top, docs/, bench/, crates/ or a crate."""
-    roots = [TOP, TOP / "docs", TOP / "bench", tree.CRATES, *(it for it in tree.CRATES.iterdir() if it.is_dir())]
+    """The files that a page names and that stand nowhere: beside the page, below the top, docs/, bench/, crates/ or a crate."""
+    roots = [page.parent, TOP, TOP / "docs", TOP / "bench", tree.CRATES, *(it for it in tree.CRATES.iterdir() if it.is_dir())]
     text = text_of(page)
     others = {it for listed in OTHERS.findall(text) for it in listed.split()}
     return [it for it in PATH.findall(text) if it not in others and not any((root / it).exists() for root in roots)]
@@ -80,7 +95,9 @@ IDENTIFIER = re.compile(r"`([A-Za-z_]\w*(?:(?:::|\.)[A-Za-z_]\w*)*)`")
 def words_of_the_code():
     """Every word of the sources, their edits and the scripts."""
     endings = (".rt", ".antt", ".edit", ".rs", ".toml", ".lock", ".py", "")
-    paths = [*tree.files(tree.CRATES, *endings), *tree.files(TOP / "bench", *endings), TOP / "crates.txt"]
+    plain = [it for folder in tree.PLAIN for it in tree.files(folder, ".rs")]
+    plain += [it for part in ("src", "tests") for it in tree.files(TOP / "rust" / "hontkhale" / part, ".rs")]
+    paths = [*tree.files(tree.CRATES, *endings), *tree.files(TOP / "bench", *endings), *plain, TOP / "crates.txt"]
     own = {word for it in paths for word in re.findall(r"\w+", text_of(it))}
     return own | {it.stem for it in paths} | {it.suffix[1:] for it in paths} | set(tree.names())
 
@@ -107,6 +124,13 @@ def plain(text):
     text = re.sub(r"<!--.*?-->", "", text, flags=re.S)
     text = re.sub(r"`[^`\n]*`", "", text)
     return LINK.sub(lambda it: it[0].split("](")[0], text)
+
+
+def word_count(text):
+    """The words of a page beside its code, its tables and what a reader doesn't see."""
+    text = re.sub(r"(?ms)^```.*?^```", "", TABLE.sub("", text))
+    text = re.sub(r"<!--.*?-->", "", text, flags=re.S)
+    return len(re.sub(r"(?m)^(?:\||    ).*$", "", text).split())
 
 
 def power(base, to, less):

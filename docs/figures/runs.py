@@ -35,11 +35,6 @@ def ns(row, peer, entries, threads=1):
     return bench()[peer, row, int(entries), int(threads)]
 
 
-def best(row, peer, entries, threads=1):
-    """The nanoseconds an operation of a peer's best sample."""
-    return bench(min)[peer, row, int(entries), int(threads)]
-
-
 def times(row, peer, ours, entries, threads=1):
     """How many times as long as ours a peer takes: above 1 ours is faster."""
     return ns(row, peer, entries, threads) / ns(row, ours, entries, threads)
@@ -111,11 +106,6 @@ def script(lines, column):
         if len(cells) > 6 and cells[2].replace(",", "") == lines:
             return float(cells[SCRIPT_COLUMNS[column]])
     raise LookupError(f"results/script.md has no script of {lines} lines")
-
-
-def script_tick():
-    """Seconds of the tick that expires 60,000 names."""
-    return float(re.search(r"expires 60,000 names .*\((\S+) s\)", text_of(RESULTS / "script.md"))[1])
 
 
 def rows_of(name):

@@ -27,7 +27,8 @@ def text_bytes(lines):
 
 SCRIPTS = "crates/dq_scripts/src/tests/scripts.rt"
 REFUSED = "crates/dq_scripts/src/tests/memory.rt"
-SAME_CALLS = "crates/dq_model/src/tests/same_calls.rt"
+SAME_CALLS = "rust/hontkhale/tests/slow/same_calls.rs"
+DRAWN = "rust/hontkhale/tests/models/draw.rs"
 
 
 def model_queues():
@@ -38,9 +39,16 @@ def model_queues():
     return len(re.findall(r"\(\d+, \d+\)", pairs[1]))
 
 
+def drawn_calls(build="debug"):
+    """Calls that a model's test draws for each queue, in a debug or in a release build."""
+    debug, release = (tree.found(DRAWN, rf"const CALLS: u64 = if cfg!.debug_assertions. {it}")[0]
+                      for it in (r"\{ ([\d_]+) \}", r"\{ [\d_]+ \} else \{ ([\d_]+) \}"))
+    return release if build == "release" else debug
+
+
 def model_calls():
-    """Calls that are made beside the slow model: so many to each queue."""
-    return model_queues() * tree.found(SAME_CALLS, r"fn agree_at.*?for turn in 0\.\.(\d+)u64")[0]
+    """Calls that are made beside the slow model in a debug build: so many to each queue."""
+    return model_queues() * drawn_calls()
 
 
 def more(row, one, other, entries):
@@ -53,11 +61,6 @@ def behind(*which):
     return 1 / runs.least(*which)
 
 
-def with_later(what, name):
-    """What an operation costs the heap, with what it pays at a later poll."""
-    return sum(runs.stored("instructions", name, f"{what} {it}") for it in ("heap-note", "heap-note later"))
-
-
 def lost(row, peer, ours, entries, threads=1):
     """A ratio below 1, of a cell in which a peer is told to be the faster one."""
     ratio = runs.times(row, peer, ours, entries, threads)
@@ -66,14 +69,11 @@ def lost(row, peer, ours, entries, threads=1):
     return ratio
 
 
-ONE_OWNER = ("insert", "extend", "reset", "remove", "cancel", "poll", "mixed")
-
-
 # Rows in which a peer pays for all that its calls leave behind.
 WHOLE = ("cancel", "poll", "mixed", "insert+poll", "reset+poll", "remove+poll", "churn", "heartbeat")
 
 
-def lost_cells(peer, ours, rows=ONE_OWNER):
+def lost_cells(peer, ours, rows):
     """In how many cells of one thread a peer is the faster one."""
     return sum(runs.times(row, peer, ours, size) < 1 for row in rows for size in SIZES)
 
@@ -82,7 +82,9 @@ def lost_cells(peer, ours, rows=ONE_OWNER):
 FROM_TESTS = {
     "model-calls": model_calls,
     "model-queues": model_queues,
-    "plain-twin-calls": lambda: tree.found(SAME_CALLS, r"agrees_with_its_plain_twin.*?for turn in 0\.\.(\d+)u64")[0],
+    "drawn-calls": drawn_calls,
+    "cache-calls": lambda: drawn_calls() // tree.found("rust/hontkhale/tests/slow/cache_calls.rs", r"calls\(\) / (\d+)")[0],
+    "plain-tests": lambda: len(tree.plain_test_names()),
     "read-faults": lambda: text_bytes(["delay 1", *table(SCRIPTS, "const THREE_NAMES")[0]]) + 1,
     "write-faults": lambda: text_bytes(table(SCRIPTS, "const THREE_NAMES")[1]),
     "refused-ends": lambda: len(table(REFUSED, r"fn refused_memory\b")[0]) + 2 * len(table(SCRIPTS, "const EVERY_COMMAND")[0]),
@@ -96,29 +98,21 @@ FIGURES = {
     "most": runs.most,
     "longest": runs.longest,
     "longest-us": lambda *which: runs.longest(*which) / 1000,
-    "piece-us": lambda way, touched, size: piece_row(way, touched, size)[9] / 1000,
-    "piece-sum": lambda way, touched, size: piece_row(way, touched, size)[10] / piece_row("whole", touched, size)[10],
-    "beside-us": lambda way, size, at: beside_median(way, size, int(at)) / 1000,
     "lost": lost,
-    "lost-cells": lost_cells,
     "lost-whole-cells": lambda peer, ours: lost_cells(peer, ours, WHOLE),
     "whole-cells": lambda: len(WHOLE) * len(SIZES),
-    "cells": lambda: len(ONE_OWNER) * len(SIZES),
     "more": more,
-    "best": runs.best,
-    "more-at-best": lambda row, peer, ours, size: runs.best(row, peer, size) - runs.best(row, ours, size),
     "behind": behind,
     "over": lambda row, peer, other, floor, size: runs.ns(row, peer, size) / runs.ns(other, floor, size),
-    "with-later": with_later,
     "bytes": runs.entry_bytes,
     "shard-cells": lambda *which: len(runs.shard_cells(*which)),
     "lost-shard-cells": runs.lost_shard_cells,
     "peer-cells": runs.peer_cells,
     "pace": runs.pace,
-    "lasts": lasting.lasts,
+    "pieces-least": lambda: min(pieces_sums()),
+    "pieces-most": lambda: max(pieces_sums()),
     "by-hand": lambda value, *_: float(value),
     "script": runs.script,
-    "script-tick": runs.script_tick,
     "stored": runs.stored,
     "edits": tree.edits,
     "wider-edits": tree.wider_edits,
@@ -128,7 +122,6 @@ FIGURES = {
     "public-functions": tree.public_functions,
     "definitions": tree.definitions,
     "tests": tree.tests,
-    "crates": tree.crate_count,
     "constant": tree.constant,
     "in-source": lambda path, name: tree.found(path, rf"const {name}: \w+ = ([0-9_]+);")[0],
     **FROM_TESTS,
@@ -149,40 +142,35 @@ def ns_text(value):
     return f"{value:,.0f}" if value >= 10 else f"{value:.1f}"
 
 
-# The rows of the README's table, each with its words.
+# The rows of the bench's table, each with its words.
 SPEED = {
     "insert": "insert",
     "extend": "extend",
     "poll": "poll",
-    "cancel": "cancel, and its reaping",
+    "cancel": "cancel, and its freeing",
     "insert+poll": "insert, and its poll",
     "reset+poll": "reset, and its poll",
     "remove+poll": "remove, and what it leaves to polls",
     "mixed": "idle timeouts, 100 extends a session",
     "heartbeat": "idle timeouts, 30 resets a session",
     "churn": "requests that end before their time limit",
-    "reset": "reset alone (the heap pushes and leaves the rest to a poll)",
-    "remove": "remove alone (the heap marks and leaves the rest to a poll)",
 }
 
 
 def speed():
-    """The README's table: medians at 10,000 entries."""
+    """The bench's table: medians at 10,000 entries."""
     peers = ("ours-owned", "ours", "heap-note", "delay-queue", "delay-queue-locked")
     lines = [
-        row("", "ours, one owner", "ours, shared words", "`BinaryHeap` that notes extends", "`DelayQueue`", "`Mutex<DelayQueue>`"),
+        row("", "ours, one owner", "ours, shared words", "a lazy heap", "`DelayQueue`", "`Mutex<DelayQueue>`"),
         "|---|--:|--:|--:|--:|--:|",
     ]
     for name, words in SPEED.items():
         lines.append(row(words, *(ns_text(runs.ns(name, it, 10000)) for it in peers)))
-    shared = [runs.ns("callers", it, 10000, 4) for it in ("ours", "heap-note-locked", "delay-queue-locked")]
-    told = [ns_text(it) for it in shared]
-    lines.append(row("extend from 4 threads beside the owner's polls", "", told[0], f"{told[1]} (in a `Mutex`)", "", told[2]))
     return "\n".join(lines)
 
 
 def shared_speed():
-    """The README's table of the shared queue: medians of one shard in one thread, and of four shards in four."""
+    """The bench's table of the shared queue: medians of one shard in one thread, and of four shards in four."""
     peers = ("ours-shards", "heap-note-locked", "delay-queue-locked")
     lines = [
         row("", "1 shard, 1 thread: ours", "a heap in a `Mutex`", "`Mutex<DelayQueue>`",
@@ -197,122 +185,136 @@ def shared_speed():
     return "\n".join(lines)
 
 
-def lost_to_the_heap():
-    """Each row in which the heap that notes extends is the faster one, with our speed beside its."""
-    lines = [row("Row", "Entries", "Ours, one owner", "Ours, shared words"), "|---|--:|--:|--:|"]
-    for name in ONE_OWNER:
+LONGEST_PEERS = ("ours-owned", "ours", "ours-shards", "heap-best", "heap-indexed", "hashed-wheel", "delay-queue")
+
+
+def us_text(value):
+    return f"{value / 1000:,.0f}" if value >= 10000 else f"{value / 1000:.1f}" if value >= 95 else f"{value / 1000:.2f}"
+
+
+def longest():
+    """The longest poll of each kind, in microseconds."""
+    heads = ("Touched by", "Entries", "ours, one owner", "ours, shared words", "ours, a shard", "best heap", "indexed heap", "hashed wheel", "`DelayQueue`")
+    lines = [row(*heads), "|---" + "|--:" * (len(heads) - 1) + "|"]
+    for call in ("extend", "reset", "cancel"):
         for size in SIZES:
-            both = [runs.times(name, "heap-note", it, size) for it in ("ours-owned", "ours")]
-            if min(both) < 1:
-                lines.append(row(name, f"{int(size):,}", *(f"{it:.2f}x" if it < 1 else "" for it in both)))
+            lines.append(row(f"{call}s", f"{int(size):,}", *(us_text(runs.longest(f"longest-{call}", "poll", it, size)) for it in LONGEST_PEERS)))
+    return "\n".join(lines)
+
+
+STANDING = {
+    "heap-best": "best heap",
+    "heap-note": "lazy heap",
+    "heap-indexed": "indexed heap",
+    "hashed-wheel": "hashed wheel",
+    "kit-wheel": "the kit's wheel",
+    "kit-delay-queue": "the kit's `DelayQueue`",
+    "delay-queue": "`DelayQueue`",
+}
+
+
+def standing():
+    """Where each peer stands in the rows that charge it for all that its calls leave behind."""
+    lines = [row("Peer", "Ahead of one owner's", "Ahead of shared words", "Its best row", "Its worst row"), "|---|--:|--:|---|---|"]
+    for peer, words in STANDING.items():
+        ratios = {(name, size): runs.times(name, peer, "ours-owned", size) for name in WHOLE for size in SIZES}
+        ends = (f"`{at[0]}` at {int(at[1]):,}: {ratios[at]:.2f}x" for at in (min(ratios, key=ratios.get), max(ratios, key=ratios.get)))
+        counts = (str(lost_cells(peer, ours, WHOLE)) for ours in ("ours-owned", "ours"))
+        lines.append(row(words, *counts, *ends))
+    return "\n".join(lines)
+
+
+SHARD_PEERS = {
+    "heap-best-locked": "best heap",
+    "heap-note-locked": "lazy heap",
+    "hashed-wheel-locked": "hashed wheel",
+    "delay-queue-locked": "`DelayQueue`",
+}
+
+
+def shard_standing():
+    """In how many rows of shards each peer in a `Mutex` is ahead."""
+    calls = {"all": "", "insert": "insert/", "reset": "reset", "remove": "remove", "poll": "poll/", "insert, in bursts": "insert-burst",
+             "poll, in bursts": "poll-burst", "extend": "extend", "own shard": "own-"}
+    cells = {words: {len(runs.shard_cells(peer, it)) for peer in SHARD_PEERS} for words, it in calls.items()}
+    if any(len(it) != 1 for it in cells.values()):
+        raise LookupError("the peers have not as many rows of shards as one another")
+    lines = [row("In a `Mutex`", *(f"{words}: of {min(its)}" for words, its in cells.items())), "|---" + "|--:" * len(calls) + "|"]
+    for peer, words in SHARD_PEERS.items():
+        lines.append(row(words, *(str(runs.lost_shard_cells(peer, it)) for it in calls.values())))
     return "\n".join(lines)
 
 
 def gate():
-    """What each crate takes in the gate."""
-    noted = runs.noted("gate")
-
-    def minutes(crate, what):
-        return f"{float(noted[crate, what]):.1f}" if (crate, what) in noted else "not yet"
-
+    """What the crates take in the gate: each that a user runs, and the others together by their role."""
+    noted, sums = runs.noted("gate"), {}
+    for crate in tree.crates():
+        name = f"`{crate.name}`" if crate.role == "queue" else ROLES[crate.role]
+        proof, edits, minutes = sums.get(name, (0, 0, 0))
+        took = [float(noted.get((crate.name, it), 0)) for it in ("proof", "edits")]
+        sums[name] = (proof + took[0], edits + len(crate.edits()), minutes + took[1])
     lines = [row("Crate", "Proof, tests and programs", "Must-fail edits", "Their minutes"), "|---|--:|--:|--:|"]
-    for crate in tree.names():
-        edits = tree.edits(crate)
-        lines.append(row(f"`{crate}`", minutes(crate, "proof"), str(edits or ""), minutes(crate, "edits") if edits else ""))
-    return "\n".join(lines)
+    told = ((name, f"{proof:.1f}", str(edits or ""), f"{minutes:.1f}" if edits else "") for name, (proof, edits, minutes) in sums.items())
+    return "\n".join([*lines, *(row(*it) for it in told)])
+
+
+def edit_times():
+    """What the edits take where many stand in one check, of all crates that were run."""
+    noted = runs.noted("edits")
+    tried = [it for it in tree.names() if (it, "checks") in noted]
+    sums = [sum(float(noted[crate, kind]) for crate in tried) for kind in ("edits", "refused", "checks", "minutes")]
+    lines = [row("Crates", "Edits", "Refused", "Checks", "Minutes"), "|--:" * 5 + "|"]
+    return "\n".join([*lines, row(str(len(tried)), *(f"{it:.0f}" for it in sums[:3]), f"{sums[3]:.1f}")])
+
+
+# The rows of the table of sizes: the crates of a role together.
+ROLES = {"queue": "what a user runs", "tests": "the tests' crates", "bench": "the bench's load", "example": "the examples"}
 
 
 def sizes():
-    """Lines of each crate by kind, functions, tests and edits."""
-    heads = ("Crate", "Code", "Contracts", "Definitions", "Proofs", "Tests", "Functions", "Test functions", "Edits")
-    lines = [row(*heads), "|---" + "|--:" * (len(heads) - 1) + "|"]
-    total = [0] * (len(heads) - 1)
+    """Lines by kind, and edits, of the crates of each role."""
+    heads = ("Crates", "Code", "Contracts", "Definitions", "Proofs", "Tests", "Edits")
+    counted = {name: [0] * (len(heads) - 1) for name in (*ROLES.values(), "all")}
     for crate in tree.crates():
         count = crate.lines()
         numbers = [count[it] for it in ("code", "contract", "specs", "proofs", "test")]
-        numbers += [crate.functions(), crate.test_count(), len(crate.edits()) + len(crate.wider_edits())]
-        total = [a + b for a, b in zip(total, numbers)]
-        lines.append(row(f"`{crate.name}`", *(f"{it:,}" if it else "" for it in numbers)))
-    lines.append(row("all", *(f"{it:,}" for it in total)))
-    return "\n".join(lines)
-
-
-def plant():
-    """What planting printed in each crate."""
-    noted = runs.noted("plant")
-    columns = ("refused", "not judged", "as right", "let through")
-    lines = [row("Crate", "Refused", "Not judged", "Answer the same", "Wrong and let through"), "|---|--:|--:|--:|--:|"]
-    for crate in tree.names():
-        if (crate, "refused") in noted:
-            lines.append(row(f"`{crate}`", *(noted.get((crate, it), "not counted") for it in columns)))
-    return "\n".join(lines)
+        numbers.append(len(crate.edits()) + len(crate.wider_edits()))
+        for name in (ROLES[crate.role], "all"):
+            counted[name] = [a + b for a, b in zip(counted[name], numbers)]
+    lines = [row(*heads), "|---" + "|--:" * (len(heads) - 1) + "|"]
+    return "\n".join([*lines, *(row(name, *(f"{it:,}" if it else "" for it in its)) for name, its in counted.items())])
 
 
 def instructions():
-    """Instructions and cache misses an operation, of ours and of the heap."""
+    """Instructions and cache misses an operation, of ours, of the heap and of the crate."""
     noted = runs.noted("instructions")
-    peers = ("ours-owned", "ours", "heap-note")
+    ours, crate = ("ours-owned", "ours", "heap-note"), ("rust", "rust-checked")
     lines = [
-        row("Row", "Instructions: ours, one owner / shared / heap, noting", "Misses: ours, one owner / shared / heap, noting"),
-        "|---|---|---|",
+        row("Row", "Instructions: one owner / shared / lazy heap", "by the crate: `rust` / `rust-checked`", "Misses: one owner / shared / lazy heap"),
+        "|---|---|---|---|",
     ]
     for name in ("insert", "extend", "reset", "remove", "poll"):
         cells = []
-        for what in ("instructions", "misses"):
+        for what, peers in (("instructions", ours), ("instructions", crate), ("misses", ours)):
             told = " / ".join(noted.get((name, f"{what} {it}"), "") for it in peers)
-            later = noted.get((name, f"{what} heap-note later"))
+            later = noted.get((name, f"{what} heap-note later")) if peers == ours else None
             told += f", and {later} more at a later poll" if later else ""
             cells.append(told if told.strip(" /") else "not counted")
         lines.append(row(name, *cells))
     return "\n".join(lines)
 
 
-# Each change for speed, as results/gains.tsv names it, what it was, and the rows in which it tells.
-GAINS = (
-    ("level_2_by_second_digit", "a slot of level 2 by its second digit", ("poll",)),
-    ("list_off_its_head", "an opened list is taken off its head as a whole", ("poll",)),
-    ("free_slots", "free slots in rising order", ("insert", "reset", "remove", "poll")),
-    ("plain_words", "plain words in one number", ("insert", "extend", "reset", "remove", "poll")),
-    ("queue_inlining", "insert and reset always inlined", ("insert", "reset")),
-    ("load_closure", "the load's reset makes no error (no change of the queue)", ("reset",)),
-    ("all", "**all of these, and the load's new loops**", ("insert", "extend", "reset", "remove", "poll")),
-    ("subtraction", "an extend is a subtraction", ("extend",)),
-    ("summary_by_the_first", "a freed slot touches the summary only as its word's first", ("remove",)),
-    ("remove_inlined", "remove always inlined", ("remove",)),
-    ("layers_inlined", "by name: the layers inlined, and no division for a shard's own route", ("insert/1", "remove/1", "insert-burst/1")),
-)
-
-
-def gains():
-    """What each change for speed gained alone."""
-    found = {(change, call, what): (before, after) for change, call, what, before, after in runs.rows_of("gains")}
-    lines = [
-        row("Change", "Call", "Instructions before, after", "Misses before, after", "ns before, after"),
-        "|---|---|---|---|---|",
-    ]
-
-    def cell(change, call, what, decimals):
-        pair = found.get((change, call, what))
-        return ", ".join(f"{float(number):.{decimals}f}" for number in pair) if pair else "not taken"
-
-    for change, told, calls in GAINS:
-        for call in calls:
-            cells = [cell(change, call, what, decimals) for what, decimals in (("instructions", 0), ("misses", 1), ("ns_best_10000", 1))]
-            lines.append(row(told if call == calls[0] else "", f"`{call}`" if "/" in call else call, *cells))
-    return "\n".join(lines)
+HEAPS = ("heap-best-locked", "heap-note-locked", "heap-push-locked")
 
 
 def headline():
-    """One row of numbers: an extend beside its floor and beside a locked queue."""
-    peers = ("ours", "fetch-max", "heap-note-locked", "delay-queue-locked")
-    return "\n".join(
-        [
-            row("An extend, in ns", "Hontkhale", "a bare `fetch_max`", "a heap in a `Mutex`", "`Mutex<DelayQueue>` of tokio_util"),
-            "|---|--:|--:|--:|--:|",
-            row("one thread beside the owner's polls", *(ns_text(runs.ns("callers", it, 10000, 1)) for it in peers)),
-            row("four threads beside the owner's polls", *(ns_text(runs.ns("callers", it, 10000, 4)) for it in peers)),
-        ]
-    )
+    """An extend beside its floor and beside locked queues."""
+    peers = (("ours",), ("fetch-max",), HEAPS, ("delay-queue-locked",))
+    lines = [row("An extend, in ns", "Hontkhale", "a bare `fetch_max`", "the fastest heap in a `Mutex`", "`Mutex<DelayQueue>` of tokio_util"), "|---|--:|--:|--:|--:|"]
+    for threads, words in ((1, "one thread"), (4, "four threads")):
+        cells = (ns_text(min(runs.ns("callers", it, 10000, threads) for it in its)) for its in peers)
+        lines.append(row(f"{words} beside the owner's polls", *cells))
+    return "\n".join(lines)
 
 
 def edit(name):
@@ -343,14 +345,6 @@ def pieces_rows():
     return runs.rows_of("pieces") if (runs.RESULTS / "pieces.tsv").exists() else []
 
 
-def piece_row(way, touched, size):
-    """The numbers of the polls of one run in pieces, by the columns of the stored row."""
-    for it in pieces_rows():
-        if it[:4] == [way, f"pieces-{touched}", size, "poll"]:
-            return [0.0] * 4 + [float(number) for number in it[4:]]
-    raise LookupError(f"no run of {way} over pieces-{touched} at {size} is stored")
-
-
 def beside_median(way, size, at):
     """The median over the rounds of one column of the rows beside another thread."""
     its = [float(it[at]) for it in pieces_rows() if it[:3] == [way, "beside", size]]
@@ -360,29 +354,33 @@ def beside_median(way, size, at):
 
 
 def pieces():
-    """Polls whole and in pieces: the longest call, and all of them together."""
+    """Polls whole and in pieces: the longest call."""
     found = {tuple(it[:3]): it for it in pieces_rows() if it[1].startswith("pieces-") and it[3] == "poll"}
     if not found:
         return "Not measured yet."
-    heads = ("Touched by", "Entries", *(f"longest, {it}" for it in PIECE_WAYS), "best heap's longest", *(f"all, {it}" for it in PIECE_WAYS[1:]))
+    heads = ("Touched by", "Entries", *PIECE_WAYS)
     lines = [row(*heads), "|---" + "|--:" * (len(heads) - 1) + "|"]
     for call in ("extend", "reset", "cancel"):
         for size in SIZES:
             its = [found[way, f"pieces-{call}", size] for way in PIECE_WAYS]
-            heap = runs.longest(f"longest-{call}", "poll", "heap-best", size)
-            sums = [f"{float(it[10]) / float(its[0][10]):.2f}x" for it in its[1:]]
-            lines.append(row(f"{call}s", f"{int(size):,}", *(ns_text(float(it[9])) for it in its), ns_text(heap), *sums))
+            lines.append(row(f"{call}s", f"{int(size):,}", *(ns_text(float(it[9])) for it in its)))
     return "\n".join(lines)
+
+
+def pieces_sums():
+    """What all the pieces take beside the whole polls, over every row."""
+    sums = {(it[0], it[1], it[2]): float(it[10]) for it in pieces_rows() if it[1].startswith("pieces-") and it[3] == "poll"}
+    return [took / sums["whole", kind, size] for (way, kind, size), took in sums.items() if way in PIECE_WAYS[1:]]
 
 
 def beside():
     """A poll and another thread's inserts: the longest of each, medians over the rounds."""
-    lines = [row("Entries", "Polled", "longest call of the poller", "longest insert or remove beside it"), "|--:|---|--:|--:|"]
+    if not any(it[1] == "beside" for it in pieces_rows()):
+        return "Not measured yet."
+    lines = [row("Entries", *PIECE_WAYS), "|--:" * (len(PIECE_WAYS) + 1) + "|"]
     for size in SIZES:
-        for way in PIECE_WAYS:
-            if any(it[:3] == [way, "beside", size] for it in pieces_rows()):
-                lines.append(row(f"{int(size):,}", way, *(ns_text(beside_median(way, size, at)) for at in (3, 5))))
-    return "\n".join(lines) if len(lines) > 2 else "Not measured yet."
+        lines.append(row(f"{int(size):,}", *(" / ".join(ns_text(beside_median(way, size, at)) for at in (3, 5)) for way in PIECE_WAYS)))
+    return "\n".join(lines)
 
 
 def renewing():
@@ -390,13 +388,11 @@ def renewing():
     found = {tuple(it[:4]): it for it in pieces_rows() if it[1] == "renewing" and it[3] != "reopened"}
     if not found:
         return "Not measured yet."
-    lines = [row("Call", "Entries", "steady: mean", "renewed: mean", "ratio", "steady: longest", "renewed: longest"), "|---" + "|--:" * 6 + "|"]
+    lines = [row("Call", *(f"{what}, {int(size):,} entries" for what in ("mean", "longest") for size in SIZES)), "|---" + "|--:" * 6 + "|"]
     for call in ("insert", "extend", "reset", "remove", "poll", "keep"):
-        for size in SIZES:
-            its = [found[name, "renewing", size, call] for name in ("steady", "renewed")]
-            steady, renewed = (float(it[10]) / float(it[4]) for it in its)
-            longest = [ns_text(float(it[9])) for it in its]
-            lines.append(row(call, f"{int(size):,}", ns_text(steady), ns_text(renewed), f"{renewed / steady:.2f}x", *longest))
+        its = [[found[name, "renewing", size, call] for name in ("steady", "renewed")] for size in SIZES]
+        means = (" / ".join(ns_text(float(it[10]) / float(it[4])) for it in both) for both in its)
+        lines.append(row(call, *means, *(" / ".join(ns_text(float(it[9])) for it in both) for both in its)))
     return "\n".join(lines)
 
 
@@ -420,12 +416,13 @@ TABLES = {
     "headline": headline,
     "speed": speed,
     "shared-speed": shared_speed,
-    "lost-to-the-heap": lost_to_the_heap,
+    "longest": longest,
+    "standing": standing,
+    "shard-standing": shard_standing,
     "gate": gate,
+    "edit-times": edit_times,
     "sizes": sizes,
-    "plant": plant,
     "instructions": instructions,
-    "gains": gains,
     "edit": edit,
     "lasts": lasting.table,
 }

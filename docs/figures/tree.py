@@ -7,6 +7,8 @@ import re
 
 TOP = pathlib.Path(__file__).resolve().parents[2]
 CRATES = TOP / "crates"
+# The tests in plain Rust that have no source in crates/: each file's folder.
+PLAIN = [TOP / "rust" / "hontkhale" / "tests" / it for it in ("slow", "hostile", "generations")]
 
 # Crates whose code no user runs: what an automatic look at them can't tell.
 ROLES = {"dq_load": "bench", "refusing_heap": "tests", "draws": "tests"}
@@ -218,8 +220,9 @@ def tests(which="all"):
     return sum(it.test_count() for it in some(which))
 
 
-def crate_count(*roles):
-    return len(crates(*roles))
+def plain_test_names():
+    """The tests in plain Rust that PROMISES.md names."""
+    return [name for folder in PLAIN for it in files(folder, ".rs") for name in TEST.findall(text_of(it))]
 
 
 @functools.lru_cache(maxsize=None)

@@ -23,6 +23,9 @@ impl<K: Eq + Hash + Drop, V: Drop, A: Allocator, S: BuildHasher> TtlCache<K, V, 
     /// Refused as TickTooLarge for a `now` beyond the last tick and as TooFar for a deadline beyond it, and then nothing
     /// changes; and, when the moment is set and what is due is dropped, as Worn for a key that is kept and whose slot has
     /// no stamp left, as Full for one that isn't and for which no slot is free, and as NoMemory. Key and value come back.
+    ///
+    /// In Rust the hash and the comparison of a key may panic here. The put is lost then, and what was kept goes on until its
+    /// deadline; but where the map is growing, std's map may lose keys.
     pub fn put(&mut self, key: K, value: V, ttl: u64, now: u64) -> PutAnswer<K, V>
     where
         K: Clone,

@@ -1,5 +1,5 @@
-//! Tests of the expiring cache and of idle sessions: the worked rows, refused memory, thousands of calls of the cache beside a
-//! slow model of it, and touches from another thread. They stand in a crate of their own, so that the two are proved once.
+//! Tests of the expiring cache and of idle sessions: the worked rows, refused memory, and touches from another thread. They
+//! stand in a crate of their own, so that the two are proved once.
 #![tactic(auto)]
 
 #[cfg(test)]
@@ -11,8 +11,6 @@ mod memo;
 #[cfg(test)]
 mod memory;
 #[cfg(test)]
-mod model;
-#[cfg(test)]
 mod once;
 #[cfg(test)]
 mod refresh;
@@ -20,8 +18,6 @@ mod refresh;
 mod refusing;
 #[cfg(test)]
 mod rows;
-#[cfg(test)]
-mod same_calls;
 #[cfg(test)]
 mod sessions;
 #[cfg(test)]

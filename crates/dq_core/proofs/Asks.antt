@@ -11,9 +11,9 @@ use Rattle.dq_core.specs.Slots.{Row, row_at, IsBorn}
 use Rattle.dq_core.specs.Machine.{Entry, table_at, Has}
 use Rattle.dq_core.specs.Core.{Core, machine, IsLawfulCore, due_by, entry_of}
 use Rattle.dq_core.specs.Calls.{IsFound, IsLinked}
-use Rattle.dq_core.specs.Readers.{TellsLeast, TellsPlace, TellsFiled}
+use Rattle.dq_core.specs.Readers.{TellsLeast, TellsPlace, TellsFiled, PeeksBoundDeadlines}
 use Rattle.dq_core.proofs.Law.{filed_is}
-use Rattle.dq_core.proofs.Ways.{table_row_is, length-table}
+use Rattle.dq_core.proofs.Ways.{table_row_is, length-table, none_before}
 use Rattle.dq_core.proofs.Finds.{found_filed}
 
 -- the entry at a held slot
@@ -52,3 +52,9 @@ tells_least {T} b l i born stamp id k least held es eid ek =
 -- a birth stamp that is told
 pub born_is : {T : Type 0} (r : Row T) (o : Option ℕ) (born : ℕ) → o ≡ Some born → IsBorn r o → IsBorn r (Some born)
 born_is r o born e is = let P : Option ℕ → Type 0 = λ x. IsBorn r x in subst P e is
+
+-- an entry that is filed least is filed no later than any live entry's deadline
+pub peeks_bound_deadlines : (T W : Type 0) → PeeksBoundDeadlines T W
+peeks_bound_deadlines T W c k l tells =
+    let least = tells.2 in
+    (least.0, least.2, none_before c.wheel.filing.tick c.noted c.slots.last_stamp least.0 c.slots.rows c.known c.wheel.filing.filed l.as_known l.each least.3)

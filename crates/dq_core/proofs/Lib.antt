@@ -14,11 +14,14 @@ pub mod Rests
 pub mod PackedWords
 pub mod PieceSteps
 pub mod Renewing
+pub mod RunsEnded
 pub mod RunsEnding
 pub mod RunsKept
+pub mod RunsLeft
 pub mod RunsMoves
 pub mod RunsOfCalls
 pub mod RunsOrdered
+pub mod RunsTogether
 pub mod Searches
 pub mod SlotRows
 pub mod Slotwise

@@ -1,7 +1,7 @@
 -- The steps of a poll in pieces: each keeps the shard law, goes the machine's way, and leaves a step less.
 use Rattle.std.proofs.Common.{◌≡◌, ◌≢◌, ℕ, ◌+◌, ◌-◌, ◌*◌, ◌<◌, ◌≤◌, max, Bool, List, [], ◌∷◌, ◌++◌, length, get_or, set, Option, Some, None, MatchOption, MatchBool, true, false, refl, sym, ap, ◌∙◌, subst, inl, inr, ◌⊎◌, arith}
 use Rattle.std.specs.List.{sum_by}
-use Rattle.std.proofs.lemmas.List.{length-map, length-set}
+use Rattle.std.proofs.lemmas.List.{length-map, length-set, length-append}
 use Rattle.std.proofs.lemmas.List.Sums.{sum_by-set, sum_by-le}
 use Rattle.std.proofs.lemmas.List.Elements.{All-from_get_or}
 use Rattle.std.proofs.lemmas.Bool.{cases_eq}
@@ -50,17 +50,26 @@ through_known : (shared : Bool) (old new : List Parts) (limit : ℕ) (v w : Fili
 through_known shared old new limit v w [] looks a = a
 through_known shared old new limit v w (u ∷ us) looks a = (step_known shared old new limit v u looks a.0, through_known shared old new limit u w us looks a.1)
 
-comes_more : (shared : Bool) (old new : List Parts) (limit limit' : ℕ) (u v w : Filing) → limit' ≡ limit → LooksOver shared old new → WheelComes shared old limit u v → WheelComes shared new limit' v w → WheelComes shared old limit u w
-comes_more shared old new limit limit' u v w same looks a b =
-    let P : ℕ → Type 0 = λ l. WheelComes shared new l v w in
+comes_more : (shared : Bool) (old new : List Parts) (limit limit' n m : ℕ) (u v w : Filing) → limit' ≡ limit → LooksOver shared old new → WheelComes shared old limit n u v → WheelComes shared new limit' m v w → WheelComes shared old limit (n + m) u w
+comes_more shared old new limit limit' n m u v w same looks a b =
+    let P : ℕ → Type 0 = λ l. WheelComes shared new l m v w in
     let c = subst P same b in
-    (a.0 ++ c.0, through_more shared old limit u v w a.0 c.0 a.1 (through_known shared old new limit v w c.0 looks c.1))
+    let size : length (a.0 ++ c.0) ≡ length a.0 + length c.0 = length-append a.0 c.0 in
+    let few : length a.0 ≤ n = a.1 in
+    let few' : length c.0 ≤ m = c.1 in
+    (a.0 ++ c.0, omega (arith, size, few, few'), through_more shared old limit u v w a.0 c.0 a.2 (through_known shared old new limit v w c.0 looks c.2))
 
-comes_one : (shared : Bool) (known : List Parts) (limit : ℕ) (v w : Filing) → PieceStep shared known limit v w → WheelComes shared known limit v w
-comes_one shared known limit v w s = (w ∷ [], (s, refl))
+comes_one : (shared : Bool) (known : List Parts) (limit : ℕ) (v w : Filing) → PieceStep shared known limit v w → WheelComes shared known limit 1 v w
+comes_one shared known limit v w s = (w ∷ [], omega arith, (s, refl))
 
-comes_none : (shared : Bool) (known : List Parts) (limit : ℕ) (v : Filing) → WheelComes shared known limit v v
-comes_none shared known limit v = ([], refl)
+comes_none : (shared : Bool) (known : List Parts) (limit : ℕ) (v : Filing) → WheelComes shared known limit 0 v v
+comes_none shared known limit v = ([], omega arith, refl)
+
+-- a way of fewer steps is one of at most more
+comes_fewer : (shared : Bool) (known : List Parts) (limit n m : ℕ) (v w : Filing) → n ≤ m → WheelComes shared known limit n v w → WheelComes shared known limit m v w
+comes_fewer shared known limit n m v w le a =
+    let few : length a.0 ≤ n = a.1 in
+    (a.0, omega (arith, few, le), a.2)
 
 went : (reached : Bool) (limit : ℕ) (v w : Filing) → MatchBool reached (ArrivesAtWake v limit w) (ReachesLimit v limit w) → ArrivesAtWake v limit w ⊎ ReachesLimit v limit w
 went true limit v w h = inl h
@@ -107,21 +116,21 @@ then_more u a v b w c i up up' (inr (inr (t, g, from, to, mark, now, le))) (inr 
 then_more u a v b w c i up up' x (inr (inr (t, g, from, to, mark, now, le))) = inr (inr (t, g, omega (arith, from, up), to, mark, now, le))
 
 -- one way after another
-coming_more : {T W : Type 0} (shared : Bool) (a b c : Core T W) → b.slots.last_stamp ≡ a.slots.last_stamp → b.noted ≡ a.noted → IsComing shared a b → IsComing shared b c → IsComing shared a c
-coming_more shared a b c last noted x y =
+coming_more : {T W : Type 0} (shared : Bool) (n m : ℕ) (a b c : Core T W) → b.slots.last_stamp ≡ a.slots.last_stamp → b.noted ≡ a.noted → IsComing shared n a b → IsComing shared m b c → IsComing shared (n + m) a c
+coming_more shared n m a b c last noted x y =
     let P : ℕ → Type 0 = λ n. RunOf (IsOnTheWay shared) n (machine b) (machine c) in
     let ticks = x.ticks in
     let ticks' = y.ticks in
     record {
       way = run_of_more (IsOnTheWay shared) a.slots.last_stamp (machine a) (machine b) (machine c) x.way (subst P last y.way);
       looks = looks_more shared a.known b.known c.known x.looks y.looks;
-      wheel = comes_more shared a.known b.known a.noted b.noted a.wheel.filing b.wheel.filing c.wheel.filing noted x.looks x.wheel y.wheel;
+      wheel = comes_more shared a.known b.known a.noted b.noted n m a.wheel.filing b.wheel.filing c.wheel.filing noted x.looks x.wheel y.wheel;
       ticks = omega arith;
       filed = λ i. then_more a.wheel.filing a.known b.wheel.filing b.known c.wheel.filing c.known i ticks ticks' (x.filed i) (y.filed i);
       counts = y.counts ∙ x.counts;
     }
 
-pub coming_none : {T W : Type 0} (shared : Bool) (b : Core T W) → IsComing shared b b
+pub coming_none : {T W : Type 0} (shared : Bool) (b : Core T W) → IsComing shared 0 b b
 coming_none shared b =
     record {
       way = run_of_none (IsOnTheWay shared) b.slots.last_stamp (machine b) (machine b) refl;
@@ -132,8 +141,20 @@ coming_none shared b =
       counts = refl;
     }
 
+-- a way of fewer steps is one of at most more
+coming_fewer : {T W : Type 0} (shared : Bool) (n m : ℕ) (b c : Core T W) → n ≤ m → IsComing shared n b c → IsComing shared m b c
+coming_fewer shared n m b c le x =
+    record {
+      way = x.way;
+      looks = x.looks;
+      wheel = comes_fewer shared b.known b.noted n m b.wheel.filing c.wheel.filing le x.wheel;
+      ticks = x.ticks;
+      filed = x.filed;
+      counts = x.counts;
+    }
+
 -- a step that poll makes too
-pub coming_by : {T W : Type 0} (shared : Bool) (b c : Core T W) → PieceStep shared b.known b.noted b.wheel.filing c.wheel.filing → IsUnderWay shared b c → IsComing shared b c
+pub coming_by : {T W : Type 0} (shared : Bool) (b c : Core T W) → PieceStep shared b.known b.noted b.wheel.filing c.wheel.filing → IsUnderWay shared b c → IsComing shared 1 b c
 coming_by shared b c step x =
     record {
       way = x.way;
@@ -144,7 +165,7 @@ coming_by shared b c step x =
       counts = x.counts;
     }
 
-answered_by : {T W : Type 0} (shared : Bool) (b c : Core T W) (turn : Turn T) → PieceStep shared b.known b.noted b.wheel.filing c.wheel.filing → IsAnswered shared b turn c → IsAnsweredBy shared b turn c
+answered_by : {T W : Type 0} (shared : Bool) (b c : Core T W) (turn : Turn T) → PieceStep shared b.known b.noted b.wheel.filing c.wheel.filing → IsAnswered shared b turn c → IsAnsweredBy shared 1 b turn c
 answered_by shared b c turn step x =
     record {
       run = x.run;
@@ -204,7 +225,7 @@ module _ {T W : Type 0} (shared : Bool) (b c : Core T W) (l : IsLawfulCore b) (i
 
   -- a due entry that is live at a later deadline is filed again
   piece_later : (d : ℕ) → IsSettled shared (row_at b.slots.rows i).stamp b.wheel.filing.tick (word_at b.known i) (Later d) (word_at c.known i) → c.wheel.filing ≡ linked (unlinked b.wheel.filing i) i (filing_for b.wheel.filing.tick d) → c.slots ≡ b.slots → c.known ≡ set b.known i (word_at c.known i) → c.counts ≡ b.counts →
-      IsComing shared b c × (steps_left c < steps_left b)
+      IsComing shared 1 b c × (steps_left c < steps_left b)
   piece_later d settled ew es ek ec =
       let t = b.wheel.filing.tick in
       let g = filing_for t d in
@@ -218,7 +239,7 @@ module _ {T W : Type 0} (shared : Bool) (b c : Core T W) (l : IsLawfulCore b) (i
 
   -- a due entry that is found cancelled is reaped
   piece_cancelled : IsSettled shared (row_at b.slots.rows i).stamp b.wheel.filing.tick (word_at b.known i) SettledCancelled (word_at c.known i) → c.wheel.filing ≡ unlinked b.wheel.filing i → c.slots ≡ vacated b.slots i → c.known ≡ set b.known i (word_at c.known i) → c.counts ≡ b.counts →
-      IsComing shared b c × (steps_left c < steps_left b)
+      IsComing shared 1 b c × (steps_left c < steps_left b)
   piece_cancelled settled ew es ek ec =
       let way = step_cancelled shared b c l i due en settled ew es ek ec in (
         coming_by shared b c (inl (i, due, ew)) way.0,
@@ -228,16 +249,16 @@ module _ {T W : Type 0} (shared : Bool) (b c : Core T W) (l : IsLawfulCore b) (i
 
   -- each of both is a step of a poll too
   pub both_later : (d : ℕ) → IsSettled shared (row_at b.slots.rows i).stamp b.wheel.filing.tick (word_at b.known i) (Later d) (word_at c.known i) → c.wheel.filing ≡ linked (unlinked b.wheel.filing i) i (filing_for b.wheel.filing.tick d) → c.slots ≡ b.slots → c.known ≡ set b.known i (word_at c.known i) → c.counts ≡ b.counts →
-      (IsUnderWay shared b c × (work c < work b)) × (IsComing shared b c × (steps_left c < steps_left b))
+      (IsUnderWay shared b c × (work c < work b)) × (IsComing shared 1 b c × (steps_left c < steps_left b))
   both_later d settled ew es ek ec = (step_later shared b c l i due en d settled ew es ek ec, piece_later d settled ew es ek ec)
 
   pub both_cancelled : IsSettled shared (row_at b.slots.rows i).stamp b.wheel.filing.tick (word_at b.known i) SettledCancelled (word_at c.known i) → c.wheel.filing ≡ unlinked b.wheel.filing i → c.slots ≡ vacated b.slots i → c.known ≡ set b.known i (word_at c.known i) → c.counts ≡ b.counts →
-      (IsUnderWay shared b c × (work c < work b)) × (IsComing shared b c × (steps_left c < steps_left b))
+      (IsUnderWay shared b c × (work c < work b)) × (IsComing shared 1 b c × (steps_left c < steps_left b))
   both_cancelled settled ew es ek ec = (step_cancelled shared b c l i due en settled ew es ek ec, piece_cancelled settled ew es ek ec)
 
 -- a due entry that expires, by a step of a poll
 pub both_expired : {T W : Type 0} (shared : Bool) (b c : Core T W) (i : ℕ) {x : Expired T} → filed_at b.wheel.filing.filed i ≡ Some b.wheel.filing.tick → c.wheel.filing ≡ unlinked b.wheel.filing i → IsAnswered shared b (Out x) c →
-    IsAnswered shared b (Out x) c × IsAnsweredBy shared b (Out x) c
+    IsAnswered shared b (Out x) c × IsAnsweredBy shared 1 b (Out x) c
 both_expired shared b c i {x} due ew ans = (ans, answered_by shared b c (Out x) (inl (i, due, ew)) ans)
 
 -- the shard law where indexes are filed earlier
@@ -295,7 +316,7 @@ module _ {T W : Type 0} (shared : Bool) (b c : Core T W) (l : IsLawfulCore b) (o
       let less : now.0 ≤ k = now.2 in
       omega arith
 
-  pub step_arrived : IsComing shared b c × (steps_left c < steps_left b)
+  pub step_arrived : IsComing shared 1 b c × (steps_left c < steps_left b)
   step_arrived =
       let t = c.wheel.filing.tick in
       let Q : List Parts → Type 0 = λ ws. LooksOver shared b.known ws in
@@ -319,15 +340,15 @@ module _ {T W : Type 0} (shared : Bool) (b c : Core T W) (l : IsLawfulCore b) (o
 -- what a loop of steps keeps
 abbrev pub IsOnPiece : {T W : Type 0} → Bool → Core T W → ℕ → ℕ → Core T W → Type 0
 IsOnPiece shared b t turns cur =
-    (t ≤ LAST_TICK) × SameCore (noting b t) cur × (cur.noted ≡ max b.noted t) × IsComing shared (noting b t) cur
+    (t ≤ LAST_TICK) × SameCore (noting b t) cur × (cur.noted ≡ max b.noted t) × IsComing shared turns (noting b t) cur
     × (steps_left cur + turns ≤ steps_left (noting b t))
 
 pub piece_more : {T W : Type 0} (shared : Bool) (b cur c : Core T W) (t turns : ℕ) → IsOnPiece shared b t turns cur → SameCore cur c → c.noted ≡ cur.noted →
-    IsComing shared cur c × (steps_left c < steps_left cur) → IsOnPiece shared b t (turns + 1) c
+    IsComing shared 1 cur c × (steps_left c < steps_left cur) → IsOnPiece shared b t (turns + 1) c
 piece_more shared b cur c t turns on same noted way =
     let fewer : steps_left c < steps_left cur = way.1 in
     let left : steps_left cur + turns ≤ steps_left (noting b t) = on.4 in
-    (on.0, (same.0 ∙ on.1.0, same.1 ∙ on.1.1, same.2 ∙ on.1.2), noted ∙ on.2, coming_more shared (noting b t) cur c on.1.1 on.2 on.3 way.0, omega arith)
+    (on.0, (same.0 ∙ on.1.0, same.1 ∙ on.1.1, same.2 ∙ on.1.2), noted ∙ on.2, coming_more shared turns 1 (noting b t) cur c on.1.1 on.2 on.3 way.0, omega arith)
 
 pub piece_init : {T W : Type 0} (shared : Bool) (b n : Core T W) (t : ℕ) → t ≤ LAST_TICK → n ≡ noting b t → IsOnPiece shared b t 0 n
 piece_init {T} {W} shared b n t small is =
@@ -335,18 +356,18 @@ piece_init {T} {W} shared b n t small is =
     subst P (sym is) (small, (refl, refl, refl), refl, coming_none shared (noting b t), omega arith)
 
 -- a piece that ends its steps
-pub piece_working : {T W : Type 0} (shared : Bool) (b cur : Core T W) (t turns most : ℕ) → IsOnPiece shared b t turns cur → most ≤ turns → IsPolledSome shared b t most Working cur
-piece_working shared b cur t turns most on all =
+pub piece_working : {T W : Type 0} (shared : Bool) (b cur : Core T W) (t turns most : ℕ) → IsOnPiece shared b t turns cur → most ≤ turns → turns ≤ most → IsPolledSome shared b t most Working cur
+piece_working shared b cur t turns most on all few =
     let left : steps_left cur + turns ≤ steps_left (noting b t) = on.4 in
-    (on.0, refl, (on.3, omega arith), on.2)
+    (on.0, refl, (coming_fewer shared turns most (noting b t) cur few on.3, omega arith), on.2)
 
 -- a piece that takes an entry out
-pub piece_out : {T W : Type 0} (shared : Bool) (b cur c : Core T W) (t turns most : ℕ) (x : Expired T) → IsOnPiece shared b t turns cur → IsAnsweredBy shared cur (Out x) c → c.noted ≡ cur.noted →
+pub piece_out : {T W : Type 0} (shared : Bool) (b cur c : Core T W) (t turns most : ℕ) (x : Expired T) → IsOnPiece shared b t turns cur → IsAnsweredBy shared 1 cur (Out x) c → c.noted ≡ cur.noted → turns < most →
     IsPolledSome shared b t most (Answer (Out x)) c
-piece_out {T} shared b cur c t turns most x on ans noted =
+piece_out {T} shared b cur c t turns most x on ans noted less =
     let n = noting b t in
     let same : SameCore n cur = on.1 in
-    let way : IsComing shared n cur = on.3 in
+    let way : IsComing shared turns n cur = on.3 in
     let L : ℕ → Type 0 = λ s. (m : Machine T) × RunOf (IsOnTheWay shared) s (machine cur) m × IsOut cur.shard s m x (machine c) in
     let S : ℕ → Type 0 = λ s. (m : Machine T) × RunOf (IsOnTheWay shared) n.slots.last_stamp (machine cur) m × IsOut s n.slots.last_stamp m x (machine c) in
     let run = subst S same.0 (subst L same.1 ans.run) in
@@ -357,7 +378,8 @@ piece_out {T} shared b cur c t turns most x on ans noted =
       record {
         run = (run.0, run_of_more (IsOnTheWay shared) n.slots.last_stamp (machine n) (machine cur) run.0 way.way run.1, run.2);
         row = (ans.row.0, looks_more shared n.known cur.known ans.row.0 way.looks ans.row.1, ans.row.2, ans.row.3);
-        wheel = comes_more shared n.known cur.known n.noted cur.noted n.wheel.filing cur.wheel.filing c.wheel.filing on.2 way.looks way.wheel ans.wheel;
+        wheel = comes_fewer shared n.known n.noted (turns + 1) most n.wheel.filing c.wheel.filing (omega (arith, less))
+            (comes_more shared n.known cur.known n.noted cur.noted turns 1 n.wheel.filing cur.wheel.filing c.wheel.filing on.2 way.looks way.wheel ans.wheel);
         ticks = omega arith;
         filed = λ i. then_more n.wheel.filing n.known cur.wheel.filing cur.known c.wheel.filing c.known i up up' (way.filed i) (ans.filed i);
         counts = ans.counts ∙ ap (λ k. settled_counts k SettledExpired) way.counts;
@@ -366,7 +388,7 @@ piece_out {T} shared b cur c t turns most x on ans noted =
     )
 
 -- what comes out is due, and no live entry has an earlier deadline
-pub out_due : {T W : Type 0} (shared : Bool) (b c : Core T W) (x : Expired T) → IsAnsweredBy shared b (Out x) c → (x.deadline ≤ c.noted) × NoneLiveBefore (machine c) x.deadline
+pub out_due : {T W : Type 0} (shared : Bool) (b c : Core T W) (x : Expired T) → IsAnsweredBy shared 1 b (Out x) c → (x.deadline ≤ c.noted) × NoneLiveBefore (machine c) x.deadline
 out_due shared b c x ans =
     let m = ans.run.0 in
     let step = ans.run.2.0.0 in
@@ -374,14 +396,23 @@ out_due shared b c x ans =
     let by : x.deadline ≤ m.noted = step.5 in
     (omega arith, least_out b.slots.last_stamp m (machine c) x.key.entry.index x.key.entry.born x.deadline step)
 
+-- the same of a whole poll
+pub polled_due : {T W : Type 0} (shared : Bool) (b c : Core T W) (x : Expired T) → IsAnswered shared b (Out x) c → (x.deadline ≤ c.noted) × NoneLiveBefore (machine c) x.deadline
+polled_due shared b c x ans =
+    let m = ans.run.0 in
+    let step = ans.run.2.0.0 in
+    let noted : c.noted ≡ m.noted = ap (λ k. k.noted) step.7 in
+    let by : x.deadline ≤ m.noted = step.5 in
+    (omega arith, least_out b.slots.last_stamp m (machine c) x.key.entry.index x.key.entry.born x.deadline step)
+
 -- a piece that finds nothing due
-piece_rests : {T W : Type 0} (shared : Bool) (b cur : Core T W) (t turns most : ℕ) (turn : Turn T) → IsOnPiece shared b t turns cur →
+piece_rests : {T W : Type 0} (shared : Bool) (b cur : Core T W) (t turns most : ℕ) (turn : Turn T) → IsOnPiece shared b t turns cur → turns ≤ most →
     IsTurn cur.shard cur.slots.last_stamp (machine cur) turn (machine cur) cur.wheel.filing → TurnRow shared (noting b t).known turn cur.known →
     turn_counts b.counts turn ≡ b.counts → IsPolledSome shared b t most (Answer turn) cur
-piece_rests {T} {W} shared b cur t turns most turn on is row counts =
+piece_rests {T} {W} shared b cur t turns most turn on few is row counts =
     let n = noting b t in
     let same : SameCore n cur = on.1 in
-    let way : IsComing shared n cur = on.3 in
+    let way : IsComing shared turns n cur = on.3 in
     let S : ℕ → Type 0 = λ s. IsTurn s cur.slots.last_stamp (machine cur) turn (machine cur) cur.wheel.filing in
     let L : ℕ → Type 0 = λ s. IsTurn n.shard s (machine cur) turn (machine cur) cur.wheel.filing in (
       on.0,
@@ -389,7 +420,7 @@ piece_rests {T} {W} shared b cur t turns most turn on is row counts =
       record {
         run = (machine cur, way.way, subst L same.1 (subst S same.0 is));
         row = row;
-        wheel = way.wheel;
+        wheel = comes_fewer shared n.known n.noted turns most n.wheel.filing cur.wheel.filing few way.wheel;
         ticks = way.ticks;
         filed = way.filed;
         counts = way.counts ∙ sym counts;
@@ -403,17 +434,17 @@ rested {T} {W} shared b cur after t turns on e = let P : Core T W → Type 0 = �
 wakes_later : {T W : Type 0} (c : Core T W) (next : ℕ) → c.wheel.filing.tick ≡ c.noted → ((i : ℕ) → filed_at c.wheel.filing.filed i ≢ Some c.wheel.filing.tick) → WakesAhead c (Some next) → c.noted < next
 wakes_later c next at none ahead = let later = ahead none in omega (arith, at, later)
 
-pub piece_waiting : {T W : Type 0} (shared : Bool) (b cur after : Core T W) (t turns most next : ℕ) → IsOnPiece shared b t turns cur → IsAtRest cur after → TellsWake after (Some next) → WakesAhead after (Some next) →
+pub piece_waiting : {T W : Type 0} (shared : Bool) (b cur after : Core T W) (t turns most next : ℕ) → IsOnPiece shared b t turns cur → turns ≤ most → IsAtRest cur after → TellsWake after (Some next) → WakesAhead after (Some next) →
     IsPolledSome shared b t most (Answer (Waiting next)) after
-piece_waiting shared b cur after t turns most next on r wake ahead =
+piece_waiting shared b cur after t turns most next on few r wake ahead =
     let now = rested shared b cur after t turns on r.0 in
-    piece_rests shared b after t turns most (Waiting next) now (refl, r.1, none_due (machine after) after.noted r.2, wake, wakes_later after next r.1 r.3 ahead) now.3.looks refl
+    piece_rests shared b after t turns most (Waiting next) now few (refl, r.1, none_due (machine after) after.noted r.2, wake, wakes_later after next r.1 r.3 ahead) now.3.looks refl
 
-pub piece_idle : {T W : Type 0} (shared : Bool) (b cur after : Core T W) (t turns most : ℕ) → IsOnPiece shared b t turns cur → IsAtRest cur after → TellsWake after None →
+pub piece_idle : {T W : Type 0} (shared : Bool) (b cur after : Core T W) (t turns most : ℕ) → IsOnPiece shared b t turns cur → turns ≤ most → IsAtRest cur after → TellsWake after None →
     IsPolledSome shared b t most (Answer Idle) after
-piece_idle shared b cur after t turns most on r wake =
+piece_idle shared b cur after t turns most on few r wake =
     let now = rested shared b cur after t turns on r.0 in
-    piece_rests shared b after t turns most Idle now (refl, r.1, none_due (machine after) after.noted r.2, wake) now.3.looks refl
+    piece_rests shared b after t turns most Idle now few (refl, r.1, none_due (machine after) after.noted r.2, wake) now.3.looks refl
 
 -- where none is due at the noted tick, a step at either pace rests
 pub step_rests : {T W : Type 0} (shared : Bool) (pace : Pace) (b c : Core T W) → IsAtRest b c → IsStepAt shared pace b Rests c

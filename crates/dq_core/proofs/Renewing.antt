@@ -157,3 +157,9 @@ renewed_machine {T} {W} b slots known sizes es ek size =
 -- an entry whose number is lower is missing
 pub old_missing : {T W : Type 0} (b c : Core T W) → b.shard < c.shard → OldAreMissing b c
 old_missing b c higher id low same = absurd (omega arith)
+
+-- a row that was never used is as one of its size that is forgotten
+pub fresh_as : {T : Type 0} (s row : SlotRows T) → row ≡ never_used row → length row.rows ≡ length s.rows → row.last_stamp ≡ s.last_stamp → row ≡ never_used s
+fresh_as {T} s row fresh size last =
+    let S : ℕ → ℕ → SlotRows T = λ l n. record { last_stamp = l; rows = replicate n unused } in
+    fresh ∙ ap (λ l. S l (length row.rows)) last ∙ ap (λ n. S s.last_stamp n) size

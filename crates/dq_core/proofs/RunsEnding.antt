@@ -27,7 +27,7 @@ gone_on a z ends b (Begun v d empty is none) gone = (
         absurd (omega (arith, born, same, gone.stamp));
   },
 )
-gone_on a z ends b (Again e s d linked above is none) gone = (
+gone_on a z ends b (Again e s d linked above is lives none) gone = (
   none b,
   record {
     stamp = let at = ap (λ x. x.stamp) is in omega (arith, at, above, gone.stamp);
@@ -47,7 +47,7 @@ gone_on a z ends b (Taken e linked is ended) gone = (
 stays_on : {T : Type 0} (a z : TableRow T) (ends : ℕ → ℕ) (e : Entry T) → Moves a z ends → Stays a e → ((ends e.born ≡ 0) × Stays z e) ⊎ ((ends e.born ≡ 1) × Gone z e.born)
 stays_on a z ends e (Alone same none) stays = inl (none e.born, subst (λ x. Stays x e) (sym same) stays)
 stays_on a z ends e (Begun v d empty is none) stays = let there = stays.entry.1 in cc
-stays_on a z ends e (Again f s d linked above is none) stays =
+stays_on a z ends e (Again f s d linked above is lives none) stays =
     let same = some_same _ stays.entry.0 (sym linked ∙ stays.entry.1) in
     inl (
       none e.born,

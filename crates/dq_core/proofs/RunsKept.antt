@@ -36,7 +36,7 @@ moves_kept a z ends (Begun v d empty is none) = record {
       let born = ap (λ x. x.born) (some_same _ e (sym (ap (λ x. x.entry) is) ∙ linked)) in
       absurd (omega (arith, born, before));
 }
-moves_kept a z ends (Again e s d linked above is none) = record {
+moves_kept a z ends (Again e s d linked above is lives none) = record {
   stamp = let at = ap (λ x. x.stamp) is in omega (arith, at, above);
   entry = λ f linked' before.
       let same = some_same _ f (sym (ap (λ x. x.entry) is) ∙ linked') in

@@ -14,11 +14,11 @@ pub put_other : {T : Type 0} (m k : Machine T) (i j s : ℕ) (o : Option (Entry 
 put_other m k i j s o other is = ap (λ x. table_at x i) is ∙ get_or-set_other m.table j i (record { stamp = s; entry = o }) (record { stamp = 0; entry = None }) other
 
 -- how an event may leave a slot, and whose end it is, by birth: alone; with a new entry of the next stamp; with its entry
--- at another deadline; or without it, which ends that one alone
+-- at another deadline, live only where it was live; or without it, which ends that one alone
 pub data Moves {T : Type 0} (a z : TableRow T) (ends : ℕ → ℕ) : Type 0 where
   Alone : z ≡ a → ((b : ℕ) → ends b ≡ 0) → Moves a z ends
   Begun : (v : T) (d : Option ℕ) → a.entry ≡ None → z ≡ record { stamp = a.stamp + 1; entry = Some (record { born = a.stamp + 1; value = v; due = d }) } → ((b : ℕ) → ends b ≡ 0) → Moves a z ends
-  Again : (e : Entry T) (s : ℕ) (d : Option ℕ) → a.entry ≡ Some e → a.stamp ≤ s → z ≡ record { stamp = s; entry = with_due e d } → ((b : ℕ) → ends b ≡ 0) → Moves a z ends
+  Again : (e : Entry T) (s : ℕ) (d : Option ℕ) → a.entry ≡ Some e → a.stamp ≤ s → z ≡ record { stamp = s; entry = with_due e d } → ((x : ℕ) → d ≡ Some x → (y : ℕ) × (e.due ≡ Some y)) → ((b : ℕ) → ends b ≡ 0) → Moves a z ends
   Taken : (e : Entry T) → a.entry ≡ Some e → z ≡ record { stamp = a.stamp; entry = None } → ((b : ℕ) → ends b ≡ (if b == e.born then 1 else 0)) → Moves a z ends
 
 one_other : (i j c : ℕ) → i ≢ j → (b : ℕ) → one_at i b j c ≡ 0
@@ -39,15 +39,15 @@ step_moves last m k (Insert j v w) s i =
     (λ other. Alone (put_other m k i j _ _ other s.3) (λ b. refl))
 step_moves last m k (Reset j b w) s i =
     by_slot (λ x. Moves (table_at m x) (table_at k x) (λ b. 0)) i j
-    (Again s.0 _ _ s.2.1 (omega arith) (put_same m k j _ _ s.2.0 s.6) (λ b. refl))
+    (Again s.0 _ _ s.2.1 (omega arith) (put_same m k j _ _ s.2.0 s.6) (λ x is. (s.1, s.4)) (λ b. refl))
     (λ other. Alone (put_other m k i j _ _ other s.6) (λ b. refl))
 step_moves last m k (Extend j t w) s i =
     by_slot (λ x. Moves (table_at m x) (table_at k x) (λ b. 0)) i j
-    (Again s.0 _ _ s.2.1 (omega (arith, s.3)) (put_same m k j _ _ s.2.0 s.5) (λ b. refl))
+    (Again s.0 _ _ s.2.1 (omega (arith, s.3)) (put_same m k j _ _ s.2.0 s.5) (λ x is. (s.1, s.4)) (λ b. refl))
     (λ other. Alone (put_other m k i j _ _ other s.5) (λ b. refl))
 step_moves last m k (Cancel j t) s i =
     by_slot (λ x. Moves (table_at m x) (table_at k x) (λ b. 0)) i j
-    (Again s.0 _ _ s.2.1 (omega (arith, s.3)) (put_same m k j _ _ s.2.0 s.5) (λ b. refl))
+    (Again s.0 _ _ s.2.1 (omega (arith, s.3)) (put_same m k j _ _ s.2.0 s.5) (λ x is. (s.1, s.4)) (λ b. refl))
     (λ other. Alone (put_other m k i j _ _ other s.5) (λ b. refl))
 step_moves last m k (Remove j c) s i =
     by_slot (λ x. Moves (table_at m x) (table_at k x) (λ b. one_at x b j c)) i j

@@ -33,7 +33,7 @@ use Rattle.dq_core.proofs.Ways.{table_row_is}
 use Rattle.dq_core.proofs.RunsOrdered.{runs_join}
 
 -- what comes out of two runs, one after the other
-outs_join : {T : Type 0} (es fs : List (Event T)) → outs (es ++ fs) ≡ outs es ++ outs fs
+pub outs_join : {T : Type 0} (es fs : List (Event T)) → outs (es ++ fs) ≡ outs es ++ outs fs
 outs_join [] fs = refl
 outs_join (Expire i b at ∷ es) fs = ap (λ xs. at ∷ xs) (outs_join es fs)
 outs_join (e ∷ es) fs = outs_join es fs

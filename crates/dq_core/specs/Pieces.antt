@@ -43,9 +43,10 @@ ComesThrough shared known limit v [] w = w ≡ v
 ComesThrough shared known limit v (u ∷ us) w =
     PieceStep shared known limit v u × ComesThrough shared known limit u us w
 
--- the wheel's way from one filing to another
-abbrev pub WheelComes : Bool → List Parts → ℕ → Filing → Filing → Type 0
-WheelComes shared known limit v w = (us : List Filing) × ComesThrough shared known limit v us w
+-- the wheel's way from one filing to another, by at most so many steps
+abbrev pub WheelComes : Bool → List Parts → ℕ → ℕ → Filing → Filing → Type 0
+WheelComes shared known limit most v w =
+    (us : List Filing) × (length us ≤ most) × ComesThrough shared known limit v us w
 
 -- how an index is filed after some pieces: nowhere; as before or earlier, with its word as it was
 -- known; or by its known deadline, at a tick that was passed, or earlier
@@ -57,23 +58,23 @@ IsFiledByThen v old w new i =
     ⊎ ((t g : ℕ) × (v.tick ≤ t) × (t ≤ w.tick) × ((word_at new i).mark ≡ LiveMark)
     × (filed_at w.filed i ≡ Some g) × (g ≤ filing_for t (word_at new i).field)))
 
--- the way of some pieces from one queue to another
-pub record IsComing {T W : Type 0} (shared : Bool) (b c : Core T W) : Type 0 where
+-- the way from one queue to another, by at most so many steps
+pub record IsComing {T W : Type 0} (shared : Bool) (most : ℕ) (b c : Core T W) : Type 0 where
   pub way : RunOf (IsOnTheWay shared) b.slots.last_stamp (machine b) (machine c)
   pub looks : LooksOver shared b.known c.known
-  pub wheel : WheelComes shared b.known b.noted b.wheel.filing c.wheel.filing
+  pub wheel : WheelComes shared b.known b.noted most b.wheel.filing c.wheel.filing
   pub ticks : b.wheel.filing.tick ≤ c.wheel.filing.tick
   pub filed : (i : ℕ) → IsFiledByThen b.wheel.filing b.known c.wheel.filing c.known i
   pub counts : c.counts ≡ b.counts
 
--- the way of some pieces to an answer
-pub record IsAnsweredBy {T W : Type 0} (shared : Bool) (b : Core T W) (turn : Turn T) (c : Core T W)
-    : Type 0 where
+-- the way to an answer, by at most so many steps
+pub record IsAnsweredBy {T W : Type 0} (shared : Bool) (most : ℕ) (b : Core T W) (turn : Turn T)
+    (c : Core T W) : Type 0 where
   pub run :
       (m : Machine T) × RunOf (IsOnTheWay shared) b.slots.last_stamp (machine b) m
       × IsTurn b.shard b.slots.last_stamp m turn (machine c) c.wheel.filing
   pub row : TurnRow shared b.known turn c.known
-  pub wheel : WheelComes shared b.known b.noted b.wheel.filing c.wheel.filing
+  pub wheel : WheelComes shared b.known b.noted most b.wheel.filing c.wheel.filing
   pub ticks : b.wheel.filing.tick ≤ c.wheel.filing.tick
   pub filed : (i : ℕ) → IsFiledByThen b.wheel.filing b.known c.wheel.filing c.known i
   pub counts : c.counts ≡ turn_counts b.counts turn
@@ -92,8 +93,8 @@ steps_left c =
 
 -- what one step does
 abbrev pub IsPieceStep : {T W : Type 0} → Bool → Core T W → Progress T → Core T W → Type 0
-IsPieceStep shared b (Gave x) c = IsAnsweredBy shared b (Out x) c
-IsPieceStep shared b Went c = IsComing shared b c × (steps_left c < steps_left b)
+IsPieceStep shared b (Gave x) c = IsAnsweredBy shared 1 b (Out x) c
+IsPieceStep shared b Went c = IsComing shared 1 b c × (steps_left c < steps_left b)
 IsPieceStep shared b Rests c =
     (c ≡ b) × (c.wheel.filing.tick ≡ c.noted) × NoneLiveBefore (machine c) (c.noted + 1)
     × ((i : ℕ) → filed_at c.wheel.filing.filed i ≢ Some c.wheel.filing.tick)
@@ -110,10 +111,12 @@ abbrev pub SettlesDue : {T W : Type 0} →
 SettlesDue shared b (Some made) c = IsProgress shared b made c × IsPieceStep shared b made c
 SettlesDue shared b None c = (c ≡ b) × NoneFiledAt b.wheel.filing.filed b.wheel.filing.tick
 
--- what is left of a queue after a piece: its answer, or so many steps fewer
+-- what is left of a queue after a piece, which makes at most so many steps: its answer, or so many
+-- steps fewer
 abbrev pub IsPieceOf : {T W : Type 0} → Bool → Core T W → ℕ → Piece T → Core T W → Type 0
-IsPieceOf shared b most (Answer turn) c = IsAnsweredBy shared b turn c
-IsPieceOf shared b most Working c = IsComing shared b c × (steps_left c + most ≤ steps_left b)
+IsPieceOf shared b most (Answer turn) c = IsAnsweredBy shared most b turn c
+IsPieceOf shared b most Working c =
+    IsComing shared most b c × (steps_left c + most ≤ steps_left b)
 
 -- a poll in pieces notes its tick, and makes at most so many steps
 abbrev pub IsPolledSome : {T W : Type 0} →

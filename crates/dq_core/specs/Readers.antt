@@ -8,8 +8,8 @@ use Rattle.dq_ticks.specs.declared.keys.Key.{Key}
 use Rattle.dq_ticks.specs.declared.keys.EntryId.{EntryId}
 use Rattle.dq_core.specs.declared.outcomes.Tally.{Tally}
 use Rattle.dq_core.specs.Slots.{is_held}
-use Rattle.dq_core.specs.Machine.{table_at, NoneLinked}
-use Rattle.dq_core.specs.Core.{Core, machine}
+use Rattle.dq_core.specs.Machine.{table_at, NoneLinked, NoneLiveBefore}
+use Rattle.dq_core.specs.Core.{Core, machine, IsLawfulCore}
 use Rattle.dq_core.specs.Calls.{IsLinked, IsMissing}
 
 -- the keeper's own writes, the linked entries and the wheel's moves; each entry that was inserted
@@ -29,6 +29,17 @@ TellsLeast c None = NoneLinked (machine c)
 TellsLeast c (Some k) =
     IsLinked c k.entry × ((table_at (machine c) k.entry.index).stamp ≡ k.stamp)
     × IsLeast c.wheel.filing.filed k.entry.index
+
+-- no live entry has a deadline before the tick by which that entry is filed
+abbrev pub NoneLiveBeforeFiled : {T W : Type 0} → Core T W → Key → Type 0
+NoneLiveBeforeFiled c k =
+    (f : ℕ) × (filed_at c.wheel.filing.filed k.entry.index ≡ Some f) × NoneLiveBefore (machine c) f
+
+-- at all times, between the pieces of a poll too, no live entry has a deadline before the tick by
+-- which an entry is filed that a peek may give
+abbrev pub PeeksBoundDeadlines : Type 0 → Type 0 → Type 0
+PeeksBoundDeadlines T W =
+    (c : Core T W) (k : Key) → IsLawfulCore c → TellsLeast c (Some k) → NoneLiveBeforeFiled c k
 
 -- the place of a linked entry
 abbrev pub TellsPlace : {T W : Type 0} → Core T W → EntryId → Option Place → Type 0

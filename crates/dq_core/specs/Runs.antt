@@ -75,3 +75,19 @@ EntriesLeaveOnce T =
     (last : ℕ) (m n : Machine T) (es : List (Event T)) → Run last m es n
     → (i : ℕ) (e : Entry T) → (table_at m i).entry ≡ Some e → e.born ≤ (table_at m i).stamp
     → StaysOrLeft i e es n
+
+-- an entry that was born at b is linked at slot i, and is live
+abbrev pub LivesBornAt : {T : Type 0} → Machine T → ℕ → ℕ → Type 0
+LivesBornAt {T} m i b =
+    (f : Entry T) × (d : ℕ) × ((table_at m i).entry ≡ Some f) × (f.born ≡ b) × (f.due ≡ Some d)
+
+-- slot i has had the birth stamp b, and its entry isn't live: it has expired, or was removed or
+-- cancelled
+abbrev pub HasEnded : {T : Type 0} → Machine T → ℕ → ℕ → Type 0
+HasEnded m i b = (b ≤ (table_at m i).stamp) × (LivesBornAt m i b → ⊥)
+
+-- what has ended is never live again, whatever came between
+abbrev pub EndedStaysEnded : Type 0 → Type 0
+EndedStaysEnded T =
+    (last : ℕ) (m n : Machine T) (es : List (Event T)) → Run last m es n
+    → (i b : ℕ) → HasEnded m i b → HasEnded n i b

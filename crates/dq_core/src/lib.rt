@@ -9,6 +9,7 @@
 //! [`PlainQueue`] is the slow twin: a plain list, which is short enough to be read and has the same answers.
 #![tactic(auto)]
 
+mod aside;
 mod callers;
 mod entries;
 mod errors;
@@ -16,6 +17,7 @@ mod free_slots;
 mod front;
 mod key_calls;
 pub mod laws;
+mod letting_go;
 mod outcomes;
 mod packed_row;
 mod pieces;
@@ -34,7 +36,7 @@ pub use errors::{BadNumber, CoreConfig, CoreError, ReapError};
 pub use outcomes::{Expired, Piece, Removed, Swept, Tally, Turn};
 pub use plain::{Pending, PlainQueue, PlainTurn};
 pub use queue::DelayCore;
-pub use renew::RenewError;
+pub use renew::{FreshRows, RenewError};
 pub use slots::{Held, Slots};
 pub use vec_words::VecWords;
 pub use words::{CallError, Look, Settled, SharedWords, Words, shown};

@@ -44,10 +44,14 @@ impl<T: Drop, W: Words, A: Allocator> DelayCore<T, W, A> {
         ensures idle { IfAnswer result (λ turn. IfRests turn
             (λ next. (next ≡ None) ↔ NoneLinked (machine self.new))) }
 
+        // It makes at most `most` steps over the words.
+        ensures few_steps { W.steps self.new.words ≤ W.steps self.old.words + most }
+
         ensures same { SameCore self.old self.new }
         ensures origin { W.origin self.new.words ≡ W.origin self.old.words }
 
-        // Exactly: a run of the queue machine to an answer of poll, or so many steps fewer.
+        // Exactly: a run of the queue machine to an answer of poll, or so many steps fewer; the wheel
+        // makes at most `most` steps.
         ensures polls { PollsSome W.shared self.old tick most result self.new }
         ensures begun { StillBegun W.begun self.old.words self.new.words }
     {

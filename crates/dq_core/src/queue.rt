@@ -253,6 +253,7 @@ impl<T: Drop, W: Words, A: Allocator> DelayCore<T, W, A> {
         ensures same { SameCore self.old self.new }
         ensures origin { W.origin self.new.words ≡ W.origin self.old.words }
         ensures begun { StillBegun W.begun self.old.words self.new.words }
+        ensures one_step { W.steps self.new.words ≤ W.steps self.old.words + 1 }
         ensures noted { self.new.noted ≡ self.old.noted }
         ensures settles { SettlesDue W.shared self.old result self.new }
     {
@@ -278,7 +279,7 @@ impl<T: Drop, W: Words, A: Allocator> DelayCore<T, W, A> {
                 Some(Progress::Went)
             }
             Settled::SettledCancelled => {
-                self.slots.vacate(index);
+                self.slots.let_go(index);
                 Some(Progress::Went)
             }
         }
@@ -290,6 +291,7 @@ impl<T: Drop, W: Words, A: Allocator> DelayCore<T, W, A> {
         ensures same { SameCore self.old self.new }
         ensures origin { W.origin self.new.words ≡ W.origin self.old.words }
         ensures begun { StillBegun W.begun self.old.words self.new.words }
+        ensures one_step { W.steps self.new.words ≤ W.steps self.old.words + 1 }
         ensures noted { self.new.noted ≡ self.old.noted }
         ensures progress { IsStepAt W.shared pace self.old result self.new }
     {
@@ -336,6 +338,7 @@ impl<T: Drop, W: Words, A: Allocator> DelayCore<T, W, A> {
     /// Notes a tick of one millisecond, and takes out one entry whose deadline in force is reached by the greatest tick
     /// noted: call again until the answer is Waiting (nothing is due; `next` is the next tick at which there is something
     /// to do) or Idle (nothing is linked). Refused as TickTooLarge beyond the last tick, which is not noted then.
+    #[inline(always)]
     pub fn poll(&mut self, tick: u64) -> Result<Turn<T>, CoreError>
         // The greater of the two ticks is noted. A tick is refused, and nothing changes, exactly
         // beyond the last one.

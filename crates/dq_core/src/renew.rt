@@ -8,9 +8,13 @@
 ghost use Rattle.std.specs.Prelude.{◌≡◌, ◌<◌, OnOk, IfOk, IfErr};
 ghost use Rattle.dq_core.specs.Words.{AreFresh};
 
+use crate::errors::CoreError;
 use crate::queue::DelayCore;
+use crate::slots::Slots;
 use crate::words::Words;
-use std::alloc::Allocator;
+use dq_ticks::{CAPACITY_LIMIT, LAST_STAMP};
+use std::alloc::{Allocator, Global};
+use std::marker::Model;
 use std::mem;
 use thiserror::Error;
 
@@ -29,15 +33,87 @@ pub enum RenewError {
         /// The queue's number.
         number: u32,
     },
-    /// The words aren't as many as the slots.
+    /// The words aren't as many as the slots, or the fresh slots not as many or with another last stamp.
     #[error("the words are not one a slot")]
     WrongRows,
+}
+
+/// Words and slots that were never used, one of each, for [`DelayCore::renew_with`]. Their memory is taken where they are
+/// made: outside of the lock that a queue lies behind, say.
+#[derive(Drop)]
+pub struct FreshRows<T, W: Words, A: Allocator = Global> {
+    words: W,
+    slots: Slots<T, A>,
+}
+
+impl<T, W: Words, A: Allocator> Model for FreshRows<T, W, A> {
+    ghost use Rattle.std.specs.Prelude.{◌≡◌, length};
+    ghost use Rattle.dq_core.specs.Words.{AreFresh};
+    ghost use Rattle.dq_core.specs.Renewals.{UnusedRows, never_used};
+
+    ghost Value = { UnusedRows T W };
+
+    ghost view = { λ r. record {
+      words = r.words;
+      known = W.known r.words;
+      counts = W.counts r.words;
+      slots = r.slots;
+    } };
+
+    ghost invariant = { λ r. AreFresh (W.known r.words) (W.counts r.words)
+        × (r.slots ≡ never_used r.slots)
+        × (length (W.known r.words) ≡ length r.slots.rows) };
+}
+
+impl<T: Drop, W: Words + Drop, A: Allocator + Clone> FreshRows<T, W, A> {
+    ghost use Rattle.dq_core.specs.Renewals.{MakesRows};
+
+    /// Those words, with a slot for each that has `last_stamp` stamps.
+    ///
+    /// # Errors
+    /// BadConfig where the words aren't 1 to [`CAPACITY_LIMIT`] or the last stamp isn't 1 to [`LAST_STAMP`], and else
+    /// NoMemory. The words come back then.
+    pub fn new(alloc: A, words: W, last_stamp: u32) -> Result<FreshRows<T, W, A>, (CoreError, W)>
+        requires { AreFresh (W.known words) (W.counts words) }
+        ensures { MakesRows words (W.known words) (W.counts words) last_stamp result }
+    {
+        let capacity = words.rows();
+        if capacity == 0
+            || capacity > CAPACITY_LIMIT
+            || last_stamp == 0
+            || last_stamp > LAST_STAMP
+        {
+            return Err((CoreError::BadConfig, words));
+        }
+        match Slots::new(alloc, capacity, last_stamp) {
+            Ok(slots) => Ok(FreshRows { words, slots }),
+            Err(_refused) => Err((CoreError::NoMemory, words)),
+        }
+    }
+}
+
+impl<T: Drop, W: Words, A: Allocator> FreshRows<T, W, A> {
+    ghost use Rattle.dq_core.specs.Renewals.{AreUnused};
+
+    /// From now on the queue that goes on over them sets aside what it lets go, as by [`DelayCore::set_aside`].
+    pub fn set_aside(&mut self)
+        ensures { self.new ≡ self.old }
+    {
+        self.slots.set_aside();
+    }
+
+    /// None of them was ever used. The call does nothing, and is for proofs.
+    pub fn law(&self)
+        ensures { AreUnused self.now }
+    {
+        let _ = &self.slots;
+    }
 }
 
 impl<T: Drop, W: Words, A: Allocator> DelayCore<T, W, A> {
     ghost use Rattle.dq_core.specs.Core.{machine};
     ghost use Rattle.dq_core.specs.Machine.{NoneLinked};
-    ghost use Rattle.dq_core.specs.Renewals.{fresh_machine, OldAreMissing, RenewsQueue};
+    ghost use Rattle.dq_core.specs.Renewals.{fresh_machine, OldAreMissing, RenewsQueue, RenewsQueueWith};
 
     /// Goes on over fresh words, under the number `shard`, and answers the words that it had. No slot is worn then, and
     /// each has all its stamps again. The ticks go on. Every key from before has a lower number, so the queue's calls
@@ -95,5 +171,65 @@ impl<T: Drop, W: Words, A: Allocator> DelayCore<T, W, A> {
         self.expired = 0;
         self.removed = 0;
         Ok(mem::replace(&mut self.words, words))
+    }
+
+    /// As [`DelayCore::renew`], with slots that were never used in the place of the queue's own, too. It answers the words
+    /// and the slots that it had, which hold nothing.
+    ///
+    /// It takes no memory and gives none back, and is of constant time. What is set aside goes with the old slots; whether
+    /// the queue sets aside is then as [`FreshRows::set_aside`] said of the new ones.
+    ///
+    /// # Errors
+    /// StillLinked where an entry is linked, then UsedNumber where the number isn't higher than the queue's, and then
+    /// WrongRows where the rows aren't as many as the slots, or have another last stamp. The rows come back then, and
+    /// nothing changes.
+    pub fn renew_with(
+        &mut self,
+        shard: u32,
+        rows: FreshRows<T, W, A>,
+    ) -> Result<(W, Slots<T, A>), (RenewError, FreshRows<T, W, A>)>
+        // A queue at the same ticks with nothing in it, none of whose slots was ever used.
+        ensures fresh { OnOk result (machine self.new ≡ fresh_machine (machine self.old)) }
+        ensures empty { OnOk result (NoneLinked (machine self.new)) }
+        ensures counts { OnOk result (AreFresh self.new.known self.new.counts) }
+
+        // It goes on over the new rows, and the old ones come back.
+        ensures rows { OnOk result
+            ((self.new.words ≡ rows.words) × (self.new.slots ≡ rows.slots)) }
+        ensures back { IfOk result
+            (λ old. (old.0 ≡ self.old.words) × (old.1 ≡ self.old.slots)) }
+
+        // Its number rises to the new one, so each entry from before is missing for good.
+        ensures rises { OnOk result
+            ((self.old.shard < self.new.shard) × (self.new.shard ≡ shard)) }
+        ensures stale { OnOk result (OldAreMissing self.old self.new) }
+
+        // Refused, the rows come back and nothing changes.
+        ensures refused { IfErr result (λ e. (e.1 ≡ rows) × (self.new ≡ self.old)) }
+
+        // Exactly: the whole queue after it, or which refusal comes first.
+        ensures renews { RenewsQueueWith self.old shard rows result self.new }
+    {
+        let linked = self.slots.linked();
+        if linked > 0 {
+            return Err((RenewError::StillLinked { linked }, rows));
+        }
+        if shard <= self.shard {
+            let number = self.shard;
+            return Err((RenewError::UsedNumber { number }, rows));
+        }
+        if rows.slots.capacity() != self.slots.capacity() {
+            return Err((RenewError::WrongRows, rows));
+        }
+        if rows.slots.last() != self.slots.last() {
+            return Err((RenewError::WrongRows, rows));
+        }
+        let FreshRows { words, slots } = rows;
+        self.shard = shard;
+        self.inserted = 0;
+        self.expired = 0;
+        self.removed = 0;
+        let old = mem::replace(&mut self.slots, slots);
+        Ok((mem::replace(&mut self.words, words), old))
     }
 }

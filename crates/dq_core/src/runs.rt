@@ -7,8 +7,8 @@
 //!
 //! Each function is empty: its contract is the law, and a call of it hands the law to the prover.
 ghost use Rattle.dq_core.specs.Runs.{RunsJoin, OutsComeInOrder, EntriesLeaveOnce};
-ghost use Rattle.dq_core.specs.Runs.{StampsNeverFall, ValuesStay};
-ghost use Rattle.dq_core.specs.RunsOfCalls.{CallsAreRuns, NoBirthIsAhead};
+ghost use Rattle.dq_core.specs.Runs.{StampsNeverFall, ValuesStay, EndedStaysEnded};
+ghost use Rattle.dq_core.specs.RunsOfCalls.{CallsAreRuns, LawsHoldOverCalls, NoBirthIsAhead, WhatLeftHasEnded};
 
 /// Each call that changes a queue is a run from the machine before it to the machine after it, also where the call is
 /// refused. On the run of a poll, or of a piece of one, the entry that it gives expires, and no other. On any other call's
@@ -44,6 +44,19 @@ pub fn no_birth_is_ahead<T, W>()
     ensures { NoBirthIsAhead T W }
 {}
 
+/// What has ended is never live again. An entry ends where it expires, is removed, or is cancelled, and a cancelled one stays
+/// in its slot until it is reaped. The law asks that its slot has had its birth stamp, as `no_birth_is_ahead` says. So a keeper
+/// that saw an entry end never sees it live again, whatever callers do.
+pub fn ended_stays_ended<T>()
+    ensures { EndedStaysEnded T }
+{}
+
+/// What a call took out has ended, as `ended_stays_ended` asks: what a remove, a poll or a piece of a poll answered. So has
+/// what a cancel by key ended, and what a call found cancelled.
+pub fn what_left_has_ended<T, W>()
+    ensures { WhatLeftHasEnded T W }
+{}
+
 /// The stamp of a slot never falls.
 pub fn stamps_never_fall<T>()
     ensures { StampsNeverFall T }
@@ -53,4 +66,11 @@ pub fn stamps_never_fall<T>()
 /// same value. So a new entry never takes a birth stamp that its slot has had.
 pub fn values_stay<T>()
     ensures { ValuesStay T }
+{}
+
+/// Over any list of calls of a queue, one after the other, all the laws of runs hold at once: what comes out comes in the
+/// order of its deadlines; each entry that was linked is linked still or left exactly once; what had ended before stays
+/// ended, and is never live again; and no stamp falls. Each call is in the list by what `calls_are_runs` says of it, and by its clause `same`.
+pub fn laws_hold_over_calls<T, W>()
+    ensures { LawsHoldOverCalls T W }
 {}

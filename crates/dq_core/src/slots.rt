@@ -3,12 +3,17 @@
 //! A slot has a stamp, at first 0, which rises by one with each value that is put there and with each reset of what is
 //! held there. A slot that holds nothing at the last stamp is worn: it is never used again. All the memory is taken by
 //! `new`. Every other call is of constant time but `forget`, which goes over every slot.
+//!
+//! A value that is let go is dropped at once. In a row that sets aside it stays in its slot, which holds nothing from then
+//! on, until somebody takes it out: so whoever keeps the row behind a lock can drop it once the lock is free.
 ghost use Rattle.std.specs.Prelude.{◌≡◌, ℕ, ◌+◌, ◌<◌, ◌≤◌, ◌^◌, length, replicate, IfOk, MatchOption, Some, None, true, false};
 ghost use Rattle.std.specs.List.{count_by};
 
+use crate::aside::Aside;
 use crate::free_slots::FreeSlots;
 use std::alloc::{AllocError, Allocator, Global};
 use std::marker::Model;
+use std::mem;
 
 /// What is held at a slot.
 #[derive(Drop)]
@@ -23,18 +28,21 @@ pub struct Held<T> {
 #[derive(Drop)]
 struct Cell<T> {
     stamp: u32,
-    // The birth stamp, where there is a value.
+    // The birth stamp of what it holds, and 0 where it holds nothing.
     born: u32,
+    // What it holds, or a value that was let go and is set aside here.
     value: Option<T>,
 }
 
 impl<T> Model for Cell<T> {
     ghost use Rattle.dq_core.specs.Slots.{Row};
-    ghost use Rattle.dq_core.specs.Cells.{held_of};
+    ghost use Rattle.dq_core.specs.Cells.{held_of, IsCell};
 
     ghost Value = { Row T };
 
     ghost view = { λ a. record { stamp = a.stamp; held = held_of a.born a.value } };
+
+    ghost invariant = { λ a. IsCell a.born a.value };
 }
 
 impl<T: Drop> Cell<T> {
@@ -61,17 +69,14 @@ impl<T: Drop> Cell<T> {
     fn is_held(&self) -> bool
         ensures { result ≡ is_held self.now }
     {
-        self.value.is_some()
+        self.born > 0
     }
 
     #[inline]
     fn born(&self) -> Option<u32>
         ensures { IsBorn self.now result }
     {
-        match &self.value {
-            Some(_) => Some(self.born),
-            None => None,
-        }
+        if self.born > 0 { Some(self.born) } else { None }
     }
 
     #[inline]
@@ -79,20 +84,29 @@ impl<T: Drop> Cell<T> {
         ensures { MatchOption result (self.now.held ≡ None)
             (λ h. self.now.held ≡ Some (record { born = h.0; value = h.1.now })) }
     {
+        if self.born == 0 {
+            return None;
+        }
         match &self.value {
             Some(value) => Some((self.born, value)),
             None => None,
         }
     }
 
+    // Puts a value in, and answers the one that was set aside here.
     #[inline]
-    fn fill(&mut self, value: T)
+    fn fill(&mut self, value: T) -> Option<T>
         requires { self.old.stamp + 1 < 2 ^ 32 }
         ensures { self.new ≡ filled_row self.old value }
     {
         self.stamp += 1;
         self.born = self.stamp;
+        // A value without a drop is never set aside.
+        if mem::needs_drop::<T>() {
+            return self.value.replace(value);
+        }
         self.value = Some(value);
+        None
     }
 
     #[inline]
@@ -102,10 +116,50 @@ impl<T: Drop> Cell<T> {
         ensures vacated { self.new ≡ vacated_row self.old }
     {
         let value = self.value.take().unwrap();
-        Held {
-            born: self.born,
-            value,
+        let born = self.born;
+        self.born = 0;
+        Held { born, value }
+    }
+
+    // Lets go of what it holds, which is set aside here.
+    fn let_go(&mut self)
+        ensures { self.new ≡ vacated_row self.old }
+    {
+        self.born = 0;
+    }
+
+    // Takes out what was set aside here, if anything was.
+    fn take_aside(&mut self) -> Option<T>
+        ensures { self.new ≡ self.old }
+    {
+        if self.born != 0 {
+            return None;
         }
+        self.value.take()
+    }
+
+    // Whether it holds nothing, and nothing is set aside here.
+    fn is_clean(&self) -> bool {
+        self.born == 0 && self.value.is_none()
+    }
+
+    // Sets a value aside here. False where there is no place, and it is dropped.
+    fn put_aside(&mut self, value: T) -> bool
+        ensures { self.new ≡ self.old }
+    {
+        if self.born > 0 || self.value.is_some() {
+            return false;
+        }
+        self.value = Some(value);
+        true
+    }
+
+    // As if it had never been used; but what was set aside stays.
+    fn forget(&mut self)
+        ensures { self.new ≡ unused }
+    {
+        self.stamp = 0;
+        self.born = 0;
     }
 
     #[inline]
@@ -126,6 +180,7 @@ pub struct Slots<T, A: Allocator = Global> {
     free_count: usize,
     cells: Vec<Cell<T>, A>,
     free: FreeSlots<A>,
+    aside: Aside,
 }
 
 impl<T, A: Allocator> Model for Slots<T, A> {
@@ -163,7 +218,23 @@ impl<T: Drop, A: Allocator + Clone> Slots<T, A> {
             free_count: capacity,
             cells,
             free,
+            aside: Aside::new(),
         })
+    }
+}
+
+impl<T, A: Allocator> Slots<T, A> {
+    /// From now on what is let go is set aside, where its drop does anything.
+    pub fn set_aside(&mut self)
+        ensures { self.new ≡ self.old }
+    {
+        self.aside.keep();
+    }
+
+    /// How many values are set aside.
+    #[inline(always)]
+    pub fn aside(&self) -> usize {
+        self.aside.count::<T>()
     }
 }
 
@@ -262,9 +333,10 @@ impl<T: Drop, A: Allocator> Slots<T, A> {
             return Err(value);
         };
         let cell = &mut self.cells[index];
-        cell.fill(value);
+        let parted = cell.fill(value);
         self.held_count += 1;
         self.free_count -= 1;
+        self.put_aside(parted);
         Ok(index)
     }
 
@@ -283,6 +355,113 @@ impl<T: Drop, A: Allocator> Slots<T, A> {
         }
         self.held_count -= 1;
         held
+    }
+
+    /// Lets go of what a slot holds. The value is dropped, once all else is done; or it is set aside, where the row does so.
+    #[inline]
+    pub fn let_go(&mut self, index: usize)
+        requires { is_held (row_at self.old.rows index) ≡ true }
+        ensures { self.new ≡ vacated self.old index }
+    {
+        if !self.aside.keeps::<T>() {
+            self.vacate(index);
+            return;
+        }
+        let cell = &mut self.cells[index];
+        cell.let_go();
+        let stamp = cell.stamp();
+        if stamp < self.last {
+            self.free.give(index);
+            self.free_count += 1;
+        }
+        self.held_count -= 1;
+        self.aside.more(index);
+    }
+
+    // Takes out what was set aside at a slot, if anything was.
+    fn take_aside_at(&mut self, index: usize) -> Option<T>
+        ensures { self.new ≡ self.old }
+    {
+        if index >= self.cells.len() {
+            return None;
+        }
+        let cell = &mut self.cells[index];
+        cell.take_aside()
+    }
+
+    /// Takes out a value that is set aside, if there is one. It looks at slots that are told it, and passes each once for a
+    /// value that was let go there.
+    pub fn take_aside(&mut self) -> Option<T>
+        ensures { self.new ≡ self.old }
+    {
+        for _turn in 0..self.aside.most(self.cells.len()) {
+            let Some(index) = self.aside.next() else {
+                return None;
+            };
+            if let Some(value) = self.take_aside_at(index) {
+                self.aside.took(index);
+                return Some(value);
+            }
+        }
+        None
+    }
+
+    // Whether a slot holds nothing, and nothing is set aside there.
+    fn is_clean(&self, index: usize) -> bool {
+        if index >= self.cells.len() {
+            return false;
+        }
+        let cell = &self.cells[index];
+        cell.is_clean()
+    }
+
+    // Takes out a value that is set aside, where no slot is known that has a place for one.
+    #[inline(never)]
+    fn take_unless_clean(&mut self) -> Option<T>
+        ensures { self.new ≡ self.old }
+    {
+        if self.is_clean(self.aside.clean()) {
+            return None;
+        }
+        self.take_aside()
+    }
+
+    /// Takes out a value that is set aside, where a fill might find no other slot for one that is set aside in its own.
+    #[inline(always)]
+    pub fn take_crowded(&mut self) -> Option<T>
+        ensures { self.new ≡ self.old }
+    {
+        if self.aside() == 0 {
+            return None;
+        }
+        self.take_unless_clean()
+    }
+
+    // Sets aside at another slot what was set aside at one that is filled. It is dropped where that has no place.
+    #[inline(never)]
+    fn put_aside_at(&mut self, index: usize, value: T)
+        ensures { self.new ≡ self.old }
+    {
+        if index >= self.cells.len() {
+            self.aside.fewer();
+            return;
+        }
+        let cell = &mut self.cells[index];
+        if cell.put_aside(value) {
+            self.aside.note(index);
+        } else {
+            self.aside.fewer();
+        }
+    }
+
+    #[inline(always)]
+    fn put_aside(&mut self, parted: Option<T>)
+        ensures { self.new ≡ self.old }
+    {
+        if let Some(value) = parted {
+            let clean = self.aside.clean();
+            self.put_aside_at(clean, value);
+        }
     }
 
     /// Gives what a slot holds its next stamp.
@@ -304,7 +483,7 @@ impl<T: Drop, A: Allocator> Slots<T, A> {
     {
         let cell = &mut self.cells[index];
         let was_worn = cell.stamp() >= self.last;
-        *cell = Cell::unused();
+        cell.forget();
         if was_worn {
             self.free.set(index);
             self.free_count += 1;

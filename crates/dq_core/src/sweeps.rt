@@ -42,6 +42,7 @@ impl<T: Drop, W: Words, A: Allocator> DelayCore<T, W, A> {
         ensures same { SameCore self.old self.new }
         ensures origin { W.origin self.new.words ≡ W.origin self.old.words }
         ensures begun { StillBegun W.begun self.old.words self.new.words }
+        ensures one_step { W.steps self.new.words ≤ W.steps self.old.words + 1 }
         ensures swept { IsSwept W.shared self.old index result self.new }
     {
         if !self.slots.is_held(index) {
@@ -52,7 +53,7 @@ impl<T: Drop, W: Words, A: Allocator> DelayCore<T, W, A> {
             return false;
         };
         self.wheel.unlink(index);
-        self.slots.vacate(index);
+        self.slots.let_go(index);
         true
     }
 
@@ -96,6 +97,9 @@ impl<T: Drop, W: Words, A: Allocator> DelayCore<T, W, A> {
         ensures next { result.next ≡ (if nat_lt (from + count) (length self.old.slots.rows)
             then Some (from + count) else None) }
 
+        // It makes at most so many steps over the words.
+        ensures few_steps { W.steps self.new.words ≤ W.steps self.old.words + count }
+
         // Nothing is ended by it, and no tick goes on.
         ensures counts { self.new.counts ≡ self.old.counts }
         ensures noted { self.new.noted ≡ self.old.noted }
@@ -137,6 +141,9 @@ impl<T: Drop, W: Words, A: Allocator> DelayCore<T, W, A> {
         ensures refused { OnErr result (linked_in self.new ≡ linked_in self.old) }
         ensures missing { IsErrOf result Missing ↔ IsMissing self.old entry.now }
 
+        // It makes at most one step over the words.
+        ensures one_step { W.steps self.new.words ≤ W.steps self.old.words + 1 }
+
         // Nothing is ended by it, and no tick goes on.
         ensures counts { self.new.counts ≡ self.old.counts }
         ensures noted { self.new.noted ≡ self.old.noted }
@@ -172,13 +179,17 @@ impl<T: Drop, W: Words, A: Allocator> DelayCore<T, W, A> {
         let stamp = self.slots.stamp(index);
         let ended = self.words.finish(index, stamp);
         self.wheel.unlink(index);
-        self.slots.vacate(index);
+        // It is counted before its value is let go: a drop that panics leaves all whole.
         match ended {
             Some(_) => {
                 self.removed += 1;
+                self.slots.let_go(index);
                 true
             }
-            None => false,
+            None => {
+                self.slots.let_go(index);
+                false
+            }
         }
     }
 

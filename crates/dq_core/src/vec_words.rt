@@ -177,6 +177,8 @@ impl<A: Allocator> Words for VecWords<A> {
 
     ghost begun = { λ w i s d. Unit {0} };
 
+    ghost steps = { λ w. 0 };
+
     const FENCED: bool = false;
 
     fn law(&self) {

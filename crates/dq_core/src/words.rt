@@ -102,6 +102,9 @@ pub trait Words {
     /// What its keeper has begun: a slot, a stamp and a deadline. No call takes that back.
     ghost begun: { Self → ℕ → ℕ → ℕ → Type 0 };
 
+    /// How many steps its keeper has made at the words, where others may change them.
+    ghost steps: { Self → ℕ };
+
     /// Whether a step of a word is a fence, behind which every later read waits: so it is where others may change the words.
     const FENCED: bool = true;
 
@@ -126,16 +129,18 @@ pub trait Words {
         ensures origin { origin self.new ≡ origin self.old }
         ensures begun { StillBegun begun self.old self.new };
 
-    /// Looks at a word.
+    /// Looks at a word, by at most one step.
     fn look(&mut self, index: usize) -> Parts
         requires { index < length (known self.old) }
         ensures learned { Learned shared (word_at (known self.old) index) result }
         ensures known { known self.new ≡ slice_set (known self.old) index result }
         ensures counts { counts self.new ≡ counts self.old }
         ensures origin { origin self.new ≡ origin self.old }
-        ensures begun { StillBegun begun self.old self.new };
+        ensures begun { StillBegun begun self.old self.new }
+        ensures one_step { steps self.new ≤ steps self.old + 1 };
 
-    /// Ends a word that is live at exactly `at` as expired, or tells the later deadline or the cancellation that it found.
+    /// Ends a word that is live at exactly `at` as expired, or tells the later deadline or the cancellation that it found,
+    /// by at most one step.
     fn settle(&mut self, index: usize, stamp: u32, at: u64) -> Settled
         requires in_range { index < length (known self.old) }
         requires in_force { IsInForce stamp at (word_at (known self.old) index) }
@@ -147,7 +152,8 @@ pub trait Words {
             ≡ slice_set (known self.old) index (word_at (known self.new) index) }
         ensures counts { counts self.new ≡ settled_counts (counts self.old) result }
         ensures origin { origin self.new ≡ origin self.old }
-        ensures begun { StillBegun begun self.old self.new };
+        ensures begun { StillBegun begun self.old self.new }
+        ensures one_step { steps self.new ≤ steps self.old + 1 };
 
     /// Makes a live word live at the next stamp and at a deadline, and answers the deadline that was in force;
     /// None for a word that was cancelled, which stays.

@@ -1,5 +1,7 @@
 pub mod Auditing
 pub mod Locked
 pub mod Parking
+pub mod Piecewise
 pub mod Polled
 pub mod Renewing
+pub mod States

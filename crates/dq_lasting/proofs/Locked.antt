@@ -1,16 +1,17 @@
 -- A call under a lock, and what loops over such calls keep.
-use Rattle.std.proofs.Common.{◌≡◌, ℕ, ◌+◌, ◌<◌, ◌%◌, List, [], ◌∷◌, ◌++◌, length, Bool, true, false, Result, Ok, Err, sym, ap, ◌∙◌, subst, inl, ⊎_elim, arith}
+use Rattle.std.proofs.Common.{◌≡◌, ℕ, ◌+◌, ◌<◌, ◌≤◌, ◌%◌, List, [], ◌∷◌, ◌++◌, length, Bool, true, false, Result, Ok, Err, refl, sym, ap, ◌∙◌, subst, inl, ⊎_elim, arith}
 use Rattle.std.proofs.lemmas.List.{length-set}
 use Rattle.std.proofs.lemmas.Bool.{cases_eq, cases_lt}
-use Rattle.dq_lasting.specs.declared.errors.LastingError.TheVariants.{Closed}
+use Rattle.dq_lasting.specs.declared.errors.LastingError.TheVariants.{Core, Closed, Unknown}
+use Rattle.dq_lasting.specs.declared.errors.LastingError.{LastingError}
 use Rattle.dq_lasting.specs.declared.errors.HandleError.{HandleError}
 use Rattle.dq_lasting.specs.declared.errors.ReopenError.{ReopenError}
 use Rattle.dq_lasting.specs.declared.keeping.Kept.{Kept}
 use Rattle.dq_lasting.specs.declared.keeping.Kept.TheVariants as Step
 use Rattle.dq_lasting.specs.Shard.{LastingView, IsLasting}
-use Rattle.dq_lasting.specs.Answers.{IsOfPlace, AtPlace, InsertsAtPlace, ClosedFrom}
+use Rattle.dq_lasting.specs.Answers.{IsOfPlace, AtPlace, InsertsAtPlace, PassedOnAt, TellsOfAll, goes_on, told_of}
 use Rattle.dq_lasting.specs.Handles.{IssuedAt, IssuedFrom, TakesOn}
-use Rattle.dq_lasting.specs.Keeping.{KeepsGoing, GoesOnAt, AtEach, TellsTakes}
+use Rattle.dq_lasting.specs.Keeping.{KeepsGoing, GoesOnAt, AtEach, TellsTakes, WasDue, AnotherTakes}
 use Rattle.dq_lasting.specs.Numbered.{Numbered}
 
 -- a call that goes by the guard of a lock
@@ -26,15 +27,32 @@ each_more {T} n p gives result before one t below =
     (λ ne. before t (⊎_elim (λ b. b) (λ a. absurd (ne (omega arith))) (cases_lt t p)))
     (cases_eq t p)
 
--- one closed shard more
-pub closed_more : {T : Type 0} (n p many when : ℕ) (value v : T) → ClosedFrom n p many value when → v ≡ value → InsertsAtPlace n ((p + many) % n) value when (Err (Closed, v)) → ClosedFrom n p (many + 1) value when
-closed_more {T} n p many when value v before same one t below =
-    let P : T → Type 0 = λ x. InsertsAtPlace n ((p + many) % n) value when (Err (Closed, x)) in
-    let Q : ℕ → Type 0 = λ m. InsertsAtPlace n ((p + m) % n) value when (Err (Closed, value)) in
+-- one turn more
+each_turn : (P : ℕ → Type 0) (many : ℕ) → ((t : ℕ) → t < many → P t) → P many → (t : ℕ) → t < many + 1 → P t
+each_turn P many before one t below =
     ⊎_elim
-    (λ eq. subst Q (sym eq) (subst P same one))
+    (λ eq. subst P (sym eq) one)
     (λ ne. before t (⊎_elim (λ b. b) (λ a. absurd (ne (omega arith))) (cases_lt t many)))
     (cases_eq t many)
+
+-- one shard more that refused an insert, which goes on
+pub told_more : {T : Type 0} (n p many when : ℕ) (value : T) (told e : LastingError) → TellsOfAll n p many value when told → goes_on e ≡ true → InsertsAtPlace n ((p + many) % n) value when (Err (e, value)) → TellsOfAll n p (many + 1) value when (told_of told e)
+told_more {T} n p many when value Closed Closed before goes one =
+    each_turn (λ t. InsertsAtPlace n ((p + t) % n) value when (Err (Closed, value))) many before one
+told_more {T} n p many when value Closed (Core e) before goes one =
+    (goes, (many, omega arith, one), each_turn (λ t. PassedOnAt n ((p + t) % n) value when) many (λ t below. (Closed, refl, before t below)) (Core e, goes, one))
+told_more {T} n p many when value Closed Unknown before goes one = cc
+told_more {T} n p many when value (Core told) e before goes one =
+    let at = before.1 in
+    (before.0, (at.0, omega (arith, at.1), at.2), each_turn (λ t. PassedOnAt n ((p + t) % n) value when) many before.2 (e, goes, one))
+told_more {T} n p many when value Unknown e before goes one = absurd before
+
+-- an insert of one value, of which another is told, that are both the same
+pub same_value : {T : Type 0} (n p when : ℕ) (value v w : T) (e : LastingError) → v ≡ value → w ≡ value → InsertsAtPlace n p v when (Err (e, w)) → InsertsAtPlace n p value when (Err (e, value))
+same_value {T} n p when value v w e given back one =
+    let P : T → Type 0 = λ x. InsertsAtPlace n p x when (Err (e, w)) in
+    let Q : T → Type 0 = λ x. InsertsAtPlace n p value when (Err (e, x)) in
+    subst Q back (subst P given one)
 
 -- one caller more, of the next place
 pub issued_more : (T : Type 0) (n p : ℕ) (cs : List Numbered) (c : Numbered) → IssuedFrom T n p cs → IssuedAt T n (p + length cs) c → IssuedFrom T n p (cs ++ c ∷ [])
@@ -42,16 +60,24 @@ issued_more T n p [] c all one = (subst (λ (q : ℕ). IssuedAt T n q c) (omega 
 issued_more T n p (x ∷ cs) c all one = (all.0, issued_more T n (p + 1) cs c all.1 (subst (λ (q : ℕ). IssuedAt T n q c) (omega arith) one))
 
 -- the step at the place of a shard that was seen closed
-pub keeps : (T : Type 0) (n p : ℕ) → p < n → AtPlace {T = T} n p TellsTakes false → (r : Result Kept ReopenError) → AtPlace {T = T} n p (GoesOnAt n p) r → KeepsGoing T n r
-keeps T n p below seen (Ok Step.Fine) a = inl (p, below, (seen, a))
-keeps T n p below seen (Ok (Step.Closed q)) a = absurd a.4
-keeps T n p below seen (Ok (Step.Drains q linked)) a =
-    let P : ℕ → Type 0 = λ x. (x < n) × AtPlace {T = T} n x (GoesOnAt n x) (Ok (Step.Drains q linked)) in
-    subst P (sym a.4.0) (below, a)
-keeps T n p below seen (Ok (Step.Reopened q)) a =
-    let P : ℕ → Type 0 = λ x. (x < n) × AtPlace {T = T} n x (GoesOnAt n x) (Ok (Step.Reopened q)) in
-    subst P (sym a.4.0) (below, a)
-keeps T n p below seen (Err e) a = (p, below, a)
+pub keeps : (T : Type 0) (n p : ℕ) → p < n → WasDue T n p → (r : Result Kept ReopenError) → AtPlace {T = T} n p (GoesOnAt n p) r → KeepsGoing T n r
+keeps T n p below due (Ok Step.Fine) a = inl (p, below, (due, a))
+keeps T n p below due (Ok (Step.Closed q)) a = absurd a.4
+keeps T n p below due (Ok (Step.Drains q linked)) a =
+    let P : ℕ → Type 0 = λ x. (x < n) × WasDue T n x × AtPlace {T = T} n x (GoesOnAt n x) (Ok (Step.Drains q linked)) in
+    subst P (sym a.4.0) (below, due, a)
+keeps T n p below due (Ok (Step.Reopened q)) a =
+    let P : ℕ → Type 0 = λ x. (x < n) × WasDue T n x × AtPlace {T = T} n x (GoesOnAt n x) (Ok (Step.Reopened q)) in
+    subst P (sym a.4.0) (below, due, a)
+keeps T n p below due (Err e) a = (p, below, due, a)
+
+-- of two shards that take entries one is another than that of a place
+pub another : (T : Type 0) (n p first second : ℕ) → first < n → second < n → first + 1 ≤ second → AtPlace {T = T} n first TellsTakes true → AtPlace {T = T} n second TellsTakes true → AnotherTakes T n p
+another T n p first second f s apart one two =
+    ⊎_elim
+    (λ eq. (second, s, (λ e. omega arith), two))
+    (λ ne. (first, f, (λ e. ne (sym e)), one))
+    (cases_eq p first)
 
 -- a handle keeps its size
 pub takes_size : (T : Type 0) (n p : ℕ) (old new : List Numbered) (r : Result Bool HandleError) → TakesOn T n p old r new → length new ≡ length old

@@ -5,7 +5,7 @@ use Rattle.futures.specs.declared.task.Poll.TheVariants.{Ready, Pending}
 use Rattle.futures.specs.declared.task.context.Context.{Context}
 use Rattle.dq_core.specs.declared.outcomes.Expired.{Expired}
 use Rattle.dq_core.specs.declared.outcomes.Turn.TheVariants.{Out}
-use Rattle.dq_lasting.specs.declared.errors.LastingError.TheVariants.{Unknown}
+use Rattle.dq_lasting.specs.declared.errors.LastingError.TheVariants.{Core, Closed, Unknown}
 use Rattle.dq_lasting.specs.Shard.{LastingView, IsLasting}
 use Rattle.dq_lasting.specs.Changes.{LastingPolls}
 use Rattle.dq_lasting.specs.Polling.{LastingAnswer, HasNoWaker, ParksTask, PollsOrParks, PollsOrParksAt, UnparksAndPolls, no_memory, rest_of, with_none_parked}
@@ -24,11 +24,20 @@ module _ {T : Type 0} (cx cy : Context) where
       let here = subst (λ (s : LastingView T). LastingPolls s tick (Ok (rest_of next)) left) begins polls in
       rw is (inr (refl, lacks, (next, rw same here)))
 
+  -- it is the same poll where the poller was taken out before
+  pub taken_before : (old new : LastingView T) (tick : ℕ) (r : LastingAnswer T)
+      → PollsOrParks cx cy (with_none_parked old) tick r new → PollsOrParks cx cy old tick r new
+  taken_before old new tick (Ready (Ok x)) is = is
+  taken_before old new tick (Ready (Err (Core e))) is = is
+  taken_before old new tick (Ready (Err Closed)) is = is
+  taken_before old new tick (Ready (Err Unknown)) is = is
+  taken_before old new tick Pending is = is
+
   -- the shard keeps its law with the poller taken out
-  unparked : (s : LastingView T) → IsLasting s → IsLasting (with_none_parked s)
+  pub unparked : (s : LastingView T) → IsLasting s → IsLasting (with_none_parked s)
   unparked s law = record { core = law.core; wheel = law.wheel; keeper = law.keeper; stood = law.stood; past = law.past; parked = tt }
 
-  not_refused : (a : LastingAnswer T) (x : Expired T) → a ≡ Ready (Ok x) → a ≡ Ready (Err Unknown) → ⊥
+  pub not_refused : (a : LastingAnswer T) (x : Expired T) → a ≡ Ready (Ok x) → a ≡ Ready (Err Unknown) → ⊥
   not_refused a x is refused = cc
 
   -- what a poll of a place gives is an item of the place's stream

@@ -1,8 +1,10 @@
 -- What a handle's renewal does place by place.
-use Rattle.std.proofs.Common.{◌≡◌, ◌≢◌, ℕ, zero, suc, ◌+◌, ◌<◌, List, [], ◌∷◌, length, true, false, Some, Ok, refl, sym, ap, ◌∙◌, subst, inl, inr, arith}
+use Rattle.std.proofs.Common.{◌≡◌, ◌≢◌, ℕ, zero, suc, ◌+◌, ◌<◌, List, [], ◌∷◌, ◌++◌, length, true, false, Some, Ok, refl, sym, ap, ◌∙◌, subst, inl, inr, arith}
 use Rattle.std.specs.Prelude.{slice_get, slice_set}
 use Rattle.dq_lasting.specs.Handles.{TakesOn, IsTakenOnAt, IsUpToDateAt, AreRenewed, StayFrom}
+use Rattle.dq_words.specs.Counts.{cancels_in}
 use Rattle.dq_lasting.specs.Numbered.{Numbered}
+use Rattle.dq_lasting.specs.Queues.{callers_cancels}
 
 -- what is read after a write, there and elsewhere
 get_set_same : (xs : List Numbered) (i : ℕ) (y : Numbered) → i < length xs → slice_get (slice_set xs i y) i ≡ Some y
@@ -16,6 +18,11 @@ get_set_other (x ∷ xs) zero zero y other = absurd (other refl)
 get_set_other (x ∷ xs) zero (suc j) y other = refl
 get_set_other (x ∷ xs) (suc i) zero y other = refl
 get_set_other (x ∷ xs) (suc i) (suc j) y other = get_set_other xs i j y (λ e. other (ap (λ (k : ℕ). suc k) e))
+
+-- the cancels of some callers and one more
+pub cancels_append : (cs : List Numbered) (c : Numbered) → callers_cancels (cs ++ c ∷ []) ≡ callers_cancels cs + cancels_in c.seat.view.calls
+cancels_append [] c = omega arith
+cancels_append (x ∷ cs) c = omega (arith, cancels_append cs c)
 
 module _ (T : Type 0) (n : ℕ) (first : List Numbered) where
   -- what was renewed below a place stays so where the callers there stay

@@ -1,12 +1,15 @@
 -- What the calls of a shard do, as relations between its states.
-use Rattle.std.specs.Prelude.{◌≡◌, ℕ, ◌+◌, ◌<◌, ◌≤◌, ◌⊎◌, true, false, None, Result, Ok, Err}
+use Rattle.std.specs.Prelude.{◌≡◌, ℕ, ◌+◌, ◌<◌, ◌≤◌, ◌⊎◌, true, false, Option, Some, None}
+use Rattle.std.specs.Prelude.{Result, Ok, Err, Bool, is_some, length, nat_lt, if◌then◌else◌}
 use Rattle.std.specs.List.{count_by}
 use Rattle.dq_ticks.specs.declared.keys.Key.{Key}
 use Rattle.dq_ticks.specs.declared.keys.EntryId.{EntryId}
 use Rattle.dq_core.specs.declared.errors.CoreError.{CoreError}
+use Rattle.dq_core.specs.declared.errors.ReapError.{ReapError}
 use Rattle.dq_core.specs.declared.outcomes.Piece.{Piece}
 use Rattle.dq_core.specs.declared.outcomes.Piece.TheVariants.{Answer, Working}
 use Rattle.dq_core.specs.declared.outcomes.Removed.{Removed}
+use Rattle.dq_core.specs.declared.outcomes.Swept.{Swept}
 use Rattle.dq_core.specs.declared.outcomes.Tally.{Tally}
 use Rattle.dq_core.specs.declared.outcomes.Turn.{Turn}
 use Rattle.dq_core.specs.Calls.{SameCore, Inserts, Resets, Removes, Polls, TellsDeadline}
@@ -14,12 +17,13 @@ use Rattle.dq_core.specs.Pieces.{PollsSome}
 use Rattle.dq_core.specs.Readers.{IsTally, with_words}
 use Rattle.dq_core.specs.Renewals.{renewed_core}
 use Rattle.dq_core.specs.Slots.{is_held}
-use Rattle.dq_core.specs.Sweeps.{Sweeps, Clears}
+use Rattle.dq_core.specs.Sweeps.{Sweeps, SweepsSome, Reaps, Clears}
 use Rattle.dq_core.specs.Words.{AreFresh}
-use Rattle.dq_words.specs.AtTheCall.{KnowsNothing}
+use Rattle.dq_words.specs.AtTheCall.{KnowsNothing, StepsAtMost}
 use Rattle.dq_words.specs.KeeperCalls.{Issues}
 use Rattle.dq_words.specs.declared.keeper.WordsError.{WordsError}
 use Rattle.dq_lasting.specs.Numbered.{Numbered}
+use Rattle.dq_lasting.specs.declared.opening.TheConstants.{SWEPT_AT_ONCE}
 use Rattle.dq_lasting.specs.declared.ended.Ended.{Ended}
 use Rattle.dq_lasting.specs.declared.ended.LastingTally.{LastingTally}
 use Rattle.dq_lasting.specs.declared.errors.LastingError.{LastingError}
@@ -52,6 +56,10 @@ number_end = 4294967296
 abbrev pub count_end : ℕ
 count_end = 18446744073709551616
 
+-- the slot to go on from behind a piece that ends at one, none behind the last slot
+abbrev pub slot_to_go_on : ℕ → ℕ → Option ℕ
+slot_to_go_on end capacity = if nat_lt end capacity then Some end else None
+
 -- where a poll in pieces has more to do
 abbrev pub IfLastingWorks : {T : Type 0} → Result (Piece T) CoreError → Type 0 → Type 0
 IfLastingWorks (Ok Working) P = P
@@ -59,12 +67,12 @@ IfLastingWorks (Ok (Answer turn)) P = Unit {0}
 IfLastingWorks (Err e) P = Unit {0}
 
 module _ {T : Type 0} where
-  -- a call of the queue: its number stays, and whether it takes entries, and its past; the poller
-  -- is kept or woken
+  -- a call of the queue: its number stays, and whether it takes entries, its past, and where the
+  -- next sweep of a few slots goes on; the poller is kept or woken
   abbrev pub Keeps : LastingView T → LastingView T → Type 0
   Keeps old new =
       SameCore old.core new.core × (new.takes ≡ old.takes) × (new.past ≡ old.past)
-      × WaitsOnOrWakes new.core old.parked new.parked
+      × WaitsOnOrWakes new.core old.parked new.parked × (new.sweep_from ≡ old.sweep_from)
 
   -- An insert is refused as closed exactly where the shard takes none. Then the value comes back
   -- and nothing changes.
@@ -105,12 +113,44 @@ module _ {T : Type 0} where
   abbrev pub LastingSweeps : LastingView T → ℕ → LastingView T → Type 0
   LastingSweeps old n new = Sweeps true old.core n new.core × Keeps old new
 
+  -- the shard, where the next sweep of a few slots goes on behind those of one: from the first slot
+  -- again where no slot is left
+  abbrev pub behind_piece : LastingView T → LastingView T
+  behind_piece s =
+      record s {
+        sweep_from =
+            if nat_lt (s.sweep_from + SWEPT_AT_ONCE) (length s.core.slots.rows)
+            then s.sweep_from + SWEPT_AT_ONCE else 0;
+      }
+
+  -- A sweep of a few slots, from where the last one ended: n cancelled entries are reaped there, by
+  -- at most one step over the words for each slot, and the next one goes on behind.
+  abbrev pub LastingSweepsOn : LastingView T → ℕ → LastingView T → Type 0
+  LastingSweepsOn old n new =
+      SweepsSome true old.core old.sweep_from (old.sweep_from + SWEPT_AT_ONCE) n new.core
+      × StepsAtMost SWEPT_AT_ONCE old.core.words new.core.words × Keeps (behind_piece old) new
+
+  -- a sweep of so many slots, from one on, and where to go on
+  abbrev pub LastingSweepsSome : LastingView T → ℕ → ℕ → Swept → LastingView T → Type 0
+  LastingSweepsSome old from count swept new =
+      SweepsSome true old.core from (from + count) swept.reaped new.core
+      × (swept.next ≡ slot_to_go_on (from + count) (length old.core.slots.rows)) × Keeps old new
+
+  abbrev pub LastingReaps :
+      LastingView T → EntryId → Result (Unit {0}) ReapError → LastingView T → Type 0
+  LastingReaps old id result new = Reaps true old.core id result new.core × Keeps old new
+
   abbrev pub LastingClears : LastingView T → ℕ → LastingView T → Type 0
   LastingClears old n new = Clears true old.core n new.core × Keeps old new
 
   -- what came and went in this generation, and in all before it
   abbrev pub LastingTells : LastingView T → LastingTally → LastingView T → Type 0
   LastingTells old t new = IsTally new.core t.present × (t.past ≡ new.past) × (new ≡ old)
+
+  -- unpark answers whether a poller was parked, and leaves none
+  abbrev pub LastingUnparks : LastingView T → Bool → LastingView T → Type 0
+  LastingUnparks old result new =
+      (result ≡ is_some old.parked) × (new ≡ record old { parked = None })
 
   -- it takes no more entries, and no poller is left parked
   abbrev pub Closes : LastingView T → LastingView T → Type 0

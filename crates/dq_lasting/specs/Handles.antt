@@ -9,6 +9,7 @@ use Rattle.dq_lasting.specs.declared.errors.HandleError.TheVariants.{NoMemory}
 use Rattle.dq_lasting.specs.Answers.{AtPlace}
 use Rattle.dq_lasting.specs.Changes.{LastingIssues}
 use Rattle.dq_lasting.specs.Numbered.{Numbered}
+use Rattle.dq_lasting.specs.Queues.{QueueView, HandleView, IsOfQueue}
 
 -- the caller was issued by a shard of that place, under the shard's number
 abbrev pub IssuedAt : (T : Type 0) → ℕ → ℕ → Numbered → Type 0
@@ -36,12 +37,12 @@ abbrev pub IssuedFrom : (T : Type 0) → ℕ → ℕ → List Numbered → Type 
 IssuedFrom T shards p [] = Unit {0}
 IssuedFrom T shards p (c ∷ cs) = IssuedAt T shards p c × IssuedFrom T shards (p + 1) cs
 
--- A handle has a caller of each place. It is refused as a shard refuses to issue, or for want of
--- memory.
-abbrev pub LastingQueueHandles : (T : Type 0) → ℕ → Result (List Numbered) HandleError → Type 0
-LastingQueueHandles T shards (Ok cs) = (length cs ≡ shards) × IssuedFrom T shards 0 cs
-LastingQueueHandles T shards (Err e) =
-    (e ≡ NoMemory) ⊎ ((p : ℕ) × (p < shards) × IssueRefused T shards p e)
+-- A handle has its queue's name, and a caller of each place. It is refused as a shard refuses to
+-- issue, or for want of memory.
+abbrev pub LastingQueueHandles : (T : Type 0) → QueueView → Result HandleView HandleError → Type 0
+LastingQueueHandles T q (Ok h) = IsOfQueue h q × IssuedFrom T q.shards 0 h.callers
+LastingQueueHandles T q (Err e) =
+    (e ≡ NoMemory) ⊎ ((p : ℕ) × (p < q.shards) × IssueRefused T q.shards p e)
 
 -- the number of a shard of that place
 abbrev pub NumberAt : (T : Type 0) → ℕ → ℕ → ℕ → Type 0
@@ -89,18 +90,22 @@ AreRenewed T shards old new (suc p) count =
 abbrev pub StayFrom : ℕ → List Numbered → List Numbered → Type 0
 StayFrom place old new = (q : ℕ) → place ≤ q → slice_get new q ≡ slice_get old q
 
--- A renewal is refused where the queue has another number of shards, and nothing changes; else at
--- the first place whose shard issues none, and the callers from there on stay.
-abbrev pub RenewalRefused : (T : Type 0) → ℕ → List Numbered → HandleError → List Numbered → Type 0
-RenewalRefused T shards old e new =
-    ((e ≡ OtherQueue) × (length old ≢ shards) × (new ≡ old))
-    ⊎ ((length old ≡ shards)
-    × ((place : ℕ) × (count : ℕ) × (place < shards) × AreRenewed T shards old new place count
-    × StayFrom place old new × IssueRefused T shards place e))
+-- A renewal is refused where the handle isn't of the queue, and nothing changes; else at the first
+-- place whose shard issues none, and the callers from there on stay.
+abbrev pub RenewalRefused :
+    (T : Type 0) → QueueView → HandleView → HandleError → HandleView → Type 0
+RenewalRefused T q old e new =
+    ((e ≡ OtherQueue) × (¬ IsOfQueue old q) × (new ≡ old))
+    ⊎ (IsOfQueue old q × (new.name ≡ old.name)
+    × ((place : ℕ) × (count : ℕ) × (place < q.shards)
+    × AreRenewed T q.shards old.callers new.callers place count
+    × StayFrom place old.callers new.callers × IssueRefused T q.shards place e))
 
--- A handle's renewal takes on a caller of each shard that was renewed, and tells how many.
+-- The renewal of a handle of this queue takes on a caller of each shard that was renewed, and tells
+-- how many.
 abbrev pub RenewsHandle :
-    (T : Type 0) → ℕ → List Numbered → Result ℕ HandleError → List Numbered → Type 0
-RenewsHandle T shards old (Ok count) new =
-    (length old ≡ shards) × AreRenewed T shards old new shards count
-RenewsHandle T shards old (Err e) new = RenewalRefused T shards old e new
+    (T : Type 0) → QueueView → HandleView → Result ℕ HandleError → HandleView → Type 0
+RenewsHandle T q old (Ok count) new =
+    IsOfQueue old q × (new.name ≡ old.name)
+    × AreRenewed T q.shards old.callers new.callers q.shards count
+RenewsHandle T q old (Err e) new = RenewalRefused T q old e new

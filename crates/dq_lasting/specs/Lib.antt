@@ -3,8 +3,12 @@ pub mod Audits
 pub mod Changes
 pub mod Handles
 pub mod Keeping
+pub mod Many
 pub mod Numbered
+pub mod Paces
 pub mod Parking
 pub mod Polling
+pub mod Queues
 pub mod Shard
+pub mod States
 pub mod Streams

@@ -23,6 +23,16 @@ abbrev pub still_waiting : Option Parked → Option ℕ → Option Parked
 still_waiting None wake = None
 still_waiting (Some p) wake = if waits_on p.next wake then Some p else None
 
+-- who left is exactly who was parked and isn't any more
+abbrev pub LeavesPlace : Option Parked → Option Parked → Option Parked → Type 0
+LeavesPlace old left None = left ≡ old
+LeavesPlace old left (Some p) = (left ≡ None) × (old ≡ Some p)
+
+-- what is told of who is parked: nothing where nobody is, and else what the poller waits for
+abbrev pub TellsParked : Option Parked → Option (Option ℕ) → Type 0
+TellsParked None told = told ≡ None
+TellsParked (Some p) told = told ≡ Some p.next
+
 -- whether a wait ends at a tick
 abbrev pub is_until : Option ℕ → ℕ → Bool
 is_until (Some next) tick = nat_le next tick

@@ -34,14 +34,14 @@ fn one_more(totals: LastingTotals, tally: LastingTally) -> LastingTotals
 }
 
 impl<T: Drop, A: Allocator> LastingQueue<T, A> {
-    /// The totals of all shards over all of their generations: one tally of each place, taken in turn under its lock. It
-    /// takes no memory, and handles may be out. What callers cancelled counts as linked until it is reaped.
+    /// The totals of all shards over all of their generations: one tally of each place, taken in turn under its lock.
+    /// It takes no memory, and handles may be out. What callers cancelled counts as linked until it is reaped.
     pub fn audit<R: Wait>(&self, rt: &R) -> LastingTotals
         // All that was ever inserted is accounted for.
         ensures adds_up { AllAddUp result }
 
         // All that it answers: the sums of one tally of each place.
-        ensures audits { LastingQueueAudits T self.now result }
+        ensures audits { LastingQueueAudits T self.now.shards result }
     {
         let mut totals = NOTHING;
         for place in 0..self.shards() {

@@ -1,7 +1,11 @@
 //! A handle extends and cancels entries of every shard, and looks at them, without a lock.
-ghost use Rattle.std.specs.Prelude.{◌≡◌, ◌≢◌, ◌%◌, ◌<◌, ◌≤◌, ◌⊎◌, IfOk, OnOk, length, slice_set, Ok};
+ghost use Rattle.std.specs.Prelude.{◌≡◌, ◌≢◌, ◌%◌, ◌<◌, ◌≤◌, ◌⊎◌, ◌↔◌, IsErrOf, OnErr, length, vec_len};
+ghost use Rattle.dq_words.specs.Counts.{cancels_in, most_begins};
 ghost use Rattle.dq_words.specs.declared.keeper.WordsError.TheVariants.{BadConfig};
-ghost use Rattle.dq_lasting.specs.Numbered.{NumberedExtends, NumberedCancels, NumberedLooks, OfPlace};
+ghost use Rattle.dq_lasting.specs.declared.config.TheConstants.{SHARD_LIMIT};
+ghost use Rattle.dq_lasting.specs.declared.errors.HandleError.TheVariants.{OtherQueue};
+ghost use Rattle.dq_lasting.specs.Numbered.{NumberedExtends, NumberedCancels, NumberedLooks};
+ghost use Rattle.dq_lasting.specs.Queues.{IsOfQueue, OfKey, callers_cancels};
 ghost use Rattle.dq_lasting.specs.Handles.{LastingQueueHandles, IssuesAt, IsSameRefusal};
 ghost use Rattle.dq_lasting.specs.Handles.{NumberAt, TakesOn, RenewsHandle};
 
@@ -16,60 +20,71 @@ use std::marker::Model;
 use std::mem;
 use std::sync::Wait;
 
-/// Extends and cancels entries of a lasting queue, and looks at them, from any thread. It has one caller for each shard, of
-/// one of its generations. Its calls take no lock and no memory, and wait for nobody.
+/// Extends and cancels entries of a lasting queue, and looks at them, from any thread. It has one caller for each
+/// shard, of one of its generations, and the name of its queue. Its calls take no lock and no memory, and wait for
+/// nobody.
 ///
-/// A key of another generation than that of its shard's caller is unknown to it, older or newer, and never misread. After a
-/// shard was renewed [`LastingHandle::renew`] takes its new caller on.
+/// A key of another generation than that of its shard's caller is unknown to it, older or newer, and never misread.
+/// After a shard was renewed [`LastingHandle::renew`] takes its new caller on.
 #[derive(Drop)]
 pub struct LastingHandle<A: Allocator = Global> {
     callers: Vec<NumberedCaller<A>, A>,
+    name: u64,
 }
 
 impl<A: Allocator> Model for LastingHandle<A> {
-    ghost use Rattle.std.specs.Prelude.{List, ◌<◌, length};
-    ghost use Rattle.dq_lasting.specs.Numbered.{Numbered};
+    ghost use Rattle.std.specs.Prelude.{◌<◌, ◌≤◌, length};
+    ghost use Rattle.dq_lasting.specs.declared.config.TheConstants.{SHARD_LIMIT};
+    ghost use Rattle.dq_lasting.specs.Queues.{HandleView};
 
-    ghost Value = { List Numbered };
+    ghost Value = { HandleView };
 
-    ghost view = { λ h. h.callers.items };
+    ghost view = { λ h. record { name = h.name; callers = h.callers.items } };
 
-    ghost invariant = { λ h. 0 < length h.callers.items };
+    ghost invariant = { λ h. (0 < length h.callers.items)
+        × (length h.callers.items ≤ SHARD_LIMIT) };
 }
 
 impl<A: Allocator> LastingHandle<A> {
     // The place of a number.
     #[inline]
     fn place_of(&self, number: u32) -> usize
-        ensures place { result ≡ number % length self.now }
-        ensures range { result < length self.now }
+        ensures place { result ≡ number % length self.now.callers }
+        ensures range { result < length self.now.callers }
     {
         number as usize % self.callers.len()
     }
 
-    /// Raises the deadline of a live entry to `when`, a tick of one millisecond, as [`NumberedCaller::extend`] of the key's
-    /// shard does, and answers the deadline that is then in force. Constant time.
+    /// The name of its queue.
+    pub fn name(&self) -> u64
+        ensures { result ≡ self.now.name }
+    {
+        self.name
+    }
+
+    /// Raises the deadline of a live entry to `when`, a tick of one millisecond, as [`NumberedCaller::extend`] of the
+    /// key's shard does, and answers the deadline that is then in force. Constant time.
     ///
     /// # Errors
-    /// TooFar beyond the last tick, Unknown where no slot has the key or it is of another generation than the caller, Stale
-    /// where the slot has a later stamp, and Ended where the entry isn't live.
+    /// TooFar beyond the last tick, Unknown where no slot has the key or it is of another generation than the caller,
+    /// Stale where the slot has a later stamp, and Ended where the entry isn't live.
     #[inline]
     pub fn extend(&mut self, key: &Key, when: u64) -> Result<u64, CallError>
-        ensures { OfPlace self.old (key.now.entry.shard % length self.old)
+        ensures { OfKey self.old key.now
             (λ v w. NumberedExtends v key.now when result w) self.new }
     {
         let place = self.place_of(key.entry().shard());
         self.callers[place].extend(key, when)
     }
 
-    /// Cancels a live entry, as [`NumberedCaller::cancel`] of the key's shard does, and answers the deadline that it gave up.
-    /// Constant time.
+    /// Cancels a live entry, as [`NumberedCaller::cancel`] of the key's shard does, and answers the deadline that it
+    /// gave up. Constant time.
     ///
     /// # Errors
     /// As `extend`, but never TooFar.
     #[inline]
     pub fn cancel(&mut self, key: &Key) -> Result<u64, CallError>
-        ensures { OfPlace self.old (key.now.entry.shard % length self.old)
+        ensures { OfKey self.old key.now
             (λ v w. NumberedCancels v key.now result w) self.new }
     {
         let place = self.place_of(key.entry().shard());
@@ -82,17 +97,31 @@ impl<A: Allocator> LastingHandle<A> {
     /// Unknown, and Stale.
     #[inline]
     pub fn look(&mut self, key: &Key) -> Result<Look, CallError>
-        ensures { OfPlace self.old (key.now.entry.shard % length self.old)
+        ensures { OfKey self.old key.now
             (λ v w. NumberedLooks v key.now result w) self.new }
     {
         let place = self.place_of(key.entry().shard());
         self.callers[place].look(key)
     }
 
-    /// Gives each of its callers back.
-    pub fn give_back(self) {
-        let LastingHandle { callers } = self;
-        give_back_all(callers);
+    /// The number of accepted cancels of its callers, of which there is one a shard. Those of a caller that `renew`
+    /// gave back are no longer among them.
+    pub fn cancels(&self) -> u64
+        ensures { result ≡ callers_cancels self.now.callers }
+    {
+        let mut cancels = 0;
+        for place in 0..self.callers.len() {
+            cancels += self.callers[place].cancels();
+        }
+        cancels
+    }
+
+    /// Gives each of its callers back, and answers the number of their accepted cancels.
+    pub fn give_back(self) -> u64
+        ensures { result ≡ callers_cancels self.callers }
+    {
+        let LastingHandle { callers, name: _ } = self;
+        give_back_all(callers)
     }
 
     // Takes the caller of the shard at a place on, where that was renewed; tells whether it was.
@@ -102,9 +131,11 @@ impl<A: Allocator> LastingHandle<A> {
         queue: &LastingQueue<T, A>,
         place: usize,
     ) -> Result<bool, HandleError>
-        requires place { place < length self.old }
-        requires of_queue { length self.old ≡ queue.now }
-        ensures { TakesOn T queue.now place self.old result self.new }
+        requires place { place < length self.old.callers }
+        requires of_queue { length self.old.callers ≡ queue.now.shards }
+        ensures takes_on { TakesOn T queue.now.shards place
+            self.old.callers result self.new.callers }
+        ensures name { self.new.name ≡ self.old.name }
     {
         if self.callers[place].number() == queue.number_at(rt, place) {
             return Ok(false);
@@ -115,24 +146,29 @@ impl<A: Allocator> LastingHandle<A> {
         Ok(true)
     }
 
-    /// Takes on the caller of each shard that was renewed since, gives the old ones back, and answers how many. It takes each
-    /// shard's lock once or twice.
+    /// Takes on the caller of each shard that was renewed since, gives the old ones back, and answers how many. It
+    /// takes each shard's lock once or twice.
     ///
     /// # Errors
-    /// OtherQueue where the queue has another number of shards. Then, shard by shard, TooManyHandles where 1,024 callers of
-    /// this generation were issued, and NoMemory; the callers from before stay there, and what was taken on stays so.
+    /// OtherQueue exactly where the queue has another name than the one that made the handle, or another number of
+    /// shards. Then, shard by shard, TooManyHandles where 1,024 callers of this generation were issued, and NoMemory;
+    /// the callers from before stay there, and what was taken on stays so.
     pub fn renew<R: Wait, T: Drop>(
         &mut self,
         rt: &R,
         queue: &LastingQueue<T, A>,
     ) -> Result<usize, HandleError>
-        ensures size { length self.new ≡ length self.old }
+        // It stays of its queue. By another one it is refused, exactly, and nothing changes.
+        ensures size { length self.new.callers ≡ length self.old.callers }
+        ensures name { self.new.name ≡ self.old.name }
+        ensures other { IsErrOf result OtherQueue ↔ ¬ IsOfQueue self.old queue.now }
+        ensures stays { (¬ IsOfQueue self.old queue.now) → self.new ≡ self.old }
 
         // Each shard's caller is a new one where the shard was renewed, or was seen to be of that shard's number.
         ensures renewed { RenewsHandle T queue.now self.old result self.new }
     {
         let shards = queue.shards();
-        if self.callers.len() != shards {
+        if self.name != queue.name() || self.callers.len() != shards {
             return Err(HandleError::OtherQueue);
         }
         let mut renewed = 0;
@@ -145,11 +181,17 @@ impl<A: Allocator> LastingHandle<A> {
     }
 }
 
-// Gives back callers.
-fn give_back_all<A: Allocator>(mut callers: Vec<NumberedCaller<A>, A>) {
+// Gives back callers, and answers the number of their accepted cancels.
+fn give_back_all<A: Allocator>(mut callers: Vec<NumberedCaller<A>, A>) -> u64
+    requires { vec_len callers ≤ SHARD_LIMIT }
+    ensures { result ≡ callers_cancels callers.items }
+{
+    let mut cancels = 0;
     while let Some(caller) = callers.pop() {
-        caller.give_back();
+        let given = caller.give_back();
+        cancels += given;
     }
+    cancels
 }
 
 // Why no handle is made.
@@ -167,8 +209,8 @@ fn refused(refusal: WordsError) -> HandleError
 impl<T: Drop, A: Allocator> LastingQueue<T, A> {
     // The number of the shard at a place.
     pub(crate) fn number_at<R: Wait>(&self, rt: &R, place: usize) -> u32
-        requires { place < self.now }
-        ensures { NumberAt T self.now place result }
+        requires { place < self.now.shards }
+        ensures { NumberAt T self.now.shards place result }
     {
         self.lock(rt, place).number()
     }
@@ -179,8 +221,8 @@ impl<T: Drop, A: Allocator> LastingQueue<T, A> {
         rt: &R,
         place: usize,
     ) -> Result<NumberedCaller<A>, HandleError>
-        requires { place < self.now }
-        ensures { IssuesAt T self.now place result }
+        requires { place < self.now.shards }
+        ensures { IssuesAt T self.now.shards place result }
     {
         let mut shard = self.lock(rt, place);
         let issued = shard.issue();
@@ -196,8 +238,9 @@ impl<T: Drop, A: Allocator + Clone + Drop> LastingQueue<T, A> {
     /// A handle, with a caller of each shard, issued in turn under that shard's lock.
     ///
     /// # Errors
-    /// NoMemory where there is no room for the callers, and then, shard by shard, TooManyHandles where 1,024 callers of its
-    /// generation were issued, given back or not, and NoMemory. The callers that were issued before are given back then.
+    /// NoMemory where there is no room for the callers, and then, shard by shard, TooManyHandles where 1,024 callers of
+    /// its generation were issued, given back or not, and NoMemory. The callers that were issued before are given back
+    /// then.
     #[tactic(auto, using(crate::proofs::Locked::issued_more))]
     pub fn handle<R: Wait>(&self, rt: &R) -> Result<LastingHandle<A>, HandleError>
         ensures { LastingQueueHandles T self.now result }
@@ -218,6 +261,9 @@ impl<T: Drop, A: Allocator + Clone + Drop> LastingQueue<T, A> {
                 }
             }
         }
-        Ok(LastingHandle { callers })
+        Ok(LastingHandle {
+            callers,
+            name: self.name(),
+        })
     }
 }

@@ -96,8 +96,10 @@ impl<A: Allocator> NumberedCaller<A> {
 
     /// The number of its accepted cancels.
     pub fn cancels(&self) -> u64
-        ensures { result ≡ cancels_in self.now.seat.view.calls }
+        ensures cancels { result ≡ cancels_in self.now.seat.view.calls }
+        ensures few { result ≤ most_begins }
     {
+        self.caller.law();
         self.caller.cancels()
     }
 

@@ -12,10 +12,10 @@ ghost use Rattle.dq_lasting.specs.Answers.{AtPlaceOr};
 ghost use Rattle.dq_lasting.specs.Changes.{IfLastingWorks, LastingPollsSome};
 
 use crate::errors::LastingError;
-use crate::parked::keep_or_wake;
 use crate::queue::LastingQueue;
+use crate::quiet::unlock;
 use crate::shard::LastingShard;
-use dq_core::{CoreError, Piece};
+use dq_core::{CoreError, Piece, Turn};
 use std::alloc::Allocator;
 use std::sync::Wait;
 
@@ -45,16 +45,17 @@ impl<T: Drop, A: Allocator> LastingShard<T, A> {
         // All that it does.
         ensures polls { LastingPollsSome self.old tick most result self.new }
     {
-        let answer = self.core.poll_some(tick, most);
-        keep_or_wake(&self.core, &mut self.parked);
+        let (answer, leaver) = self.poll_some_quietly(tick, most);
+        leaver.wake();
         answer
     }
 }
 
 impl<T: Drop, A: Allocator> LastingQueue<T, A> {
-    /// Does of a [`LastingQueue::poll`] of the shard at a place at most `most` steps, each in constant time but for a value's
-    /// drop. `tick` is of one millisecond. Call again while it answers Working: each such call leaves at least so many steps
-    /// fewer. The shard's lock is held for this piece alone, so other threads may make every other call between two pieces.
+    /// Does of a [`LastingQueue::poll`] of the shard at a place at most `most` steps, each in constant time but for a
+    /// value's drop. `tick` is of one millisecond. Call again while it answers Working: each such call leaves at least
+    /// so many steps fewer. The shard's lock is held for this piece alone, so other threads may make every other call
+    /// between two pieces.
     ///
     /// # Errors
     /// Unknown out of range, and TickTooLarge beyond the last tick.
@@ -66,22 +67,27 @@ impl<T: Drop, A: Allocator> LastingQueue<T, A> {
         most: u32,
     ) -> Result<Piece<T>, LastingError>
         // As unknown exactly out of range; else as too large exactly beyond the last tick.
-        ensures unknown { IsErrOf result Unknown ↔ (self.now ≤ place) }
+        ensures unknown { IsErrOf result Unknown ↔ (self.now.shards ≤ place) }
         ensures too_large { IsErrOf result (Core (TickTooLarge LAST_TICK))
-            ↔ (place < self.now) × (LAST_TICK < tick) }
+            ↔ (place < self.now.shards) × (LAST_TICK < tick) }
 
         // All that it answers.
-        ensures answers { AtPlaceOr {T = T} self.now place
+        ensures answers { AtPlaceOr {T = T} self.now.shards place
             (λ old r new. LastingPollsSome old tick most r new) result }
     {
         if place >= self.shards() {
             return Err(LastingError::Unknown);
         }
         let mut shard = self.lock(rt, place);
-        let answer = shard.poll_some(tick, most);
-        shard.law();
+        let (answer, leaver) = shard.poll_some_quietly(tick, most);
+        let aside = unlock(shard, leaver);
         match answer {
-            Ok(piece) => Ok(piece),
+            // A drop that panics would lose what came out.
+            Ok(Piece::Answer(Turn::Out(expired))) => Ok(Piece::Answer(Turn::Out(expired))),
+            Ok(piece) => {
+                self.drop_aside(rt, place, aside);
+                Ok(piece)
+            }
             Err(error) => Err(LastingError::Core(error)),
         }
     }

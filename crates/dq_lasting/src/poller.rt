@@ -4,28 +4,27 @@ ghost use Rattle.futures.specs.Task.{Covers, Keeps};
 ghost use Rattle.futures.specs.Poll.{IfReady, OnPending};
 ghost use Rattle.dq_core.specs.Calls.{TellsWake};
 ghost use Rattle.dq_lasting.specs.Answers.{AtPlaceAll};
+ghost use Rattle.dq_lasting.specs.Changes.{LastingUnparks};
 ghost use Rattle.dq_lasting.specs.Polling.{HasNoWaker, ParksTask, RingsParked, PollsOrParks, PollsOrParksAt};
 ghost use Rattle.dq_lasting.specs.Polling.{no_memory, with_parked, with_none_parked};
 
 use crate::errors::LastingError;
-use crate::parked::{Parked, ring};
+use crate::parked::Parked;
 use crate::queue::LastingQueue;
+use crate::quiet::unlock;
 use crate::shard::LastingShard;
 use dq_core::{CoreError, Expired, Turn};
 use futures::task::{Context, Poll, Source, Waker};
 use std::alloc::Allocator;
-use std::mem;
 use std::sync::Wait;
 
 impl<T: Drop, A: Allocator> LastingShard<T, A> {
-    // Takes the parked poller out and doesn't wake it.
-    fn unpark(&mut self)
-        ensures { self.new ≡ with_none_parked self.old }
+    // Takes the parked poller out, unwoken.
+    pub(crate) fn take_parked(&mut self) -> Option<Parked>
+        ensures taken { result ≡ self.old.parked }
+        ensures left { self.new ≡ with_none_parked self.old }
     {
-        if let Some(poller) = self.parked.take() {
-            // A waker that is dropped wakes.
-            mem::forget(poller.waker);
-        }
+        self.parked.take()
     }
 
     // Parks a poller, in the place of one that was parked before, which isn't woken.
@@ -33,13 +32,15 @@ impl<T: Drop, A: Allocator> LastingShard<T, A> {
         requires { TellsWake self.old.core next }
         ensures { self.new ≡ with_parked self.old next waker }
     {
-        self.unpark();
+        if let Some(before) = self.take_parked() {
+            Parked::forget(before);
+        }
         self.parked = Some(Parked { next, waker });
     }
 
-    // Registers with the context and parks its task. The name stands for the shard, as a source that fires where it wakes its
-    // poller.
-    fn wait(
+    // Registers with the context and parks its task. The name stands for the shard, as a source that fires where it
+    // wakes its poller.
+    pub(crate) fn wait(
         &mut self,
         next: Option<u64>,
         name: &Source,
@@ -61,8 +62,8 @@ impl<T: Drop, A: Allocator> LastingShard<T, A> {
         Poll::Pending
     }
 
-    /// As [`LastingShard::poll`], for a task: where nothing is due it is parked, until the next wake or, where nothing is
-    /// linked, until an insert. It takes the place of one that was parked before, which isn't woken.
+    /// As [`LastingShard::poll`], for a task: where nothing is due it is parked, until the next wake or, where nothing
+    /// is linked, until an insert. It takes the place of one that was parked before, which isn't woken.
     ///
     /// # Errors
     /// TickTooLarge beyond the last tick, and NoMemory where no waker can be made; nothing is parked then.
@@ -79,7 +80,9 @@ impl<T: Drop, A: Allocator> LastingShard<T, A> {
         ensures polls { PollsOrParks cx.old cx.new self.old tick result self.new }
         ensures kept { Keeps cx.old cx.new }
     {
-        self.unpark();
+        if let Some(before) = self.take_parked() {
+            Parked::forget(before);
+        }
         match self.poll(tick) {
             Ok(Turn::Out(expired)) => Poll::Ready(Ok(expired)),
             Ok(Turn::Waiting { next }) => self.wait(Some(next), name, cx),
@@ -88,26 +91,42 @@ impl<T: Drop, A: Allocator> LastingShard<T, A> {
         }
     }
 
+    /// Takes the parked poller out and doesn't wake it. True where there was one.
+    pub fn unpark(&mut self) -> bool
+        ensures { LastingUnparks self.old result self.new }
+    {
+        match self.take_parked() {
+            Some(poller) => {
+                Parked::forget(poller);
+                true
+            }
+            None => false,
+        }
+    }
+
     /// Takes out and wakes a poller that is parked at or before `tick`, of one millisecond. True where there was one.
     pub fn ring(&mut self, tick: u64) -> bool
         ensures { RingsParked self.old tick result self.new }
     {
-        ring(&mut self.parked, tick)
+        let (is_rung, leaver) = self.ring_quietly(tick);
+        leaver.wake();
+        is_rung
     }
 }
 
 impl<T: Drop, A: Allocator> LastingQueue<T, A> {
-    /// Polls the shard at a place at `tick`, of one millisecond, for a task: it gives an entry that is due. Where none is it
-    /// is Pending, and its task is parked in the shard, one task a shard.
+    /// Polls the shard at a place at `tick`, of one millisecond, for a task: it gives an entry that is due. Where none
+    /// is it is Pending, and its task is parked in the shard, one task a shard.
     ///
-    /// The task is woken once: where the next wake comes sooner or is gone, by an insert, a reset, a removal, a poll, a sweep
-    /// or a clear; where the shard is closed or opened again; and by `ring` at its tick. Where nothing is linked it waits for
-    /// an insert. A handle's extend or cancel doesn't wake it: the shard learns of it when the entry comes due. `name` is the
-    /// task's own name for the shard.
+    /// The task is woken once: where the next wake comes sooner or is gone, by an insert, a reset, a removal, a poll, a
+    /// sweep or a clear; where the shard is closed or opened again; and by `ring` at its tick. Where nothing is linked
+    /// it waits for an insert. A handle's extend or cancel doesn't wake it: the shard learns of it when the entry comes
+    /// due. `name` is the task's own name for the shard.
     ///
     /// # Errors
-    /// Unknown out of range, TickTooLarge beyond the last tick, and NoMemory where no waker can be made; nothing is parked
-    /// then.
+    /// Unknown out of range, TickTooLarge beyond the last tick, and NoMemory where no waker can be made; nothing is
+    /// parked then.
+    #[tactic(auto, using(crate::proofs::Polled::taken_before))]
     pub fn poll_or_park<R: Wait>(
         &self,
         rt: &R,
@@ -120,33 +139,65 @@ impl<T: Drop, A: Allocator> LastingQueue<T, A> {
         ensures registered { OnPending result (Covers cx.new (λ s. s ≡ name.now.id)) }
 
         // All that it answers.
-        ensures polls { PollsOrParksAt T self.now place cx.old cx.new tick result }
+        ensures polls { PollsOrParksAt T self.now.shards place cx.old cx.new tick result }
         ensures kept { Keeps cx.old cx.new }
     {
         if place >= self.shards() {
             return Poll::Ready(Err(LastingError::Unknown));
         }
         let mut shard = self.lock(rt, place);
+        let before = shard.take_parked();
         let answer = shard.poll_or_park(tick, name, cx);
         shard.law();
+        let aside = shard.aside();
+        drop(shard);
+        if let Some(before) = before {
+            Parked::forget(before);
+        }
+        self.drop_aside_at_rest(rt, place, aside, answer.is_pending());
         answer
     }
 
-    /// Wakes the poller of the shard at a place, where it is parked at or before `tick`, of one millisecond, and tells whether
-    /// it was. Whoever keeps the time calls it.
+    /// Takes the parked poller of the shard at a place out and doesn't wake it, as one does whose task is dropped. True
+    /// where there was one.
+    ///
+    /// # Errors
+    /// Unknown out of range.
+    pub fn unpark<R: Wait>(&self, rt: &R, place: usize) -> Result<bool, LastingError>
+        ensures { AtPlaceAll {T = T} self.now.shards place
+            (λ old r new. LastingUnparks old r new) result }
+    {
+        if place >= self.shards() {
+            return Err(LastingError::Unknown);
+        }
+        let mut shard = self.lock(rt, place);
+        let taken = shard.take_parked();
+        shard.law();
+        drop(shard);
+        match taken {
+            Some(poller) => {
+                Parked::forget(poller);
+                Ok(true)
+            }
+            None => Ok(false),
+        }
+    }
+
+    /// Wakes the poller of the shard at a place, where it is parked at or before `tick`, of one millisecond, and tells
+    /// whether it was. Whoever keeps the time calls it.
     ///
     /// # Errors
     /// Unknown out of range.
     pub fn ring<R: Wait>(&self, rt: &R, place: usize, tick: u64) -> Result<bool, LastingError>
-        ensures { AtPlaceAll {T = T} self.now place
+        ensures { AtPlaceAll {T = T} self.now.shards place
             (λ old r new. RingsParked old tick r new) result }
     {
         if place >= self.shards() {
             return Err(LastingError::Unknown);
         }
         let mut shard = self.lock(rt, place);
-        let is_rung = shard.ring(tick);
-        shard.law();
+        let (is_rung, leaver) = shard.ring_quietly(tick);
+        unlock(shard, leaver);
         Ok(is_rung)
     }
 }

@@ -13,33 +13,54 @@ use std::marker::Model;
 use std::sync::{Mutex, MutexGuard, Wait};
 
 /// A delay queue in shards, each behind a lock of its own, which are renewed one by one while the others serve. To a
-/// contract it is the number of its shards.
+/// contract it is the number of its shards, and its name.
 ///
 /// It hands out no `&mut` of a shard, so no two shards change places.
+///
+/// No call drops a value under a lock: what it reaps or clears it drops once the lock is free, so a value's drop may call the
+/// queue. Where a drop panics the shard is whole, and a later poll, sweep, clear or `keep_going` drops the rest. So does it
+/// behind a poll that gave an entry: that one drops nothing, since a panic would lose the entry.
 #[derive(Drop)]
 pub struct LastingQueue<T, A: Allocator = Global> {
     pub(crate) shards: Vec<Mutex<LastingShard<T, A>>, A>,
+    pub(crate) name: u64,
 }
 
 impl<T, A: Allocator> Model for LastingQueue<T, A> {
-    ghost use Rattle.std.specs.Prelude.{ℕ, ◌≤◌, vec_len};
+    ghost use Rattle.std.specs.Prelude.{◌≤◌, vec_len};
     ghost use Rattle.dq_lasting.specs.declared.config.TheConstants.{SHARD_LIMIT};
+    ghost use Rattle.dq_lasting.specs.Queues.{QueueView};
 
-    ghost Value = { ℕ };
+    ghost Value = { QueueView };
 
-    ghost view = { λ q. vec_len q.shards };
+    ghost view = { λ q. record { shards = vec_len q.shards; name = q.name } };
 
     ghost invariant = { λ q. (2 ≤ vec_len q.shards) × (vec_len q.shards ≤ SHARD_LIMIT) };
 }
 
 impl<T: Drop, A: Allocator + Clone + Drop> LastingQueue<T, A> {
-    /// A queue of empty shards at tick 0, all of which take entries. All memory of the queue is taken here: no other call
-    /// takes any, but `handle` and its renewal, `keep_going`, and `poll_or_park` for a waker.
+    /// A queue of empty shards at tick 0, all of which take entries. All memory of the queue is taken here: no other
+    /// call takes any, but `handle` and its renewal, `keep_going`, `states`, and `poll_or_park` for a waker.
     ///
     /// # Errors
     /// BadConfig where a number of the configuration is out of its range, and else NoMemory.
     pub fn new(alloc: A, config: LastingConfig) -> Result<LastingQueue<T, A>, CoreError>
-        ensures { LastingIsMade config result }
+        ensures { LastingIsMade config 0 result }
+    {
+        LastingQueue::named(alloc, config, 0)
+    }
+
+    /// As `new`, with a name that the queue keeps and that its handles have. A handle is renewed by a queue of that
+    /// name alone, so queues whose handles may meet need names of their own. `new` gives the name 0.
+    ///
+    /// # Errors
+    /// As `new`.
+    pub fn named(
+        alloc: A,
+        config: LastingConfig,
+        name: u64,
+    ) -> Result<LastingQueue<T, A>, CoreError>
+        ensures { LastingIsMade config name result }
     {
         let Ok(()) = config.check() else {
             return Err(CoreError::BadConfig);
@@ -50,7 +71,7 @@ impl<T: Drop, A: Allocator + Clone + Drop> LastingQueue<T, A> {
             last_stamp: config.last_stamp,
         };
         match locked_shards(alloc, config.shards as u32, core) {
-            Ok(shards) => Ok(LastingQueue { shards }),
+            Ok(shards) => Ok(LastingQueue { shards, name }),
             Err(error) => Err(error),
         }
     }
@@ -59,10 +80,17 @@ impl<T: Drop, A: Allocator + Clone + Drop> LastingQueue<T, A> {
 impl<T, A: Allocator> LastingQueue<T, A> {
     /// The number of shards, from 2 to [`SHARD_LIMIT`].
     pub fn shards(&self) -> usize
-        ensures value { result ≡ self.now }
+        ensures value { result ≡ self.now.shards }
         ensures range { (2 ≤ result) × (result ≤ SHARD_LIMIT) }
     {
         self.shards.len()
+    }
+
+    /// The name that it was given.
+    pub fn name(&self) -> u64
+        ensures { result ≡ self.now.name }
+    {
+        self.name
     }
 }
 
@@ -70,8 +98,8 @@ impl<T: Drop, A: Allocator> LastingQueue<T, A> {
     // The shard at a place, with its lock held. The number is compared once: no call makes it another place's.
     #[inline]
     pub(crate) fn lock<R: Wait>(&self, rt: &R, place: usize) -> MutexGuard<'_, LastingShard<T, A>>
-        requires { place < self.now }
-        ensures { IsOfPlace self.now place (mutex_guard_value result) }
+        requires { place < self.now.shards }
+        ensures { IsOfPlace self.now.shards place (mutex_guard_value result) }
     {
         let shard = self.shards[place].lock(rt);
         if shard.number() as usize % self.shards.len() != place {

@@ -10,30 +10,32 @@ ghost use Rattle.dq_lasting.specs.Changes.{LastingInserts, LastingResets, Lastin
 ghost use Rattle.dq_lasting.specs.Changes.{LastingDeadline, LastingPolls, LastingSweeps, Closes};
 ghost use Rattle.dq_lasting.specs.Changes.{LastingClears, LastingTells, LastingIssues, IsWith};
 ghost use Rattle.dq_lasting.specs.Changes.{count_end};
-ghost use Rattle.dq_lasting.specs.Keeping.{ClosesWorn, GoesOnAt};
+ghost use Rattle.dq_lasting.specs.Keeping.{ClosesWorn, ClosesFarWorn, TellsDrained};
+ghost use Rattle.dq_lasting.specs.Parking.{LeavesPlace};
 
 use crate::ended::{Ended, LastingTally};
 use crate::errors::{LastingError, ReopenError};
-use crate::keeping::Kept;
 use crate::numbered::NumberedCaller;
-use crate::parked::{Parked, keep_or_wake, wake};
+use crate::parked::{Leaver, Parked};
 use dq_core::{CoreError, DelayCore, Removed, Tally, Turn};
 use dq_ticks::{EntryId, Key};
 use dq_words::{Keeper, WordsError};
 use std::alloc::{Allocator, Global};
 use std::marker::Model;
 
-/// The value behind a shard's lock: a queue over shared words, whether it takes entries, what became of the entries of its
-/// earlier generations, and the poller that is parked there.
+/// The value behind a shard's lock: a queue over shared words, whether it takes entries, what became of the entries of
+/// its earlier generations, and the poller that is parked there.
 ///
-/// It always keeps the parked law: a poller that is parked waits for a tick that isn't after the next wake, or for an insert
-/// where nothing is linked. A call that would break the law takes the poller out and wakes it.
+/// It always keeps the parked law: a poller that is parked waits for a tick that isn't after the next wake, or for an
+/// insert where nothing is linked. A call that would break the law takes the poller out and wakes it.
 #[derive(Drop)]
 pub struct LastingShard<T, A: Allocator = Global> {
     pub(crate) core: DelayCore<T, Keeper<A>, A>,
-    takes: bool,
-    past: Ended,
+    pub(crate) takes: bool,
+    pub(crate) past: Ended,
     pub(crate) parked: Option<Parked>,
+    // The slot from which the next sweep of a few slots goes on.
+    pub(crate) sweep_from: usize,
 }
 
 impl<T, A: Allocator> Model for LastingShard<T, A> {
@@ -42,13 +44,19 @@ impl<T, A: Allocator> Model for LastingShard<T, A> {
 
     ghost Value = { LastingView T };
 
-    ghost view = { λ s. record { core = s.core; takes = s.takes; past = s.past; parked = s.parked } };
+    ghost view = { λ s. record {
+      core = s.core;
+      takes = s.takes;
+      past = s.past;
+      parked = s.parked;
+      sweep_from = s.sweep_from;
+    } };
 
     ghost invariant = { λ s. AddsUp s.past × IsWaitingLawfully s.core s.parked };
 }
 
 // The entries of earlier generations with those of one of which none is linked; none where they are too many to count.
-fn with_ended(past: &Ended, tally: &Tally) -> Option<Ended>
+pub(crate) fn with_ended(past: &Ended, tally: &Tally) -> Option<Ended>
     requires past { AddsUp past.now }
     requires tally { tally.now.inserted
         ≡ tally.now.expired + tally.now.removed + tally.now.cancelled }
@@ -80,11 +88,15 @@ impl<T, A: Allocator> From<DelayCore<T, Keeper<A>, A>> for LastingShard<T, A> {
             removed: 0,
             cancelled: 0,
         };
+        // No value is dropped under the lock.
+        let mut core = core;
+        core.set_aside();
         LastingShard {
             core,
             takes: true,
             past,
             parked: None,
+            sweep_from: 0,
         }
     }
 }
@@ -156,8 +168,8 @@ impl<T: Drop, A: Allocator> LastingShard<T, A> {
     /// As [`DelayCore::insert`], where the shard takes entries.
     ///
     /// # Errors
-    /// Closed exactly where it takes none, then TooFar beyond the last tick, and else Full where no slot is free. The value
-    /// comes back.
+    /// Closed exactly where it takes none, then TooFar beyond the last tick, and else Full where no slot is free. The
+    /// value comes back.
     #[inline]
     pub fn insert(&mut self, value: T, when: u64) -> Result<Key, (LastingError, T)>
         // As closed exactly where it takes none. Refused, the value comes back and nothing changes.
@@ -167,16 +179,11 @@ impl<T: Drop, A: Allocator> LastingShard<T, A> {
         // All that it does.
         ensures inserts { LastingInserts self.old value when result self.new }
     {
-        if !self.takes {
-            return Err((LastingError::Closed, value));
-        }
-        match self.core.insert(value, when) {
-            Ok(key) => {
-                keep_or_wake(&self.core, &mut self.parked);
-                Ok(key)
-            }
-            Err((error, value)) => Err((LastingError::Core(error), value)),
-        }
+        // It is dropped where this ends: all else is done by then.
+        let _crowded = self.take_crowded();
+        let (answer, leaver) = self.insert_quietly(value, when);
+        leaver.wake();
+        answer
     }
 
     /// As [`DelayCore::reset`].
@@ -184,8 +191,8 @@ impl<T: Drop, A: Allocator> LastingShard<T, A> {
     pub fn reset(&mut self, entry: &EntryId, when: u64) -> Result<Key, CoreError>
         ensures { LastingResets self.old entry.now when result self.new }
     {
-        let answer = self.core.reset(entry, when);
-        keep_or_wake(&self.core, &mut self.parked);
+        let (answer, leaver) = self.reset_quietly(entry, when);
+        leaver.wake();
         answer
     }
 
@@ -194,8 +201,8 @@ impl<T: Drop, A: Allocator> LastingShard<T, A> {
     pub fn remove(&mut self, entry: &EntryId) -> Result<Removed<T>, CoreError>
         ensures { LastingRemoves self.old entry.now result self.new }
     {
-        let answer = self.core.remove(entry);
-        keep_or_wake(&self.core, &mut self.parked);
+        let (answer, leaver) = self.remove_quietly(entry);
+        leaver.wake();
         answer
     }
 
@@ -204,8 +211,8 @@ impl<T: Drop, A: Allocator> LastingShard<T, A> {
     pub fn deadline(&mut self, entry: &EntryId) -> Result<u64, CoreError>
         ensures { LastingDeadline self.old entry.now result self.new }
     {
-        let answer = self.core.deadline(entry);
-        keep_or_wake(&self.core, &mut self.parked);
+        let (answer, leaver) = self.deadline_quietly(entry);
+        leaver.wake();
         answer
     }
 
@@ -214,8 +221,8 @@ impl<T: Drop, A: Allocator> LastingShard<T, A> {
     pub fn poll(&mut self, tick: u64) -> Result<Turn<T>, CoreError>
         ensures { LastingPolls self.old tick result self.new }
     {
-        let answer = self.core.poll(tick);
-        keep_or_wake(&self.core, &mut self.parked);
+        let (answer, leaver) = self.poll_quietly(tick);
+        leaver.wake();
         answer
     }
 
@@ -223,8 +230,8 @@ impl<T: Drop, A: Allocator> LastingShard<T, A> {
     pub fn sweep(&mut self) -> usize
         ensures { LastingSweeps self.old result self.new }
     {
-        let reaped = self.core.sweep();
-        keep_or_wake(&self.core, &mut self.parked);
+        let (reaped, leaver) = self.sweep_quietly();
+        leaver.wake();
         reaped
     }
 
@@ -232,34 +239,66 @@ impl<T: Drop, A: Allocator> LastingShard<T, A> {
     pub fn clear(&mut self) -> usize
         ensures { LastingClears self.old result self.new }
     {
-        let removed = self.core.clear();
-        keep_or_wake(&self.core, &mut self.parked);
+        let (removed, leaver) = self.clear_quietly();
+        leaver.wake();
         removed
     }
 
-    /// Takes no more entries until it is opened again. Those that are there stay until they end, and a reset still moves
-    /// them. A poller that is parked is woken.
+    /// Takes no more entries until it is opened again. Those that are there stay until they end, and a reset still
+    /// moves them. A poller that is parked is woken.
     pub fn close(&mut self)
         ensures { Closes self.old self.new }
     {
-        self.takes = false;
-        wake(&mut self.parked);
+        self.close_quietly().wake();
     }
 
     // Closes it where it takes entries and half of its slots at the least are worn, and tells whether it did.
-    pub(crate) fn close_worn(&mut self) -> bool
-        ensures { ClosesWorn self.old result self.new }
+    pub(crate) fn close_worn(&mut self) -> (bool, Leaver)
+        ensures closes { ClosesWorn self.old result.0 self.new }
+        ensures leaves { LeavesPlace self.old.parked result.1.poller self.new.parked }
     {
         let worn = self.core.worn();
         let capacity = self.core.capacity();
         if !self.takes {
-            return false;
+            return (false, Leaver { poller: None });
         }
         if worn < capacity - capacity / 2 {
+            return (false, Leaver { poller: None });
+        }
+        (true, self.close_quietly())
+    }
+
+    // Closes it where it takes entries and three quarters of its slots at the least are worn, and tells whether it did.
+    pub(crate) fn close_far_worn(&mut self) -> (bool, Leaver)
+        ensures closes { ClosesFarWorn self.old result.0 self.new }
+        ensures leaves { LeavesPlace self.old.parked result.1.poller self.new.parked }
+    {
+        let worn = self.core.worn();
+        let capacity = self.core.capacity();
+        if !self.takes {
+            return (false, Leaver { poller: None });
+        }
+        if worn < capacity - capacity / 4 {
+            return (false, Leaver { poller: None });
+        }
+        (true, self.close_quietly())
+    }
+
+    // Whether nothing is linked, and it is closed or half of its slots at the least are worn: it can be opened again.
+    pub(crate) fn is_drained(&self) -> bool
+        ensures { TellsDrained self.now result self.now }
+    {
+        let worn = self.core.worn();
+        let half = self.core.capacity() / 2;
+        if self.core.len() > 0 {
             return false;
         }
-        self.takes = false;
-        wake(&mut self.parked);
+        if !self.takes {
+            return true;
+        }
+        if worn < self.core.capacity() - half {
+            return false;
+        }
         true
     }
 
@@ -280,13 +319,14 @@ impl<T: Drop, A: Allocator> LastingShard<T, A> {
 
 impl<T: Drop, A: Allocator + Clone + Drop> LastingShard<T, A> {
     /// Goes on with fresh words under a number that is higher by `by`, and takes entries. The tally of this generation
-    /// goes to the past, and a poller that is parked is woken. No slot is worn then, and every key from before is refused for
-    /// good. The old words live on for as long as callers of them do.
+    /// goes to the past, and a poller that is parked is woken. No slot is worn then, and every key from before is
+    /// refused for good. The old words live on for as long as callers of them do.
     ///
     /// It takes memory for the words, and goes over every slot.
     ///
     /// # Errors
-    /// StillLinked while an entry is linked, NumbersSpent where no such number is left, and NoMemory. Nothing changes then.
+    /// StillLinked while an entry is linked, NumbersSpent where no such number is left, and NoMemory. Nothing changes
+    /// then.
     pub fn reopen(&mut self, alloc: A, by: u32) -> Result<(), ReopenError>
         requires { 0 < by }
         // Its number rises, so each entry from before is missing for good, and it takes entries again.
@@ -298,48 +338,8 @@ impl<T: Drop, A: Allocator + Clone + Drop> LastingShard<T, A> {
         // All that it does.
         ensures reopens { Reopens self.old by result self.new }
     {
-        let linked = self.core.len();
-        if linked > 0 {
-            return Err(ReopenError::StillLinked { linked });
-        }
-        let Some(number) = self.core.shard().checked_add(by) else {
-            return Err(ReopenError::NumbersSpent);
-        };
-        let tally = self.core.tally();
-        let Some(past) = with_ended(&self.past, &tally) else {
-            return Err(ReopenError::NumbersSpent);
-        };
-        let Ok(keeper) = Keeper::new(alloc, self.core.capacity()) else {
-            return Err(ReopenError::NoMemory);
-        };
-        match self.core.renew(number, keeper) {
-            Ok(_old) => {
-                self.takes = true;
-                self.past = past;
-                wake(&mut self.parked);
-                Ok(())
-            }
-            Err(_refused) => unreachable!(),
-        }
-    }
-
-    // Where it is closed: opens it again where nothing is linked, and else reaps what was cancelled. `place` is where it
-    // stands.
-    pub(crate) fn go_on(&mut self, alloc: A, place: usize, by: u32) -> Result<Kept, ReopenError>
-        requires { 0 < by }
-        ensures { GoesOnAt by place self.old result self.new }
-    {
-        if self.takes {
-            return Ok(Kept::Fine);
-        }
-        if self.core.len() > 0 {
-            self.sweep();
-            let linked = self.core.len();
-            return Ok(Kept::Drains { place, linked });
-        }
-        match self.reopen(alloc, by) {
-            Ok(()) => Ok(Kept::Reopened { place }),
-            Err(error) => Err(error),
-        }
+        let (answer, leaver) = self.reopen_quietly(alloc, by);
+        leaver.wake();
+        answer
     }
 }

@@ -1,7 +1,7 @@
 //! What expires at one place of a lasting queue, as a stream.
 //!
-//! A stream waits in the shard at its place, as the poller that is parked there, through every renewal of it. Where nothing
-//! is linked it waits for an insert, so it never ends. Whoever keeps the time rings the place, as for
+//! A stream waits in the shard at its place, as the poller that is parked there, through every renewal of it. Where
+//! nothing is linked it waits for an insert, so it never ends. Whoever keeps the time rings the place, as for
 //! [`LastingQueue::poll_or_park`].
 ghost use Rattle.std.specs.Prelude.{◌≡◌, ◌<◌, ◌≤◌, ℕ, ⊤, [], Some, None, IfOk, IfErr, IfSome, OnSome};
 ghost use Rattle.futures.specs.Task.{Covers, Keeps};
@@ -44,19 +44,20 @@ pub enum LastingFault {
     NoMemory,
 }
 
-/// What expires at one place of a lasting queue, at the ticks that it is told, through every renewal of the shard there.
+/// What expires at one place of a lasting queue, at the ticks that it is told, through every renewal of the shard
+/// there.
 ///
-/// Each poll takes the shard's lock once. It gives one entry that is due, and else parks in the shard, one poller a place:
-/// until the next wake, or where nothing is linked until an insert. It never ends. It holds no entry, so none is lost where it
-/// is dropped; its poller stays parked until it is woken or another takes its place.
+/// Each poll takes the shard's lock once. It gives one entry that is due, and else parks in the shard, one poller a
+/// place: until the next wake, or where nothing is linked until an insert. It never ends. It holds no entry, so none is
+/// lost where it is dropped; its poller stays parked until it is woken or another takes its place.
 #[derive(Drop)]
 pub struct LastingStream<'q, T, K, R: Wait, A: Allocator = Global> {
-    rt: &'q R,
-    queue: &'q LastingQueue<T, A>,
-    place: usize,
-    ticks: K,
-    name: Source,
-    ghost in_range: { place < queue.now },
+    pub(crate) rt: &'q R,
+    pub(crate) queue: &'q LastingQueue<T, A>,
+    pub(crate) place: usize,
+    pub(crate) ticks: K,
+    pub(crate) name: Source,
+    ghost in_range: { place < queue.now.shards },
 }
 
 impl<'q, T, K, R: Wait, A: Allocator> LastingStream<'q, T, K, R, A> {
@@ -70,9 +71,9 @@ impl<'q, T, K, R: Wait, A: Allocator> LastingStream<'q, T, K, R, A> {
         place: usize,
         ticks: K,
     ) -> Result<LastingStream<'q, T, K, R, A>, (LastingError, K)>
-        ensures opened { IfOk result (λ s. (place < queue.now) × (s.queue ≡ queue.entry)
+        ensures opened { IfOk result (λ s. (place < queue.now.shards) × (s.queue ≡ queue.entry)
             × (s.place ≡ place) × (s.ticks ≡ ticks)) }
-        ensures refused { IfErr result (λ e. (queue.now ≤ place) × (e ≡ (Unknown, ticks))) }
+        ensures refused { IfErr result (λ e. (queue.now.shards ≤ place) × (e ≡ (Unknown, ticks))) }
     {
         if place >= queue.shards() {
             return Err((LastingError::Unknown, ticks));
@@ -92,13 +93,13 @@ impl<'q, T: Drop, K: Ticks, R: Wait, A: Allocator> Stream for LastingStream<'q, 
 
     ghost needs = { λ stream s. s ≡ stream.name.id };
 
-    ghost yields = { λ stream. LastingGives T stream.queue.now stream.place };
+    ghost yields = { λ stream. LastingGives T stream.queue.now.shards stream.place };
 
-    /// An entry that is due, one of least deadline, or Pending, parked at the next wake or for an insert. Its cost is that of
-    /// one poll of the shard.
+    /// An entry that is due, one of least deadline, or Pending, parked at the next wake or for an insert. Its cost is
+    /// that of one poll of the shard.
     ///
-    /// A tick beyond the last one gives TickTooLarge, and where no waker can be made it gives NoMemory. It goes on after
-    /// both.
+    /// A tick beyond the last one gives TickTooLarge, and where no waker can be made it gives NoMemory. It goes on
+    /// after both.
     fn poll_next(&mut self, cx: &mut Context<'_>) -> Poll<Option<Result<Expired<T>, LastingFault>>>
         // It never ends, and a fault tells why no entry is given.
         ensures lasts { NeverEnds result }
@@ -113,18 +114,19 @@ impl<'q, T: Drop, K: Ticks, R: Wait, A: Allocator> Stream for LastingStream<'q, 
 
         // All that it does: the poll of its place that parks, at a tick that it was told.
         ensures polls { (tick : ℕ) × K.tells self.old.ticks tick self.new.ticks
-            × LastingStreamPolls T self.old.queue.now self.old.place cx.old cx.new tick result }
+            × LastingStreamPolls T self.old.queue.now.shards self.old.place cx.old cx.new tick result }
 
         // What every stream owes. It may be polled at any time: two of these bind nothing here.
-        ensures value { IfReady result (LastingGives T self.old.queue.now self.old.place []) }
+        ensures value { IfReady result
+            (LastingGives T self.old.queue.now.shards self.old.place []) }
         ensures rest { IfReady result (λ o. IfSome o (λ x.
-            After (LastingGives T self.old.queue.now self.old.place) x
-            (LastingGives T self.new.queue.now self.new.place))) }
+            After (LastingGives T self.old.queue.now.shards self.old.place) x
+            (LastingGives T self.new.queue.now.shards self.new.place))) }
         ensures goes { IfReady result (λ o. OnSome o ⊤) }
         ensures again { OnPending result ⊤ }
         ensures same { OnPending result
-            (Within (LastingGives T self.old.queue.now self.old.place)
-            (LastingGives T self.new.queue.now self.new.place)) }
+            (Within (LastingGives T self.old.queue.now.shards self.old.place)
+            (LastingGives T self.new.queue.now.shards self.new.place)) }
         ensures kept { Keeps cx.old cx.new }
     {
         let tick = self.ticks.now();

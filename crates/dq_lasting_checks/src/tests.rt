@@ -1,15 +1,15 @@
-//! Queues that go through many generations, by one owner and by threads; tasks and streams that wait; a pool of handles.
+//! A lasting queue step by step; polls in pieces; tasks and streams that wait; a pool of handles; refused memory.
 
-mod generations;
 mod memory;
+mod numbers;
 mod parking;
 mod pieces;
 mod play;
 mod pool;
+mod six_places;
 mod steps;
 mod streams;
 mod tasks;
-mod work;
 
 use std::fmt::{Debug, Display};
 use std::process::Abort;

@@ -19,6 +19,7 @@ use Rattle.dq_words.specs.Seats.{Sat}
 use Rattle.dq_words.specs.declared.keeper.WordsError.{WordsError}
 use Rattle.dq_words.specs.Endings.{WritesStay}
 use Rattle.dq_words.specs.KeeperCalls.{HasBegun, Issues, Tells}
+use Rattle.dq_shards.specs.declared.parked.Parked.{Parked}
 use Rattle.dq_shards.specs.Parking.{is_rung, after_ring}
 use Rattle.dq_shards.specs.Shard.{ShardView, IsShard, KeepsOrWakes, keeper_of}
 
@@ -94,6 +95,10 @@ module _ {T : Type 0} where
   Unparks old result new =
       (result ≡ is_some old.parked) × (new ≡ record old { parked = None })
 
+  -- the poller that was parked is taken out, and none is left
+  abbrev pub TakesParked : ShardView T → Option Parked → ShardView T → Type 0
+  TakesParked old taken new = (taken ≡ old.parked) × (new ≡ record old { parked = None })
+
   -- a ring at a tick takes out a poller that is parked at or before it
   abbrev pub Rings : ShardView T → ℕ → Bool → ShardView T → Type 0
   Rings old tick result new =
@@ -117,6 +122,10 @@ module _ {T : Type 0} where
   abbrev pub ShardTells : ShardView T → ℕ → ShardView T → Type 0
   ShardTells old out new =
       Tells old.core.words out new.core.words × OnlyKeeperGoesOn old new
+
+  -- a call leaves a state that every shard may have, and lets its lock go
+  abbrev pub LeavesShard : (ShardView T → Type 0) → Type 0
+  LeavesShard Holds = (new : ShardView T) × IsShard new × Holds new
 
   -- a call gives an answer on some state that every shard may have
   abbrev pub OnSome : {R : Type 0} → (ShardView T → R → ShardView T → Type 0) → R → Type 0

@@ -4,7 +4,9 @@ pub mod Changes
 pub mod Endings
 pub mod Handles
 pub mod Issuing
+pub mod Many
 pub mod Parking
 pub mod Refusals
 pub mod Shard
 pub mod Sums
+pub mod Through

@@ -1,5 +1,5 @@
 -- When a parked poller stays parked.
-use Rattle.std.specs.Prelude.{ℕ, nat_le, if◌then◌else◌, Bool, false, Option, Some, None}
+use Rattle.std.specs.Prelude.{◌≡◌, ℕ, nat_le, if◌then◌else◌, Bool, false, Option, Some, None}
 use Rattle.futures.specs.declared.task.waker.Waker.{Waker}
 use Rattle.dq_shards.specs.declared.parked.Parked.{Parked}
 
@@ -12,6 +12,11 @@ abbrev pub still_parked : Option Parked → Option ℕ → Option Parked
 still_parked None wake = None
 still_parked (Some p) None = None
 still_parked (Some p) (Some wake) = if nat_le p.next wake then Some p else None
+
+-- who left is exactly who was parked and isn't any more
+abbrev pub Leaves : Option Parked → Option Parked → Option Parked → Type 0
+Leaves old left None = left ≡ old
+Leaves old left (Some p) = (left ≡ None) × (old ≡ Some p)
 
 -- whether a poller is parked at or before a tick
 abbrev pub is_rung : Option Parked → ℕ → Bool

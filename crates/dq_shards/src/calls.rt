@@ -1,4 +1,5 @@
-//! The calls of a queue of shards by name: each takes one shard's lock and makes the state's call.
+//! The calls of a queue of shards by name: each takes one shard's lock and makes the state's call. Who leaves by it is woken
+//! once the lock is free, and what it lets go is dropped then.
 ghost use Rattle.std.specs.Prelude.{◌≡◌, ◌%◌, ◌<◌, ◌≤◌, ◌↔◌, option_map, IfOk, IfErr, IsErrOf, IsErrAnd};
 ghost use Rattle.dq_ticks.specs.declared.TheConstants.{LAST_TICK};
 ghost use Rattle.dq_core.specs.declared.errors.CoreError.TheVariants.{TooFar, TickTooLarge};
@@ -52,9 +53,8 @@ impl<T: Drop, A: Allocator> SharedDelayQueue<T, A> {
         ensures inserts { QueueInserts self.now route value when result }
     {
         let shard = routed_shard(route, self.shards() as u64);
-        let mut state = self.lock(rt, shard as usize);
-        let answer = state.insert(value, when);
-        state.law();
+        let state = self.lock(rt, shard as usize);
+        let answer = state.insert_and_unlock(value, when);
         match answer {
             Ok(key) => Ok(key),
             Err((e, value)) => Err((QueueError::Core(e), value)),
@@ -97,9 +97,8 @@ impl<T: Drop, A: Allocator> SharedDelayQueue<T, A> {
         ensures answers { OnShardOr {T = T} self.now entry.now.shard
             (λ old r new. ShardResets old entry.now when r new) result }
     {
-        let mut shard = self.enter(rt, entry.shard() as usize)?;
-        let answer = shard.reset(entry, when);
-        shard.law();
+        let shard = self.enter(rt, entry.shard() as usize)?;
+        let answer = shard.reset_and_unlock(entry, when);
         Ok(answer?)
     }
 
@@ -110,9 +109,8 @@ impl<T: Drop, A: Allocator> SharedDelayQueue<T, A> {
         ensures answers { OnShardOr {T = T} self.now entry.now.shard
             (λ old r new. ShardRemoves old entry.now r new) result }
     {
-        let mut shard = self.enter(rt, entry.shard() as usize)?;
-        let answer = shard.remove(entry);
-        shard.law();
+        let shard = self.enter(rt, entry.shard() as usize)?;
+        let answer = shard.remove_and_unlock(entry);
         Ok(answer?)
     }
 
@@ -158,9 +156,9 @@ impl<T: Drop, A: Allocator> SharedDelayQueue<T, A> {
         ensures answers { OnShardOr {T = T} self.now shard
             (λ old r new. ShardPolls old tick r new) result }
     {
-        let mut shard = self.enter(rt, shard)?;
-        let answer = shard.poll(tick);
-        shard.law();
+        let locked = self.enter(rt, shard)?;
+        let (answer, aside) = locked.poll_and_unlock(tick);
+        self.drop_aside(rt, shard, aside);
         Ok(answer?)
     }
 
@@ -193,9 +191,9 @@ impl<T: Drop, A: Allocator> SharedDelayQueue<T, A> {
         ensures answers { OnShardOr {T = T} self.now shard
             (λ old r new. ShardPollsSome old tick most r new) result }
     {
-        let mut shard = self.enter(rt, shard)?;
-        let answer = shard.poll_some(tick, most);
-        shard.law();
+        let locked = self.enter(rt, shard)?;
+        let (answer, aside) = locked.poll_some_and_unlock(tick, most);
+        self.drop_aside(rt, shard, aside);
         Ok(answer?)
     }
 
@@ -215,9 +213,9 @@ impl<T: Drop, A: Allocator> SharedDelayQueue<T, A> {
         ensures answers { OnShard {T = T} self.now shard
             (λ old r new. ShardSweeps old r new) result }
     {
-        let mut shard = self.enter(rt, shard)?;
-        let reaped = shard.sweep();
-        shard.law();
+        let locked = self.enter(rt, shard)?;
+        let (reaped, aside) = locked.sweep_and_unlock();
+        self.drop_aside(rt, shard, aside);
         Ok(reaped)
     }
 
@@ -242,9 +240,9 @@ impl<T: Drop, A: Allocator> SharedDelayQueue<T, A> {
         ensures answers { OnShard {T = T} self.now shard
             (λ old r new. ShardSweepsSome old from count r new) result }
     {
-        let mut shard = self.enter(rt, shard)?;
-        let swept = shard.sweep_some(from, count);
-        shard.law();
+        let locked = self.enter(rt, shard)?;
+        let (swept, aside) = locked.sweep_some_and_unlock(from, count);
+        self.drop_aside(rt, shard, aside);
         Ok(swept)
     }
 
@@ -258,9 +256,10 @@ impl<T: Drop, A: Allocator> SharedDelayQueue<T, A> {
         ensures answers { OnShard {T = T} self.now entry.now.shard
             (λ old r new. ShardReaps old entry.now r new) result }
     {
-        let mut shard = self.enter(rt, entry.shard() as usize)?;
-        let answer = shard.reap(entry);
-        shard.law();
+        let shard = entry.shard() as usize;
+        let locked = self.enter(rt, shard)?;
+        let (answer, aside) = locked.reap_and_unlock(entry);
+        self.drop_aside(rt, shard, aside);
         Ok(answer)
     }
 
@@ -270,9 +269,9 @@ impl<T: Drop, A: Allocator> SharedDelayQueue<T, A> {
         ensures answers { OnShard {T = T} self.now shard
             (λ old r new. ShardClears old r new) result }
     {
-        let mut shard = self.enter(rt, shard)?;
-        let cleared = shard.clear();
-        shard.law();
+        let locked = self.enter(rt, shard)?;
+        let (cleared, aside) = locked.clear_and_unlock();
+        self.drop_aside(rt, shard, aside);
         Ok(cleared)
     }
 
@@ -286,17 +285,16 @@ impl<T: Drop, A: Allocator> SharedDelayQueue<T, A> {
         Ok(shard.tally())
     }
 
-    /// Takes out and wakes a poller that is parked at or before `tick`, of one millisecond. True where there was one.
-    /// Refused as Unknown for a shard out of range.
+    /// Takes out a poller that is parked at or before `tick`, of one millisecond, and wakes it once the shard's lock is
+    /// free. True where there was one. Refused as Unknown for a shard out of range.
     pub fn ring<R: Wait>(&self, rt: &R, shard: usize, tick: u64) -> Result<bool, QueueError>
         ensures unknown { IsErrOf result Unknown ↔ (self.now ≤ shard) }
         ensures answers { OnShard {T = T} self.now shard
             (λ old r new. Rings old tick r new) result }
     {
-        let mut shard = self.enter(rt, shard)?;
-        let rung = shard.ring(tick);
-        shard.law();
-        Ok(rung)
+        let shard = self.enter(rt, shard)?;
+        let is_rung = shard.ring_and_unlock(tick);
+        Ok(is_rung)
     }
 
     /// The tick of one millisecond until which a poller is parked; none where none is. Refused as Unknown for a shard

@@ -1,6 +1,7 @@
 //! Delay queues behind locks, one a shard, whose entries are extended and cancelled without them.
 #![tactic(auto)]
 
+mod aside;
 mod audit;
 mod callers;
 mod calls;
@@ -8,13 +9,17 @@ pub mod endings;
 mod errors;
 mod handle;
 mod locked;
+mod many;
 mod parked;
 mod poller;
 mod queue;
+mod quiet;
 mod read_shard;
 mod readers;
 mod state;
+mod through;
 mod totals;
+mod waiting;
 
 pub use errors::{QueueConfig, QueueError, SHARD_LIMIT};
 pub use handle::Handle;

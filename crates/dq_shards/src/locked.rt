@@ -5,8 +5,9 @@ ghost use Rattle.dq_shards.specs.Shard.{IsParked, IsShard};
 ghost use Rattle.dq_shards.specs.Audits.{ShardAudits};
 ghost use Rattle.dq_shards.specs.Changes.{ShardInserts, ShardResets, ShardRemoves, ShardDeadline};
 ghost use Rattle.dq_shards.specs.Changes.{ShardPolls, ShardPollsSome, ShardSweeps, ShardSweepsSome, ShardReaps};
-ghost use Rattle.dq_shards.specs.Changes.{ShardClears, Unparks, Rings, ShardIssues, ShardTells};
+ghost use Rattle.dq_shards.specs.Changes.{ShardClears, Unparks, TakesParked, Rings, ShardIssues, ShardTells};
 
+use crate::parked::Parked;
 use crate::state::ShardState;
 use crate::totals::{HandlesOut, Totals};
 use dq_core::{CoreError, Piece, ReapError, Removed, Swept, Turn};
@@ -87,7 +88,7 @@ impl<'q, T: Drop, A: Allocator> LockedShard<'q, T, A> {
     }
 
     /// As [`ShardState::poll`].
-    #[inline]
+    #[inline(always)]
     pub fn poll(&mut self, tick: u64) -> Result<Turn<T>, CoreError>
         ensures { ShardPolls self.old tick result self.new }
     {
@@ -142,6 +143,13 @@ impl<'q, T: Drop, A: Allocator> LockedShard<'q, T, A> {
         ensures { Unparks self.old result self.new }
     {
         self.state.unpark()
+    }
+
+    /// As [`ShardState::take_parked`].
+    pub fn take_parked(&mut self) -> Option<Parked>
+        ensures { TakesParked self.old result self.new }
+    {
+        self.state.take_parked()
     }
 
     /// As [`ShardState::ring`].

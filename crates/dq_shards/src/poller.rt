@@ -2,13 +2,12 @@
 ghost use Rattle.std.specs.Prelude.{◌≡◌, Some, option_map};
 ghost use Rattle.dq_shards.specs.Parking.{poller};
 ghost use Rattle.dq_shards.specs.Shard.{IsParked};
-ghost use Rattle.dq_shards.specs.Changes.{Unparks, Rings};
+ghost use Rattle.dq_shards.specs.Changes.{Unparks, TakesParked, Rings};
 
 use crate::parked::{Parked, ring};
 use crate::state::ShardState;
 use futures::task::Waker;
 use std::alloc::Allocator;
-use std::mem;
 
 impl<T: Drop, A: Allocator> ShardState<T, A> {
     /// The tick of one millisecond until which a poller is parked; none where none is.
@@ -35,20 +34,30 @@ impl<T: Drop, A: Allocator> ShardState<T, A> {
     pub fn unpark(&mut self) -> bool
         ensures { Unparks self.old result self.new }
     {
-        match self.parked.take() {
+        match self.take_parked() {
             Some(poller) => {
-                // A waker that is dropped wakes.
-                mem::forget(poller.waker);
+                Parked::forget(poller);
                 true
             }
             None => false,
         }
     }
 
+    /// Takes the parked poller out and hands it over, unwoken. Whoever has its waker may wake it, or let it go, once the
+    /// shard's lock is free.
+    pub fn take_parked(&mut self) -> Option<Parked>
+        ensures { TakesParked self.old result self.new }
+    {
+        self.parked.take()
+    }
+
     /// Takes out and wakes a poller that is parked at or before `tick`, of one millisecond. True where there was one.
     pub fn ring(&mut self, tick: u64) -> bool
         ensures { Rings self.old tick result self.new }
     {
-        ring(&mut self.parked, tick)
+        let rung = ring(&mut self.parked, tick);
+        let is_rung = rung.is_some();
+        rung.wake();
+        is_rung
     }
 }

@@ -10,6 +10,7 @@ ghost use Rattle.dq_shards.specs.Answers.{IsQueueConfig, QueueIsMade};
 use crate::errors::{QueueConfig, QueueError, SHARD_LIMIT};
 use crate::locked::LockedShard;
 use crate::state::ShardState;
+use crate::waiting::{Waiting, waiting_row};
 use dq_core::{CoreConfig, CoreError};
 use dq_ticks::{CAPACITY_LIMIT, LAST_STAMP};
 use dq_words::{Caller, locked_shards};
@@ -22,20 +23,32 @@ use std::sync::{Mutex, Wait};
 ///
 /// A call takes the lock of one shard, and says what it did as a relation between two states of that shard. The
 /// number of such a state is the shard's; from one lock to the next no contract says more.
+///
+/// A call by name that wakes a parked poller lets the lock go first: whoever is woken may call the queue at once. Under
+/// the lock wake only the calls that are made on a shard in hand, of [`SharedDelayQueue::enter`] and
+/// [`SharedDelayQueue::lend`].
+///
+/// Nor is a value dropped under the lock: what a call reaps or clears it drops once the lock is free, so a value's drop may
+/// call the queue. Where a drop panics the shard is whole, and a later poll, sweep, reap or clear drops the rest. So does it
+/// behind a poll that gave an entry: that one drops nothing, since a panic would lose the entry. A drop that makes one of
+/// these calls itself drops in it what is left.
 #[derive(Drop)]
 pub struct SharedDelayQueue<T, A: Allocator = Global> {
     shards: Vec<Mutex<ShardState<T, A>>, A>,
+    // Of each shard, who waits for its lock.
+    waiting: Vec<Waiting, A>,
 }
 
 impl<T, A: Allocator> Model for SharedDelayQueue<T, A> {
-    ghost use Rattle.std.specs.Prelude.{ℕ, ◌<◌, ◌≤◌, vec_len};
+    ghost use Rattle.std.specs.Prelude.{ℕ, ◌≡◌, ◌<◌, ◌≤◌, vec_len};
     ghost use Rattle.dq_shards.specs.declared.errors.TheConstants.{SHARD_LIMIT};
 
     ghost Value = { ℕ };
 
     ghost view = { λ q. vec_len q.shards };
 
-    ghost invariant = { λ q. (0 < vec_len q.shards) × (vec_len q.shards ≤ SHARD_LIMIT) };
+    ghost invariant = { λ q. (0 < vec_len q.shards) × (vec_len q.shards ≤ SHARD_LIMIT)
+        × (vec_len q.waiting ≡ vec_len q.shards) };
 }
 
 fn is_config(config: &QueueConfig) -> bool
@@ -63,8 +76,11 @@ impl<T: Drop, A: Allocator + Clone + Drop> SharedDelayQueue<T, A> {
             capacity: config.capacity,
             last_stamp: config.last_stamp,
         };
+        let Ok(waiting) = waiting_row(&alloc, config.shards) else {
+            return Err(QueueError::Core(CoreError::NoMemory));
+        };
         match locked_shards(alloc, config.shards as u32, core) {
-            Ok(shards) => Ok(SharedDelayQueue { shards }),
+            Ok(shards) => Ok(SharedDelayQueue { shards, waiting }),
             Err(error) => Err(QueueError::Core(error)),
         }
     }
@@ -81,10 +97,25 @@ impl<T, A: Allocator> SharedDelayQueue<T, A> {
 }
 
 impl<T: Drop, A: Allocator> SharedDelayQueue<T, A> {
+    /// Gives way to whoever waits for the shard's lock: it looks for a bounded while until nobody does, and returns at once
+    /// where nobody does. A shard out of range has no lock.
+    ///
+    /// For loops of one's own over [`SharedDelayQueue::poll_some`]: whoever lets a lock go and takes it again at once gets
+    /// it before a thread that sleeps.
+    pub fn give_way(&self, shard: usize) {
+        if shard < self.shards.len() {
+            let waiting = &self.waiting[shard];
+            waiting.give_way();
+        }
+    }
+
     /// The shard, with its lock held until the answer is dropped. Refused as Unknown exactly out of range.
     ///
-    /// A thread that holds a shard and takes its lock once more, by any call that names the shard, waits for ever.
-    #[inline]
+    /// A thread that holds a shard and takes its lock once more, by any call that names the shard, waits for ever. So does
+    /// a waker that calls the queue where a call on the shard in hand wakes it: [`LockedShard::take_parked`] takes the
+    /// poller out before. Values of what is reaped or cleared wait in the shard: [`SharedDelayQueue::drop_aside`] drops them
+    /// once it is let go.
+    #[inline(always)]
     pub fn enter<R: Wait>(&self, rt: &R, shard: usize) -> Result<LockedShard<'_, T, A>, QueueError>
         ensures entered { IfOk result (λ state. (shard < self.now) × IsShard state) }
         ensures number { IfOk result (λ state. state.core.shard ≡ shard) }
@@ -96,14 +127,15 @@ impl<T: Drop, A: Allocator> SharedDelayQueue<T, A> {
         Ok(self.lock(rt, shard))
     }
 
-    #[inline]
+    #[inline(always)]
     pub(crate) fn lock<R: Wait>(&self, rt: &R, shard: usize) -> LockedShard<'_, T, A>
         requires { shard < self.now }
         ensures law { IsShard result }
         ensures number { result.core.shard ≡ shard }
     {
+        let waiting = &self.waiting[shard];
         let locked = LockedShard {
-            state: self.shards[shard].lock(rt),
+            state: waiting.taken(rt, &self.shards[shard]),
         };
         if locked.shard() as usize != shard {
             // A closure of `lend` put another state here. This thread holds the lock, so it sleeps here.
@@ -127,8 +159,9 @@ impl<T, A: Allocator + Clone> SharedDelayQueue<T, A> {
 
 impl<T: Drop> SharedDelayQueue<T> {
     /// Calls `f` once with the shard's state while its lock is held, and gives back its answer. Refused as Unknown
-    /// exactly out of range; `f` isn't called then. What `f` does on the shard it does on the state: see
-    /// [`SharedDelayQueue::enter`] for what waits for ever.
+    /// exactly out of range; `f` isn't called then. What `f` does on the shard it does on the state, and what it wakes it
+    /// wakes under the lock: see [`SharedDelayQueue::enter`] for what waits for ever. What it reaps or clears is dropped
+    /// behind the lock; but of values that wait an insert drops one where it finds no other slot for it.
     pub fn lend<R: Wait, O, F: FnOnce(&mut ShardState<T>) -> O + Drop>(
         &self,
         rt: &R,
@@ -145,6 +178,9 @@ impl<T: Drop> SharedDelayQueue<T> {
         let mut locked = self.enter(rt, shard)?;
         let answer = f(&mut locked.state);
         locked.law();
+        let aside = locked.state.aside();
+        drop(locked);
+        self.drop_aside(rt, shard, aside);
         Ok(answer)
     }
 }

@@ -9,21 +9,40 @@ ghost use Rattle.dq_core.specs.Calls.{base_for, noting, IsMissing, IsLiveEntry, 
 ghost use Rattle.dq_core.specs.Pieces.{IfAnswer, steps_left};
 ghost use Rattle.dq_core.specs.Sweeps.{NoneCancelled, NotCancelled};
 ghost use Rattle.dq_core.specs.AtTheCall.{IfOut, IfRests, linked_in, IsLinkedAs, HoldsValue, OthersStay, KeepsSlots};
+ghost use Rattle.dq_shards.specs.Parking.{Leaves};
 ghost use Rattle.dq_shards.specs.Shard.{IsShard, IsParked, KeepsOrWakes};
 ghost use Rattle.dq_shards.specs.Changes.{ShardInserts, ShardResets, ShardRemoves, ShardDeadline};
 ghost use Rattle.dq_shards.specs.Changes.{ShardPolls, ShardPollsSome, IfWorking};
 ghost use Rattle.dq_shards.specs.Changes.{ShardSweeps, ShardSweepsSome, ShardReaps, ShardClears, going_on};
 
-use crate::parked::{Parked, keep_until};
+use crate::parked::{Leaver, Parked, keep_until};
 use dq_core::{CoreError, DelayCore, Piece, ReapError, Removed, Swept, Turn};
 use dq_ticks::{EntryId, Key};
 use dq_words::Keeper;
 use std::alloc::{Allocator, Global};
 use std::marker::Model;
 
-// Wakes the poller where it stands parked against the parked law with the queue as it is now. Where none is parked, which is so
-// in most calls, the next wake isn't asked for.
-#[inline]
+// Takes the poller out where it stands parked against the parked law with the queue as it is now. Where none is parked, which is
+// so in most calls, the next wake isn't asked for.
+#[inline(always)]
+pub(crate) fn keep_or_leave<T: Drop, A: Allocator>(
+    core: &DelayCore<T, Keeper<A>, A>,
+    parked: &mut Option<Parked>,
+) -> Leaver
+    ensures keeps_or_wakes { KeepsOrWakes core.now parked.old parked.new }
+    ensures law { IsParked core.now parked.new }
+    ensures empty { NoneLinked (machine core.now) → parked.new ≡ None }
+    ensures leaves { Leaves parked.old result.poller parked.new }
+{
+    if parked.is_some() {
+        keep_until(parked, core.next_wake())
+    } else {
+        Leaver { poller: None }
+    }
+}
+
+// Wakes the poller where it stands parked against the parked law with the queue as it is now.
+#[inline(always)]
 fn keep_or_wake<T: Drop, A: Allocator>(
     core: &DelayCore<T, Keeper<A>, A>,
     parked: &mut Option<Parked>,
@@ -32,20 +51,23 @@ fn keep_or_wake<T: Drop, A: Allocator>(
     ensures law { IsParked core.now parked.new }
     ensures empty { NoneLinked (machine core.now) → parked.new ≡ None }
 {
-    if parked.is_some() {
-        keep_until(parked, core.next_wake());
-    }
+    keep_or_leave(core, parked).wake();
 }
 
 /// The value behind a shard's lock: a queue over words that callers share, and the poller that is parked there.
 ///
 /// It always keeps the shard law of its queue, whatever the callers do meanwhile, and the parked law: where a poller is
 /// parked there is a next wake, and the parked tick is not after it. A call that would break the parked law takes the
-/// poller out and wakes it.
+/// poller out and wakes it, at once: the lock is held meanwhile. A call of the queue by name wakes it once the lock is free.
 #[derive(Drop)]
 pub struct ShardState<T, A: Allocator = Global> {
+    // What works under the lock has no line with the lock itself, which others look at while they wait for it.
+    _apart: [u64; 7],
     pub(crate) core: DelayCore<T, Keeper<A>, A>,
     pub(crate) parked: Option<Parked>,
+    // Shards stand in one row. With this each is, behind its lock, a whole number of cache lines, and no line has what two of
+    // them write. A test tells: where a field is added, this is another number.
+    _room: u64,
 }
 
 impl<T, A: Allocator> Model for ShardState<T, A> {
@@ -64,7 +86,15 @@ impl<T, A: Allocator> From<DelayCore<T, Keeper<A>, A>> for ShardState<T, A> {
     ghost from_gives = { λ core s. s ≡ record { core = core; parked = None } };
 
     fn from(core: DelayCore<T, Keeper<A>, A>) -> ShardState<T, A> {
-        ShardState { core, parked: None }
+        // No value is dropped under the lock.
+        let mut core = core;
+        core.set_aside();
+        ShardState {
+            _apart: [0; 7],
+            core,
+            parked: None,
+            _room: 0,
+        }
     }
 }
 
@@ -96,6 +126,8 @@ impl<T: Drop, A: Allocator> ShardState<T, A> {
         // All that it does.
         ensures inserts { ShardInserts self.old value when result self.new }
     {
+        // It is dropped where this ends: all else is done by then.
+        let _crowded = self.take_crowded();
         let answer = self.core.insert(value, when);
         keep_or_wake(&self.core, &mut self.parked);
         answer
@@ -178,7 +210,7 @@ impl<T: Drop, A: Allocator> ShardState<T, A> {
     /// tick noted: call again until the answer is Waiting (nothing is due; `next` is the next tick at which there is
     /// something to do) or Idle (nothing is linked). Refused as TickTooLarge beyond the last tick, which is not noted
     /// then.
-    #[inline]
+    #[inline(always)]
     pub fn poll(&mut self, tick: u64) -> Result<Turn<T>, CoreError>
         // The greater of the two ticks is noted. A tick is refused exactly beyond the last one.
         ensures noted { OnOk result (self.new.core.noted ≡ max self.old.core.noted tick) }

@@ -9,9 +9,9 @@ ghost use Rattle.dq_stream.specs.PacedGives.{PacedGives};
 ghost use Rattle.dq_stream.specs.Answers.{IfGiven, IsLeastDue, IsParkedAtWake};
 
 use crate::fault::StreamFault;
-use crate::parking::wait;
+use crate::parking::{let_sleep, wait};
 use crate::source::TickSource;
-use crate::stream::{ExpiredStream, ends};
+use crate::stream::{ExpiredStream, drop_at_rest, ends};
 use dq_core::{CoreError, Expired, Piece, Turn};
 use dq_shards::LockedShard;
 use futures::Stream;
@@ -22,8 +22,9 @@ use std::sync::Wait;
 
 /// An [`ExpiredStream`] whose polls make at most so many steps of their shard while its lock is held.
 ///
-/// A poll that has made them all and has more to do lets the lock go, wakes its own task and is Pending. So others may
-/// take the lock before the task is polled again. It gives what its stream would give, and parks as that does.
+/// A poll that has made them all and has more to do wakes its own task, lets the lock go and is Pending. So others may
+/// take the lock before the task is polled again, and where it is polled at once it gives way for a bounded while to who
+/// waits for the lock. It gives what its stream would give, and parks as that does.
 ///
 /// It keeps nothing of a poll: what is under way stands in the shard. Whether it is dropped, or turned back into its
 /// stream, the next poll of the shard goes on there.
@@ -106,7 +107,8 @@ impl<'q, T: Drop, S: TickSource, R: Wait, A: Allocator> Stream for PacedStream<'
     /// woken, with more to do. Faults are those of its stream. Its cost is that of its steps.
     ///
     /// It is [`ExpiredStream::poll_some_locked`] under the shard's lock, which it doesn't take where it has ended for
-    /// good.
+    /// good. A waker that was parked before is let go once the lock is free. Under the lock the polled task's own is made, or
+    /// woken where there is more to do, and the source is asked: none of them may take that lock.
     fn poll_next(&mut self, cx: &mut Context<'_>) -> Poll<Option<Result<Expired<T>, StreamFault>>>
         // It waits registered with its context, or with its task woken.
         ensures registered { OnPending result (Covers cx.new (λ s. s ≡ self.new.stream.name.id)) }
@@ -139,12 +141,24 @@ impl<'q, T: Drop, S: TickSource, R: Wait, A: Allocator> Stream for PacedStream<'
         if self.stream.ended {
             Poll::Ready(None)
         } else {
+            self.stream.queue.give_way(self.stream.shard);
             let Ok(mut shard) = self.stream.queue.enter(self.stream.rt, self.stream.shard) else {
                 unreachable!()
             };
+            let before = shard.take_parked();
             shard.law();
             let answer = self.stream.poll_some_locked(&mut shard, self.steps, cx);
             shard.law();
+            let aside = shard.aside();
+            drop(shard);
+            let_sleep(before);
+            drop_at_rest(
+                self.stream.queue,
+                self.stream.rt,
+                self.stream.shard,
+                aside,
+                &answer,
+            );
             answer
         }
     }

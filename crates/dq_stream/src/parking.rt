@@ -5,9 +5,16 @@ ghost use Rattle.dq_core.specs.Calls.{TellsWake};
 ghost use Rattle.dq_stream.specs.Wakers.{LacksWaker, Parks, ParksWith};
 
 use crate::fault::StreamFault;
-use dq_shards::LockedShard;
+use dq_shards::{LockedShard, Parked};
 use futures::task::{Context, Poll, Source, Waker};
 use std::alloc::Allocator;
+
+// Lets a poller go that a stream took out, and doesn't wake it. Its waker is the user's: so the shard's lock is to be free.
+pub(crate) fn let_sleep(before: Option<Parked>) {
+    if let Some(poller) = before {
+        Parked::forget(poller);
+    }
+}
 
 // Registers with the context, and parks its task at the next wake. The name stands for the shard, as a source that
 // fires where it wakes its poller.

@@ -9,7 +9,7 @@ ghost use Rattle.dq_stream.specs.Polls.{StreamPolls, AnswersAt};
 ghost use Rattle.dq_stream.specs.Answers.{IfGiven, IsLeastDue, IsParkedAtWake};
 
 use crate::fault::StreamFault;
-use crate::parking::wait;
+use crate::parking::{let_sleep, wait};
 use crate::source::TickSource;
 use dq_core::{CoreError, Expired, Turn};
 use dq_shards::{LockedShard, QueueError, SharedDelayQueue};
@@ -71,6 +71,9 @@ impl<'q, T: Drop, S: TickSource, R: Wait, A: Allocator> ExpiredStream<'q, T, S, 
     ///
     /// It takes the parked poller out, asks its source for the tick, and polls the shard once at it. An entry that comes
     /// out is given. Where the shard waits the polled task is parked at its next wake.
+    ///
+    /// The waker that was parked is let go under the lock. Where that may call the queue, take it out before, by
+    /// [`LockedShard::take_parked`], and let it go once the lock is free, as [`Stream::poll_next`] does.
     pub fn poll_locked(
         &mut self,
         shard: &mut LockedShard<'_, T, A>,
@@ -120,7 +123,9 @@ impl<'q, T: Drop, S: TickSource, R: Wait, A: Allocator> Stream for ExpiredStream
     /// A tick beyond the last one gives TickTooLarge once, and from then on None. Where no waker can be made for want
     /// of memory it gives NoMemory, and goes on. Its cost is that of one poll of the shard.
     ///
-    /// It is [`ExpiredStream::poll_locked`] under the shard's lock, which it doesn't take where it has ended for good.
+    /// It is [`ExpiredStream::poll_locked`] under the shard's lock, which it doesn't take where it has ended for good. A waker
+    /// that was parked before is let go once the lock is free. Under the lock the polled task's own is made, and the source
+    /// is asked: neither may take that lock.
     fn poll_next(&mut self, cx: &mut Context<'_>) -> Poll<Option<Result<Expired<T>, StreamFault>>>
         // It waits registered with its context.
         ensures registered { OnPending result (Covers cx.new (λ s. s ≡ self.new.name.id)) }
@@ -154,11 +159,31 @@ impl<'q, T: Drop, S: TickSource, R: Wait, A: Allocator> Stream for ExpiredStream
             let Ok(mut shard) = self.queue.enter(self.rt, self.shard) else {
                 unreachable!()
             };
+            let before = shard.take_parked();
             shard.law();
             let answer = self.poll_locked(&mut shard, cx);
             shard.law();
+            let aside = shard.aside();
+            drop(shard);
+            let_sleep(before);
+            drop_at_rest(self.queue, self.rt, self.shard, aside, &answer);
             answer
         }
+    }
+}
+
+// Drops so many values that are set aside in a shard, behind a poll that gave no entry. A drop that panics would lose the
+// entry that one gave.
+pub(crate) fn drop_at_rest<T: Drop, R: Wait, A: Allocator>(
+    queue: &SharedDelayQueue<T, A>,
+    rt: &R,
+    shard: usize,
+    aside: usize,
+    answer: &Poll<Option<Result<Expired<T>, StreamFault>>>,
+) {
+    let gives = matches!(answer, Poll::Ready(Some(Ok(_))));
+    if !gives {
+        queue.drop_aside(rt, shard, aside);
     }
 }
 

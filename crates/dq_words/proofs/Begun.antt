@@ -1,5 +1,5 @@
--- What the keeper has begun stays written.
-use Rattle.std.proofs.Common.{◌≡◌, ℕ, ◌≤◌, List, ◌∷◌, Option, Some, None, sym, ap, subst, inl, inr, arith}
+-- What the keeper has begun stays written, and how many steps it makes.
+use Rattle.std.proofs.Common.{◌≡◌, ℕ, suc, ◌+◌, ◌≤◌, List, ◌∷◌, length, Option, Some, None, sym, ap, subst, inl, inr, arith}
 use Rattle.dq_core.specs.declared.words.Settled.{Settled}
 use Rattle.dq_core.specs.declared.words.Settled.TheVariants.{SettledExpired, Later, SettledCancelled}
 use Rattle.dq_ticks.specs.Word.{word, stamp_of, field_of}
@@ -46,3 +46,15 @@ renew_stays v w i s when None h = stays v w (ap (λ (u : View). u.writes) h.1.1)
 pub finish_stays : (v w : View) (i s : ℕ) (r : Option ℕ) → KeeperFinishes v i s r w → WritesStay v w
 finish_stays v w i s (Some d) h = stays_on v w _ (ap (λ (u : View). u.writes) h.2.1)
 finish_stays v w i s None h = stays v w (ap (λ (u : View). u.writes) h.1.1)
+
+-- one step more
+once : (v w : View) → length w.steps ≡ suc (length v.steps) → length w.steps ≤ length v.steps + 1
+once v w is = omega (arith, is)
+
+pub load_once : (v w : View) (i n : ℕ) → KeeperLoads v w i n → length w.steps ≤ length v.steps + 1
+load_once v w i n h = once v w (ap (λ (u : View). length u.steps) h.0)
+
+pub settle_once : (v w : View) (i s at : ℕ) (r : Settled) → KeeperSettles v i s at r w → length w.steps ≤ length v.steps + 1
+settle_once v w i s at SettledExpired h = once v w (ap (λ (u : View). length u.steps) h.1)
+settle_once v w i s at (Later d) h = once v w (ap (λ (u : View). length u.steps) h.2.0)
+settle_once v w i s at SettledCancelled h = once v w (ap (λ (u : View). length u.steps) h.0)

@@ -10,6 +10,7 @@ pub mod Extends
 pub mod Gathers
 pub mod Keepings
 pub mod Knowing
+pub mod Outs
 pub mod Returns
 pub mod Seats
 pub mod Starts

@@ -5,6 +5,7 @@ pub mod KeeperCalls
 pub mod Endings
 pub mod Files
 pub mod Keeping
+pub mod Many
 pub mod Plays
 pub mod Rule
 pub mod Seats

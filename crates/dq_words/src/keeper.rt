@@ -186,6 +186,8 @@ impl<A: Allocator> Words for Keeper<A> {
 
     ghost begun = { HasBegun };
 
+    ghost steps = { λ k. length k.view.steps };
+
     fn law(&self) {
         Keeper::law(self);
     }
@@ -217,6 +219,7 @@ impl<A: Allocator> Words for Keeper<A> {
         ensures counts { counts_by self.new ≡ counts_by self.old }
         ensures origin { self.new.table ≡ self.old.table }
         ensures begun { StillBegun HasBegun self.old self.new }
+        ensures one_step { StepsAtMost 1 self.old self.new }
         ensures step { KeeperLooks self.old.view index result self.new.view }
     {
         unpack(self.seat.keeper_load(index))
@@ -234,6 +237,7 @@ impl<A: Allocator> Words for Keeper<A> {
         ensures counts { counts_by self.new ≡ settled_counts (counts_by self.old) result }
         ensures origin { self.new.table ≡ self.old.table }
         ensures begun { StillBegun HasBegun self.old self.new }
+        ensures one_step { StepsAtMost 1 self.old self.new }
         ensures step { KeeperSettles self.old.view index stamp at result self.new.view }
     {
         tries::settle(&mut self.seat, index, stamp, at)

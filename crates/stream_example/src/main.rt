@@ -52,7 +52,7 @@ where
     let mail = put_off(rt, &jobs, "the mail", 5_000)?;
     put_off(rt, &jobs, "the backup", 20_000)?;
     put_off(rt, &jobs, "the report", 30_000)?;
-    let mut handle = jobs.handle(rt)?; // takes no lock: any thread may extend while others poll
+    let mut handle = jobs.handle(rt)?; // its calls take no lock: any thread may extend while others poll
     handle.extend(&mail, 45_000)?;
     if let Turn::Waiting { next } = jobs.poll(rt, SHARD, 5_000)? {
         println!(rt; "5000: nothing is due before {next}")?;

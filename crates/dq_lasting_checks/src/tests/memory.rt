@@ -18,6 +18,7 @@ type Letters<'heap, 'all> = LastingQueue<char, &'heap Heap<'all>>;
 enum Refused {
     InNew,
     InHandle,
+    InStates,
     InReopen,
     Nowhere,
 }
@@ -31,7 +32,8 @@ fn goes_beside<R: Abort + Wait>(rt: &R, queue: &Letters) {
     same(rt, "insert", shard, Some(1));
 }
 
-// A shard that is closed and empty is opened again, once more where memory was refused first, and tells whether it was.
+// A shard that is closed and empty is opened again, once more where memory was refused first, and tells whether it was. A
+// refusal leaves it as it was.
 fn reopens<'heap, 'all, R: Abort + Wait>(
     rt: &R,
     heap: &'heap Heap<'all>,
@@ -39,6 +41,7 @@ fn reopens<'heap, 'all, R: Abort + Wait>(
 ) -> Result<bool, ReopenError> {
     let mut was_refused = false;
     for _ in 0..2 {
+        let before = queue.state(rt, 0);
         match queue.keep_going(rt, heap) {
             Ok(kept) => {
                 same(rt, "keep_going", kept, Kept::Reopened { place: 0 });
@@ -47,6 +50,7 @@ fn reopens<'heap, 'all, R: Abort + Wait>(
             Err(ReopenError::NoMemory) => was_refused = true,
             Err(error) => return Err(error),
         }
+        same(rt, "state", queue.state(rt, 0), before);
         goes_beside(rt, queue);
     }
     Err(ReopenError::NoMemory)
@@ -69,7 +73,7 @@ fn refused_in<R: Abort>(
     Ok(Refused::Nowhere)
 }
 
-// A handle is made, and a closed shard is opened again, whose new caller the handle takes on.
+// A handle is made, the states are told, and a closed shard is opened again, whose new caller the handle takes on.
 fn goes_on<'heap, 'all, R: Abort + Wait>(
     rt: &R,
     heap: &'heap Heap<'all>,
@@ -81,9 +85,13 @@ fn goes_on<'heap, 'all, R: Abort + Wait>(
         Err(HandleError::NoMemory) => return Ok(Refused::InHandle),
         Err(error) => return Err(error.into()),
     };
+    let told = queue.states(rt, heap).is_ok();
     let reopened = reopens(rt, heap, queue);
     let took = handle.renew(rt, queue);
     handle.give_back();
+    if !told {
+        return Ok(Refused::InStates);
+    }
     refused_in(rt, reopened, took)
 }
 
@@ -106,15 +114,16 @@ fn refused_at<R: Abort + Wait>(rt: &R, all: &LocalHeap, grants: u64) -> Result<R
 }
 
 // How often memory was refused where, until it isn't.
-fn counted<R: Abort + Wait>(rt: &R, all: &LocalHeap) -> Result<[u64; 4], Fail> {
-    let mut counts = [0u64; 4];
+fn counted<R: Abort + Wait>(rt: &R, all: &LocalHeap) -> Result<[u64; 5], Fail> {
+    let mut counts = [0u64; 5];
     for grants in 0..64u64 {
         let refused = refused_at(rt, all, grants)?;
         let at = match refused {
             Refused::InNew => 0,
             Refused::InHandle => 1,
-            Refused::InReopen => 2,
-            Refused::Nowhere => 3,
+            Refused::InStates => 2,
+            Refused::InReopen => 3,
+            Refused::Nowhere => 4,
         };
         counts[at] = counts[at].wrapping_add(1);
         if refused == Refused::Nowhere {
@@ -127,12 +136,12 @@ fn counted<R: Abort + Wait>(rt: &R, all: &LocalHeap) -> Result<[u64; 4], Fail> {
 fn counts_each<R: Abort + Wait>(rt: &R, all: &LocalHeap) -> Result<(), Fail> {
     let counts = counted(rt, all)?;
     same(rt, "used", all.used(), 0);
-    same(rt, "refused", counts, [17, 1, 4, 1]);
+    same(rt, "refused", counts, [17, 1, 1, 7, 1]);
     Ok(())
 }
 
 // A queue of two shards takes a row of them, and eight times for each: four for its words, three for its slots, one for its
-// wheel. A handle takes a row of callers, and an opening the words anew.
+// wheel. A handle takes a row of callers, the states take one, and an opening takes the words and the slots anew.
 #[test]
 fn each_allocation_refused(rt: HostRuntime) -> Result<(), Fail> {
     let all = LocalHeap::new(rt.alloc(), 1 << 20)?;

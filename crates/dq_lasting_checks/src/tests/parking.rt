@@ -19,9 +19,6 @@ const OUT: Seen = Out {
 
 const LATE: LastingError = LastingError::Core(CoreError::TickTooLarge { limit: LAST_TICK });
 
-// Both slots are worn.
-const WORN: LastingError = LastingError::Core(CoreError::Full { linked: 0, worn: 2 });
-
 // The entry that the task waits for becomes due later than at first. Where its next wake is later it waits on.
 #[test]
 fn woken_by_what_comes_sooner(rt: HostRuntime) -> Result<(), Fail> {
@@ -105,7 +102,7 @@ fn woken_where_its_shard_goes_on(rt: HostRuntime) -> Result<(), Fail> {
 }
 
 // At first one of two slots is worn, and the task waits for the entry in the other. Then both are worn, and it waits for an
-// insert, which is refused. The step that closes the worn shard wakes the task, and no more than once. That the shard is opened
+// insert, which goes to the other shard. The step that closes the worn shard wakes the task, and no more than once. That the shard is opened
 // again it doesn't learn: it hasn't asked since it was woken.
 #[test]
 fn woken_where_its_worn_shard_is_closed(rt: HostRuntime) -> Result<(), Fail> {
@@ -124,12 +121,10 @@ fn woken_where_its_worn_shard_is_closed(rt: HostRuntime) -> Result<(), Fail> {
         Insert(0, 10, Ok(2)),
         Clear(0, Ok(2)),
         Poll(0, 0, Waits),
-        Insert(0, 5, Err(WORN)),
-        Woken(false),
-        KeepGoing(Kept::Closed { place: 0 }),
-        Woken(true),
+        Insert(0, 5, Ok(1)),
         Woken(false),
         KeepGoing(Kept::Reopened { place: 0 }),
+        Woken(true),
         Woken(false),
     ];
     plays(&rt, short_lived(2), calls)

@@ -5,6 +5,7 @@ use super::tasks::{Seen, Task};
 use dq_core::{CallError, CoreError, Look};
 use dq_lasting::{
     HandleError, Kept, LastingConfig, LastingError, LastingHandle, LastingQueue, LastingTotals,
+    PlaceState,
 };
 use dq_ticks::Key;
 use std::alloc::{AllocGlobal, Global};
@@ -61,6 +62,8 @@ pub enum Told {
     Audit([u128; 4]),
     /// What a new handle tells of an entry.
     LookAnew(usize, Look),
+    /// Of each of six places how many entries are linked, how many slots are worn, and whether it takes entries.
+    States([(usize, usize, bool); 6]),
 }
 
 /// Two tasks, a handle, and the keys of what was inserted.
@@ -150,6 +153,7 @@ impl Player {
                 let looked = look_anew(rt, queue, &self.key(rt, entry));
                 same(rt, number, looked, Ok((Ok(0), Ok(look))))
             }
+            Told::States(states) => tells_states(rt, self.alloc, queue, number, states),
         }
     }
 
@@ -210,6 +214,38 @@ fn tally<R: Wait>(
         (past.inserted, past.removed, past.cancelled),
         (present.inserted, present.linked),
     ))
+}
+
+// A state alone is as that of all, and its numbers are those that are told one by one.
+fn tells_state<R: Abort + Wait>(
+    rt: &R,
+    queue: &Texts,
+    number: usize,
+    place: usize,
+    state: PlaceState,
+) {
+    same(rt, number, queue.state(rt, place), Ok(state));
+    same(rt, number, queue.next_wake(rt, place), Ok(state.next_wake));
+    same(rt, number, queue.tally(rt, place), Ok(state.tally));
+    same(rt, number, state.number as usize % queue.shards(), place);
+    same(rt, number, state.tally.present.linked, state.linked as u64);
+}
+
+fn tells_states<R: Abort + Wait>(
+    rt: &R,
+    alloc: Global,
+    queue: &Texts,
+    number: usize,
+    expected: [(usize, usize, bool); 6],
+) {
+    let states = queue.states(rt, alloc).expect(rt, "a row of states");
+    same(rt, number, states.len(), 6);
+    for (place, state) in states.iter().enumerate() {
+        tells_state(rt, queue, number, place, *state);
+        let told = (state.linked, state.worn, state.takes);
+        same(rt, number, Some(told), expected.get(place).copied());
+    }
+    same(rt, number, queue.state(rt, 6), Err(LastingError::Unknown));
 }
 
 fn totals([inserted, removed, cancelled, linked]: [u128; 4]) -> LastingTotals {

@@ -1,7 +1,6 @@
 //! A pool of handles, which threads take one after the other.
 
 use super::same;
-use super::work::Numbers;
 use dq_lasting::{HandleError, LastingConfig, LastingHandle, LastingQueue};
 use dq_pool::HandlePool;
 use dq_ticks::Key;
@@ -10,6 +9,8 @@ use std::process::Abort;
 use std::sync::Wait;
 use std::test::Fail;
 use std::thread::{Threads, join};
+
+type Numbers = LastingQueue<Box<u64>>;
 
 type Pool = HandlePool<LastingHandle>;
 

@@ -3,10 +3,10 @@
 use super::play::Call::{ByHandle, Clear, Close, Insert, KeepGoing, Remove, Sweep, Tell};
 use super::play::HandleCall::{Cancel, Extend, Look, Renew};
 use super::play::Told::{Audit, Deadline, Tally, Wake};
-use super::play::{Texts, plays, short_lived};
+use super::play::{Texts, plays, queue_and_player, short_lived};
 use super::same;
 use dq_core::{CallError, CoreError};
-use dq_lasting::{HandleError, Kept, LastingError, LastingQueue};
+use dq_lasting::{HandleError, Kept, LastingConfig, LastingError, LastingQueue};
 use std::alloc::Global;
 use std::process::Abort;
 use std::sync::Wait;
@@ -17,18 +17,18 @@ const FULL: LastingError = LastingError::Core(CoreError::Full { linked: 3, worn:
 
 const WORN: LastingError = LastingError::Core(CoreError::Full { linked: 0, worn: 3 });
 
-// At the end what was cleared from the full shard at place 1 has worn its slots.
+// What finds the shard at place 1 full goes to the other one. At the end what was cleared from it has worn its slots.
 #[test]
 fn a_shard_holds_as_many_as_it_has_slots(rt: HostRuntime) -> Result<(), Fail> {
     let calls = &[
         Insert(1, 5, Ok(1)),
         Insert(1, 5, Ok(1)),
         Insert(1, 5, Ok(1)),
-        Insert(1, 5, Err(FULL)),
-        Insert(0, 5, Ok(0)),
+        Insert(1, 5, Ok(0)),
         Insert(0, 5, Ok(0)),
         Insert(0, 5, Ok(0)),
         Insert(0, 5, Err(FULL)),
+        Insert(1, 5, Err(FULL)),
         Tell(Wake(1, Some(5))),
         Clear(1, Ok(3)),
         Insert(1, 5, Err(WORN)),
@@ -72,15 +72,20 @@ fn keep_going_does_what_is_due(rt: HostRuntime) -> Result<(), Fail> {
     plays(&rt, short_lived(2), calls)
 }
 
-// One of the two slots of each shard is worn, so both are to be closed, and one of them takes what is inserted at every moment.
+// Two of the four slots of each shard are worn, so both are to be closed, and one of them takes what is inserted at every moment.
 #[test]
 fn one_shard_is_closed_at_a_time(rt: HostRuntime) -> Result<(), Fail> {
     let calls = &[
         Insert(0, 5, Ok(0)),
         Insert(0, 5, Ok(0)),
+        Insert(0, 5, Ok(0)),
         Remove(1, 5),
-        Insert(1, 5, Ok(1)),
         Remove(2, 5),
+        Insert(1, 5, Ok(1)),
+        Insert(1, 5, Ok(1)),
+        Insert(1, 5, Ok(1)),
+        Remove(4, 5),
+        Remove(5, 5),
         KeepGoing(Kept::Closed { place: 0 }),
         KeepGoing(Kept::Drains {
             place: 0,
@@ -92,7 +97,75 @@ fn one_shard_is_closed_at_a_time(rt: HostRuntime) -> Result<(), Fail> {
         KeepGoing(Kept::Closed { place: 1 }),
         Insert(1, 5, Ok(2)),
     ];
+    plays(&rt, short_lived(4), calls)
+}
+
+// An entry with a far deadline holds the shard at place 0 closed. The other one is worn out and empty, so it is opened again at once.
+#[test]
+fn an_empty_shard_is_opened_while_another_drains(rt: HostRuntime) -> Result<(), Fail> {
+    let calls = &[
+        Insert(0, 1_000_000, Ok(0)),
+        Insert(0, 5, Ok(0)),
+        Remove(1, 5),
+        KeepGoing(Kept::Closed { place: 0 }),
+        Insert(1, 5, Ok(1)),
+        Insert(0, 5, Ok(1)),
+        Remove(2, 5),
+        Remove(3, 5),
+        KeepGoing(Kept::Reopened { place: 1 }),
+        Insert(0, 5, Ok(3)),
+        KeepGoing(Kept::Drains {
+            place: 0,
+            linked: 1,
+        }),
+    ];
     plays(&rt, short_lived(2), calls)
+}
+
+// While the shard at place 0 drains for long, the next is closed once three of its four slots are worn. The last one takes entries
+// though it is as worn.
+#[test]
+fn another_shard_is_closed_once_it_is_far_worn(rt: HostRuntime) -> Result<(), Fail> {
+    let drains = Kept::Drains {
+        place: 0,
+        linked: 1,
+    };
+    let full = LastingError::Core(CoreError::Full { linked: 1, worn: 3 });
+    let calls = &[
+        Insert(0, 1_000_000, Ok(0)),
+        Insert(0, 5, Ok(0)),
+        Insert(0, 5, Ok(0)),
+        Remove(1, 5),
+        Remove(2, 5),
+        KeepGoing(Kept::Closed { place: 0 }),
+        Insert(1, 5, Ok(1)),
+        Insert(1, 5, Ok(1)),
+        Insert(1, 5, Ok(1)),
+        Insert(1, 5, Ok(1)),
+        Remove(3, 5),
+        Remove(4, 5),
+        KeepGoing(drains),
+        Remove(5, 5),
+        KeepGoing(Kept::Closed { place: 1 }),
+        Insert(0, 5, Ok(2)),
+        Insert(1, 5, Ok(2)),
+        Insert(2, 5, Ok(2)),
+        Insert(2, 5, Ok(2)),
+        Remove(7, 5),
+        Remove(8, 5),
+        Remove(9, 5),
+        KeepGoing(drains),
+        Insert(0, 5, Err(full)),
+        Remove(6, 5),
+        KeepGoing(Kept::Reopened { place: 1 }),
+        Insert(0, 5, Ok(4)),
+    ];
+    let config = LastingConfig {
+        shards: 3,
+        capacity: 4,
+        last_stamp: 1,
+    };
+    plays(&rt, config, calls)
 }
 
 // Takes all handles of a generation.
@@ -126,6 +199,35 @@ fn takes_each_generations_handles<R: Abort + Wait>(
 fn each_generation_has_so_many_handles(rt: HostRuntime) -> Result<(), Fail> {
     let queue = LastingQueue::new(rt.alloc(), short_lived(1))?;
     takes_each_generations_handles(&rt, rt.alloc(), &queue)
+}
+
+// A shard of 600 slots, all of which are linked, and all but the first cancelled, is swept by 256 slots a step, from where
+// the step before ended, and then from the first one again.
+#[test]
+fn a_closed_shard_is_swept_in_pieces(rt: HostRuntime) -> Result<(), Fail> {
+    let (queue, mut player) = queue_and_player(&rt, short_lived(600))?;
+    for _ in 0..600 {
+        player.plays(&rt, &queue, &[Insert(0, 5, Ok(0))]);
+    }
+    for entry in 1..600 {
+        player.plays(&rt, &queue, &[ByHandle(Cancel(entry, Ok(5)))]);
+    }
+    player.plays(&rt, &queue, &[Close(0)]);
+    for linked in [345, 89, 1, 1, 1, 1] {
+        let drains = Kept::Drains { place: 0, linked };
+        player.plays(&rt, &queue, &[KeepGoing(drains)]);
+    }
+    let drains = Kept::Drains {
+        place: 0,
+        linked: 0,
+    };
+    let calls = &[
+        ByHandle(Cancel(0, Ok(5))),
+        KeepGoing(drains),
+        KeepGoing(Kept::Reopened { place: 0 }),
+    ];
+    player.plays(&rt, &queue, calls);
+    Ok(())
 }
 
 // The shard at place 0 is opened again after its entry was removed. What was cancelled is linked until it is reaped.

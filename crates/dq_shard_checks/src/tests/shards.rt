@@ -4,12 +4,13 @@ use super::calls::{ends, insert};
 use super::play::Letters;
 use super::same;
 use dq_core::CoreError;
-use dq_shards::{Handle, QueueConfig, QueueError, SharedDelayQueue, Totals};
+use dq_shards::{Handle, QueueConfig, QueueError, ShardState, SharedDelayQueue, Totals};
 use dq_ticks::Key;
 use std::alloc::Global;
 use std::cell::Cell;
+use std::mem;
 use std::process::Abort;
-use std::sync::Wait;
+use std::sync::{Mutex, Wait};
 use std::test::Fail;
 
 const BAD_CONFIG: Option<QueueError> = Some(QueueError::Core(CoreError::BadConfig));
@@ -43,6 +44,16 @@ fn bad_configs(rt: HostRuntime) {
         let refused = refusal(rt.alloc(), config);
         same(&rt, "new", (config, refused), (config, *answer));
     }
+}
+
+// No cache line, of 64 bytes, has what two shards write.
+#[test]
+fn shards_are_whole_cache_lines(rt: HostRuntime) {
+    let (empty, boxed) = (
+        mem::size_of::<Mutex<ShardState<()>>>(),
+        mem::size_of::<Mutex<ShardState<Box<u64>>>>(),
+    );
+    same(&rt, "lines", (empty % 64, boxed % 64), (0, 0));
 }
 
 type Numbers = SharedDelayQueue<usize>;

@@ -1,9 +1,9 @@
-//! A poller that is parked in the place of another one.
+//! A poller that is parked in the place of another one, or taken out.
 
 use super::same;
 use super::streams::{Letters, fill, letters};
 use dq_core::Turn;
-use dq_shards::LockedShard;
+use dq_shards::{LockedShard, Parked};
 use dq_stream::parking::park_with;
 use futures::task::{Context, Poll, Source, Waker};
 use futures::test::MockTask;
@@ -56,4 +56,48 @@ fn parked_in_the_place_of_another(rt: HostRuntime) -> Result<(), Fail> {
     let queue = letters(rt.alloc(), 1)?;
     let (first, second) = (MockTask::new(&rt)?, MockTask::new(&rt)?);
     wakes_the_second(&rt, &queue, &first, &second)
+}
+
+// Takes the poller out of shard 0. The lock is free once it is handed over.
+fn taken<R: Wait>(rt: &R, queue: &Letters) -> Result<Option<Parked>, Fail> {
+    Ok(queue.enter(rt, 0)?.take_parked())
+}
+
+// What is taken out is parked no more, and is woken by whoever has it, or not at all.
+fn wakes_what_is_taken<R: Abort + Wait>(
+    rt: &R,
+    queue: &Letters,
+    task: &MockTask,
+    wakes: bool,
+) -> Result<(), Fail> {
+    let name = Source::new();
+    fill(rt, queue, 0, &[('v', 10)])?;
+    parks(rt, queue, task, &name)?;
+    let Some(poller) = taken(rt, queue)? else {
+        return Err(Fail::new("nobody was parked"));
+    };
+    same(rt, "taken", (poller.next, task.is_woken()), (10, false));
+    same(rt, "parked", queue.parked(rt, 0), Ok(None));
+    if wakes {
+        poller.waker.wake();
+    } else {
+        Parked::forget(poller);
+    }
+    same(rt, "woken", task.is_woken(), wakes);
+    same(rt, "taken again", taken(rt, queue)?.is_some(), false);
+    Ok(())
+}
+
+#[test]
+fn taken_out_and_woken(rt: HostRuntime) -> Result<(), Fail> {
+    let queue = letters(rt.alloc(), 1)?;
+    let task = MockTask::new(&rt)?;
+    wakes_what_is_taken(&rt, &queue, &task, true)
+}
+
+#[test]
+fn taken_out_and_let_sleep(rt: HostRuntime) -> Result<(), Fail> {
+    let queue = letters(rt.alloc(), 1)?;
+    let task = MockTask::new(&rt)?;
+    wakes_what_is_taken(&rt, &queue, &task, false)
 }

@@ -1,4 +1,5 @@
 use Rattle.std.proofs.Common.{◌∙◌}
+use Rattle.dq_core.proofs.PieceSteps.{polled_due}
 use Rattle.dq_core.proofs.Steps.{on_way_more, polled_out, polled_waiting, polled_idle}
 use Rattle.dq_core.proofs.queue.DelayCore.poll.Goals as goal
 
@@ -20,3 +21,6 @@ returns-in-Some-clause-polls g c =
 pub returns-in-None-clause-polls : goal.returns-in-None-clause-polls
 returns-in-None-clause-polls g c =
     polled_idle g.W.Words.shared c.args.self.now c.steps.self c.step.new.self c.args.tick c.steps.invariant.0 c.in-Rests.ensures.progress c.in-None.ensures.wake
+
+pub returns-in-Gave-clause-out : goal.returns-in-Gave-clause-out
+returns-in-Gave-clause-out g c = polled_due g.W.Words.shared c.steps.self c.step.new.self c.in-Gave.expired c.in-Gave.ensures.progress

@@ -18,9 +18,9 @@ pub invariant_of-self-in-SettledCancelled : goal.invariant_of-self-in-SettledCan
 invariant_of-self-in-SettledCancelled g c =
     let s = c.self.inside in
     let b = core_of s.shard s.noted s.wheel s.slots (g.W.Words.known s.words) (g.W.Words.counts s.words) s.words in
-    let n = core_of s.shard s.noted c.pop_due.new.self c.vacate.new.self (g.W.Words.known c.settle.new.self) (g.W.Words.counts c.settle.new.self) c.settle.new.self in
+    let n = core_of s.shard s.noted c.pop_due.new.self c.let_go.new.self (g.W.Words.known c.settle.new.self) (g.W.Words.counts c.settle.new.self) c.settle.new.self in
     let settled = rw c.stamp-stamp.ensures at c.in-SettledCancelled.ensures.settled in
-    (cancelled_lawful g.W.Words.shared b n c.self.invariant.0 c.in-Some.index c.in-Some.ensures.exact.1 refl settled c.in-Some.ensures.exact.2 c.vacate.ensures.vacated c.in-SettledCancelled.ensures.known c.in-SettledCancelled.ensures.counts, c.in-SettledCancelled.ensures.counts ∙ c.self.invariant.1)
+    (cancelled_lawful g.W.Words.shared b n c.self.invariant.0 c.in-Some.index c.in-Some.ensures.exact.1 refl settled c.in-Some.ensures.exact.2 c.let_go.ensures c.in-SettledCancelled.ensures.known c.in-SettledCancelled.ensures.counts, c.in-SettledCancelled.ensures.counts ∙ c.self.invariant.1)
 
 pub returns-in-SettledExpired-clause-settles : goal.returns-in-SettledExpired-clause-settles
 returns-in-SettledExpired-clause-settles g c =
@@ -39,4 +39,4 @@ pub returns-in-SettledCancelled-clause-settles : goal.returns-in-SettledCancelle
 returns-in-SettledCancelled-clause-settles g c =
     let settled = rw c.stamp-stamp.ensures at c.in-SettledCancelled.ensures.settled in
     rw (← c.self.view_is)
-    (both_cancelled g.W.Words.shared _ _ c.self.invariant.0 c.in-Some.index c.in-Some.ensures.exact.1 refl settled c.in-Some.ensures.exact.2 c.vacate.ensures.vacated c.in-SettledCancelled.ensures.known c.in-SettledCancelled.ensures.counts)
+    (both_cancelled g.W.Words.shared _ _ c.self.invariant.0 c.in-Some.index c.in-Some.ensures.exact.1 refl settled c.in-Some.ensures.exact.2 c.let_go.ensures c.in-SettledCancelled.ensures.known c.in-SettledCancelled.ensures.counts)

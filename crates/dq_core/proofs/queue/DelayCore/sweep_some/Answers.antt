@@ -5,7 +5,7 @@ use Rattle.dq_core.proofs.queue.DelayCore.sweep_some.Goals.{then-reap_at, else-r
 use Rattle.dq_core.proofs.queue.DelayCore.sweep_some.Goals as goal
 
 pub loop-slot-init : goal.loop-slot-init
-loop-slot-init g c = (omega arith, sweeping_from g.W.Words.shared c.args.self.now _, refl, λ i s d b. b)
+loop-slot-init g c = (omega arith, sweeping_from g.W.Words.shared c.args.self.now _, refl, λ i s d b. b, omega arith)
 
 pub loop-slot-preserved : goal.loop-slot-preserved
 loop-slot-preserved g c =
@@ -14,10 +14,10 @@ loop-slot-preserved g c =
     elim c.if-reap_at.branch [
       | then-reap_at w ↦
           let up = w.reaped-is in
-          (omega arith, sweeping_on g.W.Words.shared c.args.self.now c.loop-slot.self c.reap_at.new.self _ c.loop-slot.slot c.loop-slot.reaped c.if-reap_at.reaped c.reap_at.result to c.reap_at.ensures.same c.reap_at.ensures.swept (rw w.if-reap_at.true up) (omega (arith, up, few)), c.reap_at.ensures.origin ∙ c.loop-slot.invariant.2, λ i s d b. c.reap_at.ensures.begun i s d (c.loop-slot.invariant.3 i s d b))
+          (omega arith, sweeping_on g.W.Words.shared c.args.self.now c.loop-slot.self c.reap_at.new.self _ c.loop-slot.slot c.loop-slot.reaped c.if-reap_at.reaped c.reap_at.result to c.reap_at.ensures.same c.reap_at.ensures.swept (rw w.if-reap_at.true up) (omega (arith, up, few)), c.reap_at.ensures.origin ∙ c.loop-slot.invariant.2, λ i s d b. c.reap_at.ensures.begun i s d (c.loop-slot.invariant.3 i s d b), omega (arith, c.reap_at.ensures.one_step, c.loop-slot.invariant.4))
       | else-reap_at w ↦
           let up = w.reaped-is in
-          (omega arith, sweeping_on g.W.Words.shared c.args.self.now c.loop-slot.self c.reap_at.new.self _ c.loop-slot.slot c.loop-slot.reaped c.if-reap_at.reaped c.reap_at.result to c.reap_at.ensures.same c.reap_at.ensures.swept (rw w.if-reap_at.false (omega (arith, up))) (omega (arith, up, few)), c.reap_at.ensures.origin ∙ c.loop-slot.invariant.2, λ i s d b. c.reap_at.ensures.begun i s d (c.loop-slot.invariant.3 i s d b))
+          (omega arith, sweeping_on g.W.Words.shared c.args.self.now c.loop-slot.self c.reap_at.new.self _ c.loop-slot.slot c.loop-slot.reaped c.if-reap_at.reaped c.reap_at.result to c.reap_at.ensures.same c.reap_at.ensures.swept (rw w.if-reap_at.false (omega (arith, up))) (omega (arith, up, few)), c.reap_at.ensures.origin ∙ c.loop-slot.invariant.2, λ i s d b. c.reap_at.ensures.begun i s d (c.loop-slot.invariant.3 i s d b), omega (arith, c.reap_at.ensures.one_step, c.loop-slot.invariant.4))
     ]
 
 pub returns-clause-sweeps : goal.returns-clause-sweeps

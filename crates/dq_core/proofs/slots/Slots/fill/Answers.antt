@@ -10,4 +10,4 @@ pub invariant_of-self-2 : goal.invariant_of-self-2
 invariant_of-self-2 g c =
     let t = taken_is c.self.invariant c.take.new.self c.in-Some.index c.in-Some.ensures in
     let r = read_is c.self.inside.cells.items c.in-Some.index c.index_mut-cell.result.now t.0 c.index_mut-cell.ensures.value in
-    rw (c.fill.ensures, ← r) (filled_is c.self.invariant c.take.new.self c.in-Some.index c.args.value c.in-Some.ensures)
+    rw (c.fill-parted.ensures, ← r) (filled_is c.self.invariant c.take.new.self c.in-Some.index c.args.value c.in-Some.ensures)

@@ -11,4 +11,4 @@ invariant_of-self g c =
     let r = read_is c.self.inside.cells.items c.args.index c.index_mut-cell.result.now inside c.index_mut-cell.ensures.value in
     let same = ap (λ r. r.stamp) r in
     let at = c.stamp.ensures in
-    rw c.unused.ensures (worn_forgotten c.self.invariant c.set.new.self c.args.index inside h (omega arith) c.set.ensures)
+    rw c.forget.ensures (worn_forgotten c.self.invariant c.set.new.self c.args.index inside h (omega arith) c.set.ensures)

@@ -7,14 +7,15 @@ use Rattle.dq_lasting.proofs.handle.LastingHandle.renew.Goals.{then-branch, else
 pub loop-place-preserved : goal.loop-place-preserved
 loop-place-preserved g c =
     let i = c.loop-place.invariant in
-    let takes = c.in_ok-renew_at.ensures in
-    let below : c.loop-place.place < length c.loop-place.self = omega (arith, c.loop-place-test.true, i.0, i.1) in
-    let size = takes_size g.row.T.Denot c.args.queue.now c.loop-place.place c.loop-place.self c.renew_at.new.self (Ok c.in_ok-renew_at.field-0) takes ∙ i.0 in
+    let takes = c.in_ok-renew_at.ensures.takes_on in
+    let name = c.in_ok-renew_at.ensures.name ∙ i.1 in
+    let below : c.loop-place.place < length c.loop-place.self.callers = omega (arith, c.loop-place-test.true, i.0, i.3) in
+    let size = takes_size g.row.T.Denot c.args.queue.now.shards c.loop-place.place c.loop-place.self.callers c.renew_at.new.self.callers (Ok c.in_ok-renew_at.field-0) takes ∙ i.0 in
     elim c.if-branch.branch [
       | then-branch w ↦
-          let more = taken_more g.row.T.Denot c.args.queue.now c.args.self.now c.loop-place.place c.loop-place.renewed c.loop-place.self c.renew_at.new.self below i.4 i.5 (rw w.if-branch.true at takes) in
-          (size, i.1, i.2, omega (arith, w.renewed-is, i.3), rw w.renewed-is more.0, more.1)
+          let more = taken_more g.row.T.Denot c.args.queue.now.shards c.args.self.now.callers c.loop-place.place c.loop-place.renewed c.loop-place.self.callers c.renew_at.new.self.callers below i.6 i.7 (rw w.if-branch.true at takes) in
+          (size, name, i.2, i.3, i.4, omega (arith, w.renewed-is, i.5), rw w.renewed-is more.0, more.1)
       | else-branch w ↦
-          let more = kept_more g.row.T.Denot c.args.queue.now c.args.self.now c.loop-place.place c.loop-place.renewed c.loop-place.self c.renew_at.new.self i.4 i.5 (rw w.if-branch.false at takes) in
-          (size, i.1, i.2, omega (arith, w.renewed-is, i.3), rw w.renewed-is more.0, more.1)
+          let more = kept_more g.row.T.Denot c.args.queue.now.shards c.args.self.now.callers c.loop-place.place c.loop-place.renewed c.loop-place.self.callers c.renew_at.new.self.callers i.6 i.7 (rw w.if-branch.false at takes) in
+          (size, name, i.2, i.3, i.4, omega (arith, w.renewed-is, i.5), rw w.renewed-is more.0, more.1)
     ]

@@ -4,7 +4,11 @@ use Rattle.dq_lasting.proofs.handle.LastingHandle.renew.Given as goal
 
 abbrev pub invariant-loop-place : goal.invariant-loop-place
 invariant-loop-place g l =
-    (length l.self ≡ length l.fn.self) × (l.shards ≡ length l.fn.self) × (l.shards ≡ l.fn.queue)
+    (length l.self.callers ≡ length l.fn.self.callers)
+    × (l.self.name ≡ l.fn.self.name)
+    × (l.fn.self.name ≡ l.fn.queue.name)
+    × (l.shards ≡ length l.fn.self.callers)
+    × (l.shards ≡ l.fn.queue.shards)
     × (l.renewed ≤ l.place)
-    × AreRenewed g.row.T.Denot l.fn.queue l.fn.self l.self l.place l.renewed
-    × StayFrom l.place l.fn.self l.self
+    × AreRenewed g.row.T.Denot l.fn.queue.shards l.fn.self.callers l.self.callers l.place l.renewed
+    × StayFrom l.place l.fn.self.callers l.self.callers

@@ -11,5 +11,5 @@ loop-place-preserved g c =
     let len = c.push_reserved.ensures.len in
     let capacity = c.push_reserved.ensures.capacity in
     let place : c.loop-place.place ≡ 0 + length c.loop-place.callers.items = omega (arith, before) in
-    let one = subst (λ (q : ℕ). IssuedAt g.row.T.Denot c.args.self.now q c.in-Ok-issue_at.caller) place c.in-Ok-issue_at.ensures in
-    (i.0, omega (arith, before, len), omega (arith, room, capacity), rw c.push_reserved.ensures.items (issued_more g.row.T.Denot c.args.self.now 0 c.loop-place.callers.items c.in-Ok-issue_at.caller i.3 one))
+    let one = subst (λ (q : ℕ). IssuedAt g.row.T.Denot c.args.self.now.shards q c.in-Ok-issue_at.caller) place c.in-Ok-issue_at.ensures in
+    (i.0, omega (arith, before, len), omega (arith, room, capacity), rw c.push_reserved.ensures.items (issued_more g.row.T.Denot c.args.self.now.shards 0 c.loop-place.callers.items c.in-Ok-issue_at.caller i.3 one))

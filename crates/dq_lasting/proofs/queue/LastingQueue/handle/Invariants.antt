@@ -5,7 +5,7 @@ use Rattle.dq_lasting.proofs.queue.LastingQueue.handle.Given as goal
 
 abbrev pub invariant-loop-place : goal.invariant-loop-place
 invariant-loop-place g l =
-    (l.shards ≡ l.fn.self)
+    (l.shards ≡ l.fn.self.shards)
     × (vec_len l.callers ≡ l.place)
     × (l.shards ≤ vec_capacity l.callers)
-    × IssuedFrom g.row.T.Denot l.fn.self 0 l.callers.items
+    × IssuedFrom g.row.T.Denot l.fn.self.shards 0 l.callers.items

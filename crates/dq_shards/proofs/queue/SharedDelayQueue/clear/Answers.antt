@@ -2,5 +2,5 @@ use Rattle.dq_shards.proofs.queue.SharedDelayQueue.clear.Goals as goal
 
 pub returns-clause-answers : goal.returns-clause-answers
 returns-clause-answers g c =
-    let entered = c.in_ok-shard.ensures.entered in
-    (entered.0, (_, _, entered.1, c.law.ensures, (c.in_ok-shard.ensures.number, c.clear-cleared.ensures)))
+    let entered = c.in_ok-locked.ensures.entered in
+    (entered.0, (_, _, entered.1, c.clear_and_unlock-cleared.ensures.1, (c.in_ok-locked.ensures.number, c.clear_and_unlock-cleared.ensures.2)))

@@ -3,7 +3,7 @@ use Rattle.dq_words.specs.Plays.{KeeperLoads}
 use Rattle.dq_words.specs.Seats.{Sat}
 use Rattle.dq_words.specs.declared.views.View.{View}
 use Rattle.dq_words.proofs.Bridge.{row_set}
-use Rattle.dq_words.proofs.Begun.{load_stays}
+use Rattle.dq_words.proofs.Begun.{load_stays, load_once}
 use Rattle.dq_words.proofs.keeper.KeeperWords.look.Goals as goal
 
 pub returns-clause-known : goal.returns-clause-known
@@ -16,3 +16,9 @@ returns-clause-begun g c =
     let own = ap (λ (s : Sat). s.view) (sym c.self.view_is) in
     let h : KeeperLoads c.args.self.now.view c.keeper_load.new.self.view c.args.index c.keeper_load.result = rw own c.keeper_load.ensures.step in
     load_stays c.args.self.now.view c.keeper_load.new.self.view c.args.index c.keeper_load.result h
+
+pub returns-clause-one_step : goal.returns-clause-one_step
+returns-clause-one_step g c =
+    let own = ap (λ (s : Sat). s.view) (sym c.self.view_is) in
+    let h : KeeperLoads c.args.self.now.view c.keeper_load.new.self.view c.args.index c.keeper_load.result = rw own c.keeper_load.ensures.step in
+    load_once c.args.self.now.view c.keeper_load.new.self.view c.args.index c.keeper_load.result h

@@ -1,0 +1,96 @@
+#!/usr/bin/env python3
+"""The gate: what the pages say, the C file's hashes, the tests of the plain Rust, and `rt ci`.
+
+The first two take seconds, and nothing else is tried where one of them fails. The tests of the plain Rust run beside
+`rt ci` where there are more than two processors, and what they said is told whole behind it. The last line counts what
+passed and what failed in both. The status is that of `rt ci`, or 1 where only another part failed.
+"""
+
+import os
+import pathlib
+import re
+import shutil
+import signal
+import subprocess
+import sys
+import tempfile
+
+TOP = pathlib.Path(__file__).resolve().parent.parent
+TESTS = TOP / "rust" / "test"
+# Both need Python alone, as rt does.
+FIRST = (["python3", "docs/check"], ["python3", "c/check", "--hash"])
+SAID = {"cwd": TOP, "stderr": subprocess.STDOUT, "encoding": "utf-8", "errors": "replace"}
+
+
+def say(text):
+    print(text, flush=True)
+
+
+def counts(last, status):
+    """What a last line counts as passed and failed: at least one failed where it counts none or the status isn't 0."""
+    found = re.search(r"(\d+) passed, (\d+) failed", last)
+    passed, failed = (int(found[1]), int(found[2])) if found else (0, 1)
+    return passed, max(failed, status != 0)
+
+
+def shown(words):
+    """Runs a part and passes on what it says: its status, and what its last line counts."""
+    say(f"== {' '.join(words)}")
+    last = ""
+    with subprocess.Popen(words, stdout=subprocess.PIPE, **SAID) as ran:
+        for line in ran.stdout:
+            sys.stdout.write(line)
+            sys.stdout.flush()
+            last = line if line.strip() else last
+    return ran.returncode, counts(last, ran.returncode)
+
+
+class Tests:
+    """The tests of the plain Rust, which say what they have to say into a file."""
+
+    def __init__(self):
+        self.said, self.ran = tempfile.TemporaryFile("w+", encoding="utf-8", errors="replace"), None
+        has_cargo = shutil.which("cargo")
+        self.missing = "" if has_cargo else "cargo isn't on the PATH, so the tests of the plain Rust were not run"
+
+    def begin(self):
+        if self.missing:
+            say(self.missing)
+        elif self.ran is None:
+            self.ran = subprocess.Popen([str(TESTS)], stdout=self.said, start_new_session=True, **SAID)
+
+    def end(self):
+        """Waits, and tells all: whether they passed, and what their last line counts."""
+        self.begin()
+        if self.missing:
+            return 1, (0, 1)
+        status = self.ran.wait()
+        self.said.seek(0)
+        text = self.said.read()
+        say("== rust/test\n" + text.rstrip("\n"))
+        return status, counts((text.strip().splitlines() or [""])[-1], status)
+
+    def stop(self):
+        if self.ran is not None and self.ran.poll() is None:
+            os.killpg(self.ran.pid, signal.SIGKILL)
+
+
+def main():
+    if any([shown(words)[0] for words in FIRST]):
+        say("0 passed, 1 failed")
+        return 1
+    tests = Tests() if TESTS.exists() else None
+    try:
+        if tests and len(os.sched_getaffinity(0)) > 2:
+            tests.begin()
+        parts = [shown(["rt", "ci"]), *([tests.end()] if tests else [])]
+    finally:
+        if tests:
+            tests.stop()
+    say(f"{sum(it[0] for _, it in parts)} passed, {sum(it[1] for _, it in parts)} failed")
+    return parts[0][0] or any(status or it[1] for status, it in parts)
+
+
+if __name__ == "__main__":
+    signal.signal(signal.SIGTERM, lambda *_: sys.exit(130))
+    sys.exit(main())

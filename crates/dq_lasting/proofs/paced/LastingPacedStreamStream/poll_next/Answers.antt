@@ -1,0 +1,16 @@
+use Rattle.std.proofs.Common.{refl}
+use Rattle.dq_lasting.proofs.Piecewise.{paced_item}
+use Rattle.dq_lasting.proofs.paced.LastingPacedStreamStream.poll_next.Goals as goal
+
+pub returns-in-Pending-clause-polls : goal.returns-in-Pending-clause-polls
+returns-in-Pending-clause-polls g c =
+    (c.now-tick.result, c.now-tick.ensures, rw c.get.ensures.value at c.in-Pending.ensures.polls)
+
+pub returns-in-Ready-Err-Core-NoMemory-clause-polls : goal.returns-in-Ready-Err-Core-NoMemory-clause-polls
+returns-in-Ready-Err-Core-NoMemory-clause-polls g c =
+    let w = c.in-Ready-Err-Core-NoMemory in
+    (c.now-tick.result, c.now-tick.ensures, rw (w.field-0-is, w.field-0-0-is, w.field-0-0-0-is, c.get.ensures.value) at w.ensures.polls)
+
+pub returns-in-Ready-Ok-clause-value : goal.returns-in-Ready-Ok-clause-value
+returns-in-Ready-Ok-clause-value g c =
+    paced_item c.args.cx.now c.poll_some_or_park.new.cx _ _ c.now-tick.result _ _ c.in-Ready-Ok.expired refl (rw c.in-Ready-Ok.field-0-is at c.in-Ready-Ok.ensures.polls)

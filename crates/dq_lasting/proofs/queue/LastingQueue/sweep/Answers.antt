@@ -1,8 +1,0 @@
-use Rattle.std.proofs.Common.{arith}
-use Rattle.dq_lasting.specs.Changes.{LastingSweeps}
-use Rattle.dq_lasting.proofs.Locked.{at_place}
-use Rattle.dq_lasting.proofs.queue.LastingQueue.sweep.Goals as goal
-
-pub returns : goal.returns
-returns g c =
-    (omega (arith, c.if-place-shards.false, c.shards.ensures.value), at_place c.args.self.now c.args.place LastingSweeps c.sweep-reaped.result _ _ _ _ c.lock-shard.ensures c.deref_mut.ensures.value c.law.ensures c.deref.ensures c.sweep-reaped.ensures)

@@ -1,0 +1,117 @@
+//! A poll that takes out many entries under one lock.
+ghost use Rattle.std.specs.Prelude.{◌≡◌, ◌<◌, ◌≤◌, ◌↔◌, vec_capacity, IsErr, IsErrOf, OnErr};
+ghost use Rattle.dq_ticks.specs.declared.TheConstants.{LAST_TICK};
+ghost use Rattle.dq_core.specs.declared.errors.CoreError.TheVariants.{TickTooLarge};
+ghost use Rattle.dq_lasting.specs.declared.errors.LastingError.TheVariants.{Core, Unknown};
+ghost use Rattle.dq_lasting.specs.Answers.{AtPlaceOr};
+ghost use Rattle.dq_lasting.specs.Many.{LastingPollsMany};
+ghost use Rattle.dq_lasting.specs.Parking.{LeavesPlace};
+
+use crate::errors::LastingError;
+use crate::parked::{Leaver, keep_or_leave};
+use crate::queue::LastingQueue;
+use crate::quiet::unlock;
+use crate::shard::LastingShard;
+use dq_core::{CoreError, Expired};
+use dq_words::{ManyTurn, poll_into};
+use std::alloc::Allocator;
+use std::sync::Wait;
+
+impl<T: Drop, A: Allocator> LastingShard<T, A> {
+    // As `poll_many`, but who leaves is handed over.
+    #[inline]
+    pub(crate) fn poll_many_quietly(
+        &mut self,
+        tick: u64,
+        row: &mut Vec<Expired<T>, A>,
+    ) -> (Result<ManyTurn, CoreError>, Leaver)
+        ensures refused { IsErr result.0 ↔ (LAST_TICK < tick) }
+        ensures kept { OnErr result.0 (row.new ≡ row.old) }
+        ensures room { vec_capacity row.new ≡ vec_capacity row.old }
+        ensures polls { LastingPollsMany self.old tick (vec_capacity row.old) row.old.items
+            row.new.items result.0 self.new }
+        ensures leaves { LeavesPlace self.old.parked result.1.poller self.new.parked }
+    {
+        let answer = poll_into(&mut self.core, tick, row);
+        (answer, keep_or_leave(&self.core, &mut self.parked))
+    }
+
+    /// As [`LastingQueue::poll_many`], of a shard in hand.
+    ///
+    /// # Errors
+    /// TickTooLarge beyond the last tick. Nothing changes then.
+    pub fn poll_many(
+        &mut self,
+        tick: u64,
+        row: &mut Vec<Expired<T>, A>,
+    ) -> Result<ManyTurn, CoreError>
+        // A tick is refused exactly beyond the last one, and then the row stays.
+        ensures refused { IsErr result ↔ (LAST_TICK < tick) }
+        ensures kept { OnErr result (row.new ≡ row.old) }
+
+        // The row has the room that it had: no memory was taken.
+        ensures room { vec_capacity row.new ≡ vec_capacity row.old }
+
+        // All that it does.
+        ensures polls { LastingPollsMany self.old tick (vec_capacity row.old) row.old.items
+            row.new.items result self.new }
+    {
+        let (answer, leaver) = self.poll_many_quietly(tick, row);
+        leaver.wake();
+        answer
+    }
+}
+
+impl<T: Drop, A: Allocator> LastingQueue<T, A> {
+    /// Polls the shard at a place under one lock until the caller's own row is full, or nothing is due: the entries stand
+    /// behind what stood in the row, in order, as many as it has free room for. `tick` is of one millisecond. Call again
+    /// while it answers More, with the row emptied. A closed shard is polled as any other. It takes no memory, and its cost
+    /// is that of so many polls, but for their locks.
+    ///
+    /// A row without room takes nothing out, and no tick is noted then.
+    ///
+    /// # Errors
+    /// Unknown out of range, before all else, and then TickTooLarge beyond the last tick. Nothing changes then.
+    ///
+    /// ```ignore
+    /// let mut row = Vec::with_capacity(&heap, 64)?;
+    /// let turn = queue.poll_many(&rt, place, tick, &mut row)?;
+    /// for expired in row {
+    ///     deliver(expired.value);
+    /// }
+    /// ```
+    pub fn poll_many<R: Wait>(
+        &self,
+        rt: &R,
+        place: usize,
+        tick: u64,
+        row: &mut Vec<Expired<T>, A>,
+    ) -> Result<ManyTurn, LastingError>
+        // As unknown exactly out of range; else as too large exactly beyond the last tick. The row
+        // stays then.
+        ensures unknown { IsErrOf result Unknown ↔ (self.now.shards ≤ place) }
+        ensures too_large { IsErrOf result (Core (TickTooLarge LAST_TICK))
+            ↔ (place < self.now.shards) × (LAST_TICK < tick) }
+        ensures kept { OnErr result (row.new ≡ row.old) }
+
+        // The row has the room that it had: no memory was taken.
+        ensures room { vec_capacity row.new ≡ vec_capacity row.old }
+
+        // All that it answers: what came out stands in order behind what stood in the row.
+        ensures answers { AtPlaceOr {T = T} self.now.shards place
+            (λ old r new. LastingPollsMany old tick (vec_capacity row.old) row.old.items
+            row.new.items r new) result }
+    {
+        if place >= self.shards() {
+            return Err(LastingError::Unknown);
+        }
+        let mut shard = self.lock(rt, place);
+        let (answer, leaver) = shard.poll_many_quietly(tick, row);
+        let aside = unlock(shard, leaver);
+        self.drop_aside(rt, place, aside);
+        match answer {
+            Ok(turn) => Ok(turn),
+            Err(error) => Err(LastingError::Core(error)),
+        }
+    }
+}

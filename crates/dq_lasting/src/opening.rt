@@ -1,0 +1,263 @@
+//! A shard is opened in two short steps. Under its first lock it is seen to be drained; then words and slots that were
+//! never used are made while the lock is free; under the second lock they take the place of the old ones, in constant
+//! time. What is left over is dropped behind the lock.
+ghost use Rattle.std.specs.Prelude.{◌≡◌, ◌+◌, ◌<◌, ◌≤◌, IfSome, None, length};
+ghost use Rattle.std.specs.List.{count_by};
+ghost use Rattle.std.specs.Sync.Mutex.{mutex_guard_value};
+ghost use Rattle.dq_core.specs.Slots.{is_held};
+ghost use Rattle.dq_lasting.specs.Answers.{AtPlace, IsOfPlace};
+ghost use Rattle.dq_lasting.specs.Changes.{LastingSweepsOn, Reopens, NumbersAreSpent, IsEndedBefore};
+ghost use Rattle.dq_lasting.specs.Keeping.{BeginsAt, DrainsOn, GoesOnAt, IsDrained, IsOfShardSize, AreFreshRows, FitsShard};
+ghost use Rattle.dq_lasting.specs.Parking.{LeavesPlace};
+
+use crate::ended::Ended;
+use crate::errors::ReopenError;
+use crate::keeping::Kept;
+use crate::parked::{Leaver, keep_or_leave, take};
+use crate::queue::LastingQueue;
+use crate::quiet::{nobody, unlock};
+use crate::shard::{LastingShard, with_ended};
+use dq_core::{FreshRows, Slots};
+use dq_words::Keeper;
+use std::alloc::Allocator;
+use std::sync::{MutexGuard, Wait};
+
+/// So many slots of a closed shard are swept under one lock.
+pub const SWEPT_AT_ONCE: usize = 256;
+
+// The size of a shard, which no call changes.
+#[derive(Clone, Copy, Debug, PartialEq, Eq)]
+pub(crate) struct ShardSize {
+    pub(crate) capacity: usize,
+    pub(crate) last_stamp: u32,
+}
+
+// What the first lock came to.
+#[derive(Clone, Copy, Debug, PartialEq, Eq)]
+pub(crate) enum Begun {
+    // The step was made, or is refused.
+    Answered(Result<Kept, ReopenError>),
+    // The shard is to be opened over rows of this size.
+    Opens(ShardSize),
+}
+
+// The rows that a shard is opened over.
+pub(crate) type Rows<T, A> = FreshRows<T, Keeper<A>, A>;
+
+// What is dropped once the lock is free: the rows that a shard had, or those that it didn't want any more.
+#[derive(Drop)]
+pub(crate) enum LeftOver<T, A: Allocator> {
+    Old(Keeper<A>, Slots<T, A>),
+    Unwanted(Rows<T, A>),
+}
+
+// Rows that were never used; none where memory is refused.
+fn fresh_rows<T: Drop, A: Allocator + Clone + Drop>(alloc: A, size: ShardSize) -> Option<Rows<T, A>>
+    ensures { IfSome result (λ r. AreFreshRows size r) }
+{
+    let Ok(other) = alloc.clone() else {
+        return None;
+    };
+    let Ok(keeper) = Keeper::new(other, size.capacity) else {
+        return None;
+    };
+    match FreshRows::new(alloc, keeper, size.last_stamp) {
+        Ok(rows) => {
+            let mut rows = rows;
+            rows.set_aside();
+            rows.law();
+            Some(rows)
+        }
+        Err(_refused) => None,
+    }
+}
+
+impl<T: Drop, A: Allocator> LastingShard<T, A> {
+    // As `sweep`, at the next few slots.
+    fn sweep_on(&mut self) -> (usize, Leaver)
+        ensures sweeps { LastingSweepsOn self.old result.0 self.new }
+        ensures leaves { LeavesPlace self.old.parked result.1.poller self.new.parked }
+    {
+        let swept = self.core.sweep_some(self.sweep_from, SWEPT_AT_ONCE);
+        self.sweep_from = swept.next.unwrap_or(0);
+        (swept.reaped, keep_or_leave(&self.core, &mut self.parked))
+    }
+
+    // The step of one that isn't drained.
+    fn drain_on(&mut self, place: usize) -> (Kept, Leaver)
+        requires { ¬ IsDrained self.old }
+        ensures drains { DrainsOn place self.old result.0 self.new }
+        ensures leaves { LeavesPlace self.old.parked result.1.poller self.new.parked }
+    {
+        if self.takes {
+            return nobody(Kept::Fine);
+        }
+        let (_reaped, leaver) = self.sweep_on();
+        let linked = self.core.len();
+        (Kept::Drains { place, linked }, leaver)
+    }
+
+    // The size.
+    fn size(&self) -> ShardSize
+        ensures { IsOfShardSize self.now result }
+    {
+        ShardSize {
+            capacity: self.core.capacity(),
+            last_stamp: self.core.last_stamp(),
+        }
+    }
+
+    // The number of the next generation, and what has ended before it; none where there is no such number.
+    fn next_generation(&self, by: u32) -> Option<(u32, Ended)>
+        requires { count_by is_held self.now.core.slots.rows ≡ 0 }
+        ensures next { IfSome result (λ g. (g.0 ≡ self.now.core.shard + by)
+            × IsEndedBefore self.now g.1) }
+        ensures spent { (result ≡ None) → NumbersAreSpent self.now by }
+    {
+        let Some(number) = self.core.shard().checked_add(by) else {
+            return None;
+        };
+        let tally = self.core.tally();
+        match with_ended(&self.past, &tally) {
+            Some(past) => Some((number, past)),
+            None => None,
+        }
+    }
+
+    // Under the first lock: the step of one that isn't drained, and else what is to be made for its opening.
+    fn begin(&mut self, place: usize, by: u32) -> (Begun, Leaver)
+        ensures begins { BeginsAt by place self.old result.0 self.new }
+        ensures leaves { LeavesPlace self.old.parked result.1.poller self.new.parked }
+    {
+        if !self.is_drained() {
+            let (kept, leaver) = self.drain_on(place);
+            return (Begun::Answered(Ok(kept)), leaver);
+        }
+        match self.next_generation(by) {
+            Some(_next) => nobody(Begun::Opens(self.size())),
+            None => nobody(Begun::Answered(Err(ReopenError::NumbersSpent))),
+        }
+    }
+
+    // Goes on over other rows under the number that is higher by so much.
+    fn open_over(
+        &mut self,
+        rows: Rows<T, A>,
+        by: u32,
+    ) -> (Result<(), ReopenError>, Leaver, LeftOver<T, A>)
+        requires by { 0 < by }
+        requires empty { count_by is_held self.old.core.slots.rows ≡ 0 }
+        requires fits { FitsShard self.old rows }
+        ensures reopens { Reopens self.old by result.0 self.new }
+        ensures leaves { LeavesPlace self.old.parked result.1.poller self.new.parked }
+    {
+        let Some((number, past)) = self.next_generation(by) else {
+            let (answer, leaver) = nobody(Err(ReopenError::NumbersSpent));
+            return (answer, leaver, LeftOver::Unwanted(rows));
+        };
+        match self.core.renew_with(number, rows) {
+            Ok((words, slots)) => {
+                self.takes = true;
+                self.past = past;
+                self.sweep_from = 0;
+                (Ok(()), take(&mut self.parked), LeftOver::Old(words, slots))
+            }
+            Err(_refused) => unreachable!(),
+        }
+    }
+
+    // Under the second lock: one that is still drained goes on over the rows. Any other makes its step, and wants none.
+    fn end(
+        &mut self,
+        rows: Rows<T, A>,
+        place: usize,
+        by: u32,
+    ) -> (Result<Kept, ReopenError>, Leaver, LeftOver<T, A>)
+        requires by { 0 < by }
+        requires fits { FitsShard self.old rows }
+        ensures goes { GoesOnAt by place self.old result.0 self.new }
+        ensures leaves { LeavesPlace self.old.parked result.1.poller self.new.parked }
+    {
+        if !self.is_drained() {
+            let (kept, leaver) = self.drain_on(place);
+            return (Ok(kept), leaver, LeftOver::Unwanted(rows));
+        }
+        let (answer, leaver, left) = self.open_over(rows, by);
+        match answer {
+            Ok(()) => (Ok(Kept::Reopened { place }), leaver, left),
+            Err(error) => (Err(error), leaver, left),
+        }
+    }
+}
+
+impl<T: Drop, A: Allocator> LastingQueue<T, A> {
+    // The first of the two locks.
+    fn begin_at<R: Wait>(&self, rt: &R, place: usize) -> Begun
+        requires { place < self.now.shards }
+        ensures { AtPlace {T = T} self.now.shards place (BeginsAt self.now.shards place) result }
+    {
+        let shards = self.shards() as u32;
+        let mut shard = self.lock(rt, place);
+        let (begun, leaver) = shard.begin(place, shards);
+        let aside = unlock(shard, leaver);
+        self.drop_aside(rt, place, aside);
+        begun
+    }
+
+    // As `lock`. The size is compared once: no call changes it.
+    fn lock_of_size<R: Wait>(
+        &self,
+        rt: &R,
+        place: usize,
+        size: ShardSize,
+    ) -> MutexGuard<'_, LastingShard<T, A>>
+        requires { place < self.now.shards }
+        ensures place { IsOfPlace self.now.shards place (mutex_guard_value result) }
+        ensures size { IsOfShardSize (mutex_guard_value result) size }
+    {
+        let shard = self.lock(rt, place);
+        let found = shard.size();
+        if found.capacity != size.capacity || found.last_stamp != size.last_stamp {
+            for _ in rt.forever() {}
+            unreachable!()
+        }
+        shard
+    }
+
+    // The second of the two locks.
+    fn end_at<R: Wait>(
+        &self,
+        rt: &R,
+        place: usize,
+        size: ShardSize,
+        rows: Rows<T, A>,
+    ) -> Result<Kept, ReopenError>
+        requires place { place < self.now.shards }
+        requires rows { AreFreshRows size rows }
+        ensures { AtPlace {T = T} self.now.shards place (GoesOnAt self.now.shards place) result }
+    {
+        let shards = self.shards() as u32;
+        let mut shard = self.lock_of_size(rt, place, size);
+        let (answer, leaver, left) = shard.end(rows, place, shards);
+        let aside = unlock(shard, leaver);
+        drop(left);
+        self.drop_aside(rt, place, aside);
+        answer
+    }
+}
+
+impl<T: Drop, A: Allocator + Clone + Drop> LastingQueue<T, A> {
+    // Opens the shard at a place again where it is drained, and else sweeps the next few slots of a closed one.
+    pub(crate) fn go_on<R: Wait>(&self, rt: &R, alloc: A, place: usize) -> Result<Kept, ReopenError>
+        requires { place < self.now.shards }
+        ensures { AtPlace {T = T} self.now.shards place (GoesOnAt self.now.shards place) result }
+    {
+        match self.begin_at(rt, place) {
+            Begun::Answered(answer) => answer,
+            Begun::Opens(size) => match fresh_rows(alloc, size) {
+                Some(rows) => self.end_at(rt, place, size, rows),
+                None => Err(ReopenError::NoMemory),
+            },
+        }
+    }
+}

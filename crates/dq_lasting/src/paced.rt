@@ -1,0 +1,195 @@
+//! What expires at one place of a lasting queue, as a stream whose polls make at most so many steps.
+ghost use Rattle.std.specs.Prelude.{◌≡◌, ℕ, ⊤, [], IfSome, OnSome};
+ghost use Rattle.futures.specs.Task.{Covers, Keeps};
+ghost use Rattle.futures.specs.Poll.{IfReady, OnPending};
+ghost use Rattle.futures.specs.Runs.{After, Within};
+ghost use Rattle.dq_lasting.specs.Paces.{PollsSomeOrParks, PollsSomeOrParksAt};
+ghost use Rattle.dq_lasting.specs.Paces.{LastingPacedPolls, LastingPacedGives};
+ghost use Rattle.dq_lasting.specs.Streams.{NeverEnds, IfLastingFault, IsLastingFault};
+
+use crate::errors::LastingError;
+use crate::parked::Parked;
+use crate::queue::LastingQueue;
+use crate::shard::LastingShard;
+use crate::stream::{LastingFault, LastingStream, Ticks};
+use dq_core::{CoreError, Expired, Piece, Turn};
+use futures::Stream;
+use futures::task::{Context, Poll, Source};
+use std::alloc::{Allocator, Global};
+use std::num::NonZeroU32;
+use std::sync::Wait;
+
+impl<T: Drop, A: Allocator> LastingShard<T, A> {
+    /// As [`LastingShard::poll_or_park`], by at most `most` steps. Where more is to do nothing is parked: the polled
+    /// task is woken, and the answer is Pending.
+    ///
+    /// # Errors
+    /// As `poll_or_park`.
+    pub fn poll_some_or_park(
+        &mut self,
+        tick: u64,
+        most: u32,
+        name: &Source,
+        cx: &mut Context<'_>,
+    ) -> Poll<Result<Expired<T>, LastingError>>
+        // It waits registered with its context, or with its task woken.
+        ensures registered { OnPending result (Covers cx.new (λ s. s ≡ name.now.id)) }
+
+        // All that it does.
+        ensures polls { PollsSomeOrParks cx.old cx.new self.old tick most result self.new }
+        ensures kept { Keeps cx.old cx.new }
+    {
+        if let Some(before) = self.take_parked() {
+            Parked::forget(before);
+        }
+        match self.poll_some(tick, most) {
+            Ok(Piece::Working) => {
+                let _woken: Poll<()> = cx.yield_now();
+                Poll::Pending
+            }
+            Ok(Piece::Answer(Turn::Out(expired))) => Poll::Ready(Ok(expired)),
+            Ok(Piece::Answer(Turn::Waiting { next })) => self.wait(Some(next), name, cx),
+            Ok(Piece::Answer(Turn::Idle)) => self.wait(None, name, cx),
+            Err(error) => Poll::Ready(Err(LastingError::Core(error))),
+        }
+    }
+}
+
+impl<T: Drop, A: Allocator> LastingQueue<T, A> {
+    /// As [`LastingQueue::poll_or_park`], by at most `most` steps while the shard's lock is held, each in constant time
+    /// but for a value's drop. Where more is to do nothing is parked: the polled task is woken, the lock let go, and
+    /// the answer is Pending. So others may take the lock before the task is polled again.
+    ///
+    /// # Errors
+    /// As `poll_or_park`.
+    #[tactic(auto, using(crate::proofs::Piecewise::taken_before_pieces))]
+    pub fn poll_some_or_park<R: Wait>(
+        &self,
+        rt: &R,
+        place: usize,
+        tick: u64,
+        most: u32,
+        name: &Source,
+        cx: &mut Context<'_>,
+    ) -> Poll<Result<Expired<T>, LastingError>>
+        // It waits registered with its context, or with its task woken.
+        ensures registered { OnPending result (Covers cx.new (λ s. s ≡ name.now.id)) }
+
+        // All that it answers.
+        ensures polls { PollsSomeOrParksAt T self.now.shards place cx.old cx.new tick most result }
+        ensures kept { Keeps cx.old cx.new }
+    {
+        if place >= self.shards() {
+            return Poll::Ready(Err(LastingError::Unknown));
+        }
+        let mut shard = self.lock(rt, place);
+        let before = shard.take_parked();
+        let answer = shard.poll_some_or_park(tick, most, name, cx);
+        shard.law();
+        let aside = shard.aside();
+        drop(shard);
+        if let Some(before) = before {
+            Parked::forget(before);
+        }
+        self.drop_aside_at_rest(rt, place, aside, answer.is_pending());
+        answer
+    }
+}
+
+/// A [`LastingStream`] whose polls make at most so many steps of their shard while its lock is held.
+///
+/// A poll that has made them all and has more to do wakes its own task, lets the lock go and is Pending. It gives what
+/// its stream would give, and parks as that does. What is under way stands in the shard: whether this is dropped, or
+/// turned back into its stream, the next poll of the place goes on there.
+#[derive(Drop)]
+pub struct LastingPacedStream<'q, T, K, R: Wait, A: Allocator = Global> {
+    stream: LastingStream<'q, T, K, R, A>,
+    steps: NonZeroU32,
+}
+
+impl<'q, T, K, R: Wait, A: Allocator> LastingStream<'q, T, K, R, A> {
+    /// This stream with at most so many steps a poll. A step is an entry that is settled, reaped or filed anew, or an
+    /// arrival of the wheel, and takes constant time but for a value's drop.
+    pub fn paced(self, steps: NonZeroU32) -> LastingPacedStream<'q, T, K, R, A>
+        ensures { (result.stream ≡ self.entry) × (result.steps ≡ steps) }
+    {
+        LastingPacedStream {
+            stream: self,
+            steps,
+        }
+    }
+}
+
+impl<'q, T, K, R: Wait, A: Allocator> LastingPacedStream<'q, T, K, R, A> {
+    /// Its stream, which makes whole polls.
+    pub fn into_inner(self) -> LastingStream<'q, T, K, R, A>
+        ensures { result ≡ self.entry.stream }
+    {
+        self.stream
+    }
+}
+
+impl<'q, T: Drop, K: Ticks, R: Wait, A: Allocator> Stream for LastingPacedStream<'q, T, K, R, A> {
+    type Item = Result<Expired<T>, LastingFault>;
+
+    ghost needs = { λ paced s. s ≡ paced.stream.name.id };
+
+    ghost yields = { λ paced. LastingPacedGives T paced.stream.queue.now.shards paced.stream.place };
+
+    /// An entry that is due, one of least deadline, or Pending: parked at the next wake or for an insert, or woken,
+    /// with more to do. Faults are those of its stream. Its cost is that of its steps.
+    fn poll_next(&mut self, cx: &mut Context<'_>) -> Poll<Option<Result<Expired<T>, LastingFault>>>
+        // It never ends, and a fault tells why no entry is given.
+        ensures lasts { NeverEnds result }
+        ensures fault { IfLastingFault result (λ e. IsLastingFault e cx.new) }
+
+        // It waits registered with its context, or with its task woken.
+        ensures registered { OnPending result (Covers cx.new (λ s. s ≡ self.new.stream.name.id)) }
+
+        // It stays a stream of its place, by so many steps.
+        ensures stays { (self.new.stream.queue ≡ self.old.stream.queue)
+            × (self.new.stream.place ≡ self.old.stream.place)
+            × (self.new.stream.name ≡ self.old.stream.name)
+            × (self.new.stream.rt ≡ self.old.stream.rt) }
+        ensures steps { self.new.steps ≡ self.old.steps }
+
+        // All that it does: so many steps of its place, at a tick that it was told.
+        ensures polls { (tick : ℕ) × K.tells self.old.stream.ticks tick self.new.stream.ticks
+            × LastingPacedPolls T self.old.stream.queue.now.shards self.old.stream.place
+            cx.old cx.new tick self.old.steps.value result }
+
+        // What every stream owes. It may be polled at any time: two of these bind nothing here.
+        ensures value { IfReady result
+            (LastingPacedGives T self.old.stream.queue.now.shards self.old.stream.place []) }
+        ensures rest { IfReady result (λ o. IfSome o (λ x.
+            After (LastingPacedGives T self.old.stream.queue.now.shards self.old.stream.place) x
+            (LastingPacedGives T self.new.stream.queue.now.shards self.new.stream.place))) }
+        ensures goes { IfReady result (λ o. OnSome o ⊤) }
+        ensures again { OnPending result ⊤ }
+        ensures same { OnPending result
+            (Within (LastingPacedGives T self.old.stream.queue.now.shards self.old.stream.place)
+            (LastingPacedGives T self.new.stream.queue.now.shards self.new.stream.place)) }
+        ensures kept { Keeps cx.old cx.new }
+    {
+        let stream = &mut self.stream;
+        let tick = stream.ticks.now();
+        match self.stream.queue.poll_some_or_park(
+            self.stream.rt,
+            self.stream.place,
+            tick,
+            self.steps.get(),
+            &self.stream.name,
+            cx,
+        ) {
+            Poll::Pending => Poll::Pending,
+            Poll::Ready(Ok(expired)) => Poll::Ready(Some(Ok(expired))),
+            Poll::Ready(Err(LastingError::Core(CoreError::TickTooLarge { limit }))) => {
+                Poll::Ready(Some(Err(LastingFault::TickTooLarge { limit })))
+            }
+            Poll::Ready(Err(LastingError::Core(CoreError::NoMemory))) => {
+                Poll::Ready(Some(Err(LastingFault::NoMemory)))
+            }
+            Poll::Ready(Err(_)) => unreachable!(),
+        }
+    }
+}

@@ -1,0 +1,201 @@
+//! The calls of a shard that wake nobody while its lock is held: who leaves is handed over, and woken once the lock is
+//! free.
+ghost use Rattle.std.specs.Prelude.{◌≡◌, ◌+◌, ◌<◌, ◌≤◌, None};
+ghost use Rattle.dq_core.specs.AtTheCall.{IfOut, IfRests};
+ghost use Rattle.dq_core.specs.Core.{machine};
+ghost use Rattle.dq_core.specs.Machine.{NoneLiveBefore};
+ghost use Rattle.dq_core.specs.Pieces.{IfAnswer};
+ghost use Rattle.std.specs.Sync.Mutex.{mutex_guard_value};
+ghost use Rattle.dq_lasting.specs.Parking.{LeavesPlace};
+ghost use Rattle.dq_lasting.specs.Shard.{IsLasting};
+ghost use Rattle.dq_lasting.specs.Changes.{LastingInserts, LastingResets, LastingRemoves};
+ghost use Rattle.dq_lasting.specs.Changes.{LastingDeadline, LastingPolls, LastingPollsSome};
+ghost use Rattle.dq_lasting.specs.Changes.{LastingSweeps, LastingClears, Closes, Reopens};
+ghost use Rattle.dq_lasting.specs.Polling.{RingsParked};
+
+use crate::errors::{LastingError, ReopenError};
+use crate::parked::{Leaver, keep_or_leave, ring, take};
+use crate::shard::{LastingShard, with_ended};
+use dq_core::{CoreError, Piece, Removed, Turn};
+use dq_ticks::{EntryId, Key};
+use dq_words::Keeper;
+use std::alloc::Allocator;
+use std::sync::MutexGuard;
+
+// Lets the lock go, and then wakes who has left: whoever is woken may call the queue at once. Answers how many values are
+// set aside.
+#[inline]
+pub(crate) fn unlock<T: Drop, A: Allocator>(
+    shard: MutexGuard<'_, LastingShard<T, A>>,
+    leaver: Leaver,
+) -> usize
+    ensures { IsLasting (mutex_guard_value shard.entry) }
+{
+    shard.law();
+    let aside = shard.aside();
+    drop(shard);
+    leaver.wake();
+    aside
+}
+
+// An answer by which nobody leaves.
+pub(crate) fn nobody<R>(answer: R) -> (R, Leaver)
+    ensures answer { result.0 ≡ answer }
+    ensures nobody { result.1.poller ≡ None }
+{
+    (answer, Leaver { poller: None })
+}
+
+impl<T: Drop, A: Allocator> LastingShard<T, A> {
+    // As `insert`.
+    #[inline]
+    pub(crate) fn insert_quietly(
+        &mut self,
+        value: T,
+        when: u64,
+    ) -> (Result<Key, (LastingError, T)>, Leaver)
+        ensures inserts { LastingInserts self.old value when result.0 self.new }
+        ensures leaves { LeavesPlace self.old.parked result.1.poller self.new.parked }
+    {
+        if !self.takes {
+            return nobody(Err((LastingError::Closed, value)));
+        }
+        match self.core.insert(value, when) {
+            Ok(key) => (Ok(key), keep_or_leave(&self.core, &mut self.parked)),
+            Err((error, value)) => nobody(Err((LastingError::Core(error), value))),
+        }
+    }
+
+    // As `reset`.
+    #[inline]
+    pub(crate) fn reset_quietly(
+        &mut self,
+        entry: &EntryId,
+        when: u64,
+    ) -> (Result<Key, CoreError>, Leaver)
+        ensures resets { LastingResets self.old entry.now when result.0 self.new }
+        ensures leaves { LeavesPlace self.old.parked result.1.poller self.new.parked }
+    {
+        let answer = self.core.reset(entry, when);
+        (answer, keep_or_leave(&self.core, &mut self.parked))
+    }
+
+    // As `remove`.
+    #[inline]
+    pub(crate) fn remove_quietly(
+        &mut self,
+        entry: &EntryId,
+    ) -> (Result<Removed<T>, CoreError>, Leaver)
+        ensures removes { LastingRemoves self.old entry.now result.0 self.new }
+        ensures leaves { LeavesPlace self.old.parked result.1.poller self.new.parked }
+    {
+        let answer = self.core.remove(entry);
+        (answer, keep_or_leave(&self.core, &mut self.parked))
+    }
+
+    // As `deadline`.
+    #[inline]
+    pub(crate) fn deadline_quietly(&mut self, entry: &EntryId) -> (Result<u64, CoreError>, Leaver)
+        ensures tells { LastingDeadline self.old entry.now result.0 self.new }
+        ensures leaves { LeavesPlace self.old.parked result.1.poller self.new.parked }
+    {
+        let answer = self.core.deadline(entry);
+        (answer, keep_or_leave(&self.core, &mut self.parked))
+    }
+
+    // As `poll`.
+    #[inline]
+    pub(crate) fn poll_quietly(&mut self, tick: u64) -> (Result<Turn<T>, CoreError>, Leaver)
+        ensures polls { LastingPolls self.old tick result.0 self.new }
+        ensures leaves { LeavesPlace self.old.parked result.1.poller self.new.parked }
+    {
+        let answer = self.core.poll(tick);
+        (answer, keep_or_leave(&self.core, &mut self.parked))
+    }
+
+    // As `poll_some`.
+    #[inline]
+    pub(crate) fn poll_some_quietly(
+        &mut self,
+        tick: u64,
+        most: u32,
+    ) -> (Result<Piece<T>, CoreError>, Leaver)
+        ensures out { IfAnswer result.0 (λ turn. IfOut turn (λ x. (x.deadline ≤ self.new.core.noted)
+            × NoneLiveBefore (machine self.new.core) x.deadline)) }
+        ensures waiting { IfAnswer result.0 (λ turn. IfRests turn
+            (λ next. NoneLiveBefore (machine self.new.core) (self.new.core.noted + 1))) }
+        ensures polls { LastingPollsSome self.old tick most result.0 self.new }
+        ensures leaves { LeavesPlace self.old.parked result.1.poller self.new.parked }
+    {
+        let answer = self.core.poll_some(tick, most);
+        (answer, keep_or_leave(&self.core, &mut self.parked))
+    }
+
+    // As `sweep`.
+    pub(crate) fn sweep_quietly(&mut self) -> (usize, Leaver)
+        ensures sweeps { LastingSweeps self.old result.0 self.new }
+        ensures leaves { LeavesPlace self.old.parked result.1.poller self.new.parked }
+    {
+        let reaped = self.core.sweep();
+        (reaped, keep_or_leave(&self.core, &mut self.parked))
+    }
+
+    // As `clear`.
+    pub(crate) fn clear_quietly(&mut self) -> (usize, Leaver)
+        ensures clears { LastingClears self.old result.0 self.new }
+        ensures leaves { LeavesPlace self.old.parked result.1.poller self.new.parked }
+    {
+        let removed = self.core.clear();
+        (removed, keep_or_leave(&self.core, &mut self.parked))
+    }
+
+    // As `close`.
+    pub(crate) fn close_quietly(&mut self) -> Leaver
+        ensures closes { Closes self.old self.new }
+        ensures leaves { LeavesPlace self.old.parked result.poller self.new.parked }
+    {
+        self.takes = false;
+        take(&mut self.parked)
+    }
+
+    // As `ring`.
+    pub(crate) fn ring_quietly(&mut self, tick: u64) -> (bool, Leaver)
+        ensures rings { RingsParked self.old tick result.0 self.new }
+        ensures leaves { LeavesPlace self.old.parked result.1.poller self.new.parked }
+    {
+        let rung = ring(&mut self.parked, tick);
+        (rung.is_some(), rung)
+    }
+}
+
+impl<T: Drop, A: Allocator + Clone + Drop> LastingShard<T, A> {
+    // As `reopen`.
+    pub(crate) fn reopen_quietly(&mut self, alloc: A, by: u32) -> (Result<(), ReopenError>, Leaver)
+        requires { 0 < by }
+        ensures reopens { Reopens self.old by result.0 self.new }
+        ensures leaves { LeavesPlace self.old.parked result.1.poller self.new.parked }
+    {
+        let linked = self.core.len();
+        if linked > 0 {
+            return nobody(Err(ReopenError::StillLinked { linked }));
+        }
+        let Some(number) = self.core.shard().checked_add(by) else {
+            return nobody(Err(ReopenError::NumbersSpent));
+        };
+        let tally = self.core.tally();
+        let Some(past) = with_ended(&self.past, &tally) else {
+            return nobody(Err(ReopenError::NumbersSpent));
+        };
+        let Ok(keeper) = Keeper::new(alloc, self.core.capacity()) else {
+            return nobody(Err(ReopenError::NoMemory));
+        };
+        match self.core.renew(number, keeper) {
+            Ok(_old) => {
+                self.takes = true;
+                self.past = past;
+                (Ok(()), take(&mut self.parked))
+            }
+            Err(_refused) => unreachable!(),
+        }
+    }
+}

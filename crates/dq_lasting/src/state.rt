@@ -1,0 +1,90 @@
+//! What a shard tells of itself under one lock, and what all shards tell in turn.
+ghost use Rattle.std.specs.Prelude.{◌≡◌, ◌<◌, ◌≤◌, ◌↔◌, IfOk, IsErrOf};
+ghost use Rattle.dq_lasting.specs.declared.errors.LastingError.TheVariants.{Unknown};
+ghost use Rattle.dq_lasting.specs.Answers.{AtPlace, AtPlaceAll};
+ghost use Rattle.dq_lasting.specs.States.{TellsState, LastingQueueStates};
+
+use crate::ended::LastingTally;
+use crate::errors::LastingError;
+use crate::queue::LastingQueue;
+use crate::shard::LastingShard;
+use std::alloc::{AllocError, Allocator};
+use std::sync::Wait;
+
+/// The state of the shard at a place, at one moment.
+#[derive(Clone, Copy, Debug, PartialEq, Eq)]
+pub struct PlaceState {
+    /// The number of its present generation, which its keys carry.
+    pub number: u32,
+    /// Whether it takes entries.
+    pub takes: bool,
+    /// The number of its slots.
+    pub capacity: usize,
+    /// The number of linked entries, live or cancelled and not yet reaped.
+    pub linked: usize,
+    /// The number of worn slots, which hold nothing and have no stamp left. It is closed once they are half.
+    pub worn: usize,
+    /// The tick of one millisecond at which it has something to do, none where nothing is linked. No live entry has a
+    /// deadline before it; the least deadline may be later, where its entry is filed further ahead or was extended.
+    pub next_wake: Option<u64>,
+    /// How many entries came and went, in the present generation and in those before it.
+    pub tally: LastingTally,
+}
+
+impl<T: Drop, A: Allocator> LastingShard<T, A> {
+    /// Its state. Constant time.
+    pub fn state(&self) -> PlaceState
+        ensures { TellsState self.now result self.now }
+    {
+        PlaceState {
+            number: self.number(),
+            takes: self.takes(),
+            capacity: self.capacity(),
+            linked: self.len(),
+            worn: self.worn(),
+            next_wake: self.next_wake(),
+            tally: self.tally(),
+        }
+    }
+}
+
+impl<T: Drop, A: Allocator> LastingQueue<T, A> {
+    /// The state of the shard at a place: all of it is of one moment. Constant time.
+    ///
+    /// # Errors
+    /// Unknown out of range.
+    pub fn state<R: Wait>(&self, rt: &R, place: usize) -> Result<PlaceState, LastingError>
+        ensures unknown { IsErrOf result Unknown ↔ (self.now.shards ≤ place) }
+        ensures tells { AtPlaceAll {T = T} self.now.shards place TellsState result }
+    {
+        if place >= self.shards() {
+            return Err(LastingError::Unknown);
+        }
+        let shard = self.lock(rt, place);
+        Ok(shard.state())
+    }
+
+    // The same of a place that is in range.
+    fn state_at<R: Wait>(&self, rt: &R, place: usize) -> PlaceState
+        requires { place < self.now.shards }
+        ensures { AtPlace {T = T} self.now.shards place TellsState result }
+    {
+        self.lock(rt, place).state()
+    }
+
+    /// The states of all shards, in the order of their places, each under its own lock in turn.
+    ///
+    /// # Errors
+    /// Where memory for the row is refused.
+    #[tactic(auto, using(crate::proofs::States::states_more))]
+    pub fn states<R: Wait>(&self, rt: &R, alloc: A) -> Result<Vec<PlaceState, A>, AllocError>
+        ensures { IfOk result (λ states. LastingQueueStates T self.now.shards states.items) }
+    {
+        let shards = self.shards();
+        let mut states = Vec::with_capacity(alloc, shards)?;
+        for place in 0..shards {
+            states.push_reserved(self.state_at(rt, place));
+        }
+        Ok(states)
+    }
+}

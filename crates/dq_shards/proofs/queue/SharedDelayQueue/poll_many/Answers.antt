@@ -1,0 +1,7 @@
+use Rattle.dq_shards.proofs.queue.SharedDelayQueue.poll_many.Goals as goal
+
+pub returns-clause-answers : goal.returns-clause-answers
+returns-clause-answers g c =
+    let entered = c.in_ok-locked.ensures.entered in
+    let told = rw c.in_ok-answer.was at c.poll_many_and_unlock-answer.ensures.leaves in
+    (entered.0, (_, _, entered.1, told.1, (c.in_ok-locked.ensures.number, told.2)))

@@ -1,0 +1,41 @@
+"""What each crate stands on: what crates.txt lists, what its sources name, and what two pages say of the crates."""
+
+import re
+
+import tree
+
+TOP = tree.TOP
+LINE = re.compile(r"^(\w+)[^:\n]*:(.*)$", re.M)
+ROW = re.compile(r"^\| `(\w+)` \|[^|\n]*\|$", re.M)
+
+
+def listed(text):
+    """Each crate of a crates.txt, with what it lists."""
+    return {found[1]: found[2].split() for found in LINE.finditer(text) if not found[0].startswith("#")}
+
+
+def named(crate):
+    """The words before `::` in a crate's code, and the libraries that its contracts and proofs import."""
+    folder = TOP / "crates" / crate
+    words = set()
+    for path in [*folder.glob("src/**/*.rt"), *folder.glob("specs/**/*.antt"), *folder.glob("proofs/**/*.antt")]:
+        text = tree.text_of(path)
+        words |= set(re.findall(r"\b(\w+)::", text)) | set(re.findall(r"\bRattle\.(\w+)\.", text))
+    return words
+
+
+def faults():
+    """Pairs of a file and what it says wrongly."""
+    crates = listed(tree.text_of(TOP / "crates.txt"))
+    for crate, parts in crates.items():
+        words = named(crate)
+        for part in parts:
+            if part not in words:
+                yield "crates.txt", f"{crate} lists {part}, which none of its sources names"
+    page = tree.text_of(TOP / "docs" / "ARCHITECTURE.md").partition("## The crates")[2].partition("\n## ")[0]
+    for crate in sorted(set(crates) ^ set(ROW.findall(page))):
+        yield "docs/ARCHITECTURE.md", f"its table and crates.txt don't both have `{crate}`"
+    for block in re.findall(r"^```text\n(dq_ticks:.*?)^```", tree.text_of(TOP / "docs" / "USING.md"), re.M | re.S):
+        for crate, parts in listed(block).items():
+            if crate in crates and parts != crates[crate]:
+                yield "docs/USING.md", f"its crates.txt has `{crate}:{' '.join(['', *parts])}`, and ours `{' '.join(crates[crate])}`"

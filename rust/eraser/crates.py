@@ -1,0 +1,264 @@
+"""The product crates, erased file by file."""
+from pathlib import Path
+
+import documents
+import errors
+import ghosts
+import handed
+import indexes
+import kit
+import laws
+import paths
+from tokens import Refused, close_of, text_of, tokens_of
+
+TOP = Path(__file__).resolve().parent.parent.parent
+OUT = TOP / "rust" / "hontkhale" / "src"
+
+# The crates, and the modules that they become.
+MODULES = {
+    "dq_ticks": "ticks",
+    "dq_wheel": "wheel",
+    "dq_core": "core",
+    "dq_words": "words",
+    "dq_shards": "shards",
+    "dq_stream": "stream",
+    "dq_apps": "apps",
+    "dq_lasting": "lasting",
+    "dq_pool": "pool",
+    "dq_replay": "replay",
+}
+# What is told where a closure of `lend` put another shard's state in a shard's place.
+SWAPPED = "a closure of `lend` put the state of another shard here"
+
+
+class Source:
+    """A file of a crate on its way."""
+
+    def __init__(self, crate, path, text):
+        self.crate = crate
+        self.path = path
+        self.inner = path.relative_to(TOP / "crates" / crate / "src")
+        self.text = text
+        self.tokens = tokens_of(text)
+        self.empty = False
+
+    def out(self):
+        module = MODULES[self.crate]
+        parts = list(self.inner.with_suffix("").parts)
+        return Path(f"{module}.rs") if parts == ["lib"] else Path(module, *parts).with_suffix(".rs")
+
+    def module_path(self):
+        parts = list(self.inner.with_suffix("").parts)
+        return () if parts == ["lib"] else tuple(parts)
+
+
+def guarded(source, rule, *arguments):
+    """A rule's answer on a file; what it refuses is told with the file."""
+    try:
+        return rule(*arguments)
+    except Refused as refused:
+        raise Refused(f"{source.path.relative_to(TOP)}: {refused}") from None
+
+
+def sources(hand, said):
+    found = []
+    for crate in MODULES:
+        for path in sorted((TOP / "crates" / crate / "src").rglob("*.rt")):
+            if hand.leaves_out(path):
+                continue
+            found.append(Source(crate, path, hand.applied(path, said.applied(path, path.read_text(encoding="utf-8")))))
+    hand.all_used()
+    said.all_used()
+    return found
+
+
+def without_empty_tests(tokens):
+    """A test that only called laws has nothing left."""
+    at = 0
+    while at < len(tokens) - 6:
+        if ghosts.words_at(tokens, at, "#", "[", "test", "]", "fn"):
+            opening = at + 6
+            body = close_of(tokens, opening) + 1
+            if ghosts.words_at(tokens, body, "{", "}"):
+                del tokens[at:body + 2]
+                continue
+        at += 1
+
+
+def erase_modules(source, gone, names):
+    """Takes out `mod` and `use` of modules that are empty now, and of names that are gone."""
+    tokens = source.tokens
+    at = 0
+    while at < len(tokens) - 2:
+        if tokens[at].text == "mod" and tokens[at + 2].text == ";":
+            if (source.crate, source.module_path() + (tokens[at + 1].text,)) in gone:
+                start = laws.item_start(tokens, at)
+                del tokens[start:at + 3]
+                at = start
+                continue
+        at += 1
+
+
+def rebuilt_uses(source, gone, names):
+    """The uses of a file over the modules of the crate: what is gone or isn't named any more is left out."""
+    tokens = source.tokens
+    module = MODULES[source.crate]
+    spans = paths.uses_of(tokens)
+    test = test_module(tokens)
+    words, tested = paths.named(tokens, spans, test)
+    wanted, wanted_by_tests = [], []
+    for start, end, vis, found in reversed(spans):
+        inner = test is not None and start > test
+        kept = []
+        for path in found:
+            if path.endswith("::*"):
+                kept.append(path)
+                continue
+            if paths.last(path) in names or is_gone(source, path, gone):
+                continue
+            new = guarded(source, paths.moved, path, module, MODULES)
+            name = paths.last(new)
+            if not new:
+                continue
+            if vis:
+                kept.append(new)
+            elif inner:
+                wanted_by_tests.append(new)
+            elif name in words or name in TRAITS:
+                wanted.append(new)
+            elif name in tested:
+                wanted_by_tests.append(new)
+        replace_use(tokens, start, end, vis, kept)
+    defined = defined_names(tokens)
+    for word, path in paths.PROVIDED.items():
+        if word in words and word not in defined:
+            wanted.append(path)
+        elif word in tested and word not in defined:
+            wanted_by_tests.append(path)
+    if wanted_by_tests:
+        within = next(at for at in range(len(tokens)) if tokens[at].text == "super" and tokens[at + 1].text == "::") + 4
+        new = sorted({path for path in wanted_by_tests if path not in wanted and paths.last(path) in tested})
+        lines = "".join(f"\n    {line}" for line in grouped(new))
+        tokens[within:within] = tokens_of(lines)[:-1]
+    put_uses(tokens, sorted(set(wanted)))
+
+
+def test_module(tokens):
+    """Where the module of a file's tests begins, which is its last item; none where it has none."""
+    for at in range(len(tokens) - 8):
+        if ghosts.words_at(tokens, at, "#", "[", "cfg", "(", "test", ")", "]", "mod") and tokens[at + 9].text == "{":
+            return at
+    return None
+
+
+def defined_names(tokens):
+    """The names that a file defines at its top."""
+    found = set()
+    depth = 0
+    for at, token in enumerate(tokens):
+        if token.kind == "other":
+            depth += (token.text == "{") - (token.text == "}")
+        if depth == 0 and token.kind == "word" and token.text in ("fn", "struct", "type", "enum", "trait", "const"):
+            found.add(tokens[at + 1].text)
+    return found
+
+
+TRAITS = {"Read", "Write", "Deref", "DerefMut", "Hash", "TickSource"}
+
+
+def is_gone(source, path, gone):
+    """Whether a path names an empty module or leads through one."""
+    head, _, rest = path.partition("::")
+    parts = tuple(rest.split("::"))
+    if head == "crate":
+        crate = source.crate
+    elif head in MODULES:
+        crate = head
+    elif source.module_path() == ():
+        crate, parts = source.crate, tuple(path.split("::"))
+    else:
+        return False
+    return any((crate, parts[:count]) in gone for count in range(1, len(parts) + 1))
+
+
+def grouped(found):
+    groups = {}
+    for path in found:
+        parent, _, name = path.rpartition("::")
+        groups.setdefault(parent, []).append(name)
+    lines = []
+    for parent, names in sorted(groups.items()):
+        names = sorted(set(names))
+        lines.append(f"use {parent}::{names[0]};" if len(names) == 1 else f"use {parent}::{{{', '.join(names)}}};")
+    return lines
+
+
+def replace_use(tokens, start, end, vis, kept):
+    new = []
+    for line in grouped(kept):
+        piece = kit.made(vis + line, tokens[start], "\n")
+        new += piece
+    if new:
+        new[0].before = tokens[start].before
+    elif tokens[end].before.count("\n") < 2 and "//" not in tokens[end].before:
+        tokens[end].before = tokens[start].before
+    tokens[start:end] = new
+
+
+def put_uses(tokens, found):
+    at = 0
+    while tokens[at].kind == "doc" and tokens[at].text.startswith("//!"):
+        at += 1
+    # A module is told first, as in its source.
+    new = []
+    for line in grouped(found):
+        new += kit.made(line, tokens[at], "\n")
+    if not new:
+        return
+    new[0].before = "\n\n" if at else ""
+    rest = tokens[at]
+    if not rest.before.startswith("\n\n"):
+        rest.before = "\n\n" + rest.before.lstrip("\n")
+    tokens[at:at] = new
+
+
+def erased(hand, closed, said):
+    """The erased text of each file, by its path in the crate."""
+    found = sources(hand, said)
+    for source in found:
+        source.tokens = guarded(source, without_ghosts_but_clauses, source.tokens)
+    names = laws.law_names([source.tokens for source in found])
+    for source in found:
+        source.tokens = guarded(source, laws.without_laws, source.tokens, names)
+    fields = {}
+    for source in found:
+        fields.setdefault(source.crate, set()).update(
+            guarded(source, lambda tokens: handed.erased_fields(tokens, handed.erased_types(tokens)), source.tokens)
+        )
+    for source in found:
+        guarded(source, closed.close, source)
+    closed.all_found()
+    for source in found:
+        source.tokens = guarded(source, ghosts.erased, source.tokens)
+        guarded(source, without_empty_tests, source.tokens)
+        guarded(source, kit.early, source.tokens, SWAPPED)
+        source.tokens = guarded(source, handed.without_handed, source.tokens, fields[source.crate])
+        guarded(source, kit.rewritten, source.tokens)
+        guarded(source, errors.with_errors, source.tokens)
+        if source.crate != "dq_replay":
+            guarded(source, indexes.with_indexes, source.tokens)
+    gone = {(source.crate, source.module_path()) for source in found if not laws.has_items(source.tokens)}
+    for source in found:
+        guarded(source, erase_modules, source, gone, names)
+        guarded(source, paths.with_paths, source.tokens, MODULES[source.crate], MODULES)
+        rebuilt_uses(source, gone, names)
+        documents.with_links(source.tokens, MODULES[source.crate], closed.given)
+    return {
+        source.out(): text_of(source.tokens)
+        for source in found
+        if (source.crate, source.module_path()) not in gone
+    }
+
+
+def without_ghosts_but_clauses(tokens):
+    return ghosts.erased(tokens, (ghosts.ghost, ghosts.model, ghosts.tactic))

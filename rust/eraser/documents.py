@@ -1,0 +1,84 @@
+"""Docs: what they say otherwise in Rust than in the proved source, and where their links lead."""
+import re
+
+from hand import Hand
+from tokens import CLOSES
+
+LINK = re.compile(r"\[`((?:dq_\w+::)?)(\w+)((?:::\w+)?)`\](?![(\[:])")
+WIDTH = 120
+
+
+class Documents(Hand):
+    """The list `documents`, of the form of `by_hand`: lines of docs, and those that stand in their place."""
+
+    def __init__(self, text):
+        super().__init__(text, "rust/eraser/documents")
+
+
+def known_names(tokens, module, given):
+    """The names that a file imports or defines and that its docs may link to as they are."""
+    names = set()
+    at = 0
+    while at < len(tokens):
+        token = tokens[at]
+        if token.text == "use" and token.kind == "word":
+            while tokens[at].text != ";":
+                if tokens[at].kind == "word":
+                    names.add(tokens[at].text)
+                at += 1
+        elif token.text in ("struct", "enum", "fn", "const", "trait", "type") and token.kind == "word":
+            if given.get(tokens[at + 1].text) == module:
+                names.add(tokens[at + 1].text)
+        at += 1
+    return names
+
+
+def with_links(tokens, module, exported):
+    """Each link of a doc leads to what the crate gives away, or is plain text."""
+    known = known_names(tokens, module, exported)
+    at = 0
+    while at < len(tokens):
+        token = tokens[at]
+        if token.kind == "doc" and LINK.search(token.text):
+            far = set()
+            token.text = LINK.sub(lambda match: link(match, known, exported, far, token), token.text)
+            if far:
+                at = put_definitions(tokens, at, far)
+        at += 1
+    return tokens
+
+
+def link(match, known, exported, far, token):
+    crate, head, tail = match.groups()
+    name = head + tail
+    if head == "Self":
+        return match.group()
+    if head not in exported:
+        return f"`{name}`"
+    if head in known and not crate:
+        return match.group()
+    inline = f"[`{name}`](crate::{name})"
+    indent = len(token.before.rsplit("\n", 1)[-1])
+    if indent + len(token.text) + len(inline) - len(match.group()) <= WIDTH:
+        return inline
+    far.add(name)
+    return f"[`{name}`]"
+
+
+def put_definitions(tokens, at, far):
+    """Puts where far links lead behind the last line of the doc, and gives the index of the line before them."""
+    end = at
+    prefix = tokens[at].text[:3]
+    while tokens[end + 1].kind == "doc" and tokens[end + 1].text.startswith(prefix):
+        end += 1
+    indent = "\n" + tokens[at].before.rsplit("\n", 1)[-1]
+    lines = [prefix] + [f"{prefix} [`{name}`]: crate::{name}" for name in sorted(far)]
+    present = {tokens[index].text for index in range(at, end + 1)}
+    if any(line in present for line in lines[1:]):
+        lines = [line for line in lines[1:] if line not in present]
+    new = []
+    for line in lines:
+        token = tokens[at].__class__("doc", line, indent, tokens[at].line)
+        new.append(token)
+    tokens[end + 1:end + 1] = new
+    return at

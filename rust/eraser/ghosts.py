@@ -1,0 +1,89 @@
+"""Rules for what is there for proofs alone: ghosts, clauses, models, tactics."""
+from tokens import OPENS, Refused, close_of
+
+CLAUSES = {"requires", "ensures", "invariant", "decreases"}
+
+
+def end_of_statement(tokens, at):
+    """The index behind the semicolon that ends what begins at an index."""
+    index = at
+    while tokens[index].text != ";":
+        if tokens[index].kind == "end":
+            raise Refused(f"line {tokens[at].line}: a ghost without its end")
+        if tokens[index].text in OPENS:
+            index = close_of(tokens, index)
+        index += 1
+    return index + 1
+
+
+def words_at(tokens, at, *texts):
+    """Whether these texts stand at an index, one after the other."""
+    return all(tokens[at + step].text == text for step, text in enumerate(texts) if at + step < len(tokens))
+
+
+def ghost(tokens, at):
+    """A ghost item ends at its semicolon, a ghost field of a struct at its comma."""
+    start = at + (tokens[at].text == "pub")
+    if tokens[start].text != "ghost" or tokens[start].kind != "word":
+        return None
+    if tokens[start + 2].text == ":" and tokens[start + 3].text == "{":
+        behind = close_of(tokens, start + 3) + 1
+        if tokens[behind].text == ",":
+            return behind + 1
+        if tokens[behind].text == "}":
+            return behind
+    return end_of_statement(tokens, at)
+
+
+def clause(tokens, at):
+    """A clause: its word, a name where it has one, and braces; never as a name of Rust."""
+    if tokens[at].text not in CLAUSES or tokens[at].kind != "word":
+        return None
+    after = at + 1
+    if tokens[after].kind == "word":
+        after += 1
+    if tokens[after].text != "{":
+        return None
+    return close_of(tokens, after) + 1
+
+
+def model(tokens, at):
+    """`impl Model for ..`, whole."""
+    if tokens[at].text != "impl":
+        return None
+    index = at + 1
+    named = False
+    while tokens[index].text != "{":
+        named = named or (tokens[index].text == "Model" and tokens[index + 1].text == "for")
+        if tokens[index].kind == "end" or tokens[index].text == ";":
+            return None
+        index += 1
+    return close_of(tokens, index) + 1 if named else None
+
+
+def tactic(tokens, at):
+    for opening in (("#", "["), ("#", "!", "[")):
+        if words_at(tokens, at, *opening) and tokens[at + len(opening)].text == "tactic":
+            return close_of(tokens, at + len(opening) - 1) + 1
+    return None
+
+
+RULES = (ghost, clause, model, tactic)
+
+
+def erased(tokens, rules=RULES):
+    kept = []
+    at = 0
+    while at < len(tokens):
+        for rule in rules:
+            behind = rule(tokens, at)
+            if behind is not None:
+                if rule is ghost or rule is model:
+                    while kept and kept[-1].kind == "doc" and kept[-1].text.startswith("///"):
+                        kept.pop()
+                at = behind
+                break
+        else:
+            kept.append(tokens[at])
+            at += 1
+    return kept

@@ -1,0 +1,96 @@
+"""Each index of a row goes through the module `index`, whose bounds check may be turned off since it is proved."""
+from laws import functions, opening_of
+from kit import made
+from tokens import Refused, close_of
+
+ASSIGNS = {"=", "+=", "-=", "|=", "&=", "^="}
+# The methods that are called on what an index gives: whether they change it.
+READS = {"lock", "number", "cancels", "law", "is_some"}
+CHANGES = {"extend", "cancel", "look"}
+
+
+def references(tokens, head):
+    """The parameters of a function that are references."""
+    close = close_of(tokens, head)
+    return {
+        tokens[at].text
+        for at in range(head + 1, close)
+        if tokens[at].kind == "word" and tokens[at + 1].text == ":" and tokens[at + 2].text == "&"
+    }
+
+
+def is_index(tokens, at):
+    """Whether the bracket at an index is that of an index: behind a name, and of one value that isn't a number."""
+    before = tokens[at - 1]
+    if before.kind != "word" or before.text in ("in", "return", "mut", "let", "else", "match", "if", "const"):
+        return False
+    close = close_of(tokens, at)
+    inner = tokens[at + 1:close]
+    if len(inner) == 1 and inner[0].kind == "number":
+        return False
+    return all(token.text not in ("..", "..=", ";") for token in inner)
+
+
+def with_indexes(tokens):
+    used = set()
+    known = {}
+    for start, _, _, head, body in functions(tokens):
+        if tokens[body].text == "{":
+            for at in range(body, close_of(tokens, body)):
+                known[id(tokens[at])] = (tokens[body], references(tokens, head))
+    at = len(tokens) - 1
+    while at > 0:
+        token = tokens[at]
+        if token.text == "[" and token.kind == "other" and id(token) in known and is_index(tokens, at):
+            one_index(tokens, at, known[id(token)][1], used)
+        elif token.text == "[" and id(token) in known and tokens[at - 1].text in (")", "]"):
+            if tokens[at - 1].kind == "other" and is_index_of_call(tokens, at):
+                raise Refused(f"line {token.line}: an index of what a call or an index gives")
+        at -= 1
+    return used
+
+
+def is_index_of_call(tokens, at):
+    return tokens[at - 1].line == tokens[at].line and tokens[at].before == ""
+
+
+def base_start(tokens, at):
+    """Where the path before an index begins."""
+    start = at - 1
+    while tokens[start - 1].text == "." and tokens[start - 2].kind == "word":
+        start -= 2
+    if tokens[start - 1].text in (".", "::"):
+        raise Refused(f"line {tokens[at].line}: an index of what no rule knows")
+    return start
+
+
+def one_index(tokens, at, refs, used):
+    start = base_start(tokens, at)
+    close = close_of(tokens, at)
+    base = tokens[start:at]
+    inner = tokens[at + 1:close]
+    is_ref = len(base) == 1 and base[0].text in refs
+    before, after = tokens[start - 1].text, tokens[close + 1].text
+    borrowed = before == "&" or (before == "mut" and tokens[start - 2].text == "&")
+    from_ = start
+    if borrowed and after != ".":
+        call = "nth_mut" if before == "mut" else "nth"
+        from_ = start - (2 if before == "mut" else 1)
+        star = ""
+    elif after in ASSIGNS:
+        call, star = "nth_mut", "*"
+    elif after == "." and tokens[close + 3].text in ASSIGNS:
+        call, star = "nth_mut", ""
+    elif after == "." and tokens[close + 3].text == "(":
+        method = tokens[close + 2].text
+        if method not in READS | CHANGES:
+            raise Refused(f"line {tokens[at].line}: `{method}` of an index, which no rule knows")
+        call, star = ("nth_mut" if method in CHANGES else "nth"), ""
+    else:
+        call, star = "nth", "" if after == "." else "*"
+    mark = "" if is_ref else "&mut " if call == "nth_mut" else "&"
+    head = made(f"{star}{call}({mark}", tokens[from_])
+    base[0].before = " " if mark == "&mut " else ""
+    used.add(call)
+    tokens[from_:close + 1] = head + base + made(", ", base[0], "") + inner + made(")", base[0], "")
+    inner[0].before = " "

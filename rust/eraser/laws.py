@@ -1,0 +1,181 @@
+"""Laws: functions that do nothing and are there for what they promise. They go, with the statements that call them."""
+from ghosts import clause
+from tokens import OPENS, Refused, angle_close_of, close_of
+
+STARTS = {"{", "}", ";"}
+# What a statement that only calls something doesn't begin with.
+OTHER_STATEMENTS = {"let", "return", "if", "match", "while", "for", "use", "pub", "fn"}
+
+
+def functions(tokens):
+    """Each function: where its item begins and `fn` stands, its name, its parameters' bracket, its body or its end."""
+    found = []
+    for at, token in enumerate(tokens):
+        if token.text != "fn" or token.kind != "word" or tokens[at + 1].kind != "word":
+            continue
+        index = at + 2
+        if tokens[index].text == "<":
+            index = angle_close_of(tokens, index) + 1
+        behind = close_of(tokens, index) + 1
+        body = behind
+        while tokens[body].text not in ("{", ";"):
+            over = clause(tokens, body)
+            if over is not None:
+                body = over
+            elif tokens[body].text in OPENS:
+                body = close_of(tokens, body) + 1
+            else:
+                body += 1
+        found.append((item_start(tokens, at), at, tokens[at + 1].text, index, body))
+    return found
+
+
+def item_start(tokens, at):
+    """Where the item of a `fn` begins: its visibility, its attributes and its docs."""
+    start = at
+    while start > 0:
+        before = tokens[start - 1]
+        if before.kind == "doc" and before.text.startswith("///"):
+            start -= 1
+        elif before.text in ("pub", "const") and before.kind == "word":
+            start -= 1
+        elif before.text == ")" and tokens[start - 4].text == "pub":
+            start -= 4
+        elif before.text == "]" and is_attribute(tokens, start - 1):
+            start = opening_of(tokens, start - 1) - 1
+        else:
+            return start
+    return start
+
+
+def opening_of(tokens, at):
+    depth = 0
+    for index in range(at, -1, -1):
+        if tokens[index].kind == "other" and tokens[index].text in ("]", ")", "}"):
+            depth += 1
+        elif tokens[index].kind == "other" and tokens[index].text in OPENS:
+            depth -= 1
+            if depth == 0:
+                return index
+    raise Refused(f"line {tokens[at].line}: a bracket isn't opened")
+
+
+def is_attribute(tokens, at):
+    opening = opening_of(tokens, at)
+    return opening > 0 and tokens[opening - 1].text == "#"
+
+
+def is_law(tokens, name, head, body, laws):
+    """A function of no answer that promises something, changes nothing and only calls laws, if anything."""
+    if name == "law":
+        return True
+    behind = close_of(tokens, head) + 1
+    if tokens[behind].text == "->" or tokens[body].text != "{" or not empty_but_calls(tokens, body, laws):
+        return False
+    if any(token.text == "mut" for token in tokens[head:behind]):
+        return False
+    return any(token.text == "ensures" for token in tokens[behind:body])
+
+
+def law_names(files):
+    """The names of all laws of some files: those that call other laws are found once those are."""
+    parts = [(tokens, functions(tokens)) for tokens in files]
+    laws = set()
+    while True:
+        more = {
+            name
+            for tokens, found in parts
+            for _, _, name, head, body in found
+            if is_law(tokens, name, head, body, laws)
+        }
+        if more == laws:
+            return laws
+        laws = more
+
+
+def without_laws(tokens, laws):
+    """The tokens without functions of those names, and without statements that only call one or look at a field."""
+    spans = []
+    for start, _, name, head, body in functions(tokens):
+        if name in laws:
+            if not is_law(tokens, name, head, body, laws) and not empty_but_calls(tokens, body, laws):
+                raise Refused(f"line {tokens[start].line}: `{name}` is a law elsewhere, and does something here")
+            end = close_of(tokens, body) if tokens[body].text == "{" else body
+            spans.append((start, end + 1))
+    kept = []
+    at = 0
+    ends = dict(spans)
+    while at < len(tokens):
+        if at in ends:
+            at = ends[at]
+            continue
+        if kept and kept[-1].text in STARTS:
+            behind = idle_statement(tokens, at, laws)
+            if behind is not None:
+                at = behind
+                continue
+        kept.append(tokens[at])
+        at += 1
+    return kept
+
+
+def empty_but_calls(tokens, body, laws):
+    at = body + 1
+    end = close_of(tokens, body)
+    while at < end:
+        behind = idle_statement(tokens, at, laws)
+        if behind is None:
+            return False
+        at = behind
+    return True
+
+
+def idle_statement(tokens, at, laws):
+    """The index behind a statement that calls a law, or that is `let _ = &self.field;`."""
+    if [token.text for token in tokens[at:at + 6]] == ["let", "_", "=", "&", "self", "."]:
+        return at + 8 if tokens[at + 7].text == ";" else None
+    if tokens[at].kind != "word" or tokens[at].text in OTHER_STATEMENTS:
+        return None
+    index = at
+    called = None
+    while tokens[index].text != ";":
+        token = tokens[index]
+        if token.text == "(":
+            called = called_name(tokens, index)
+            index = close_of(tokens, index)
+            if tokens[index + 1].text not in (";", "."):
+                return None
+        elif token.kind not in ("word",) and token.text not in (".", "::", "<", ">", ",", "&", "'"):
+            return None
+        index += 1
+    return index + 1 if called in laws else None
+
+
+def called_name(tokens, at):
+    """The name of what is called by the bracket at an index, behind its type arguments."""
+    index = at - 1
+    if tokens[index].text == ">":
+        depth = 0
+        while True:
+            depth += (tokens[index].text == ">") - (tokens[index].text == "<")
+            index -= 1
+            if depth == 0:
+                break
+        if tokens[index].text == "::":
+            index -= 1
+    return tokens[index].text
+
+
+def has_items(tokens):
+    """Whether a file has more than docs and uses."""
+    at = 0
+    while tokens[at].kind != "end":
+        if tokens[at].kind == "doc":
+            at += 1
+        elif tokens[at].text in ("use", "pub") and "use" in (tokens[at].text, tokens[at + 1].text):
+            while tokens[at].text != ";":
+                at += 1
+            at += 1
+        else:
+            return True
+    return False

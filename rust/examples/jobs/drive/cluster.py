@@ -1,0 +1,174 @@
+"""A PostgreSQL cluster of its own in a temporary folder, and the workers that a test starts.
+
+All of them end with it.
+"""
+import contextlib
+import glob
+import os
+import pathlib
+import shutil
+import signal
+import socket
+import subprocess
+import sys
+import tempfile
+import time
+
+HERE = pathlib.Path(__file__).resolve().parent.parent
+JOBS = str(HERE / "target/release/jobs")
+EFFECT = "INSERT INTO effects (job) SELECT id FROM taken"
+
+
+def free_port():
+    with socket.create_server(("127.0.0.1", 0)) as it:
+        return it.getsockname()[1]
+
+
+def program(name):
+    """A program of PostgreSQL's, which Debian keeps beside its version."""
+    found = sorted(glob.glob(f"/usr/lib/postgresql/*/bin/{name}"), key=lambda it: int(it.split("/")[4]))
+    return found[-1] if found else shutil.which(name)
+
+
+def wait_for(what, seconds, every=0.05):
+    """What comes true within so many seconds."""
+    end = time.monotonic() + seconds
+    while True:
+        answer = what()
+        if answer:
+            return answer
+        if time.monotonic() > end:
+            raise AssertionError(f"not within {seconds} s: {what.__doc__ or what.__name__}")
+        time.sleep(every)
+
+
+class Cluster:
+    def __init__(self, settings=()):
+        self.room = pathlib.Path(tempfile.mkdtemp(prefix="jobs-"))
+        self.port = free_port()
+        self.processes = []
+        # The server refuses to run as root: there it runs as the user of Debian's package.
+        self.user = ["runuser", "-u", "postgres", "--"] if os.geteuid() == 0 else []
+        if self.user:
+            shutil.chown(self.room, "postgres", "postgres")
+        self.data = self.room / "data"
+        self.url = f"postgres://jobs@127.0.0.1:{self.port}/postgres"
+        init = [program("initdb"), "-D", self.data, "-U", "jobs", "-A", "trust", "-E", "UTF8", "--locale=C"]
+        self.as_user(init)
+        options = [
+            "listen_addresses=127.0.0.1",
+            f"port={self.port}",
+            f"unix_socket_directories={self.room}",
+            "shared_buffers=256MB",
+            "max_connections=50",
+            "max_wal_size=4GB",
+            *settings,
+        ]
+        self.options = " ".join(f"-c {it}" for it in options)
+
+    def as_user(self, command, **more):
+        done = subprocess.run([*self.user, *map(str, command)], cwd="/", capture_output=True, text=True, **more)
+        if done.returncode:
+            raise AssertionError(f"{command}: {done.stdout}{done.stderr}")
+
+    def start(self):
+        log = self.room / "log"
+        # The server's own output would keep a pipe of this process open.
+        command = [
+            *self.user,
+            program("pg_ctl"),
+            "-D",
+            str(self.data),
+            "-w",
+            "-t",
+            "60",
+            "-l",
+            str(log),
+            "-o",
+            self.options,
+            "start",
+        ]
+        if subprocess.run(command, cwd="/", stdout=subprocess.DEVNULL, stderr=subprocess.DEVNULL).returncode:
+            raise AssertionError(f"the server doesn't start: {log.read_text()[-2000:] if log.exists() else command}")
+
+    def stop(self, how="fast"):
+        self.as_user([program("pg_ctl"), "-D", self.data, "-m", how, "-w", "stop"])
+
+    def pid(self):
+        return int((self.data / "postmaster.pid").read_text().split()[0])
+
+    def sql(self, text):
+        """Rows, as lists of texts."""
+        command = ["psql", "-X", "-q", "-At", "-F", "\t", "-v", "ON_ERROR_STOP=1", self.url]
+        done = subprocess.run(command, input=text, capture_output=True, text=True)
+        if done.returncode:
+            raise AssertionError(f"{text}: {done.stderr}")
+        return [line.split("\t") for line in done.stdout.splitlines()]
+
+    def number(self, text):
+        return float(self.sql(text)[0][0])
+
+    def jobs(self, *words, env=None):
+        done = subprocess.run([JOBS, *words, "--database", self.url], capture_output=True, text=True, env=env)
+        if done.returncode:
+            raise AssertionError(f"jobs {words}: {done.stderr}")
+        return done.stdout
+
+    def setup(self):
+        self.jobs("setup")
+        self.sql("CREATE TABLE IF NOT EXISTS effects (job bigint, at timestamptz DEFAULT clock_timestamp())")
+
+    def spawn(self, *words, env=None, log=None):
+        out = open(self.room / (log or "workers"), "ab")
+        process = subprocess.Popen([JOBS, *words, "--database", self.url], stdout=out, stderr=out, env=env)
+        out.close()
+        self.processes.append(process)
+        return process
+
+    def logged(self, log="workers"):
+        return (self.room / log).read_text()
+
+    def owned(self):
+        """How many partitions each session has."""
+        return [
+            int(it[0])
+            for it in self.sql(
+                "SELECT count(*) FROM pg_locks WHERE locktype = 'advisory' AND objsubid = 2 AND objid < 64 AND "
+                "granted GROUP BY pid"
+            )
+        ]
+
+    def wait_for_owners(self, workers, seconds=60):
+        def all_owned():
+            """each partition has an owner, by fair shares"""
+            owned = self.owned()
+            return len(owned) == workers and sum(owned) == 64 and max(owned) <= -(-64 // workers)
+
+        wait_for(all_owned, seconds)
+
+    def close(self):
+        for process in self.processes:
+            if process.poll() is None:
+                # One that was stopped ends, too.
+                process.kill()
+                process.wait()
+        with contextlib.suppress(AssertionError):
+            self.stop("immediate")
+        shutil.rmtree(self.room, ignore_errors=True)
+
+
+@contextlib.contextmanager
+def cluster(settings=()):
+    # A test that is told to end cleans up as one that fails.
+    signal.signal(signal.SIGTERM, lambda *_: sys.exit("ended by a signal"))
+    it = Cluster(settings)
+    try:
+        it.start()
+        it.setup()
+        yield it
+    except BaseException:
+        with contextlib.suppress(OSError):
+            print(f"what the workers said last:\n{it.logged()[-3000:]}", file=sys.stderr)
+        raise
+    finally:
+        it.close()

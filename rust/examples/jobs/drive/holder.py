@@ -1,0 +1,138 @@
+"""A holder of leases: takes jobs from workers, beats, and follows a job to the worker that owns it."""
+import socket
+import time
+
+# What a socket says when its worker is gone.
+GONE = (OSError, EOFError)
+
+
+class Refusal(str):
+    """An error of the protocol."""
+
+
+def packed(*words):
+    words = [str(it).encode() for it in words]
+    return b"*%d\r\n" % len(words) + b"".join(b"$%d\r\n%s\r\n" % (len(it), it) for it in words)
+
+
+class Connection:
+    def __init__(self, address, timeout=30):
+        host, port = address.rsplit(":", 1)
+        self.socket = socket.create_connection((host, int(port)), timeout=timeout)
+        self.socket.setsockopt(socket.IPPROTO_TCP, socket.TCP_NODELAY, 1)
+        self.file = self.socket.makefile("rb", buffering=1 << 20)
+
+    def call(self, *words):
+        return self.calls([words])[0]
+
+    def calls(self, commands):
+        self.socket.sendall(b"".join(packed(*it) for it in commands))
+        return [self.reply() for _ in commands]
+
+    def reply(self):
+        line = self.file.readline()
+        if not line.endswith(b"\r\n"):
+            raise EOFError("the worker closed the connection")
+        kind, rest = line[:1], line[1:-2]
+        if kind == b":":
+            return int(rest)
+        if kind == b"+":
+            return rest.decode()
+        if kind == b"-":
+            return Refusal(rest.decode())
+        if kind == b"*":
+            return [self.reply() for _ in range(int(rest))]
+        return self.file.read(int(rest) + 2)[:-2].decode()
+
+    def close(self):
+        self.socket.close()
+
+
+class Job:
+    def __init__(self, id, attempt, left, address):
+        self.id, self.attempt, self.address = id, attempt, address
+        # By this machine's clock, which is the database's here: the last word accepted, and the lease's end by it.
+        self.said = time.time()
+        self.until = self.said + left / 1000
+        self.refused = None
+        # The longest time between two accepted words.
+        self.gap = 0.0
+
+
+class Holder:
+    def __init__(self, addresses):
+        self.addresses = list(addresses)
+        self.connections = {}
+        self.jobs = {}
+
+    def connection(self, address):
+        if address not in self.connections:
+            self.connections[address] = Connection(address)
+        return self.connections[address]
+
+    def leave(self, address):
+        if address in self.connections:
+            self.connections.pop(address).close()
+
+    def take(self, count, seconds=30):
+        """So many jobs, from whichever worker has them."""
+        end = time.monotonic() + seconds
+        got = []
+        while len(got) < count:
+            assert time.monotonic() < end, f"{len(got)} of {count} jobs were given"
+            for address in self.addresses:
+                try:
+                    jobs = self.connection(address).call("JOBS.TAKE", min(100, count - len(got) or 1), "WAIT", 20)
+                except GONE:
+                    self.leave(address)
+                    continue
+                if isinstance(jobs, list) and len(got) < count:
+                    for id, attempt, left, _payload in jobs:
+                        self.jobs[id] = Job(id, attempt, left, address)
+                        got.append(self.jobs[id])
+        return got
+
+    def beat(self, jobs):
+        """One beat of each, at the worker that is known to own it."""
+        self.say(jobs, "JOBS.BEAT", lambda job, left: self.noted(job, left))
+
+    def noted(self, job, left):
+        now = time.time()
+        job.gap = max(job.gap, now - job.said)
+        job.said, job.until = now, now + left / 1000
+
+    def say(self, jobs, word, accepted):
+        by_address = {}
+        for job in jobs:
+            if job.refused is None:
+                by_address.setdefault(job.address, []).append(job)
+        for address, its_jobs in by_address.items():
+            sent = time.time()
+            try:
+                replies = self.connection(address).calls([(word, it.id, it.attempt) for it in its_jobs])
+            except GONE:
+                self.leave(address)
+                others = [it for it in self.addresses if it != address] or [address]
+                for job in its_jobs:
+                    job.address = others[job.id % len(others)]
+                continue
+            for job, reply in zip(its_jobs, replies):
+                self.hear(job, reply, sent, accepted)
+
+    def hear(self, job, reply, sent, accepted):
+        if not isinstance(reply, Refusal):
+            accepted(job, reply)
+        elif reply.startswith("MOVED "):
+            job.address = reply.split()[2]
+        elif reply.startswith("FENCED "):
+            job.refused = sent
+        else:
+            assert reply.startswith("TRYAGAIN "), reply
+
+    def beat_for(self, jobs, seconds, every, also=lambda: None):
+        end = time.monotonic() + seconds
+        while time.monotonic() < end:
+            begun = time.monotonic()
+            self.beat(jobs)
+            also()
+            time.sleep(max(0, every - (time.monotonic() - begun)))

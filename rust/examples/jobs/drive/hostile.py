@@ -1,0 +1,281 @@
+"""What does harm.
+
+Workers of one name, a clock that is wrong, great payloads, a lost lock, a flood of notifications, a table that is full
+at the start, a bad job among good ones, and clients that say nonsense.
+"""
+import glob
+import os
+import socket
+import subprocess
+import sys
+import threading
+import time
+
+from cluster import EFFECT, cluster, free_port, wait_for
+from holder import Connection, Holder, Refusal
+
+MEBIBYTE = 1 << 20
+
+
+def empty(it):
+    it.sql("TRUNCATE jobs; TRUNCATE effects")
+
+
+def end(*workers):
+    for worker in workers:
+        worker.terminate()
+    codes = [worker.wait(60) for worker in workers]
+    assert codes == [0] * len(workers), codes
+
+
+def exactly_once(it, count):
+    def all_done():
+        """each job is done"""
+        return it.number("SELECT count(*) FROM jobs WHERE state = 'done'") == count
+
+    wait_for(all_done, 120, every=0.2)
+    rows = it.sql(
+        "SELECT count(*), count(DISTINCT job), (SELECT count(*) FROM effects e JOIN jobs j ON j.id = e.job WHERE "
+        "e.at < j.due) "
+        "FROM effects"
+    )
+    assert rows == [[str(count), str(count), "0"]], f"effects, of jobs, early: {rows}"
+
+
+def lateness(it):
+    """The 50th and 99th percentile and the worst, in milliseconds."""
+    return it.sql(
+        "SELECT percentile_disc(ARRAY[0.5, 0.99, 1]) WITHIN GROUP (ORDER BY round(1000 * extract(epoch FROM "
+        "started - due), 1)) "
+        "FROM jobs WHERE attempt = 1"
+    )[0][0]
+
+
+def one_name(it):
+    empty(it)
+    workers = [it.spawn("worker", "--name", "twin", "--effect", EFFECT) for _ in range(2)]
+    it.wait_for_owners(2)
+    it.jobs("enqueue", "5000", "--spread", "3000")
+    exactly_once(it, 5000)
+    end(*workers)
+    print("hostile: two workers of one name shared 5,000 jobs, each done once", flush=True)
+
+
+def wrong_clock(it):
+    library = glob.glob("/usr/lib/*/faketime/libfaketime.so.1")
+    assert library, "libfaketime is missing"
+    for shift in ("+1h", "-1h"):
+        empty(it)
+        env = dict(os.environ, LD_PRELOAD=library[0], FAKETIME=shift, DONT_FAKE_MONOTONIC="1")
+        seen = subprocess.run(["date", "+%s"], capture_output=True, text=True, env=env)
+        assert abs(abs(int(seen.stdout) - time.time()) - 3600) < 60, "the clock is an hour off"
+        worker = it.spawn("worker", "--effect", EFFECT, env=env)
+        it.wait_for_owners(1)
+        it.jobs("enqueue", "2000", "--spread", "3000")
+        exactly_once(it, 2000)
+        end(worker)
+        print(
+            f"hostile: a worker whose clock is {shift} off did 2,000 jobs, none early; ms late p50, p99, max: "
+            f"{lateness(it)}",
+            flush=True,
+        )
+
+
+def great_payload(it):
+    empty(it)
+    port = free_port()
+    worker = it.spawn("worker", "--listen", f"127.0.0.1:{port}")
+    it.wait_for_owners(1)
+    it.sql(
+        "INSERT INTO jobs (payload) SELECT string_agg(chr(97 + (i * 7) % 26), '') FROM generate_series(1, "
+        f"{MEBIBYTE}) i"
+    )
+    try:
+        it.sql(f"INSERT INTO jobs (payload) VALUES (repeat('x', {MEBIBYTE} + 1))")
+        raise AssertionError("a payload above a mebibyte is accepted")
+    except AssertionError as error:
+        assert "violates check constraint" in str(error), error
+    connection = Connection(f"127.0.0.1:{port}")
+    ((id, attempt, _left, payload),) = connection.call("JOBS.TAKE", 1, "WAIT", 10000)
+    assert payload == "".join(chr(97 + (i * 7) % 26) for i in range(1, MEBIBYTE + 1)), "the payload comes as it was"
+    assert connection.call("JOBS.BEAT", id, attempt) > 0
+    assert connection.call("JOBS.DONE", id, attempt) == "OK"
+    nonsense(port)
+    assert connection.call("PING") == "PONG"
+    end(worker)
+    print(
+        "hostile: a payload of a mebibyte came whole, one byte more was refused; clients that say nonsense "
+        "harmed nobody",
+        flush=True,
+    )
+
+
+def nonsense(port):
+    for text, said in [
+        (b"*1\r\n$99999999\r\n", b"-ERR Protocol error: too big a request"),
+        (b"*99999\r\n", b"-ERR Protocol error: invalid multibulk length"),
+        (b"x" * 100_000, b"-ERR Protocol error: too big a request"),
+        (b"SET a b\r\n", b"-ERR there is no command SET"),
+        (b"JOBS.BEAT 1\r\n", b"-ERR wrong arguments of JOBS.BEAT"),
+        (b"JOBS.BEAT 12345678 1\r\n", b"-FENCED"),
+        (b"JOBS.DONE -5 1\r\n", b"-FENCED"),
+        (b"*3\r\n$9\r\nJOBS.BEAT\r\n$1\r\n", None),
+    ]:
+        with socket.create_connection(("127.0.0.1", port), timeout=10) as it:
+            it.sendall(text)
+            if said:
+                got = b""
+                while b"\r\n" not in got:
+                    piece = it.recv(1000)
+                    assert piece, (text[:30], got)
+                    got += piece
+                assert got.startswith(said), (text[:30], got)
+
+
+def lost_lock(it):
+    """An operator ends the owner's session, again and again, while its jobs run."""
+    empty(it)
+    ports = [free_port() for _ in range(2)]
+    workers = [
+        it.spawn("worker", "--listen", f"127.0.0.1:{port}", "--lease", "5000", "--write-every", "500") for port in ports
+    ]
+    it.wait_for_owners(2)
+    it.jobs("enqueue", "200")
+    holder = Holder([f"127.0.0.1:{port}" for port in ports])
+    jobs = holder.take(200)
+    for _ in range(5):
+        it.sql("SELECT pg_terminate_backend(pid) FROM pg_stat_activity WHERE application_name LIKE 'jobs %'")
+        holder.beat_for(jobs, 1, 0.25)
+    it.wait_for_owners(2)
+    starved = [job for job in jobs if job.gap > 4]
+    replaced = [job for job in jobs if job.refused]
+    assert not replaced or starved, f"{len(replaced)} holders that beat were replaced"
+    done = []
+    for _ in range(3):
+        holder.say([job for job in jobs if job.id not in done], "JOBS.DONE", lambda job, _: done.append(job.id))
+    rows = it.sql("SELECT state, attempt, count(*) FROM jobs GROUP BY 1, 2")
+    assert rows == [["done", "1", "200"]] or starved, rows
+    end(*workers)
+    print(
+        f"hostile: the owners' sessions were ended 5 times while 200 jobs ran; {200 - len(replaced)} kept their "
+        "leases and are done",
+        flush=True,
+    )
+
+
+def flood(it):
+    empty(it)
+    worker = it.spawn("worker", "--effect", EFFECT)
+    it.wait_for_owners(1)
+    told = """
+        SELECT pg_notify('jobs', CASE i % 4 WHEN 0 THEN '*' WHEN 1 THEN repeat('x', 7000) || i
+            WHEN 2 THEN (1000000 + i) || ' ' || (extract(epoch FROM clock_timestamp()) * 1000000)::bigint
+            ELSE i || ' 99999999999999999999' END)
+        FROM generate_series(1, 2000) i;"""
+    stop = threading.Event()
+    sent = [0]
+
+    def shout():
+        while not stop.is_set():
+            it.sql(told)
+            sent[0] += 2000
+
+    thread = threading.Thread(target=shout)
+    thread.start()
+    try:
+        it.jobs("enqueue", "5000", "--spread", "5000")
+        exactly_once(it, 5000)
+    finally:
+        stop.set()
+        thread.join()
+    asked = it.number("SELECT count(*) FROM jobs WHERE attempt <> 1")
+    assert asked == 0 and worker.poll() is None
+    end(worker)
+    print(
+        f"hostile: {sent[0]} false notifications beside 5,000 jobs: each done once; ms late p50, p99, max: "
+        f"{lateness(it)}",
+        flush=True,
+    )
+
+
+def bad_job(it):
+    empty(it)
+    effect = "INSERT INTO effects (job) SELECT id / (payload <> 'bad')::int FROM taken"
+    worker = it.spawn("worker", "--effect", effect, "--attempts", "2")
+    it.wait_for_owners(1)
+    it.sql(
+        "INSERT INTO jobs (due, payload) SELECT now() + interval '1 second', CASE WHEN i % 100 = 0 THEN 'bad' "
+        "ELSE 'good' END "
+        "FROM generate_series(1, 1000) i"
+    )
+
+    def settled():
+        """the good ones are done and the bad ones dead"""
+        return it.sql("SELECT state, attempt, payload, count(*) FROM jobs GROUP BY 1, 2, 3 ORDER BY 1") == [
+            ["dead", "2", "bad", "10"],
+            ["done", "1", "good", "990"],
+        ]
+
+    wait_for(settled, 60)
+    assert it.sql("SELECT DISTINCT error FROM jobs WHERE state = 'dead'") == [["division by zero (22012)"]]
+    assert it.number("SELECT count(DISTINCT job) FROM effects") == it.number("SELECT count(*) FROM effects") == 990
+    end(worker)
+    print("hostile: 10 bad jobs among 990 good ones are dead after 2 attempts, and the good ones done once", flush=True)
+
+
+def memory(process):
+    """The most memory that a process had, in MiB."""
+    with open(f"/proc/{process.pid}/status") as it:
+        return next(int(line.split()[1]) / 1024 for line in it if line.startswith("VmHWM"))
+
+
+def full_table(it, count):
+    for name, due in [
+        ("over the next hour", "random() * interval '1 hour'"),
+        ("all over an hour ago", "-interval '1 hour'"),
+    ]:
+        empty(it)
+        it.sql(
+            f"INSERT INTO jobs (due) SELECT clock_timestamp() + {due} FROM generate_series(1, {count}); "
+            "INSERT INTO jobs (due) VALUES (now() - interval '2 hours'); ANALYZE jobs"
+        )
+        begun = time.time()
+        worker = it.spawn("worker", "--effect", EFFECT)
+
+        def first():
+            """the first job is done"""
+            return it.number("SELECT count(*) FROM (SELECT FROM effects LIMIT 1) it") == 1
+
+        wait_for(first, 120)
+        after = it.number("SELECT extract(epoch FROM min(at)) FROM effects") - begun
+        time.sleep(5)
+        rate = ""
+        if "ago" in name:
+
+            def all_done():
+                """each job is done"""
+                return it.number("SELECT count(*) FROM effects") == count + 1
+
+            wait_for(all_done, 600, every=1)
+            took = it.number("SELECT extract(epoch FROM max(at) - min(at)) FROM effects")
+            assert it.number("SELECT count(DISTINCT job) FROM effects") == count + 1
+            rate = f", all done once within {took:.0f} s, {count / took:.0f} a second"
+        most = memory(worker)
+        end(worker)
+        print(
+            f"hostile: {count} jobs wait at the start, {name}: the first was done {after:.2f} s after the worker "
+            "was started, which had "
+            f"{most:.0f} MiB at most{rate}",
+            flush=True,
+        )
+
+
+def main(quick):
+    with cluster() as it:
+        for case in [one_name, wrong_clock, great_payload, lost_lock, flood, bad_job]:
+            case(it)
+        full_table(it, 100_000 if quick else 1_000_000)
+
+
+if __name__ == "__main__":
+    main(quick="--quick" in sys.argv)

@@ -1,0 +1,271 @@
+"""What holders are promised, each by the database's clock.
+
+How long the machine itself made things wait is measured and told, and isn't held against the worker.
+"""
+import random
+import re
+import signal
+import sys
+import time
+import urllib.request
+
+from cluster import cluster, free_port, wait_for
+from holder import Connection, Holder, Refusal
+
+LEASE, INTERVAL, BEAT = 6.0, 1.0, 0.5
+
+
+class Workers:
+    def __init__(self, it, count, *more):
+        self.it, self.more = it, more
+        self.ports = [(free_port(), free_port()) for _ in range(count)]
+        self.running = [self.spawn(number) for number in range(count)]
+        self.addresses = [f"127.0.0.1:{port}" for port, _ in self.ports]
+        # The longest time that the write of the leases took, as the workers tell it.
+        self.write_took = 0.0
+
+    def spawn(self, number):
+        port, metrics = self.ports[number]
+        return self.it.spawn(
+            "worker",
+            "--name",
+            f"w{number}",
+            "--listen",
+            f"127.0.0.1:{port}",
+            "--metrics",
+            f"127.0.0.1:{metrics}",
+            "--lease",
+            str(int(LEASE * 1000)),
+            "--write-every",
+            str(int(INTERVAL * 1000)),
+            *self.more,
+        )
+
+    def look(self):
+        for number, process in enumerate(self.running):
+            if process.poll() is None:
+                self.write_took = max(self.write_took, metric(self.ports[number][1], "jobs_lease_write_seconds"))
+
+    def owners(self):
+        """The number of the worker that owns each partition."""
+        rows = self.it.sql(
+            "SELECT objid, split_part(application_name, ' ', 2) FROM pg_locks JOIN pg_stat_activity USING (pid) "
+            "WHERE locktype = 'advisory' AND objsubid = 2 AND objid < 64 AND granted"
+        )
+        return {int(partition): self.addresses.index(address) for partition, address in rows}
+
+
+def metric(port, name):
+    with urllib.request.urlopen(f"http://127.0.0.1:{port}/metrics", timeout=30) as answer:
+        return float(re.search(rf"^{name} (\S+)$", answer.read().decode(), re.M)[1])
+
+
+class Lag:
+    """How long the database lets a trivial statement wait, at worst."""
+
+    def __init__(self, it):
+        self.it, self.worst = it, 0.0
+
+    def look(self):
+        begun = time.monotonic()
+        self.it.sql("SELECT 1")
+        self.worst = max(self.worst, time.monotonic() - begun)
+
+
+def epoch(it, what, jobs):
+    ids = ",".join(str(job.id) for job in jobs)
+    rows = it.sql(f"SELECT id, {what} FROM jobs WHERE id IN ({ids})")
+    return {int(id): float(value) for id, value in rows if value}
+
+
+UNTIL = "extract(epoch FROM lease_until)"
+
+
+def silent_and_beating(it):
+    workers = Workers(it, 3)
+    it.wait_for_owners(3)
+    it.jobs("enqueue", "300")
+    holder, lag = Holder(workers.addresses), Lag(it)
+    jobs = holder.take(300)
+    silent, beating = jobs[::2], jobs[1::2]
+    ends = epoch(it, UNTIL, silent)
+    assert len(ends) == 150, f"{len(ends)} of 150 leases stand in the table"
+    holder.beat_for(beating, LEASE + INTERVAL, BEAT, lag.look)
+
+    def replaced():
+        """each silent holder is replaced"""
+        holder.beat(beating)
+        lag.look()
+        return len(epoch(it, "extract(epoch FROM ended)", silent)) == len(silent)
+
+    wait_for(replaced, 60, every=BEAT)
+    ended = epoch(it, "extract(epoch FROM ended)", silent)
+    after = sorted(ended[id] - ends[id] for id in ended)
+    assert after[0] >= 0, f"a lease ended {-after[0]:.3f} s before its time"
+    assert (
+        after[-1] <= INTERVAL + 4 * lag.worst
+    ), f"a lease ended {after[-1]:.3f} s after its time, lag {lag.worst:.3f} s"
+    kept = it.number("SELECT count(*) FROM jobs WHERE state = 'running' AND attempt = 1")
+    starved = [job for job in beating if job.gap > LEASE / 2]
+    assert kept == 150 or starved, f"{150 - kept} holders that beat were replaced"
+    print(
+        f"leases: 150 silent holders lost theirs {after[0] * 1000:.1f} to {after[-1] * 1000:.1f} ms after the "
+        f"lease of {LEASE:g} s, "
+        f"and {kept:.0f} of 150 that beat kept theirs; the database answered within {lag.worst * 1000:.0f} ms",
+        flush=True,
+    )
+    fencing(it, holder, silent)
+    return workers, holder, beating
+
+
+def fencing(it, holder, silent):
+    """Who was silent too long changes nothing; who has the job now does."""
+    late = silent[:20]
+    again = {job.id: job for job in Holder(holder.addresses).take(150)}
+    assert all(again[job.id].attempt == 2 for job in silent), "each is given out again, as the second attempt"
+    holder.say(late, "JOBS.BEAT", lambda *_: None)
+    assert all(job.refused for job in late), "a beat of the first attempt is accepted"
+    for job in late:
+        for word in ("JOBS.DONE", "JOBS.FAIL"):
+            reply = Connection(again[job.id].address).call(word, job.id, job.attempt)
+            assert isinstance(reply, Refusal) and reply.startswith("FENCED "), f"{word} of the first attempt: {reply}"
+    done = Holder(holder.addresses)
+    accepted = []
+    done.say(again.values(), "JOBS.DONE", lambda job, _: accepted.append(job.id))
+    assert len(accepted) == 150, f"{len(accepted)} of 150 second attempts are done"
+    assert it.number("SELECT count(*) FROM jobs WHERE state = 'done' AND attempt = 2") == 150
+    print("leases: 150 second attempts are done, and 60 words of the first changed nothing", flush=True)
+
+
+def death(it, workers, holder, beating, moment):
+    """A worker dies at some moment within the interval: no job is lost, and no beating holder more than was told."""
+    holder.beat_for(beating, 2 * INTERVAL + moment, BEAT / 5, workers.look)
+    owners = workers.owners()
+    victim = owners[beating[0].id % 64]
+    theirs = [job for job in beating if owners[job.id % 64] == victim]
+    killed = it.number("SELECT extract(epoch FROM clock_timestamp())")
+    workers.running[victim].kill()
+    workers.running[victim].wait()
+    table = epoch(it, UNTIL, theirs)
+    written = epoch(it, "extract(epoch FROM pg_xact_commit_timestamp(xmin))", theirs)
+    early = max(job.until - table[job.id] for job in theirs)
+    # The oldest write, by the database's clock: what it is older than the interval, the machine has waited.
+    age = max(killed - written[job.id] for job in theirs)
+    told = INTERVAL + max(0.0, age - INTERVAL) + workers.write_took
+    stale = max(written[job.id] - (table[job.id] - LEASE) for job in theirs)
+    assert stale <= BEAT + workers.write_took + max(
+        job.gap for job in theirs
+    ), f"a write was {stale:.3f} s old when it was written"
+    assert early <= told + BEAT, f"a lease would end {early:.3f} s early, and {told:.3f} s were told"
+    holder.beat_for(beating, LEASE + 2 * INTERVAL, BEAT)
+    lost = [job for job in beating if job.refused]
+    # A word that came when the lease in the table was over comes too late, which is the machine's doing.
+    wrong = [job for job in lost if job.refused < table.get(job.id, job.until)]
+    assert not wrong, f"{len(wrong)} holders were replaced before the lease in the table was over"
+    kept = it.number("SELECT count(*) FROM jobs WHERE state = 'running' AND attempt = 1")
+    assert kept + len(lost) >= len(beating), f"{kept} of {len(beating)} are still held, {len(lost)} came too late"
+    print(
+        f"leases: a worker with {len(theirs)} leases was killed; the table's were {early:.2f} s shorter than the "
+        "holders' at most, "
+        f"of {told:.2f} s told; {len(lost)} holders came too late, the other {kept:.0f} go on",
+        flush=True,
+    )
+    workers.running[victim] = workers.spawn(victim)
+    it.wait_for_owners(3)
+
+
+def outage(it, workers, holder, beating):
+    """The database is stopped hard and started: holders that beat are not replaced, for their worker lives."""
+    holder.beat(beating)
+    before = workers.owners()
+    it.stop("immediate")
+    holder.beat_for(beating, LEASE + 1, BEAT)
+    it.start()
+    holder.beat_for(beating, LEASE + 4, BEAT)
+    it.wait_for_owners(3)
+    after = workers.owners()
+    # A worker that the machine kept from coming back in time has lost partitions to others.
+    moved = {partition for partition in before if before[partition] != after[partition]}
+    lost = [job for job in beating if job.refused and job.id % 64 not in moved]
+    assert not lost, f"{len(lost)} holders were replaced though they beat and their worker owns the partition"
+    rows = it.number("SELECT count(*) FROM jobs WHERE state = 'running' AND attempt = 1")
+    print(
+        f"leases: the database was away for longer than a lease; {rows:.0f} of {len(beating)} that beat through "
+        "it kept theirs, and "
+        f"{len(moved)} of 64 partitions went to another worker",
+        flush=True,
+    )
+
+
+def stopped(it, workers, holder, beating):
+    """A worker is stopped and its partitions go to others: when it goes on, it changes nothing."""
+    owners = workers.owners()
+    victim = owners[beating[0].id % 64]
+    theirs = [job for job in beating if owners[job.id % 64] == victim]
+    old = Connection(workers.addresses[victim])
+    workers.running[victim].send_signal(signal.SIGSTOP)
+
+    def taken_over():
+        """others own its partitions"""
+        owners = workers.owners()
+        return len(owners) == 64 and victim not in owners.values()
+
+    wait_for(taken_over, 60)
+    # Nobody beats: the leases end, and the jobs are given out by the new owners.
+    others = [it for number, it in enumerate(workers.addresses) if number != victim]
+    again = Holder(others).take(len(theirs), seconds=60)
+    before = it.sql("SELECT id, attempt, state FROM jobs ORDER BY id")
+    workers.running[victim].send_signal(signal.SIGCONT)
+    replies = old.calls([(word, job.id, job.attempt) for job in theirs for word in ("JOBS.BEAT", "JOBS.DONE")])
+    accepted = [reply for reply in replies if not isinstance(reply, Refusal)]
+    assert not accepted, f"a worker that was stopped accepted {accepted[:3]}"
+    assert (
+        it.sql("SELECT id, attempt, state FROM jobs ORDER BY id") == before
+    ), "a worker that was stopped changed a job"
+    print(
+        f"leases: a worker was stopped beyond its session; {len(again)} jobs went on elsewhere, and awake it "
+        "accepted no word of "
+        f"{len(replies)}",
+        flush=True,
+    )
+    it.wait_for_owners(3)
+
+
+def dead_letters(it):
+    it.sql("TRUNCATE jobs")
+    workers = Workers(it, 1, "--attempts", "2")
+    it.wait_for_owners(1)
+    it.jobs("enqueue", "10")
+    holder = Holder(workers.addresses)
+    for attempt in (1, 2):
+        jobs = holder.take(10)
+        assert {job.attempt for job in jobs} == {attempt}
+        connection = holder.connection(workers.addresses[0])
+        assert set(connection.calls([("JOBS.FAIL", job.id, job.attempt, "no disk") for job in jobs])) == {"OK"}
+    rows = it.sql("SELECT state, attempt, error, count(*) FROM jobs GROUP BY 1, 2, 3")
+    assert rows == [["dead", "2", "no disk", "10"]], rows
+    print("leases: 10 jobs that failed twice of 2 are dead, and the table says why", flush=True)
+    workers.running[0].terminate()
+    assert workers.running[0].wait(30) == 0
+
+
+def main(quick):
+    with cluster(["track_commit_timestamp=on"]) as it:
+        workers, holder, beating = silent_and_beating(it)
+        draws = random.Random(7)
+        for _ in range(1 if quick else 4):
+            beating = [job for job in beating if job.refused is None]
+            death(it, workers, holder, beating, draws.uniform(0, INTERVAL))
+        if not quick:
+            beating = [job for job in beating if job.refused is None]
+            outage(it, workers, holder, beating)
+            beating = [job for job in beating if job.refused is None]
+            stopped(it, workers, holder, beating)
+        for process in workers.running:
+            process.terminate()
+        assert [process.wait(30) for process in workers.running] == [0, 0, 0], "a drained worker ends well"
+        dead_letters(it)
+
+
+if __name__ == "__main__":
+    main(quick="--quick" in sys.argv)

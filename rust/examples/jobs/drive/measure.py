@@ -1,0 +1,334 @@
+"""Measures the worker beside what people do without an index: how late jobs are, what is asked, and what it costs.
+
+    measure.py jobs [SECONDS]      lateness and statements, beside pollers
+    measure.py beats [SECONDS]     100,000 leases that each beat once a second, beside an UPDATE a beat
+"""
+import os
+import pathlib
+import subprocess
+import sys
+import threading
+import time
+
+from cluster import EFFECT, cluster, free_port, program, wait_for
+from holder import packed
+from leases import metric
+
+HERTZ = os.sysconf("SC_CLK_TCK")
+WORKERS = 3
+
+
+def times(pid):
+    """The processor seconds of a process, and those of its children that have ended."""
+    fields = pathlib.Path(f"/proc/{pid}/stat").read_text().rsplit(")", 1)[1].split()
+    return sum(map(int, fields[11:13])) / HERTZ, sum(map(int, fields[13:15])) / HERTZ
+
+
+def database_seconds(it):
+    parent = it.pid()
+    children = pathlib.Path(f"/proc/{parent}/task/{parent}/children").read_text().split()
+    total = sum(times(parent))
+    for child in children:
+        try:
+            total += times(child)[0]
+        except FileNotFoundError:
+            # It has ended, and stands in its parent's sum from now on.
+            pass
+    return total
+
+
+class Cost:
+    """What some seconds cost, in cores."""
+
+    def __init__(self, it, workers):
+        self.it, self.workers = it, workers
+        self.begun, self.before = time.monotonic(), self.now()
+
+    def now(self):
+        return sum(times(it.pid)[0] for it in self.workers), database_seconds(self.it)
+
+    def cores(self):
+        took = time.monotonic() - self.begun
+        return [(now - before) / took for now, before in zip(self.now(), self.before)]
+
+
+def start(it, mode):
+    """The workers of a mode, each over the index that serves it."""
+    it.sql("TRUNCATE jobs; TRUNCATE effects; DROP INDEX IF EXISTS jobs_waiting, jobs_due")
+    if mode == "worker":
+        it.sql(
+            "ALTER TABLE jobs ENABLE TRIGGER jobs_tell; CREATE INDEX jobs_waiting ON jobs (partition, due) WHERE "
+            "state = 'waiting'"
+        )
+        workers = [it.spawn("worker", "--name", f"w{number}", "--effect", EFFECT) for number in range(WORKERS)]
+        it.wait_for_owners(WORKERS)
+        return workers
+    it.sql("ALTER TABLE jobs DISABLE TRIGGER jobs_tell; CREATE INDEX jobs_due ON jobs (due) WHERE state = 'waiting'")
+    return [it.spawn("poller", "--every", mode, "--effect", EFFECT) for _ in range(WORKERS)]
+
+
+def idle(it, seconds):
+    """Transactions a second and a worker, without those of this program."""
+    # Statistics are written some time after the statement.
+    time.sleep(2)
+    count = "SELECT xact_commit + xact_rollback FROM pg_stat_database WHERE datname = current_database()"
+    before, begun = it.number(count), time.monotonic()
+    time.sleep(seconds)
+    return (it.number(count) - before - 1) / (time.monotonic() - begun) / WORKERS
+
+
+def enqueue_ahead(it, rate, seconds):
+    it.jobs("enqueue", str(rate * seconds), "--delay", "4000", "--spread", str(seconds * 1000))
+
+
+def enqueue_singly(it, rate, seconds):
+    script = it.room / "insert.sql"
+    script.write_text("INSERT INTO jobs (due) VALUES (clock_timestamp() + random() * interval '5 seconds');\n")
+    subprocess.run(
+        [
+            program("pgbench"),
+            "-n",
+            "-c",
+            "8",
+            "-j",
+            "1",
+            "-R",
+            str(rate),
+            "-T",
+            str(seconds),
+            "-f",
+            str(script),
+            it.url,
+        ],
+        check=True,
+        capture_output=True,
+    )
+
+
+def load(it, mode, rate, seconds, enqueue):
+    workers = start(it, mode)
+    it.sql("CHECKPOINT")
+    cost = Cost(it, workers)
+    enqueue(it, rate, seconds)
+
+    def all_done():
+        """each job is done"""
+        return it.number("SELECT count(*) FROM jobs WHERE state = 'waiting'") == 0
+
+    time.sleep(seconds)
+    wait_for(all_done, 300, every=0.5)
+    worker, database = cost.cores()
+    rows = it.sql(
+        "SELECT count(*), array_to_string(percentile_disc(ARRAY[0.5, 0.99, 1]) WITHIN GROUP (ORDER BY late), ' ') "
+        "FROM (SELECT round(1000 * extract(epoch FROM started - due), 1) AS late FROM jobs) it"
+    )
+    for process in workers:
+        process.terminate()
+    for process in workers:
+        process.wait(30)
+    return [*rows[0][1].split(), f"{worker:.2f}", f"{database:.2f}"]
+
+
+NAMES = {"worker": "the index", "10": "polled every 10 ms", "100": "polled every 100 ms"}
+
+
+def jobs(seconds):
+    print(
+        f"machine: {os.cpu_count()} cores, load {os.getloadavg()[0]:.1f} at the start, {seconds} s a row, "
+        f"{time.strftime('%H:%M')}"
+    )
+    print(
+        "| 3 workers | load | p50 ms | p99 ms | max ms | cores of workers | of database "
+        "|\n|---|---|---|---|---|---|---|"
+    )
+    with cluster() as it:
+        for rate, name, enqueue in [
+            (1000, "1,000 a second", enqueue_ahead),
+            (10000, "10,000 a second", enqueue_ahead),
+            (1000, "1,000 a second, each by an INSERT of its own", enqueue_singly),
+        ]:
+            for mode in ("worker", "10", "100"):
+                cells = load(it, mode, rate, seconds, enqueue)
+                print(f"| {NAMES[mode]} | {name} | {' | '.join(cells)} |", flush=True)
+        print(
+            "\n| 3 workers, no jobs | statements a second and a worker | cores of workers | of database "
+            "|\n|---|---|---|---|"
+        )
+        for mode in ("worker", "10", "100"):
+            workers = start(it, mode)
+            cost = Cost(it, workers)
+            asked = idle(it, seconds)
+            worker, database = cost.cores()
+            for process in workers:
+                process.terminate()
+                process.wait(30)
+            print(f"| {NAMES[mode]} | {asked:.1f} | {worker:.3f} | {database:.3f} |", flush=True)
+    print(f"load {os.getloadavg()[0]:.1f} at the end")
+
+
+LEASES, CONNECTIONS, PIECE = 100_000, 4, 500
+
+
+class Beater(threading.Thread):
+    """Beats each of its leases once a second, on one connection."""
+
+    def __init__(self, address, ids):
+        super().__init__(daemon=True)
+        import holder
+
+        self.connection = holder.Connection(address, timeout=120)
+        self.pieces = [
+            b"".join(packed("JOBS.BEAT", id, 1) for id in ids[at : at + PIECE]) for at in range(0, len(ids), PIECE)
+        ]
+        self.counts = [len(ids[at : at + PIECE]) for at in range(0, len(ids), PIECE)]
+        self.refused, self.beats, self.is_ending, self.late = 0, 0, False, 0.0
+
+    def run(self):
+        begun, second = time.monotonic(), 0
+        while True:
+            for at, piece in enumerate(self.pieces):
+                if self.is_ending:
+                    return
+                # The pieces are spread over the second.
+                moment = begun + second + at / len(self.pieces)
+                time.sleep(max(0, moment - time.monotonic()))
+                self.late = max(self.late, time.monotonic() - moment)
+                self.say(piece, self.counts[at])
+            second += 1
+
+    def say(self, piece, count):
+        self.connection.socket.sendall(piece)
+        got = 0
+        while got < count:
+            replies = self.connection.socket.recv(1 << 20)
+            assert replies, "the worker closed the connection"
+            got += replies.count(b"\r\n")
+            self.refused += replies.count(b"-")
+        self.beats += count
+
+
+def hold(it, seconds, write_every):
+    """Holds leases by beats, and tells what it cost."""
+    it.sql(
+        "TRUNCATE jobs RESTART IDENTITY; INSERT INTO jobs (state, attempt, lease_until) SELECT 'running', 1, now() + "
+        f"interval '25 seconds' FROM generate_series(1, {LEASES}); VACUUM ANALYZE jobs; CHECKPOINT"
+    )
+    port, metrics = free_port(), free_port()
+    worker = it.spawn(
+        "worker",
+        "--listen",
+        f"127.0.0.1:{port}",
+        "--metrics",
+        f"127.0.0.1:{metrics}",
+        "--lease",
+        "30000",
+        "--write-every",
+        str(write_every * 1000),
+    )
+    it.wait_for_owners(1)
+    wait_for(lambda: metric(metrics, "jobs_leases") == LEASES, 60)
+    ids = list(range(1, LEASES + 1))
+    beaters = [Beater(f"127.0.0.1:{port}", ids[number::CONNECTIONS]) for number in range(CONNECTIONS)]
+    for beater in beaters:
+        beater.start()
+    # From here on each lease is one that was extended and written.
+    time.sleep(2 * write_every)
+    cost, before, longest = Cost(it, [worker]), sum(beater.beats for beater in beaters), 0.0
+    wal = it.number("SELECT pg_current_wal_lsn() - '0/0'")
+    while time.monotonic() < cost.begun + seconds:
+        time.sleep(min(5, seconds))
+        longest = max(longest, metric(metrics, "jobs_lease_write_seconds"))
+    cores, took = cost.cores(), time.monotonic() - cost.begun
+    beats = (sum(beater.beats for beater in beaters) - before) / took
+    wal = (it.number("SELECT pg_current_wal_lsn() - '0/0'") - wal) / took / 1e6
+    # The crash: what the table has is compared with what a beat at this moment would have promised.
+    for beater in beaters:
+        beater.is_ending = True
+    for beater in beaters:
+        beater.join()
+    killed = it.number("SELECT extract(epoch FROM clock_timestamp())")
+    worker.kill()
+    worker.wait()
+    early = killed + 30 - it.number("SELECT extract(epoch FROM min(lease_until)) FROM jobs")
+    kept = it.number("SELECT count(*) FROM jobs WHERE state = 'running' AND attempt = 1")
+    refused = sum(beater.refused for beater in beaters)
+    assert kept == LEASES and refused == 0, f"{kept:.0f} leases are held, {refused} beats were refused"
+    hot = it.number(
+        "SELECT round(100.0 * n_tup_hot_upd / greatest(n_tup_upd, 1)) FROM pg_stat_user_tables WHERE relname = 'jobs'"
+    )
+    late = max(beater.late for beater in beaters)
+    return beats, cores, longest, early, wal, hot, late
+
+
+def update_a_beat(it, seconds):
+    """A statement a beat, by 8 clients as fast as they may."""
+    it.sql(
+        "TRUNCATE jobs RESTART IDENTITY; INSERT INTO jobs (state, attempt, lease_until) SELECT 'running', 1, "
+        "now() FROM "
+        f"generate_series(1, {LEASES}); VACUUM ANALYZE jobs; CHECKPOINT"
+    )
+    script = it.room / "beat.sql"
+    script.write_text(
+        f"\\set id random(1, {LEASES})\nUPDATE jobs SET lease_until = now() + interval '30 seconds' "
+        "WHERE id = :id AND attempt = 1 AND state = 'running';\n"
+    )
+    cost = Cost(it, [])
+    command = [
+        program("pgbench"),
+        "-n",
+        "-M",
+        "prepared",
+        "-c",
+        "8",
+        "-j",
+        "1",
+        "-T",
+        str(seconds),
+        "-f",
+        str(script),
+        it.url,
+    ]
+    said = subprocess.run(command, check=True, capture_output=True, text=True).stdout
+    rate = float(next(line.split()[2] for line in said.splitlines() if line.startswith("tps")))
+    return rate, cost.cores()[1]
+
+
+def update_all(it, times):
+    """One statement for all beats, one after another."""
+    cost = Cost(it, [])
+    for _ in range(times):
+        it.sql("UPDATE jobs SET lease_until = now() + interval '30 seconds' WHERE state = 'running'")
+    took = time.monotonic() - cost.begun
+    return LEASES * times / took, cost.cores()[1]
+
+
+def beats(seconds):
+    print(
+        f"machine: {os.cpu_count()} cores, load {os.getloadavg()[0]:.1f} at the start, {seconds} s, "
+        f"{time.strftime('%H:%M')}"
+    )
+    with cluster() as it:
+        rate, (worker, database), longest, early, wal, hot, late = hold(it, seconds, 5)
+        print(
+            f"held {LEASES} leases for {seconds} s: {rate:.0f} beats a second, {worker:.2f} cores of the worker, "
+            f"{database:.2f} of the "
+            f"database, both {worker + database:.2f}; a write of the leases every 5 s took {longest:.2f} s at "
+            f"most, {wal:.1f} MB of log a "
+            f"second, {hot:.0f}% of the rows stayed on their page; after a SIGKILL the earliest lease ends "
+            f"{early:.2f} s early; "
+            f"the beaters were {late:.2f} s late at most",
+            flush=True,
+        )
+        rate, cores = update_a_beat(it, 20)
+        print(f"an UPDATE a beat: {rate:.0f} a second by 8 clients, {cores:.2f} cores of the database", flush=True)
+        rate, cores = update_all(it, 10)
+        print(f"one UPDATE for all: {rate:.0f} rows a second, {cores:.2f} cores of the database", flush=True)
+    print(f"load {os.getloadavg()[0]:.1f} at the end")
+
+
+if __name__ == "__main__":
+    seconds = int(sys.argv[2]) if len(sys.argv) > 2 else None
+    if sys.argv[1] == "jobs":
+        jobs(seconds or 20)
+    else:
+        beats(seconds or 600)

@@ -1,0 +1,140 @@
+//! What holders say: each command, and what is refused of it.
+
+use crate::resp::{integer, Args, Reply};
+use std::time::Duration;
+
+/// The most jobs of one word of a holder.
+const TAKE_LIMIT: i64 = 100;
+/// The longest that a holder may wait for a job, in milliseconds.
+const WAIT_LIMIT: i64 = 60_000;
+/// The longest reason of a failure.
+const REASON_LIMIT: usize = 1_000;
+
+/// An attempt of a job.
+#[derive(Clone, Copy, Debug, PartialEq, Eq)]
+pub struct Attempt {
+    pub id: i64,
+    pub attempt: i32,
+}
+
+#[derive(Clone, Debug, PartialEq, Eq)]
+pub enum Command {
+    Take {
+        count: usize,
+        wait: Duration,
+    },
+    Beat(Attempt),
+    Done(Attempt),
+    Fail(Attempt, String),
+    Ping,
+    /// What clients ask of a server of the protocol before they begin.
+    Commands,
+    Quit,
+    Refused(String),
+}
+
+impl Command {
+    pub fn of(args: Args) -> Command {
+        let (name, args) = match args.split_first() {
+            None => return Command::Refused("ERR there is no command".to_owned()),
+            Some((name, args)) => (name.to_ascii_uppercase(), args),
+        };
+        let command = match &name[..] {
+            b"JOBS.TAKE" => take(args),
+            b"JOBS.BEAT" => attempt(args, 2).map(Command::Beat),
+            b"JOBS.DONE" => attempt(args, 2).map(Command::Done),
+            b"JOBS.FAIL" => attempt(args, 3).map(|it| Command::Fail(it, reason(args.get(2)))),
+            b"PING" => Some(Command::Ping),
+            b"COMMAND" => Some(Command::Commands),
+            b"QUIT" => Some(Command::Quit),
+            _ => return Command::Refused(format!("ERR there is no command {}", shown(&name))),
+        };
+        command.unwrap_or_else(|| Command::Refused(format!("ERR wrong arguments of {}", shown(&name))))
+    }
+}
+
+fn shown(name: &[u8]) -> String {
+    name[..name.len().min(40)].escape_ascii().to_string()
+}
+
+/// A number of jobs, 1 where none is given, and how long to wait for the first.
+fn take(args: &[Vec<u8>]) -> Option<Command> {
+    let (count, args) = match args.first().and_then(|it| integer(it)) {
+        Some(count) => (count, &args[1..]),
+        None => (1, args),
+    };
+    let wait = match args {
+        [] => 0,
+        [word, millis] if word.eq_ignore_ascii_case(b"WAIT") => integer(millis)?,
+        _ => return None,
+    };
+    if !(1..=TAKE_LIMIT).contains(&count) || !(0..=WAIT_LIMIT).contains(&wait) {
+        return None;
+    }
+    Some(Command::Take { count: count as usize, wait: Duration::from_millis(wait as u64) })
+}
+
+fn attempt(args: &[Vec<u8>], most: usize) -> Option<Attempt> {
+    if args.len() < 2 || args.len() > most {
+        return None;
+    }
+    let (id, attempt) = (integer(&args[0])?, integer(&args[1])?);
+    Some(Attempt { id, attempt: i32::try_from(attempt).ok()? })
+}
+
+/// A text that the table takes, which has no zero byte.
+fn reason(text: Option<&Vec<u8>>) -> String {
+    let text = text.map_or(&b"the holder said so"[..], |it| &it[..it.len().min(REASON_LIMIT)]);
+    String::from_utf8_lossy(text).replace('\0', " ")
+}
+
+pub fn fenced(it: Attempt) -> Reply {
+    Reply::Error(format!("FENCED attempt {} of job {} doesn't have it", it.attempt, it.id))
+}
+
+pub fn try_again(why: &str) -> Reply {
+    Reply::Error(format!("TRYAGAIN {why}"))
+}
+
+#[cfg(test)]
+mod tests {
+    use super::*;
+
+    fn command(line: &str) -> Command {
+        Command::of(line.split(' ').map(|it| it.as_bytes().to_vec()).collect())
+    }
+
+    #[test]
+    fn each_command_is_read_with_what_may_be_left_out() {
+        let take = |count, wait| Command::Take { count, wait: Duration::from_millis(wait) };
+        let it = Attempt { id: 17, attempt: 2 };
+        for (line, expected) in [
+            ("jobs.take", take(1, 0)),
+            ("JOBS.TAKE 7", take(7, 0)),
+            ("JOBS.TAKE wait 50", take(1, 50)),
+            ("JOBS.TAKE 100 WAIT 60000", take(100, 60_000)),
+            ("JOBS.BEAT 17 2", Command::Beat(it)),
+            ("JOBS.DONE 17 2", Command::Done(it)),
+            ("JOBS.FAIL 17 2 no-disk", Command::Fail(it, "no-disk".to_owned())),
+        ] {
+            assert_eq!(command(line), expected, "{line}");
+        }
+    }
+
+    #[test]
+    fn wrong_arguments_are_refused() {
+        for line in [
+            "JOBS.TAKE 0",
+            "JOBS.TAKE 101",
+            "JOBS.TAKE 5 WAIT",
+            "JOBS.TAKE 5 WAIT 60001",
+            "JOBS.BEAT 17",
+            "JOBS.BEAT 17 x",
+            "JOBS.BEAT 17 99999999999",
+            "JOBS.DONE 17 2 3",
+            "SET a b",
+        ] {
+            assert!(matches!(command(line), Command::Refused(_)), "{line}");
+        }
+    }
+}

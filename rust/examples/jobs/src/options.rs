@@ -1,0 +1,227 @@
+//! The words behind `jobs`.
+
+use std::net::SocketAddr;
+use std::time::Duration;
+use tokio_postgres::Config;
+
+pub const HELP: &str = "jobs VERB [OPTION..]: delayed jobs and leases in PostgreSQL
+
+  jobs setup               makes the table, its indexes and its trigger where they are missing
+  jobs worker              runs a worker until SIGTERM, which drains it
+    --listen IP:PORT         where holders take jobs over the Redis protocol, 127.0.0.1:6500 where none is given
+    --announce HOST:PORT     the address that holders are sent to, the one it listens at where none is given
+    --effect SQL             does each due job itself, by this statement over the rows of `taken`
+                             (id, due, payload, attempt, started), in the transaction that takes it, and doesn't listen
+    --name TEXT              told by `jobs status`, `worker` where none is given
+    --lease MS               how long a job is given out without a heartbeat, 10000 where none is given
+    --write-every MS         how often heartbeats are written to the table, 2000 where none is given
+    --attempts N             after so many attempts a job is dead, 5 where none is given
+    --metrics IP:PORT        numbers for Prometheus, at /metrics
+  jobs enqueue N           enqueues N jobs
+    --delay MS               all due so long from now, 0 where none is given
+    --spread MS              and each up to so much later, 0 where none is given
+    --payload TEXT           what they carry
+  jobs status              tells partitions and their owners, jobs by their state, and how late they were
+  jobs poller              what people do without an index: the same table, asked again and again by SKIP LOCKED
+    --every MS               how often, 100 where none is given
+    --effect SQL             as for a worker
+  --database URL           for each: postgres://user@host/name or host=.. user=.. dbname=.., JOBS_DATABASE if not given
+  --help                   this text
+
+Holders say JOBS.TAKE [count] [WAIT ms], JOBS.BEAT id attempt, JOBS.DONE id attempt, JOBS.FAIL id attempt [reason].
+It has no passwords and no TLS of its own: keep --listen and --metrics where only those reach them who may.";
+
+#[derive(Clone)]
+pub struct WorkerOptions {
+    pub config: Config,
+    pub listen: SocketAddr,
+    pub announce: Option<String>,
+    pub effect: Option<String>,
+    pub name: String,
+    pub lease: Duration,
+    pub write_every: Duration,
+    pub attempts: i32,
+    pub metrics: Option<SocketAddr>,
+}
+
+pub struct EnqueueOptions {
+    pub config: Config,
+    pub count: u64,
+    pub delay: Duration,
+    pub spread: Duration,
+    pub payload: String,
+}
+
+pub struct PollerOptions {
+    pub config: Config,
+    pub every: Duration,
+    pub effect: String,
+}
+
+pub enum Verb {
+    Help,
+    Setup(Config),
+    Worker(Box<WorkerOptions>),
+    Enqueue(EnqueueOptions),
+    Status(Config),
+    Poller(PollerOptions),
+}
+
+/// The options that were given, by name.
+struct Given(Vec<(String, String)>);
+
+impl Given {
+    fn of(mut words: impl Iterator<Item = String>) -> Result<Given, String> {
+        let mut given = Vec::new();
+        while let Some(name) = words.next() {
+            if !name.starts_with("--") {
+                return Err(format!("{name} isn't an option; jobs --help tells them"));
+            }
+            let value = words.next().ok_or(format!("{name} wants a value"))?;
+            given.push((name, value));
+        }
+        Ok(Given(given))
+    }
+
+    fn text(&mut self, name: &str) -> Option<String> {
+        let at = self.0.iter().position(|it| it.0 == name)?;
+        Some(self.0.remove(at).1)
+    }
+
+    fn value<T: std::str::FromStr>(&mut self, name: &str, otherwise: T) -> Result<T, String> {
+        match self.text(name) {
+            None => Ok(otherwise),
+            Some(text) => text.parse().map_err(|_| format!("{text} is nothing for {name}")),
+        }
+    }
+
+    /// A number of milliseconds, from `least` to a year.
+    fn millis(&mut self, name: &str, otherwise: u64, least: u64) -> Result<Duration, String> {
+        let millis = self.value(name, otherwise)?;
+        if (least..=31_536_000_000).contains(&millis) {
+            return Ok(Duration::from_millis(millis));
+        }
+        Err(format!("{millis} is nothing for {name}: it is {least} to 31536000000 milliseconds"))
+    }
+
+    fn database(&mut self) -> Result<Config, String> {
+        let url = self.text("--database").or_else(|| std::env::var("JOBS_DATABASE").ok());
+        let url = url.ok_or("--database or JOBS_DATABASE has to name the database")?;
+        let mut config: Config = url.parse().map_err(|error| format!("{url} names no database: {error}"))?;
+        config.connect_timeout(Duration::from_secs(5));
+        Ok(config)
+    }
+
+    fn end(self) -> Result<(), String> {
+        match self.0.first() {
+            None => Ok(()),
+            Some((name, _)) => Err(format!("there is no {name} here, or it was given twice; jobs --help tells them")),
+        }
+    }
+}
+
+/// What is asked for.
+pub fn verb(words: impl Iterator<Item = String>) -> Result<Verb, String> {
+    let mut words = words.peekable();
+    let verb = words.next().unwrap_or_else(|| "--help".to_owned());
+    if ["--help", "-h", "help"].contains(&&verb[..]) {
+        return Ok(Verb::Help);
+    }
+    let count = if verb == "enqueue" { words.next() } else { None };
+    let rest: Vec<String> = words.collect();
+    if rest.iter().any(|it| it == "--help") {
+        return Ok(Verb::Help);
+    }
+    let mut given = Given::of(rest.into_iter())?;
+    let verb = match &verb[..] {
+        "setup" => Verb::Setup(given.database()?),
+        "status" => Verb::Status(given.database()?),
+        "worker" => Verb::Worker(Box::new(worker(&mut given)?)),
+        "enqueue" => Verb::Enqueue(enqueue(count, &mut given)?),
+        "poller" => Verb::Poller(PollerOptions {
+            config: given.database()?,
+            every: given.millis("--every", 100, 1)?,
+            effect: given.text("--effect").unwrap_or_else(|| "SELECT".to_owned()),
+        }),
+        _ => return Err(format!("there is no {verb}; jobs --help tells what there is")),
+    };
+    given.end()?;
+    Ok(verb)
+}
+
+fn worker(given: &mut Given) -> Result<WorkerOptions, String> {
+    let options = WorkerOptions {
+        config: given.database()?,
+        listen: given.value("--listen", SocketAddr::from(([127, 0, 0, 1], 6500)))?,
+        announce: given.text("--announce"),
+        effect: given.text("--effect"),
+        name: given.value("--name", "worker".to_owned())?,
+        lease: given.millis("--lease", 10_000, 100)?,
+        write_every: given.millis("--write-every", 2_000, 10)?,
+        attempts: given.value("--attempts", 5)?,
+        metrics: match given.text("--metrics") {
+            None => None,
+            Some(text) => Some(text.parse().map_err(|_| format!("{text} is no address for --metrics"))?),
+        },
+    };
+    if options.attempts < 1 {
+        return Err("--attempts is 1 at least".to_owned());
+    }
+    let is_plain = |text: &str| !text.is_empty() && text.len() <= 24 && text.bytes().all(|it| it.is_ascii_graphic());
+    if !is_plain(&options.name) {
+        return Err(format!("{} is no --name: it has 1 to 24 plain characters", options.name));
+    }
+    if options.announce.as_deref().map_or(false, |it| !is_plain(it)) {
+        return Err("--announce has 1 to 24 plain characters".to_owned());
+    }
+    Ok(options)
+}
+
+fn enqueue(count: Option<String>, given: &mut Given) -> Result<EnqueueOptions, String> {
+    let count = count.ok_or("jobs enqueue wants a number of jobs")?;
+    Ok(EnqueueOptions {
+        config: given.database()?,
+        count: count.parse().map_err(|_| format!("{count} is no number of jobs"))?,
+        delay: given.millis("--delay", 0, 0)?,
+        spread: given.millis("--spread", 0, 0)?,
+        payload: given.text("--payload").unwrap_or_default(),
+    })
+}
+
+#[cfg(test)]
+mod tests {
+    use super::*;
+
+    fn refusal(line: &str) -> String {
+        verb(line.split(' ').map(str::to_owned)).err().unwrap_or_default()
+    }
+
+    #[test]
+    fn each_wrong_word_is_named() {
+        for (line, word) in [
+            ("walk", "walk"),
+            ("worker --database host=x --lease 5", "--lease"),
+            ("worker --database host=x --lease soon", "soon"),
+            ("worker --database host=x --color red", "--color"),
+            ("worker --database host=x --listen nowhere", "nowhere"),
+            ("worker --database host=x --attempts 0", "--attempts"),
+            ("enqueue many --database host=x", "many"),
+            ("enqueue 5 --database", "--database"),
+            ("status status", "status"),
+        ] {
+            assert!(refusal(line).contains(word), "{line}: {}", refusal(line));
+        }
+    }
+
+    #[test]
+    fn what_is_not_given_has_a_value() {
+        let words = ["worker", "--database", "host=x"].map(str::to_owned);
+        match verb(words.into_iter()) {
+            Ok(Verb::Worker(options)) => {
+                assert_eq!((options.lease.as_secs(), options.write_every.as_secs(), options.attempts), (10, 2, 5));
+                assert!(options.effect.is_none());
+            }
+            _ => panic!("it is a worker"),
+        }
+    }
+}

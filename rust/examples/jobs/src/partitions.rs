@@ -1,0 +1,283 @@
+//! What a worker holds of each partition: which jobs stand in its index, which are out, and which leases it keeps.
+
+use crate::clock::{tick_after, Tick};
+use crate::index::{deadline, partition_of, Due, Handle, Index, Key, PARTITIONS};
+use std::collections::{HashMap, HashSet};
+use std::sync::atomic::{AtomicU64, Ordering::SeqCst};
+use std::sync::{Arc, Mutex, MutexGuard, PoisonError};
+
+/// The most jobs that wait in memory of a partition; the others wait in the table until there is room.
+pub const WAITING_ROOM: usize = 2_048;
+/// The most leases of a partition that are given out.
+pub const LEASE_ROOM: usize = 4_096;
+
+/// A lease of an attempt, whose deadline in force stands in the index.
+pub struct Lease {
+    pub id: i64,
+    pub attempt: i32,
+    pub key: Key,
+    /// The deadline that the table is known to have.
+    pub written: AtomicU64,
+}
+
+/// A running job as the table has it.
+#[derive(Clone, Copy)]
+pub struct Running {
+    pub id: i64,
+    pub attempt: i32,
+    /// The microseconds since 1970.
+    pub lease_until: i64,
+}
+
+enum Held {
+    /// It waits in the index for its due time.
+    Waiting {
+        key: Key,
+        due: Tick,
+    },
+    /// It came out, and is about to be looked at in the table.
+    Out,
+    Running(Arc<Lease>),
+}
+
+/// Whose a partition is.
+#[derive(Clone, Copy, Debug, PartialEq, Eq)]
+pub enum Standing {
+    Foreign,
+    /// The session is lost, so that another worker may own it: its leases are kept until that is known.
+    Doubtful,
+    Owned,
+}
+
+struct Partition {
+    standing: Standing,
+    held: HashMap<i64, Held>,
+    /// How many of those wait or are out.
+    waiting: usize,
+}
+
+impl Partition {
+    fn leases(&self) -> usize {
+        self.held.len() - self.waiting
+    }
+}
+
+pub struct Partitions {
+    index: Arc<Index>,
+    partitions: Vec<Mutex<Partition>>,
+}
+
+impl Partitions {
+    pub fn new(index: Arc<Index>) -> Partitions {
+        let partition = || Partition { standing: Standing::Foreign, held: HashMap::new(), waiting: 0 };
+        Partitions { index, partitions: (0..PARTITIONS).map(|_| Mutex::new(partition())).collect() }
+    }
+
+    fn enter(&self, partition: usize) -> MutexGuard<'_, Partition> {
+        self.partitions[partition].lock().unwrap_or_else(PoisonError::into_inner)
+    }
+
+    pub fn standing(&self, partition: usize) -> Standing {
+        self.enter(partition).standing
+    }
+
+    /// The partitions of a standing.
+    pub fn all(&self, standing: Standing) -> Vec<usize> {
+        (0..PARTITIONS).filter(|it| self.standing(*it) == standing).collect()
+    }
+
+    /// The owned partitions that have room for what waits.
+    pub fn with_room(&self) -> Vec<usize> {
+        let has_room = |it: &usize| {
+            let partition = self.enter(*it);
+            partition.standing == Standing::Owned && partition.waiting <= WAITING_ROOM / 2
+        };
+        (0..PARTITIONS).filter(has_room).collect()
+    }
+
+    /// How many jobs wait in memory, and how many leases there are.
+    pub fn counts(&self) -> (usize, usize) {
+        let count = |it: usize| {
+            let partition = self.enter(it);
+            (partition.waiting, partition.leases())
+        };
+        (0..PARTITIONS).map(count).fold((0, 0), |sum, it| (sum.0 + it.0, sum.1 + it.1))
+    }
+
+    /// It is owned from now on, with the leases that the table has. A lease that this worker kept from before is kept
+    /// where it is of the same attempt: its holder may have extended it since the table was written.
+    pub fn own(&self, partition: usize, leases: &[Running]) {
+        let its_own = || leases.iter().filter(|it| partition_of(it.id) == partition);
+        let ids: HashSet<i64> = its_own().map(|it| it.id).collect();
+        let mut held = self.enter(partition);
+        self.forget(&mut held, |id, _| !ids.contains(&id));
+        held.standing = Standing::Owned;
+        drop(held);
+        its_own().for_each(|it| drop(self.note_running(it)));
+        self.index.alarm().ring_before(0);
+    }
+
+    /// Another worker may own it from now on.
+    pub fn doubt(&self, partition: usize) {
+        let mut held = self.enter(partition);
+        if held.standing == Standing::Owned {
+            held.standing = Standing::Doubtful;
+            self.forget(&mut held, |_, it| !matches!(it, Held::Running(_)));
+        }
+    }
+
+    /// It is another's. What it held is forgotten, and a holder's next word is answered by the new owner's address.
+    pub fn lose(&self, partition: usize) {
+        let mut held = self.enter(partition);
+        held.standing = Standing::Foreign;
+        self.forget(&mut held, |_, _| true);
+    }
+
+    fn forget(&self, partition: &mut Partition, is_forgotten: impl Fn(i64, &Held) -> bool) {
+        partition.held.retain(|id, held| {
+            if !is_forgotten(*id, held) {
+                return true;
+            }
+            match held {
+                Held::Waiting { key, .. } => self.index.remove(key),
+                Held::Running(lease) => self.index.remove(&lease.key),
+                Held::Out => false,
+            };
+            false
+        });
+        partition.waiting = partition.held.values().filter(|it| !matches!(it, Held::Running(_))).count();
+    }
+
+    /// A job waits until a microsecond, as the table or a notification said.
+    pub fn note_waiting(&self, id: i64, due: i64) {
+        let (number, due) = (partition_of(id), tick_after(due));
+        let mut partition = self.enter(number);
+        let has_room = partition.standing == Standing::Owned && partition.waiting < WAITING_ROOM;
+        match partition.held.get_mut(&id) {
+            Some(Held::Waiting { key, due: known }) if *known != due => {
+                if let Some(reset) = self.index.reset(key, due) {
+                    (*key, *known) = (reset, due);
+                }
+            }
+            Some(_) => {}
+            None if !has_room => {}
+            None => {
+                if let Some(key) = self.index.insert(number, Due::Job(id), due) {
+                    partition.held.insert(id, Held::Waiting { key, due });
+                    partition.waiting += 1;
+                }
+            }
+        }
+    }
+
+    /// A job came out of the index. False where nobody waits for it any more.
+    pub fn note_out(&self, id: i64) -> bool {
+        match self.enter(partition_of(id)).held.get_mut(&id) {
+            Some(held @ Held::Waiting { .. }) => {
+                *held = Held::Out;
+                true
+            }
+            _ => false,
+        }
+    }
+
+    /// Whether a job that is out may be given to a holder.
+    pub fn may_be_given(&self, id: i64) -> Given {
+        let partition = self.enter(partition_of(id));
+        match partition.held.get(&id) {
+            Some(Held::Out) if partition.standing != Standing::Owned => Given::Never,
+            Some(Held::Out) if partition.leases() >= LEASE_ROOM => Given::Later,
+            Some(Held::Out) => Given::Now,
+            _ => Given::Never,
+        }
+    }
+
+    /// The table has been asked about jobs that were out: they aren't held any more. Where one still waits, the next
+    /// reading tells.
+    pub fn note_asked(&self, ids: &[i64]) {
+        for id in ids {
+            let mut partition = self.enter(partition_of(*id));
+            if let Some(Held::Out) = partition.held.get(id) {
+                partition.held.remove(id);
+                partition.waiting -= 1;
+            }
+        }
+    }
+
+    /// A job runs, by a lease of the table's. Its lease, where this worker owns it and has room.
+    pub fn note_running(&self, running: &Running) -> Option<Arc<Lease>> {
+        let Running { id, attempt, lease_until } = *running;
+        let (number, until) = (partition_of(id), tick_after(lease_until));
+        let mut partition = self.enter(number);
+        if partition.standing == Standing::Foreign {
+            return None;
+        }
+        match partition.held.get(&id) {
+            Some(Held::Running(lease)) if lease.attempt >= attempt => return Some(lease.clone()),
+            Some(held) => {
+                match held {
+                    Held::Waiting { key, .. } => drop(self.index.remove(key)),
+                    Held::Running(old) => drop(self.index.remove(&old.key)),
+                    Held::Out => {}
+                }
+                partition.waiting -= usize::from(!matches!(held, Held::Running(_)));
+                partition.held.remove(&id);
+            }
+            None => {}
+        }
+        let key = self.index.insert(number, Due::Lease { id, attempt }, until)?;
+        let lease = Arc::new(Lease { id, attempt, key, written: AtomicU64::new(until) });
+        partition.held.insert(id, Held::Running(lease.clone()));
+        Some(lease)
+    }
+
+    pub fn lease(&self, id: i64) -> Option<Arc<Lease>> {
+        match self.enter(partition_of(id)).held.get(&id) {
+            Some(Held::Running(lease)) => Some(lease.clone()),
+            _ => None,
+        }
+    }
+
+    /// An attempt has ended. What it held is let go; `waits_on` where the job waits again and is to be given out.
+    pub fn end(&self, id: i64, attempt: i32, waits_on: bool) -> bool {
+        let mut partition = self.enter(partition_of(id));
+        match partition.held.get(&id) {
+            Some(Held::Running(lease)) if lease.attempt == attempt => drop(self.index.remove(&lease.key)),
+            _ => return false,
+        }
+        if !waits_on || partition.standing != Standing::Owned {
+            partition.held.remove(&id);
+            return false;
+        }
+        partition.held.insert(id, Held::Out);
+        partition.waiting += 1;
+        true
+    }
+
+    /// The leases of the partitions that are owned, whose deadline in force isn't the one that the table has.
+    pub fn unwritten(&self, handle: &mut Handle) -> Vec<(Arc<Lease>, Tick)> {
+        let mut unwritten = Vec::new();
+        for number in 0..PARTITIONS {
+            let partition = self.enter(number);
+            if partition.standing != Standing::Owned {
+                continue;
+            }
+            for held in partition.held.values() {
+                if let Held::Running(lease) = held {
+                    let until = deadline(handle, &lease.key);
+                    unwritten.extend(until.filter(|it| *it > lease.written.load(SeqCst)).map(|it| (lease.clone(), it)));
+                }
+            }
+        }
+        unwritten
+    }
+}
+
+/// What may be done with a job that is out.
+#[derive(Clone, Copy, Debug, PartialEq, Eq)]
+pub enum Given {
+    Now,
+    /// There are as many leases of its partition as there may be.
+    Later,
+    Never,
+}

@@ -1,0 +1,52 @@
+//! What people do without an index: each of some workers asks the table every so often for what is due, and locks it.
+
+use crate::db::{is_passing, reason, tell, Links};
+use crate::metrics::Metrics;
+use crate::options::PollerOptions;
+use crate::sql;
+use std::error::Error;
+use std::sync::Arc;
+use tokio::signal::unix::{signal, SignalKind};
+use tokio::time::MissedTickBehavior;
+
+/// The most jobs of a statement.
+const BATCH: i64 = 500;
+
+fn statement(effect: &str) -> String {
+    format!(
+        "WITH taken AS (
+            UPDATE jobs SET state = 'done', attempt = attempt + 1, started = clock_timestamp(),
+                ended = clock_timestamp()
+            WHERE id IN (SELECT id FROM jobs WHERE state = 'waiting' AND due <= now() ORDER BY due
+                FOR UPDATE SKIP LOCKED LIMIT $1::bigint)
+            RETURNING id, due, payload, attempt, started
+        ), effect AS ({effect}{}",
+        sql::END_EFFECT
+    )
+}
+
+pub async fn run(options: &PollerOptions) -> Result<(), Box<dyn Error>> {
+    let links = Links::new(options.config.clone(), Arc::new(Metrics::default()), 1);
+    let statement = statement(&options.effect);
+    let mut term = signal(SignalKind::terminate())?;
+    let mut interval = tokio::time::interval(options.every);
+    interval.set_missed_tick_behavior(MissedTickBehavior::Delay);
+    loop {
+        tokio::select! {
+            _ = term.recv() => return Ok(()),
+            _ = interval.tick() => {}
+        }
+        // A full batch means that more may be due.
+        loop {
+            match links.query(&statement, &[&BATCH]).await {
+                Ok(rows) if rows.len() as i64 == BATCH => {}
+                Ok(_) => break,
+                Err(error) if is_passing(&error) => {
+                    tell(format_args!("tried again: {}", reason(&error)));
+                    break;
+                }
+                Err(error) => return Err(reason(&error).into()),
+            }
+        }
+    }
+}

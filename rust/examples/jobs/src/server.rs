@@ -1,0 +1,293 @@
+//! Serves holders. What a client sends in one go is answered together: all that are done by one statement, say.
+
+use crate::commands::{fenced, try_again, Attempt, Command};
+use crate::db::reason;
+use crate::effect::note_lateness;
+use crate::expiry::{micros, running};
+use crate::index::partition_of;
+use crate::leases::{Beat, Beats};
+use crate::partitions::{Running, Standing};
+use crate::redirect::redirect;
+use crate::resp::{Input, Reply};
+use crate::sql;
+use crate::worker::Worker;
+use std::collections::HashSet;
+use std::io;
+use std::mem::discriminant;
+use std::sync::Arc;
+use std::time::Duration;
+use tokio::io::AsyncWriteExt;
+use tokio::net::{TcpListener, TcpStream};
+use tokio::time::{timeout, Instant};
+use tokio_postgres::Row;
+
+/// The most commands that are answered together.
+const TOGETHER: usize = 5_000;
+/// How long a client may leave its replies unread.
+const PATIENCE: Duration = Duration::from_secs(15);
+
+pub async fn serve(worker: Arc<Worker>, listener: TcpListener) {
+    loop {
+        match listener.accept().await {
+            Ok((stream, _)) => drop(tokio::spawn(talk(worker.clone(), stream))),
+            Err(_) => tokio::time::sleep(Duration::from_millis(50)).await,
+        }
+    }
+}
+
+async fn talk(worker: Arc<Worker>, mut stream: TcpStream) {
+    // A reply that waits for a packet to fill would be late.
+    let _ = stream.set_nodelay(true);
+    match Beats::new(&worker) {
+        None => drop(stream.write_all(b"-ERR max number of clients reached\r\n").await),
+        Some(beats) => {
+            let mut holder = Holder { worker: &worker, beats, input: Input::default(), replies: Vec::new() };
+            // Whoever is gone isn't answered.
+            let _ = holder.converse(&mut stream).await;
+            holder.beats.put_back(&worker);
+        }
+    }
+}
+
+struct Holder<'w> {
+    worker: &'w Worker,
+    beats: Beats,
+    input: Input,
+    replies: Vec<u8>,
+}
+
+impl Holder<'_> {
+    async fn converse(&mut self, stream: &mut TcpStream) -> io::Result<()> {
+        loop {
+            let mut commands = Vec::new();
+            let mut broken = None;
+            while commands.len() < TOGETHER && broken.is_none() {
+                match self.input.next() {
+                    Ok(Some(args)) => commands.push(Command::of(args)),
+                    Ok(None) => break,
+                    Err(error) => broken = Some(error),
+                }
+            }
+            if commands.is_empty() && broken.is_none() {
+                if !self.input.read(stream).await? {
+                    return Ok(());
+                }
+                continue;
+            }
+            let ends = broken.is_some() || commands.contains(&Command::Quit);
+            for alike in runs(&commands) {
+                self.answer(alike, stream).await?;
+            }
+            if let Some(error) = broken {
+                Reply::Error(format!("ERR Protocol error: {error}")).write(&mut self.replies);
+            }
+            self.send(stream).await?;
+            if ends {
+                return Ok(());
+            }
+        }
+    }
+
+    async fn send(&mut self, stream: &mut TcpStream) -> io::Result<()> {
+        let sent = timeout(PATIENCE, stream.write_all(&self.replies)).await;
+        self.replies.clear();
+        self.replies.shrink_to(1 << 20);
+        sent.map_err(|_| io::Error::from(io::ErrorKind::TimedOut))?
+    }
+
+    /// Answers commands of one kind.
+    async fn answer(&mut self, commands: &[Command], stream: &mut TcpStream) -> io::Result<()> {
+        match &commands[0] {
+            Command::Beat(_) => self.beat(&attempts(commands)).await,
+            Command::Done(_) => self.done(&attempts(commands)).await,
+            Command::Fail(..) => self.fail(commands).await,
+            Command::Take { .. } => {
+                for command in commands {
+                    if let Command::Take { count, wait } = command {
+                        // What was said before isn't kept waiting.
+                        self.send(stream).await?;
+                        self.take(*count, *wait, stream).await?;
+                    }
+                }
+            }
+            _ => commands.iter().for_each(|it| simple(it).write(&mut self.replies)),
+        }
+        Ok(())
+    }
+
+    async fn take(&mut self, count: usize, wait: Duration, stream: &TcpStream) -> io::Result<()> {
+        let worker = self.worker;
+        let mut ending = worker.ending.clone();
+        let until = Instant::now() + wait;
+        let reply = loop {
+            let ids = tokio::select! {
+                ids = worker.ready.take(&worker.partitions, count, until) => ids,
+                _ = gone(stream) => return Err(io::ErrorKind::ConnectionAborted.into()),
+                _ = ending.changed() => Vec::new(),
+            };
+            if ids.is_empty() && worker.is_ending() {
+                break try_again("this worker drains");
+            }
+            if ids.is_empty() {
+                break Reply::Array(Vec::new());
+            }
+            let given = give(worker, &ids).await;
+            // What was ready may be gone from the table: then the holder goes on waiting.
+            if given != Reply::Array(Vec::new()) || Instant::now() >= until {
+                break given;
+            }
+        };
+        reply.write(&mut self.replies);
+        Ok(())
+    }
+
+    async fn beat(&mut self, attempts: &[Attempt]) {
+        let worker = self.worker;
+        if worker.is_ending() {
+            return attempts.iter().for_each(|_| try_again("this worker drains").write(&mut self.replies));
+        }
+        let mut beats: Vec<Beat> = attempts.iter().map(|it| self.beats.beat(worker, it.id, it.attempt)).collect();
+        let is_unknown = |it: &(&Beat, &Attempt)| *it.0 == Beat::Unknown;
+        let unknown: Vec<i64> = beats.iter().zip(attempts).filter(is_unknown).map(|it| it.1.id).collect();
+        if !unknown.is_empty() {
+            crate::expiry::adopt(worker, &unknown).await;
+            for (beat, it) in beats.iter_mut().zip(attempts).filter(|it| *it.0 == Beat::Unknown) {
+                *beat = self.beats.beat(worker, it.id, it.attempt);
+            }
+        }
+        for (beat, it) in beats.into_iter().zip(attempts) {
+            let reply = match beat {
+                Beat::Extended(millis) => Reply::Integer(millis),
+                Beat::Doubtful => try_again("the database doesn't answer, the lease holds in memory"),
+                Beat::Foreign => redirect(worker, partition_of(it.id)).await,
+                Beat::Fenced | Beat::Unknown => refuse(worker, *it),
+            };
+            reply.write(&mut self.replies);
+        }
+    }
+
+    async fn done(&mut self, attempts: &[Attempt]) {
+        let its_own = self.its_own(attempts);
+        let (ids, numbers): (Vec<i64>, Vec<i32>) = its_own.iter().map(|it| (it.id, it.attempt)).unzip();
+        let answer = self.worker.links.insist(sql::DONE, &[&ids, &numbers]).await;
+        let ended = answer.map(|rows| rows.iter().map(|row| row.get(0)).collect());
+        let count = self.end(attempts, ended.map_err(|error| reason(&error))).await;
+        self.worker.metrics.done.add(count);
+    }
+
+    async fn fail(&mut self, commands: &[Command]) {
+        let attempts = attempts(commands);
+        let mut words = Vec::new();
+        for command in commands {
+            if let Command::Fail(it, reason) = command {
+                words.extend(self.its_own(&[*it]).into_iter().map(|it| (it, reason.clone())));
+            }
+        }
+        let ids: Vec<i64> = words.iter().map(|it| it.0.id).collect();
+        let numbers: Vec<i32> = words.iter().map(|it| it.0.attempt).collect();
+        let reasons: Vec<String> = words.into_iter().map(|it| it.1).collect();
+        let params: [crate::db::Param<'_>; 4] = [&ids, &numbers, &reasons, &self.worker.options.attempts];
+        let answer = self.worker.links.insist(sql::FAIL, &params).await;
+        if let Ok(rows) = &answer {
+            let dead = rows.iter().filter(|row| row.get::<_, &str>(1) == "dead").count();
+            self.worker.metrics.dead.add(dead as u64);
+        }
+        let ended = answer.map(|rows| rows.iter().map(|row| row.get(0)).collect());
+        let count = self.end(&attempts, ended.map_err(|error| reason(&error))).await;
+        self.worker.metrics.failed.add(count);
+    }
+
+    /// The attempts in partitions that this worker owns.
+    fn its_own(&self, attempts: &[Attempt]) -> Vec<Attempt> {
+        let is_own = |it: &&Attempt| self.worker.partitions.standing(partition_of(it.id)) == Standing::Owned;
+        attempts.iter().filter(is_own).copied().collect()
+    }
+
+    /// Answers attempts of which those in `ended` have ended, and tells how many.
+    async fn end(&mut self, attempts: &[Attempt], ended: Result<HashSet<i64>, String>) -> u64 {
+        let mut count = 0;
+        for it in attempts {
+            let reply = match &ended {
+                Err(reason) => try_again(reason),
+                Ok(ended) if ended.contains(&it.id) => {
+                    count += 1;
+                    self.worker.partitions.end(it.id, it.attempt, false);
+                    Reply::Status("OK")
+                }
+                Ok(_) if self.its_own(&[*it]).is_empty() => redirect(self.worker, partition_of(it.id)).await,
+                Ok(_) => {
+                    self.worker.partitions.end(it.id, it.attempt, false);
+                    refuse(self.worker, *it)
+                }
+            };
+            reply.write(&mut self.replies);
+        }
+        count
+    }
+}
+
+fn refuse(worker: &Worker, it: Attempt) -> Reply {
+    worker.metrics.fenced.add(1);
+    fenced(it)
+}
+
+/// Gives jobs out that are ready, as far as the table has them.
+async fn give(worker: &Worker, ids: &Vec<i64>) -> Reply {
+    let lease = worker.options.lease.as_secs_f64();
+    let answer = worker.links.query(sql::TAKE, &[ids, &lease]).await;
+    let reply = match &answer {
+        Ok(rows) => Reply::Array(rows.iter().map(|row| given(worker, row)).collect()),
+        Err(error) => try_again(&reason(error)),
+    };
+    worker.partitions.note_asked(ids);
+    reply
+}
+
+/// What a holder is told of a job: its id, its attempt, the milliseconds of its lease, and its payload.
+fn given(worker: &Worker, row: &Row) -> Reply {
+    let it: Running = running(row);
+    worker.partitions.note_running(&it);
+    worker.metrics.taken.add(1);
+    note_lateness(worker, row.get(4), row.get(5), it.attempt);
+    let left = (micros(row.get(2)) - worker.clock.micros()) / 1_000;
+    let payload: String = row.get(3);
+    let numbers = [it.id, it.attempt.into(), left].map(Reply::Integer);
+    Reply::Array(numbers.into_iter().chain([Reply::Bulk(payload.into_bytes())]).collect())
+}
+
+fn simple(command: &Command) -> Reply {
+    match command {
+        Command::Ping => Reply::Status("PONG"),
+        Command::Commands => Reply::Array(Vec::new()),
+        Command::Refused(why) => Reply::Error(why.clone()),
+        _ => Reply::Status("OK"),
+    }
+}
+
+fn attempts(commands: &[Command]) -> Vec<Attempt> {
+    let attempt = |it: &Command| match it {
+        Command::Beat(it) | Command::Done(it) | Command::Fail(it, _) => Some(*it),
+        _ => None,
+    };
+    commands.iter().filter_map(attempt).collect()
+}
+
+/// The longest pieces of commands of one kind.
+fn runs(commands: &[Command]) -> Vec<&[Command]> {
+    let mut runs = Vec::new();
+    let mut rest = commands;
+    while let Some(first) = rest.first() {
+        let length = rest.iter().take_while(|it| discriminant(*it) == discriminant(first)).count();
+        let (run, more) = rest.split_at(length);
+        runs.push(run);
+        rest = more;
+    }
+    runs
+}
+
+/// Ends when the client has closed its side. Not where it has said more, which is answered in its turn.
+async fn gone(stream: &TcpStream) {
+    if let Ok(1..) = stream.peek(&mut [0]).await {
+        std::future::pending::<()>().await;
+    }
+}

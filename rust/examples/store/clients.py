@@ -1,0 +1,97 @@
+"""clients.py PORT: ordinary programs by redis-py, and a web page's request, against a server that is empty."""
+
+import http.client
+import sys
+import threading
+import time
+
+sys.dont_write_bytecode = True
+
+import redis
+
+
+def sessions(store):
+    """A session store: made, looked at, prolonged, ended."""
+    assert store.set("session:1", "ann", px=60_000, nx=True)
+    assert not store.set("session:1", "bob", px=60_000, nx=True)
+    assert store.get("session:1") == "ann" and 59_000 < store.pttl("session:1") <= 60_000
+    assert store.expire("session:1", 120, gt=True) and not store.expire("session:1", 90, gt=True)
+    assert store.getex("session:1", ex=30) == "ann" and store.ttl("session:1") == 30
+    assert store.persist("session:1") and store.ttl("session:1") == -1
+    assert store.getdel("session:1") == "ann" and store.get("session:1") is None
+    store.setex("short", 1, "x")
+    store.psetex("shorter", 30, "x")
+    time.sleep(0.05)
+    assert store.exists("short", "shorter") == 1 and store.type("short") == "string" and store.type("shorter") == "none"
+    assert store.unlink("short", "shorter") == 1
+
+
+def limits(store):
+    """A limit of rates, by counters that expire."""
+    for count in range(1, 6):
+        assert store.incr("limit:ann") == count
+    store.expire("limit:ann", 60)
+    assert store.incrby("limit:ann", 10) == 15 and store.decr("limit:ann") == 14 and store.decrby("limit:ann", 4) == 10
+    assert store.get("limit:ann") == "10" and store.delete("limit:ann") == 1
+
+
+def locks(store):
+    """A lease that one of eight threads has at a time, which raises a counter that nobody else changes meanwhile."""
+    def work():
+        for _ in range(20):
+            while not store.set("lock", threading.get_ident(), nx=True, px=30_000):
+                time.sleep(0.001)
+            store.set("count", int(store.get("count") or 0) + 1)
+            store.delete("lock")
+
+    threads = [threading.Thread(target=work) for _ in range(8)]
+    for step in (threading.Thread.start, threading.Thread.join):
+        for thread in threads:
+            step(thread)
+    assert store.get("count") == "160" and store.delete("count") == 1
+
+
+def many(store):
+    """A pipeline, and all names by SCAN."""
+    with store.pipeline(transaction=False) as pipe:
+        for at in range(5_000):
+            pipe.set(f"many:{at}", at, ex=600)
+        assert pipe.execute() == [True] * 5_000
+    assert store.dbsize() == 5_000 and store.mget("many:7", "none", "many:4999") == ["7", None, "4999"]
+    wanted = {f"many:{at}" for at in range(5_000)}
+    assert set(store.scan_iter(count=100)) == wanted
+    assert set(store.scan_iter("many:4??")) == {it for it in wanted if it.startswith("many:4") and len(it) == 8}
+    assert store.flushdb() and store.dbsize() == 0
+
+
+def itself(store):
+    """What a client asks of its connection and of the server."""
+    assert store.client_setname("clients.py") and store.client_getname() == "clients.py" and store.client_id() > 0
+    assert store.config_get("max*")["maxclients"] and store.ping() and store.echo("text") == "text"
+    told = store.info()
+    assert told["redis_version"] and told["connected_clients"] >= 1
+
+
+def web_page(port, store):
+    page = http.client.HTTPConnection("127.0.0.1", port, timeout=20)
+    try:
+        page.request("POST", "/", "SET evil written\r\n", {"Content-Type": "text/plain"})
+        page.getresponse()
+        sys.exit("clients.py: a web page's request is answered")
+    except (http.client.HTTPException, ConnectionError):
+        pass
+    assert store.get("evil") is None
+
+
+def main():
+    port = int(sys.argv[1])
+    store = redis.Redis(port=port, decode_responses=True)
+    assert store.dbsize() == 0
+    for program in (sessions, limits, locks, many, itself):
+        program(store)
+    web_page(port, store)
+    print(f"clients.py: the programs of redis-py {redis.__version__} are served, a web page's request isn't")
+
+
+if __name__ == "__main__":
+    main()

@@ -1,0 +1,282 @@
+//! The commands: what a client may ask for, and what it is answered. The words of refusals are those of Redis.
+
+mod connection;
+mod expiry;
+mod keys;
+mod scan;
+
+use crate::handle::Handle;
+use crate::keyspace::{Keyspace, NoRoom};
+use crate::output::Output;
+use crate::resp::{Protocol, Reply};
+use crate::seats::Seats;
+use hontkhale::Key;
+use std::collections::HashMap;
+use std::net::SocketAddr;
+use std::sync::Arc;
+use std::time::{Duration, Instant};
+
+/// How many names a thread's extends are remembered for, and how long these are at most.
+const KNOWN_LIMIT: usize = 16_384;
+const KNOWN_LENGTH: usize = 64;
+/// How often a warning is written at most.
+const WARNED_EVERY: Duration = Duration::from_secs(60);
+
+/// A thread's part of the server: its client of the keyspace, which the connections that it serves share.
+pub struct Desk {
+    keyspace: Arc<Keyspace>,
+    seats: Arc<Seats>,
+    handle: Handle,
+    /// The entries of names that were extended. An entry that isn't the name's any more refuses its key.
+    known: HashMap<Vec<u8>, Key>,
+    warned: Option<Instant>,
+}
+
+/// What a connection's client told of itself.
+pub struct Session {
+    id: u64,
+    name: Vec<u8>,
+    protocol: Protocol,
+}
+
+/// A client, whose request is served.
+pub struct Client<'a> {
+    pub desk: &'a mut Desk,
+    pub session: &'a mut Session,
+}
+
+/// What became of a request.
+#[derive(Clone, Copy, Debug, PartialEq, Eq)]
+pub enum Served {
+    Done,
+    /// Some of its values are told, and the others wait until what is told is sent.
+    Begun,
+    /// It is the last of its connection.
+    Last,
+    /// It is none: a web page's request was sent here.
+    Attack,
+}
+
+type Words<'a> = &'a [&'a [u8]];
+type Answer = Result<Reply, Refusal>;
+
+/// A command by its name, the least number of its words, whether it takes more, and what it does.
+struct Command(&'static str, usize, bool, fn(&mut Client<'_>, Words<'_>) -> Answer);
+
+const COMMANDS: &[Command] = &[
+    Command("get", 2, false, keys::get),
+    Command("set", 3, true, keys::set),
+    Command("pexpire", 3, true, |client, words| expiry::expire(client, words, &expiry::PEXPIRE)),
+    Command("expire", 3, true, |client, words| expiry::expire(client, words, &expiry::EXPIRE)),
+    Command("setex", 4, false, |client, words| keys::set_until(client, words, "setex")),
+    Command("psetex", 4, false, |client, words| keys::set_until(client, words, "psetex")),
+    Command("incr", 2, false, |client, words| keys::add(client, words[1], 1)),
+    Command("incrby", 3, false, keys::incr_by),
+    Command("decr", 2, false, |client, words| keys::add(client, words[1], -1)),
+    Command("decrby", 3, false, keys::decr_by),
+    Command("del", 2, true, keys::del),
+    Command("unlink", 2, true, keys::del),
+    Command(MGET, 2, true, |_, words| Ok(Reply::Begun(words.len() - 1))),
+    Command("exists", 2, true, keys::exists),
+    Command("getex", 2, true, keys::get_and_expire),
+    Command("getdel", 2, false, keys::get_and_remove),
+    Command("type", 2, false, keys::type_of),
+    Command("scan", 2, true, scan::scan),
+    Command("pexpireat", 3, true, |client, words| expiry::expire(client, words, &expiry::PEXPIREAT)),
+    Command("expireat", 3, true, |client, words| expiry::expire(client, words, &expiry::EXPIREAT)),
+    Command("ttl", 2, false, |client, words| expiry::life(client, words, |until, now| (until - now + 500) / 1000)),
+    Command("pttl", 2, false, |client, words| expiry::life(client, words, |until, now| until - now)),
+    Command("expiretime", 2, false, |client, words| expiry::life(client, words, |until, _| (until + 500) / 1000)),
+    Command("pexpiretime", 2, false, |client, words| expiry::life(client, words, |until, _| until)),
+    Command("persist", 2, false, keys::persist),
+    Command("dbsize", 1, false, |client, _| Ok(count(client.desk.keyspace.count()))),
+    Command("flushall", 1, true, keys::flush),
+    Command("flushdb", 1, true, keys::flush),
+    Command("ping", 1, true, connection::ping),
+    Command("echo", 2, false, |_, words| Ok(Reply::bulk(words[1]))),
+    Command("select", 2, false, connection::select),
+    Command("hello", 1, true, connection::hello),
+    Command("client", 2, true, connection::client),
+    Command("config", 2, true, connection::config),
+    Command("info", 1, true, connection::info),
+    Command("command", 1, true, connection::command),
+    Command(QUIT, 1, true, |_, _| Ok(Reply::Status("OK"))),
+];
+const MGET: &str = "mget";
+const QUIT: &str = "quit";
+/// What a web page's request begins with, and what follows in it: no client of this protocol sends them.
+const ATTACKS: [&[u8]; 2] = [b"post", b"host:"];
+
+/// Why a command isn't done.
+#[derive(Debug, PartialEq, Eq)]
+enum Refusal {
+    Unknown(String),
+    UnknownPart(&'static str, String),
+    WordCount(&'static str),
+    PartWordCount(&'static str, &'static str),
+    Syntax,
+    NotAnInteger,
+    OutOfRange(i64, i64),
+    ExpireTime(&'static str),
+    Option(String),
+    NxBeside,
+    GtBesideLt,
+    Overflow,
+    DecrOverflow,
+    Cursor,
+    Database,
+    ClientName,
+    ClientOption(String),
+    LibraryName(&'static str),
+    ProtocolNumber,
+    Protocol,
+    Password,
+    HelloOption(String),
+    Memory,
+    Deadlines,
+}
+
+impl Refusal {
+    fn reply(&self) -> Reply {
+        Reply::Error(match self {
+            Refusal::Unknown(what) => format!("ERR unknown command {what}"),
+            Refusal::UnknownPart(of, what) => format!("ERR unknown subcommand '{what}'. Try {of} HELP."),
+            Refusal::WordCount(name) => format!("ERR wrong number of arguments for '{name}' command"),
+            Refusal::PartWordCount(of, part) => format!("ERR wrong number of arguments for '{of}|{part}' command"),
+            Refusal::Syntax => "ERR syntax error".into(),
+            Refusal::NotAnInteger => "ERR value is not an integer or out of range".into(),
+            Refusal::OutOfRange(least, most) => {
+                format!("ERR value is out of range, value must between {least} and {most}")
+            }
+            Refusal::ExpireTime(name) => format!("ERR invalid expire time in '{name}' command"),
+            Refusal::Option(text) => format!("ERR Unsupported option {text}"),
+            Refusal::NxBeside => "ERR NX and XX, GT or LT options at the same time are not compatible".into(),
+            Refusal::GtBesideLt => "ERR GT and LT options at the same time are not compatible".into(),
+            Refusal::Overflow => "ERR increment or decrement would overflow".into(),
+            Refusal::DecrOverflow => "ERR decrement would overflow".into(),
+            Refusal::Cursor => "ERR invalid cursor".into(),
+            Refusal::Database => "ERR DB index is out of range".into(),
+            Refusal::ClientName => "ERR Client names cannot contain spaces, newlines or special characters.".into(),
+            Refusal::ClientOption(text) => format!("ERR Unrecognized option '{text}'"),
+            Refusal::LibraryName(what) => format!("ERR {what} cannot contain spaces, newlines or special characters."),
+            Refusal::ProtocolNumber => "ERR Protocol version is not an integer or out of range".into(),
+            Refusal::Protocol => "NOPROTO unsupported protocol version".into(),
+            Refusal::Password => "WRONGPASS invalid username-password pair or user is disabled.".into(),
+            Refusal::HelloOption(text) => format!("ERR Syntax error in HELLO option '{text}'"),
+            Refusal::Memory => "OOM command not allowed when used memory > 'maxmemory'.".into(),
+            Refusal::Deadlines => "OOM no room for another key that expires".into(),
+        })
+    }
+}
+
+impl From<NoRoom> for Refusal {
+    fn from(no_room: NoRoom) -> Refusal {
+        match no_room {
+            NoRoom::Memory => Refusal::Memory,
+            NoRoom::Deadlines => Refusal::Deadlines,
+        }
+    }
+}
+
+impl Desk {
+    pub fn new(keyspace: Arc<Keyspace>, seats: Arc<Seats>, handle: Handle) -> Desk {
+        Desk { keyspace, seats, handle, known: HashMap::new(), warned: None }
+    }
+
+    pub fn seats(&self) -> &Seats {
+        &self.seats
+    }
+
+    /// Says that a web page reached for this server, now and then.
+    pub fn warn(&mut self, from: Option<SocketAddr>) {
+        if self.warned.map_or(true, |it| it.elapsed() >= WARNED_EVERY) {
+            self.warned = Some(Instant::now());
+            let from = from.map_or("somebody".into(), |it| it.to_string());
+            eprintln!("store: {from} sent POST or Host: as a command, as a web page that attacks does: it is closed");
+        }
+    }
+
+    fn remember(&mut self, name: &[u8], entry: Key) {
+        if self.known.len() == KNOWN_LIMIT {
+            self.known.clear();
+        }
+        if name.len() <= KNOWN_LENGTH {
+            self.known.insert(name.to_vec(), entry);
+        }
+    }
+}
+
+impl Session {
+    pub fn new(id: u64) -> Session {
+        Session { id, name: Vec::new(), protocol: Protocol::Two }
+    }
+
+    /// The memory that it holds.
+    pub fn held(&self) -> usize {
+        self.name.capacity()
+    }
+}
+
+impl Client<'_> {
+    /// Answers a request. An MGET's values are told one by one: a client that leaves them unread holds one of them,
+    /// and not all that it named, which others may have overwritten since. `told` counts its replies from one call to
+    /// the next.
+    pub fn serve(&mut self, words: Words<'_>, told: &mut usize, output: &mut Output) -> Served {
+        if *told == 0 {
+            if ATTACKS.iter().any(|it| words[0].eq_ignore_ascii_case(it)) {
+                return Served::Attack;
+            }
+            let reply = self.answer(words);
+            output.protocol = self.session.protocol;
+            output.reply(&reply);
+            if !matches!(reply, Reply::Begun(_)) {
+                let is_last = words[0].eq_ignore_ascii_case(QUIT.as_bytes());
+                return if is_last { Served::Last } else { Served::Done };
+            }
+            *told = 1;
+        }
+        for name in &words[*told..] {
+            if output.is_full() {
+                return Served::Begun;
+            }
+            output.reply(&keys::value(self, name));
+            *told += 1;
+        }
+        Served::Done
+    }
+
+    /// What a request is answered. The values of an MGET aren't among it.
+    pub fn answer(&mut self, words: Words<'_>) -> Reply {
+        self.run(words).unwrap_or_else(|refusal| refusal.reply())
+    }
+
+    fn run(&mut self, words: Words<'_>) -> Answer {
+        let command = COMMANDS.iter().find(|it| words[0].eq_ignore_ascii_case(it.0.as_bytes()));
+        let Command(name, least, has_more, run) = command.ok_or_else(|| Refusal::Unknown(told(words)))?;
+        if words.len() < *least || (words.len() > *least && !has_more) {
+            return Err(Refusal::WordCount(name));
+        }
+        run(self, words)
+    }
+}
+
+fn count(number: usize) -> Reply {
+    Reply::Integer(number as i64)
+}
+
+/// At most 128 bytes of a word, as a refusal repeats it.
+fn repeated(word: &[u8]) -> String {
+    String::from_utf8_lossy(&word[..word.len().min(128)]).into_owned()
+}
+
+/// An unknown request as Redis tells it, at most 128 bytes of its name and of its other words.
+fn told(words: Words<'_>) -> String {
+    let mut rest = String::new();
+    for word in &words[1..] {
+        if rest.len() >= 128 {
+            break;
+        }
+        rest += &format!("'{}' ", repeated(&word[..word.len().min(128 - rest.len())]));
+    }
+    format!("'{}', with args beginning with: {rest}", repeated(words[0]))
+}

@@ -1,0 +1,174 @@
+//! What a client asks of its connection and of the server.
+
+use super::scan::is_match;
+use super::{count, repeated, Answer, Client, Refusal, Words, COMMANDS};
+use crate::keyspace::Held;
+use crate::resp::{integer, Protocol, Reply};
+
+/// The version of Redis whose replies these are. Clients ask for it to know which commands there are.
+const REDIS_VERSION: &str = "7.0.15";
+
+pub fn ping(_: &mut Client<'_>, words: Words<'_>) -> Answer {
+    match words {
+        [_] => Ok(Reply::Status("PONG")),
+        [_, text] => Ok(Reply::bulk(text)),
+        _ => Err(Refusal::WordCount("ping")),
+    }
+}
+
+/// There is one database.
+pub fn select(_: &mut Client<'_>, words: Words<'_>) -> Answer {
+    match integer(words[1]) {
+        Some(0) => Ok(Reply::Status("OK")),
+        Some(number) if i32::try_from(number).is_ok() => Err(Refusal::Database),
+        Some(_) => Err(Refusal::OutOfRange(i32::MIN.into(), i32::MAX.into())),
+        None => Err(Refusal::NotAnInteger),
+    }
+}
+
+fn is_plain(name: &[u8]) -> bool {
+    name.iter().all(|it| (b'!'..=b'~').contains(it))
+}
+
+/// Tells the protocol, its client's name and a password, all at once.
+pub fn hello(client: &mut Client<'_>, words: Words<'_>) -> Answer {
+    let protocol = match words.get(1).map(|it| integer(it)) {
+        None => client.session.protocol,
+        Some(None) => return Err(Refusal::ProtocolNumber),
+        Some(Some(2)) => Protocol::Two,
+        Some(Some(3)) => Protocol::Three,
+        Some(Some(_)) => return Err(Refusal::Protocol),
+    };
+    let (mut rest, mut name) = (words.get(2..).unwrap_or(&[]), None);
+    while let Some((option, others)) = rest.split_first() {
+        rest = match (&option.to_ascii_lowercase()[..], others) {
+            // There are no passwords: any is good for the one user.
+            (b"auth", [user, _, others @ ..]) if *user == b"default" => others,
+            (b"auth", [_, _, ..]) => return Err(Refusal::Password),
+            (b"setname", [new, others @ ..]) => {
+                name = Some(*new);
+                others
+            }
+            _ => return Err(Refusal::HelloOption(repeated(option))),
+        };
+    }
+    if let Some(name) = name {
+        set_name(client, name)?;
+    }
+    client.session.protocol = protocol;
+    Ok(about(client))
+}
+
+fn about(client: &Client<'_>) -> Reply {
+    let text = |text: &str| Reply::bulk(text.as_bytes());
+    let proto = if client.session.protocol == Protocol::Three { 3 } else { 2 };
+    let fields = [
+        ("server", text("redis")),
+        ("version", text(REDIS_VERSION)),
+        ("proto", Reply::Integer(proto)),
+        ("id", Reply::Integer(client.session.id as i64)),
+        ("mode", text("standalone")),
+        ("role", text("master")),
+        ("modules", Reply::Array(Vec::new())),
+    ];
+    Reply::Map(fields.into_iter().map(|(name, value)| (text(name), value)).collect())
+}
+
+fn set_name(client: &mut Client<'_>, name: &[u8]) -> Result<(), Refusal> {
+    if !is_plain(name) {
+        return Err(Refusal::ClientName);
+    }
+    client.session.name = name.to_vec();
+    Ok(())
+}
+
+pub fn client(client: &mut Client<'_>, words: Words<'_>) -> Answer {
+    let of = |part| Refusal::PartWordCount("client", part);
+    match (&words[1].to_ascii_lowercase()[..], &words[2..]) {
+        (b"id", []) => Ok(Reply::Integer(client.session.id as i64)),
+        (b"id", _) => Err(of("id")),
+        (b"getname", []) if client.session.name.is_empty() => Ok(Reply::Nil),
+        (b"getname", []) => Ok(Reply::bulk(&client.session.name)),
+        (b"getname", _) => Err(of("getname")),
+        (b"setname", [name]) => set_name(client, name).map(|()| Reply::Status("OK")),
+        (b"setname", _) => Err(of("setname")),
+        (b"setinfo", [what, value]) => set_info(what, value),
+        (b"setinfo", _) => Err(of("setinfo")),
+        _ => Err(Refusal::UnknownPart("CLIENT", repeated(words[1]))),
+    }
+}
+
+/// What a client tells of its library is looked at and left: nobody asks for it.
+fn set_info(what: &[u8], value: &[u8]) -> Answer {
+    let what = match &what.to_ascii_lowercase()[..] {
+        b"lib-name" => "lib-name",
+        b"lib-ver" => "lib-ver",
+        _ => return Err(Refusal::ClientOption(repeated(what))),
+    };
+    if is_plain(value) {
+        Ok(Reply::Status("OK"))
+    } else {
+        Err(Refusal::LibraryName(what))
+    }
+}
+
+/// What is set and can't be changed, by the names of Redis.
+pub fn config(client: &mut Client<'_>, words: Words<'_>) -> Answer {
+    if !words[1].eq_ignore_ascii_case(b"get") {
+        return Err(Refusal::UnknownPart("CONFIG", repeated(words[1])));
+    }
+    if words.len() < 3 {
+        return Err(Refusal::PartWordCount("config", "get"));
+    }
+    let bytes = client.desk.keyspace.room() + client.desk.seats.room();
+    let settings = [
+        ("appendonly", "no".into()),
+        ("databases", "1".into()),
+        ("maxclients", client.desk.seats.limit().to_string()),
+        ("maxmemory", bytes.to_string()),
+        ("maxmemory-policy", "noeviction".to_string()),
+        ("proto-max-bulk-len", crate::resp::BULK_LIMIT.to_string()),
+        ("save", String::new()),
+        ("timeout", "0".into()),
+    ];
+    let asked = settings.iter().filter_map(|(name, value)| {
+        let name = name.as_bytes();
+        let word = words[2..].iter().find(|it| is_match(&it.to_ascii_lowercase(), name))?;
+        // A name that is asked for as such is told as it was written.
+        let name = if word.eq_ignore_ascii_case(name) { word } else { name };
+        Some((Reply::bulk(name), Reply::bulk(value.as_bytes())))
+    });
+    Ok(Reply::Map(asked.collect()))
+}
+
+/// No command is described, and clients do without.
+pub fn command(_: &mut Client<'_>, words: Words<'_>) -> Answer {
+    match words.get(1) {
+        Some(part) if part.eq_ignore_ascii_case(b"count") => Ok(count(COMMANDS.len())),
+        _ => Ok(Reply::Array(Vec::new())),
+    }
+}
+
+/// It takes nothing out, so that it tells what the keepers did by themselves. The store removes entries, and cancels none:
+/// none that was cancelled waits to be freed.
+pub fn info(client: &mut Client<'_>, _: Words<'_>) -> Answer {
+    let (keyspace, seats) = (&client.desk.keyspace, &client.desk.seats);
+    let Held { keys, expires, bytes, expired, queue } = keyspace.held();
+    let (version, held, room) = (env!("CARGO_PKG_VERSION"), seats.bytes(), keyspace.room() + seats.room());
+    let clients = seats.taken();
+    Ok(Reply::Text(format!(
+        "# Server\r\nredis_version:{REDIS_VERSION}\r\nstore_version:{version}\r\nredis_mode:standalone\r\n\r\n\
+         # Clients\r\nconnected_clients:{clients}\r\n\r\n\
+         # Memory\r\nused_memory:{}\r\nused_memory_keys:{bytes}\r\nused_memory_clients:{held}\r\n\
+         maxmemory:{room}\r\n\r\n\
+         # Stats\r\nexpired_keys:{expired}\r\n\r\n\
+         # Replication\r\nrole:master\r\n\r\n\
+         # Queue\r\nwaiting:{}\r\ncancelled_not_freed:0\r\nslots_worn:{}\r\nlate_ms:{}\r\n\r\n\
+         # Keyspace\r\n{}",
+        bytes + held,
+        queue.waiting,
+        queue.worn,
+        queue.late,
+        if keys > 0 { format!("db0:keys={keys},expires={expires},avg_ttl=0\r\n") } else { String::new() }
+    )))
+}

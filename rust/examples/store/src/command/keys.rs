@@ -1,0 +1,183 @@
+//! Keys and their values.
+
+use super::expiry::Time;
+use super::{count, Answer, Client, Refusal, Words};
+use crate::clock::Tick;
+use crate::keyspace::{Lifetime, Place};
+use crate::resp::{integer, Reply};
+
+fn change<O>(client: &mut Client<'_>, name: &[u8], change: impl FnOnce(&mut Place<'_>) -> O) -> O {
+    client.desk.keyspace.change(&mut client.desk.handle, name, change)
+}
+
+pub fn value(client: &mut Client<'_>, name: &[u8]) -> Reply {
+    let value = client.desk.keyspace.view(&mut client.desk.handle, name, |record, _| record.value.clone());
+    value.map_or(Reply::Nil, Reply::Bulk)
+}
+
+pub fn get(client: &mut Client<'_>, words: Words<'_>) -> Answer {
+    Ok(value(client, words[1]))
+}
+
+fn is_there(client: &mut Client<'_>, name: &[u8]) -> bool {
+    client.desk.keyspace.view(&mut client.desk.handle, name, |_, _| ()).is_some()
+}
+
+pub fn exists(client: &mut Client<'_>, words: Words<'_>) -> Answer {
+    Ok(count(words[1..].iter().filter(|name| is_there(client, name)).count()))
+}
+
+pub fn type_of(client: &mut Client<'_>, words: Words<'_>) -> Answer {
+    Ok(Reply::Status(if is_there(client, words[1]) { "string" } else { "none" }))
+}
+
+pub fn del(client: &mut Client<'_>, words: Words<'_>) -> Answer {
+    Ok(count(words[1..].iter().filter(|name| change(client, name, |place| place.remove())).count()))
+}
+
+pub fn persist(client: &mut Client<'_>, words: Words<'_>) -> Answer {
+    Ok(count(change(client, words[1], |place| place.persist()) as usize))
+}
+
+pub fn get_and_remove(client: &mut Client<'_>, words: Words<'_>) -> Answer {
+    change(client, words[1], |place| {
+        let value = place.value().cloned();
+        place.remove();
+        Ok(value.map_or(Reply::Nil, Reply::Bulk))
+    })
+}
+
+pub fn add(client: &mut Client<'_>, name: &[u8], by: i64) -> Answer {
+    change(client, name, |place| {
+        let old = place.value().map_or(Some(0), |value| integer(value)).ok_or(Refusal::NotAnInteger)?;
+        let new = old.checked_add(by).ok_or(Refusal::Overflow)?;
+        place.set(new.to_string().as_bytes(), Lifetime::Kept)?;
+        Ok(Reply::Integer(new))
+    })
+}
+
+pub fn incr_by(client: &mut Client<'_>, words: Words<'_>) -> Answer {
+    add(client, words[1], integer(words[2]).ok_or(Refusal::NotAnInteger)?)
+}
+
+pub fn decr_by(client: &mut Client<'_>, words: Words<'_>) -> Answer {
+    let by = integer(words[2]).ok_or(Refusal::NotAnInteger)?;
+    add(client, words[1], by.checked_neg().ok_or(Refusal::DecrOverflow)?)
+}
+
+pub fn flush(client: &mut Client<'_>, words: Words<'_>) -> Answer {
+    let is_known = |mode: &&[u8]| mode.eq_ignore_ascii_case(b"sync") || mode.eq_ignore_ascii_case(b"async");
+    if words.len() > 2 || !words[1..].iter().all(is_known) {
+        return Err(Refusal::Syntax);
+    }
+    client.desk.keyspace.clear();
+    Ok(Reply::Status("OK"))
+}
+
+/// What a SET or a GETEX is asked beside the key and the value.
+#[derive(Default)]
+struct Options<'a> {
+    only_new: bool,
+    only_old: bool,
+    is_get: bool,
+    is_kept: bool,
+    is_endless: bool,
+    time: Option<Time<'a>>,
+}
+
+impl<'a> Options<'a> {
+    fn of_set(words: Words<'a>) -> Result<Options<'a>, Refusal> {
+        Options::of(words, |options, word| {
+            match word {
+                b"nx" if !options.only_old => options.only_new = true,
+                b"xx" if !options.only_new => options.only_old = true,
+                b"get" => options.is_get = true,
+                b"keepttl" if options.time.is_none() => options.is_kept = true,
+                _ => return false,
+            }
+            true
+        })
+    }
+
+    fn of_getex(words: Words<'a>) -> Result<Options<'a>, Refusal> {
+        Options::of(words, |options, word| {
+            let is_known = word == b"persist" && options.time.is_none();
+            options.is_endless |= is_known;
+            is_known
+        })
+    }
+
+    /// The options that a command takes, `take` says whether a word is one, and a time beside them.
+    fn of(words: Words<'a>, take: impl Fn(&mut Options<'a>, &[u8]) -> bool) -> Result<Options<'a>, Refusal> {
+        let mut options = Options::default();
+        let mut rest = words.iter();
+        while let Some(word) = rest.next() {
+            let word = word.to_ascii_lowercase();
+            if take(&mut options, &word) {
+                continue;
+            }
+            if options.is_kept || options.is_endless {
+                return Err(Refusal::Syntax);
+            }
+            let (unit, is_from_now) = Time::option(&word).ok_or(Refusal::Syntax)?;
+            // Of two times in one form the last counts.
+            if options.time.as_ref().is_some_and(|it| (it.unit, it.is_from_now) != (unit, is_from_now)) {
+                return Err(Refusal::Syntax);
+            }
+            options.time = Some(Time { text: rest.next().ok_or(Refusal::Syntax)?, unit, is_from_now });
+        }
+        Ok(options)
+    }
+
+    /// What becomes of the deadline: one that is told, the old one, or none.
+    fn lifetime(&self, now: Tick, command: &'static str) -> Result<Lifetime, Refusal> {
+        match &self.time {
+            None if self.is_kept => Ok(Lifetime::Kept),
+            None => Ok(Lifetime::Endless),
+            Some(time) => Ok(Lifetime::Until(time.positive(now, command)?)),
+        }
+    }
+}
+
+pub fn set(client: &mut Client<'_>, words: Words<'_>) -> Answer {
+    let options = Options::of_set(&words[3..])?;
+    change(client, words[1], |place| {
+        let lifetime = options.lifetime(place.now(), "set")?;
+        let old = place.value().cloned();
+        let is_done = if old.is_some() { !options.only_new } else { !options.only_old };
+        if is_done {
+            place.set(words[2], lifetime)?;
+        }
+        Ok(match old {
+            Some(old) if options.is_get => Reply::Bulk(old),
+            _ if is_done && !options.is_get => Reply::Status("OK"),
+            _ => Reply::Nil,
+        })
+    })
+}
+
+/// SETEX or PSETEX: the time stands before the value.
+pub fn set_until(client: &mut Client<'_>, words: Words<'_>, command: &'static str) -> Answer {
+    let time = Time::from_now(words[2], command == "setex");
+    change(client, words[1], |place| {
+        let until = time.positive(place.now(), command)?;
+        place.set(words[3], Lifetime::Until(until))?;
+        Ok(Reply::Status("OK"))
+    })
+}
+
+pub fn get_and_expire(client: &mut Client<'_>, words: Words<'_>) -> Answer {
+    let options = Options::of_getex(&words[2..])?;
+    change(client, words[1], |place| {
+        let value = match place.value() {
+            None => return Ok(Reply::Nil),
+            Some(value) => value.clone(),
+        };
+        if options.is_endless {
+            place.persist();
+        } else if let Some(time) = &options.time {
+            place.expire(time.positive(place.now(), "getex")?)?;
+        }
+        Ok(Reply::Bulk(value))
+    })
+}

@@ -1,0 +1,139 @@
+//! A server of expiring keys that speaks the Redis protocol. Each deadline is an entry of Hontkhale's delay queue.
+
+mod clock;
+mod command;
+mod connection;
+mod event_loop;
+mod handle;
+mod keeper;
+mod keyspace;
+mod output;
+mod resp;
+mod seats;
+mod server;
+#[cfg(test)]
+mod tests;
+
+use hontkhale::LAST_TICK;
+use keyspace::Keyspace;
+use seats::Seats;
+use std::fs;
+use std::io::{self, Write};
+use std::net::{IpAddr, Ipv4Addr, TcpListener};
+use std::ops::RangeInclusive;
+use std::process::ExitCode;
+use std::str::FromStr;
+use std::sync::Arc;
+
+const HELP: &str = "store [OPTION..]: a server of expiring keys, to which redis-cli talks
+
+  --port N      the port, 6400 where none is given; 0 takes any that is free
+  --bind IP     the address, 127.0.0.1 where none is given
+  --keys N      room for about so many keys that expire, 1000000 where none is given, 4000000 at most
+  --memory MIB  room for keys, values and connections, 1024 where none is given: a quarter is for what connections hold
+  --clients N   the most connections at a time, 1000 where none is given
+  --threads N   the threads that serve them, 4 where none is given
+  --help        this text
+
+The process holds at most --memory, 100 bytes for each of --keys, and 32 MiB: in all 1152 MiB where none is given.
+A connection counts as what came of its requests, what waits to be sent to it, and 2 KiB. Where the room of connections
+is used up, a new one is refused by name, and so is half a request that grows: its connection ends.
+It has no passwords: whoever reaches the port reads and changes every key. It keeps nothing on a disk.
+A key or value has at most 1 MiB, a request 2 MiB. SIGTERM ends it in order: what has come is answered.";
+
+/// Of the memory, a part of so many is for connections.
+const PARTS: usize = 4;
+/// The files that are open beside connections.
+const OWN_FILES: usize = 64;
+
+struct Options {
+    bind: IpAddr,
+    port: u16,
+    keys: usize,
+    memory: usize,
+    clients: usize,
+    threads: usize,
+}
+
+/// The value of an option, which has to be in a range.
+fn number<N: FromStr + PartialOrd + std::fmt::Display>(
+    name: &str,
+    value: &str,
+    range: RangeInclusive<N>,
+) -> Result<N, String> {
+    let number = value.parse().ok().filter(|it| range.contains(it));
+    number.ok_or_else(|| format!("{name} takes a number from {} to {}, not {value}", range.start(), range.end()))
+}
+
+/// The options, none where help is asked for.
+fn options(mut args: impl Iterator<Item = String>) -> Result<Option<Options>, String> {
+    let bind = Ipv4Addr::LOCALHOST.into();
+    let mut options = Options { bind, port: 6400, keys: 1_000_000, memory: 1_024, clients: 1_000, threads: 4 };
+    while let Some(name) = args.next() {
+        if name == "--help" || name == "-h" {
+            return Ok(None);
+        }
+        let mut value = || args.next().ok_or(format!("{name} wants a value"));
+        match &name[..] {
+            "--port" => options.port = number(&name, &value()?, 0..=u16::MAX)?,
+            "--bind" => {
+                let value = value()?;
+                options.bind = value.parse().map_err(|_| format!("--bind takes an IP address, not {value}"))?;
+            }
+            "--keys" => options.keys = number(&name, &value()?, 0..=4_000_000)?,
+            "--memory" => options.memory = number(&name, &value()?, 1..=1 << 20)?,
+            "--clients" => options.clients = number(&name, &value()?, 1..=100_000)?,
+            "--threads" => options.threads = number(&name, &value()?, 1..=64)?,
+            _ => return Err(format!("there is no option {name}")),
+        }
+    }
+    Ok(Some(options))
+}
+
+/// How many files the process may have open, where the machine says so.
+fn most_files() -> Option<usize> {
+    let limits = fs::read_to_string("/proc/self/limits").ok()?;
+    let line = limits.lines().find_map(|line| line.strip_prefix("Max open files"))?;
+    line.split_whitespace().next()?.parse().ok()
+}
+
+fn run(options: &Options) -> Result<(), Box<dyn std::error::Error>> {
+    let needed = options.clients + OWN_FILES;
+    if let Some(files) = most_files().filter(|it| *it < needed) {
+        return Err(format!(
+            "{} clients need {needed} open files, this process may have {files}: ulimit -n {needed}",
+            options.clients
+        )
+        .into());
+    }
+    let memory = options.memory << 20;
+    let keyspace = Arc::new(Keyspace::new(options.keys, memory - memory / PARTS)?);
+    if keyspace.clock.now() > LAST_TICK {
+        return Err("this machine's clock is past the year 2109, the last that a deadline may have".into());
+    }
+    let at = (options.bind, options.port);
+    let listener = TcpListener::bind(at).map_err(|error| format!("{}:{} can't be listened at: {error}", at.0, at.1))?;
+    let at = listener.local_addr()?;
+    // Whoever started it may have closed its output.
+    let _ = writeln!(io::stdout(), "store: {at}, without passwords: whoever reaches it reads and changes every key");
+    let seats = Arc::new(Seats::new(options.clients, memory / PARTS));
+    server::serve(listener, &keyspace, &seats, options.threads)?;
+    let _ = writeln!(io::stdout(), "store: ended, as it was told to; {} connections are left", seats.taken());
+    Ok(())
+}
+
+fn main() -> ExitCode {
+    let refusal = match options(std::env::args().skip(1)) {
+        Ok(None) => {
+            let _ = writeln!(io::stdout(), "{HELP}");
+            return ExitCode::SUCCESS;
+        }
+        Ok(Some(options)) => run(&options).err().map(|error| error.to_string()),
+        Err(wrong) => Some(format!("{wrong}; --help tells more")),
+    };
+    if let Some(refusal) = refusal {
+        eprintln!("store: {refusal}");
+        return ExitCode::FAILURE;
+    }
+    ExitCode::SUCCESS
+}

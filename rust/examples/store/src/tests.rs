@@ -1,0 +1,290 @@
+//! What can be seen from within alone: which locks a call takes, when a key is gone, and what the keepers do.
+
+use crate::command::{Client, Desk, Served, Session};
+use crate::keeper::keep;
+use crate::keyspace::{Keyspace, KEEPERS};
+use crate::output::Output;
+use crate::resp::{integer, Broken, Parser, Protocol, Reply};
+use crate::seats::Seats;
+use std::sync::atomic::{AtomicBool, Ordering::SeqCst};
+use std::sync::{mpsc, Arc};
+use std::thread;
+use std::time::{Duration, Instant};
+
+mod commands;
+
+fn keyspace() -> Arc<Keyspace> {
+    Arc::new(Keyspace::new(10_000, 64 << 20).unwrap())
+}
+
+/// A client with a desk of its own, as if it had a thread for itself.
+struct Asker {
+    desk: Desk,
+    session: Session,
+}
+
+fn client(keyspace: &Arc<Keyspace>) -> Asker {
+    let seats = Arc::new(Seats::new(10, 1 << 20));
+    Asker { desk: Desk::new(keyspace.clone(), seats, keyspace.handle().unwrap()), session: Session::new(7) }
+}
+
+fn ask(Asker { desk, session }: &mut Asker, line: &str) -> Reply {
+    Client { desk, session }.answer(&line.split(' ').map(str::as_bytes).collect::<Vec<_>>())
+}
+
+fn is_ok(client: &mut Asker, line: &str) {
+    assert_eq!(ask(client, line), Reply::Status("OK"), "{line}");
+}
+
+#[test]
+fn a_later_deadline_takes_no_lock() {
+    let keyspace = keyspace();
+    let mut client = client(&keyspace);
+    is_ok(&mut client, "SET lease ann PX 60000");
+    assert_eq!(ask(&mut client, "PEXPIRE lease 70000 GT"), Reply::Integer(1));
+    let (told, heard) = mpsc::channel();
+    keyspace.while_held(b"lease", || {
+        thread::spawn(move || {
+            let later = ask(&mut client, "PEXPIRE lease 80000 GT");
+            told.send((later, ask(&mut client, "PEXPIRE lease 75000 GT"))).unwrap();
+        });
+        let answers = heard.recv_timeout(Duration::from_secs(20));
+        assert_eq!(answers, Ok((Reply::Integer(1), Reply::Integer(0))), "an extend waits for a lock");
+    });
+}
+
+#[test]
+fn no_key_is_seen_at_its_deadline() {
+    let keyspace = keyspace();
+    let mut client = client(&keyspace);
+    for round in 0..200 {
+        let deadline = keyspace.clock.now() + 3 + round % 3;
+        is_ok(&mut client, &format!("SET key value PXAT {deadline}"));
+        loop {
+            let before = keyspace.clock.now();
+            let value = ask(&mut client, "GET key");
+            let after = keyspace.clock.now();
+            assert!(value == Reply::Nil || before < deadline, "seen at {before}, its deadline is {deadline}");
+            assert!(value != Reply::Nil || after >= deadline, "gone at {after}, its deadline is {deadline}");
+            if value == Reply::Nil {
+                break;
+            }
+        }
+        assert_eq!(ask(&mut client, "DBSIZE"), Reply::Integer(0));
+    }
+}
+
+/// A reader asks until the key is gone, while another thread extends it. How many extends were accepted.
+fn extended_until_gone(keyspace: &Arc<Keyspace>, reader: &mut Asker, name: &str, life: u64) -> u32 {
+    is_ok(reader, &format!("SET {name} value PX {life}"));
+    let is_gone = AtomicBool::new(false);
+    thread::scope(|scope| {
+        let extender = scope.spawn(|| {
+            let mut client = client(keyspace);
+            let mut accepted = 0;
+            for pause in 0..200 {
+                let was_gone = is_gone.load(SeqCst);
+                if ask(&mut client, &format!("PEXPIRE {name} {} GT", life + 1)) == Reply::Integer(1) {
+                    assert!(!was_gone, "an extend brought back what a reader saw to be gone");
+                    accepted += 1;
+                }
+                thread::sleep(Duration::from_micros(5 + pause));
+            }
+            accepted
+        });
+        while ask(reader, &format!("GET {name}")) != Reply::Nil {}
+        is_gone.store(true, SeqCst);
+        for _ in 0..20 {
+            assert_eq!(ask(reader, &format!("GET {name}")), Reply::Nil);
+        }
+        extender.join().unwrap()
+    })
+}
+
+/// On a busy machine a key may be gone before the other thread runs at all: then the next lives longer, until some are
+/// extended, so that what is seen hangs on no time.
+#[test]
+fn what_was_seen_to_be_gone_is_never_extended() {
+    let keyspace = keyspace();
+    let (mut reader, mut extended, mut rounds, mut life) = (client(&keyspace), 0, 0, 3);
+    while rounds < 150 || extended <= 100 {
+        let accepted = extended_until_gone(&keyspace, &mut reader, &format!("key:{rounds}"), life);
+        life = if accepted == 0 { 2 * life } else { (life / 2).max(3) };
+        extended += accepted;
+        rounds += 1;
+    }
+}
+
+#[test]
+fn keepers_give_back_what_nobody_asks_for() {
+    let keyspace = keyspace();
+    for keeper in 0..KEEPERS {
+        let keyspace = keyspace.clone();
+        thread::spawn(move || keep(&keyspace, keeper));
+    }
+    let mut client = client(&keyspace);
+    for at in 0..1_000 {
+        is_ok(&mut client, &format!("SET far:{at} value PX 3600000"));
+    }
+    // The keepers sleep until far ahead now.
+    thread::sleep(Duration::from_millis(50));
+    for at in 0..1_000 {
+        is_ok(&mut client, &format!("SET near:{at} value PX 100"));
+    }
+    let begun = Instant::now();
+    while keyspace.held().keys > 1_000 {
+        assert!(begun.elapsed() < Duration::from_secs(10), "{} keys are held", keyspace.held().keys);
+        thread::sleep(Duration::from_millis(5));
+    }
+    assert!(begun.elapsed() >= Duration::from_millis(90));
+    assert_eq!(ask(&mut client, "DBSIZE"), Reply::Integer(1_000));
+}
+
+#[test]
+fn memory_is_counted_back_to_nothing() {
+    let keyspace = keyspace();
+    let mut client = client(&keyspace);
+    for at in 0..500 {
+        is_ok(&mut client, &format!("SET key:{} value-{at} PX {}", at % 50, 5 + at % 7));
+        ask(&mut client, &format!("INCR count:{}", at % 20));
+        ask(&mut client, &format!("PEXPIRE count:{} {}", at % 20, 3 + at % 5));
+        ask(&mut client, &format!("DEL key:{}", at % 11));
+        ask(&mut client, &format!("PERSIST key:{}", at % 13));
+    }
+    thread::sleep(Duration::from_millis(30));
+    (0..50).for_each(|at| drop(ask(&mut client, &format!("DEL key:{at} count:{at}"))));
+    assert_eq!((ask(&mut client, "DBSIZE"), keyspace.held().bytes), (Reply::Integer(0), 0));
+}
+
+/// The requests of these bytes that come in pieces of a size.
+fn requests(sent: &[u8], size: usize) -> Result<Vec<Vec<Vec<u8>>>, Broken> {
+    let (mut parser, mut bytes, mut got) = (Parser::default(), Vec::new(), Vec::new());
+    for piece in sent.chunks(size) {
+        bytes.extend_from_slice(piece);
+        while let Some(length) = parser.parse(&bytes)? {
+            let words: Vec<_> = parser.words(&bytes).map(<[u8]>::to_vec).collect();
+            got.extend(Some(words).filter(|it| !it.is_empty()));
+            bytes.drain(..length);
+            parser.reset();
+        }
+    }
+    Ok(got)
+}
+
+#[test]
+fn requests_come_in_pieces_of_any_size() {
+    let sent = b"*2\r\n$3\r\nGET\r\n$4\r\na\r\nb\r\n\r\nPING now\r\n*0\r\n*1\r\n$0\r\n\r\nSET 'a b' \"\\x41\\n\"\n";
+    let words = |words: &[&str]| words.iter().map(|it| Vec::from(*it)).collect::<Vec<_>>();
+    let wanted = vec![words(&["GET", "a\r\nb"]), words(&["PING", "now"]), words(&[""]), words(&["SET", "a b", "A\n"])];
+    for size in 1..=sent.len() {
+        assert_eq!(requests(sent, size).as_ref(), Ok(&wanted), "in pieces of {size}");
+    }
+}
+
+#[test]
+fn quotes_hold_words_together() {
+    let one = |line: &str| requests(format!("{line}\r\n").as_bytes(), 1_000).map(|it| it.concat());
+    let good: [(&str, &[&str]); 7] = [
+        ("SET \"a b\" 'c d'", &["SET", "a b", "c d"]),
+        ("SET \"\" ''", &["SET", "", ""]),
+        (r#"ECHO "\x41\x0a\"\\\t\q""#, &["ECHO", "A\n\"\\\tq"]),
+        (r#"ECHO "\x4g""#, &["ECHO", "x4g"]),
+        (r"ECHO 'it\'s' 'a\b'", &["ECHO", "it's", r"a\b"]),
+        ("ECHO pre\"fix\"", &["ECHO", "prefix"]),
+        ("  ECHO \t two  ", &["ECHO", "two"]),
+    ];
+    for (line, words) in good {
+        assert_eq!(one(line), Ok(words.iter().map(|it| Vec::from(*it)).collect()), "{line}");
+    }
+    for line in ["ECHO \"a", "ECHO 'a", "ECHO \"a\"b", "ECHO 'a'b", "ECHO \"a\\\"", "ECHO '"] {
+        assert_eq!(one(line), Err(Broken::Quotes), "{line}");
+    }
+}
+
+#[test]
+fn integers_are_those_of_the_protocol() {
+    let good = [("0", 0), ("-1", -1), ("9223372036854775807", i64::MAX), ("-9223372036854775808", i64::MIN)];
+    assert!(good.iter().all(|(text, number)| integer(text.as_bytes()) == Some(*number)));
+    let bad = ["", "-", "-0", "01", "+1", " 1", "1 ", "1.0", "x", "9223372036854775808", "99999999999999999999999"];
+    assert!(bad.iter().all(|text| integer(text.as_bytes()).is_none()));
+}
+
+#[test]
+fn replies_are_written_whole() {
+    let long: Arc<[u8]> = vec![b'x'; 100_000].into();
+    let (mut output, mut written) = (Output::default(), Vec::new());
+    output.reply(&Reply::Bulk(long));
+    assert!(output.is_full(), "a long value is sent before anything is added");
+    output.send(&mut written).unwrap();
+    let told = Reply::Error("ERR Unsupported option a\r\n+OK".into());
+    let replies = [told, Reply::Nil, Reply::Integer(-2), Reply::Begun(1), Reply::Status("OK"), Reply::Text("a".into())];
+    replies.iter().for_each(|reply| output.reply(reply));
+    output.send(&mut written).unwrap();
+    assert!(output.is_empty());
+    assert!(written.starts_with(b"$100000\r\nxxx"));
+    assert!(written.ends_with(b"xxx\r\n-ERR Unsupported option a  +OK\r\n$-1\r\n:-2\r\n*1\r\n+OK\r\n$1\r\na\r\n"));
+    output.protocol = Protocol::Three;
+    let pairs = vec![(Reply::bulk(b"a"), Reply::Array(vec![Reply::Nil]))];
+    [Reply::Map(pairs), Reply::Text("b".into())].iter().for_each(|reply| output.reply(reply));
+    written.clear();
+    output.send(&mut written).unwrap();
+    assert_eq!(written, b"%1\r\n$1\r\na\r\n*1\r\n_\r\n=5\r\ntxt:b\r\n");
+}
+
+/// Takes so many bytes at a time, and nothing every other time.
+struct Slow(Vec<u8>, usize, bool);
+
+impl std::io::Write for Slow {
+    fn write(&mut self, bytes: &[u8]) -> std::io::Result<usize> {
+        self.2 = !self.2;
+        if self.2 {
+            return Err(std::io::ErrorKind::WouldBlock.into());
+        }
+        let count = bytes.len().min(self.1);
+        self.0.extend_from_slice(&bytes[..count]);
+        Ok(count)
+    }
+
+    fn flush(&mut self) -> std::io::Result<()> {
+        Ok(())
+    }
+}
+
+#[test]
+fn what_waits_to_be_sent_counts_as_memory() {
+    let (mut output, value) = (Output::default(), vec![b'v'; 700_000]);
+    output.reply(&Reply::bulk(&value));
+    assert!(output.held() >= 700_000, "a value counts until it is sent");
+    assert!(output.is_full());
+    let mut sent = Vec::new();
+    output.send(&mut sent).unwrap();
+    assert!(output.is_empty() && output.held() < 1_000 && sent.len() == 700_011);
+    while !output.is_full() {
+        output.reply(&Reply::bulk(&value[..10_000]));
+    }
+    assert!((60_000..90_000).contains(&output.held()), "{} bytes of short replies", output.held());
+}
+
+#[test]
+fn replies_are_sent_in_pieces_of_any_size() {
+    let keyspace = keyspace();
+    let mut client = client(&keyspace);
+    let long = "v".repeat(20_000);
+    is_ok(&mut client, &format!("SET long {long}"));
+    is_ok(&mut client, "SET short value");
+    let words: Vec<_> = "MGET short long none long short".split(' ').map(str::as_bytes).collect();
+    let wanted = format!("*5\r\n$5\r\nvalue\r\n{0}$-1\r\n{0}$5\r\nvalue\r\n", format_args!("$20000\r\n{long}\r\n"));
+    for size in [1, 2, 3, 1_000, 16_384, 20_000, 100_000] {
+        let (mut slow, mut output, mut told) = (Slow(Vec::new(), size, false), Output::default(), 0);
+        let Asker { desk, session } = &mut client;
+        while (Client { desk, session }).serve(&words, &mut told, &mut output) == Served::Begun {
+            while output.is_full() {
+                output.send(&mut slow).unwrap();
+            }
+        }
+        while !output.is_empty() {
+            output.send(&mut slow).unwrap();
+        }
+        assert!(slow.0 == wanted.as_bytes(), "in pieces of {size}");
+    }
+}

@@ -1,0 +1,439 @@
+//! What each command says and does, where a slip would pass by unseen: no keeper runs here, so that what is over stays
+//! until somebody asks.
+
+use super::{ask, client, is_ok, keyspace, Asker};
+use crate::command::Client;
+use crate::keyspace::{Keyspace, SHARDS, SMALL_TABLE};
+use crate::output::Output;
+use crate::resp::Reply;
+use std::collections::HashSet;
+use std::sync::Arc;
+use std::thread;
+use std::time::Duration;
+
+/// What a reply is written as.
+fn said(Asker { desk, session }: &mut Asker, line: &str) -> String {
+    let (mut output, mut written) = (Output::default(), Vec::new());
+    Client { desk, session }.serve(&line.split(' ').map(str::as_bytes).collect::<Vec<_>>(), &mut 0, &mut output);
+    output.send(&mut written).unwrap();
+    String::from_utf8(written).unwrap().replace("\r\n", " ")
+}
+
+/// Each line is a request, and what it is answered.
+fn says(client: &mut Asker, lines: &str) {
+    for line in lines.lines().map(str::trim).filter(|it| !it.is_empty()) {
+        let (request, wanted) = line.split_once(" => ").unwrap();
+        assert_eq!(said(client, request).trim_end(), wanted, "{request}");
+    }
+}
+
+/// What is left of a key's life, in milliseconds.
+fn left(client: &mut Asker, name: &str) -> i64 {
+    match ask(client, &format!("PTTL {name}")) {
+        Reply::Integer(left) => left,
+        other => panic!("{other:?}"),
+    }
+}
+
+#[test]
+fn set_does_what_its_options_say() {
+    let keyspace = keyspace();
+    let mut client = client(&keyspace);
+    says(
+        &mut client,
+        "SET a 1 XX => $-1
+        SET a 1 NX => +OK
+        SET a 2 NX => $-1
+        GET a => $1 1
+        SET a 2 XX => +OK
+        SET a 3 GET => $1 2
+        SET a 4 NX GET => $1 3
+        GET a => $1 3
+        SET b 1 GET => $-1
+        SET a 1 NX XX => -ERR syntax error
+        SET a 1 EX => -ERR syntax error
+        SET a 1 EX 1 PX 1 => -ERR syntax error
+        SET a 1 KEEPTTL PX 1 => -ERR syntax error
+        SET a 1 PX 0 => -ERR invalid expire time in 'set' command
+        SET a 1 PX x => -ERR value is not an integer or out of range",
+    );
+    is_ok(&mut client, "SET a 1 EX 60");
+    assert!((59_000..=60_000).contains(&left(&mut client, "a")));
+    is_ok(&mut client, "SET a 2 KEEPTTL");
+    assert!((59_000..=60_000).contains(&left(&mut client, "a")));
+    is_ok(&mut client, "SET a 3 PX 50000");
+    assert!((49_000..=50_000).contains(&left(&mut client, "a")));
+    assert_eq!(keyspace.held().expires, 1, "a name has one deadline");
+    is_ok(&mut client, "SET a 4");
+    assert_eq!(keyspace.held().expires, 0, "the deadline of a key that has none any more");
+    says(&mut client, "PTTL a => :-1\nDEL a => :1\nGET a => $-1");
+}
+
+#[test]
+fn expire_changes_what_its_conditions_allow() {
+    let mut client = client(&keyspace());
+    is_ok(&mut client, "SET a 1");
+    says(
+        &mut client,
+        "EXPIRE a 60 XX => :0
+        EXPIRE a 60 GT => :0
+        EXPIRE a 60 LT => :1
+        EXPIRE a 50 NX => :0
+        EXPIRE a 70 LT => :0
+        EXPIRE a 50 GT => :0
+        PEXPIRE a 1 GT => :0
+        PEXPIRE a 0 GT => :0
+        EXPIRE a 60 NX GT => -ERR NX and XX, GT or LT options at the same time are not compatible
+        EXPIRE a 60 GT LT => -ERR GT and LT options at the same time are not compatible
+        EXPIRE a 60 IF => -ERR Unsupported option IF
+        EXPIRE a x => -ERR value is not an integer or out of range
+        EXPIRE none 60 => :0",
+    );
+    assert!((59_000..=60_000).contains(&left(&mut client, "a")));
+    says(&mut client, "EXPIRE a 50 LT => :1");
+    assert!((49_000..=50_000).contains(&left(&mut client, "a")));
+    says(&mut client, "PEXPIRE a 70000 GT => :1\nPEXPIRE a 65000 GT => :0\nTTL a => :70");
+    says(&mut client, "EXPIRE a 80 XX => :1\nTTL a => :80\nPEXPIRE a 9999 => :1\nTTL a => :10");
+}
+
+/// A slot of the queue has so many stamps: where none is needed none is taken.
+#[test]
+fn a_later_deadline_wears_no_slot() {
+    let keyspace = keyspace();
+    let (mut client, mut handle) = (client(&keyspace), keyspace.handle().unwrap());
+    let mut stamp = || keyspace.view(&mut handle, b"a", |record, _| record.entry().unwrap().stamp()).unwrap();
+    is_ok(&mut client, "SET a 1 PX 50000");
+    let first = stamp();
+    for (at, later) in (60_000..=70_000).step_by(1_000).enumerate() {
+        is_ok(&mut client, &format!("SET a {at} PX {later}"));
+        assert_eq!(ask(&mut client, &format!("PEXPIRE a {}", later + 500)), Reply::Integer(1));
+        assert!((later - 500..=later + 500).contains(&left(&mut client, "a")));
+    }
+    assert_eq!(stamp(), first);
+    is_ok(&mut client, "SET a 1 PX 40000");
+    assert_eq!(stamp(), first + 1);
+    assert!((39_000..=40_000).contains(&left(&mut client, "a")));
+}
+
+#[test]
+fn deadlines_since_1970_are_told_back_to_the_millisecond() {
+    let keyspace = keyspace();
+    let mut client = client(&keyspace);
+    let at = keyspace.clock.now() / 1_000 * 1_000 + 70_500;
+    is_ok(&mut client, &format!("SET a 1 PXAT {at}"));
+    says(&mut client, &format!("PEXPIRETIME a => :{at}\nEXPIRETIME a => :{}", (at + 500) / 1_000));
+    says(&mut client, &format!("PEXPIREAT a {} => :1\nPEXPIRETIME a => :{}", at + 1, at + 1));
+    says(&mut client, &format!("EXPIREAT a {} => :1\nPEXPIRETIME a => :{}", at / 1_000, at / 1_000 * 1_000));
+    is_ok(&mut client, &format!("SET a 1 EXAT {}", at / 1_000 + 5));
+    says(&mut client, &format!("PEXPIRETIME a => :{}", at / 1_000 * 1_000 + 5_000));
+    says(&mut client, "PEXPIRETIME none => :-2\nEXPIRETIME none => :-2");
+}
+
+#[test]
+fn a_deadline_that_is_over_takes_the_key_off() {
+    let keyspace = keyspace();
+    let mut client = client(&keyspace);
+    for way in ["EXPIREAT a 1", "PEXPIREAT a 1", "EXPIRE a 0", "PEXPIRE a -1", "EXPIRE a -1 LT"] {
+        is_ok(&mut client, "SET a 1 PX 60000");
+        says(&mut client, &format!("{way} => :1\nGET a => $-1\nDBSIZE => :0"));
+        assert_eq!((keyspace.held().expires, keyspace.held().bytes), (0, 0), "{way}");
+    }
+    is_ok(&mut client, "SET a 1 PX 60000");
+    is_ok(&mut client, "SET a 2 PXAT 1");
+    says(&mut client, "GET a => $-1\nDBSIZE => :0");
+}
+
+/// Each command by itself meets a key that is over and that nobody took out yet.
+#[test]
+fn no_command_sees_a_key_that_is_over() {
+    let cases = [
+        ("GET a", "$-1"),
+        ("MGET a b", "*2 $-1 $1 1"),
+        ("EXISTS a a b", ":1"),
+        ("DEL a", ":0"),
+        ("TTL a", ":-2"),
+        ("PTTL a", ":-2"),
+        ("PEXPIRETIME a", ":-2"),
+        ("PERSIST a", ":0"),
+        ("PEXPIRE a 60000", ":0"),
+        ("PEXPIRE a 60000 GT", ":0"),
+        ("PEXPIRE a 60000 LT", ":0"),
+        ("INCR a", ":1"),
+        ("SET a 2 XX", "$-1"),
+        ("SET a 2 NX", "+OK"),
+        ("SET a 2 GET", "$-1"),
+        ("SET a 2 KEEPTTL", "+OK"),
+        ("DBSIZE", ":1"),
+    ];
+    for (request, wanted) in cases {
+        let keyspace = keyspace();
+        let mut client = client(&keyspace);
+        is_ok(&mut client, "SET b 1");
+        is_ok(&mut client, "SET a 41 PX 2");
+        thread::sleep(Duration::from_millis(4));
+        assert_eq!((keyspace.held().keys, keyspace.held().expired), (2, 0), "nothing is taken out by INFO");
+        assert_eq!(said(&mut client, request).trim_end(), wanted, "{request}");
+        // Its entry came out before it was told to be gone: no extend brings it back.
+        assert_eq!(keyspace.held().expired, 1, "{request}");
+        // A key that it made has no deadline of the old one.
+        if said(&mut client, "EXISTS a") == ":1 " {
+            says(&mut client, "PTTL a => :-1");
+        }
+    }
+}
+
+#[test]
+fn incr_keeps_the_deadline_and_refuses_what_is_no_number() {
+    let mut client = client(&keyspace());
+    is_ok(&mut client, "SET a 7 PX 60000");
+    says(&mut client, "INCR a => :8\nGET a => $1 8");
+    assert!((59_000..=60_000).contains(&left(&mut client, "a")));
+    is_ok(&mut client, "SET a 9223372036854775807");
+    is_ok(&mut client, "SET b x");
+    says(
+        &mut client,
+        "INCR a => -ERR increment or decrement would overflow
+        INCR b => -ERR value is not an integer or out of range
+        INCR c => :1",
+    );
+}
+
+#[test]
+fn persist_takes_a_deadline_off_where_there_is_one() {
+    let keyspace = keyspace();
+    let mut client = client(&keyspace);
+    is_ok(&mut client, "SET a 1 PX 40");
+    says(&mut client, "PERSIST a => :1\nPERSIST a => :0\nPTTL a => :-1\nPERSIST none => :0");
+    assert_eq!(keyspace.held().expires, 0);
+    thread::sleep(Duration::from_millis(50));
+    says(&mut client, "GET a => $1 1\nDBSIZE => :1");
+}
+
+#[test]
+fn a_remembered_extend_reaches_no_other_key() {
+    let mut client = client(&keyspace());
+    is_ok(&mut client, "SET a 1 PX 60000");
+    says(&mut client, "PEXPIRE a 70000 GT => :1\nDEL a => :1\nPEXPIRE a 80000 GT => :0");
+    // The slot of the old entry is free, so that another key takes it.
+    is_ok(&mut client, "SET b 1 PX 60000");
+    says(&mut client, "PEXPIRE a 80000 GT => :0\nTTL b => :60");
+    is_ok(&mut client, "SET a 1 PX 50000");
+    says(
+        &mut client,
+        "PEXPIRE a 40000 GT => :0\nPEXPIRE a 65000 GT => :1\nTTL a => :65\nPERSIST a => :1\nPEXPIRE a 90000 GT => :0",
+    );
+}
+
+#[test]
+fn flushall_leaves_nothing() {
+    let keyspace = keyspace();
+    let mut client = client(&keyspace);
+    for at in 0..1_000 {
+        is_ok(&mut client, &format!("SET a{at} 1"));
+        is_ok(&mut client, &format!("SET b{at} 1 PX 60000"));
+    }
+    says(
+        &mut client,
+        "FLUSHALL now => -ERR syntax error\nDBSIZE => :2000\nFLUSHALL ASYNC => +OK\nDBSIZE => :0\nGET a7 => $-1",
+    );
+    let held = keyspace.held();
+    assert_eq!((held.keys, held.expires, held.bytes, keyspace.table_room()), (0, 0, 0, 0));
+}
+
+#[test]
+fn the_room_of_what_is_gone_is_given_back() {
+    let keyspace = keyspace();
+    let mut client = client(&keyspace);
+    for at in 0..9_000 {
+        is_ok(&mut client, &format!("SET key:{at} value PX 1000"));
+        is_ok(&mut client, &format!("SET other:{at} value"));
+    }
+    assert!(keyspace.table_room() >= 18_000);
+    (0..9_000).for_each(|at| assert_eq!(ask(&mut client, &format!("DEL other:{at}")), Reply::Integer(1)));
+    thread::sleep(Duration::from_millis(1_010));
+    says(&mut client, "DBSIZE => :0");
+    // A small table keeps its room, so that a few keys that come and go move nothing.
+    assert!(keyspace.table_room() <= SHARDS * SMALL_TABLE, "room for {} keys", keyspace.table_room());
+    is_ok(&mut client, "SET key value PX 60000");
+    says(&mut client, "GET key => $5 value");
+}
+
+#[test]
+fn set_and_get_take_a_time_of_their_own() {
+    let mut client = client(&keyspace());
+    says(
+        &mut client,
+        "SETEX a 60 1 => +OK
+        TTL a => :60
+        PSETEX a 50000 2 => +OK
+        TTL a => :50
+        GETEX a => $1 2
+        TTL a => :50
+        GETEX a EX 70 => $1 2
+        TTL a => :70
+        GETEX a PX 40000 => $1 2
+        TTL a => :40
+        GETEX a PERSIST => $1 2
+        TTL a => :-1
+        GETEX a EX 0 => -ERR invalid expire time in 'getex' command
+        GETEX a EXAT 1 => $1 2
+        EXISTS a => :0
+        GETEX a EX x => $-1
+        SETEX a 0 1 => -ERR invalid expire time in 'setex' command
+        PSETEX a x 1 => -ERR value is not an integer or out of range
+        SETEX a 60 3 => +OK
+        TYPE a => +string
+        GETDEL a => $1 3
+        GETDEL a => $-1
+        TYPE a => +none",
+    );
+}
+
+#[test]
+fn numbers_go_up_and_down_and_no_further_than_they_can() {
+    let mut client = client(&keyspace());
+    says(
+        &mut client,
+        "INCRBY a 5 => :5
+        DECR a => :4
+        DECRBY a 7 => :-3
+        DECRBY a -9223372036854775808 => -ERR decrement would overflow
+        INCRBY a x => -ERR value is not an integer or out of range
+        INCRBY a -9223372036854775805 => :-9223372036854775808
+        DECR a => -ERR increment or decrement would overflow
+        GET a => $20 -9223372036854775808
+        UNLINK a b => :1",
+    );
+}
+
+#[test]
+fn a_connection_is_told_of_itself() {
+    let mut client = client(&keyspace());
+    says(
+        &mut client,
+        "CLIENT ID => :7
+        CLIENT GETNAME => $-1
+        CLIENT SETNAME bob => +OK
+        CLIENT GETNAME => $3 bob
+        CLIENT SETINFO LIB-NAME lib => +OK
+        CLIENT SETINFO lib lib => -ERR Unrecognized option 'lib'
+        SELECT 0 => +OK
+        SELECT 1 => -ERR DB index is out of range
+        HELLO 4 SETNAME eve => -NOPROTO unsupported protocol version
+        GET none => $-1
+        HELLO 2 AUTH eve x => -WRONGPASS invalid username-password pair or user is disabled.
+        CONFIG GET save => *2 $4 save $0
+        CONFIG SET save x => -ERR unknown subcommand 'SET'. Try CONFIG HELP.",
+    );
+    let about = "$6 server $5 redis $7 version $6 7.0.15 $5 proto :3 $2 id :7";
+    assert!(said(&mut client, "HELLO 3 AUTH default x SETNAME eve").starts_with(&format!("%7 {about}")));
+    says(&mut client, "CLIENT GETNAME => $3 eve\nGET none => _\nMGET a b => *2 _ _\nCONFIG GET none => %0");
+    assert!(said(&mut client, "INFO").starts_with('='));
+    assert!(said(&mut client, "HELLO 2").starts_with("*14 "));
+    says(&mut client, "GET none => $-1");
+}
+
+/// The next cursor of a SCAN, and the names that it tells.
+fn scanned(client: &mut Asker, line: &str) -> (String, Vec<String>) {
+    let text = |reply: &Reply| match reply {
+        Reply::Bulk(text) => String::from_utf8(text.to_vec()).unwrap(),
+        other => panic!("{other:?}"),
+    };
+    match ask(client, line) {
+        Reply::Array(parts) => match &parts[..] {
+            [cursor, Reply::Array(names)] => (text(cursor), names.iter().map(text).collect()),
+            other => panic!("{other:?}"),
+        },
+        other => panic!("{other:?}"),
+    }
+}
+
+#[test]
+fn a_scan_tells_each_name_that_stays() {
+    let keyspace = keyspace();
+    let mut client = client(&keyspace);
+    (0..5_000).for_each(|at| is_ok(&mut client, &format!("SET key:{at} 1")));
+    let (mut cursor, mut seen, mut calls) = ("0".to_string(), HashSet::new(), 0);
+    loop {
+        let (next, names) = scanned(&mut client, &format!("SCAN {cursor} COUNT 7"));
+        // Others come and go meanwhile.
+        is_ok(&mut client, &format!("SET other:{calls} 1 PX {}", 1 + calls % 3));
+        ask(&mut client, &format!("DEL other:{}", calls / 2));
+        seen.extend(names.into_iter().filter(|it| it.starts_with("key:")));
+        (cursor, calls) = (next, calls + 1);
+        if cursor == "0" {
+            break;
+        }
+    }
+    assert_eq!(seen.len(), 5_000);
+    assert!(calls > 100, "{calls} calls");
+}
+
+#[test]
+fn a_scan_tells_what_its_pattern_fits_and_nothing_that_is_over() {
+    let mut client = client(&keyspace());
+    ["abc", "a[c", "axc", "b", "a*c"].iter().for_each(|name| is_ok(&mut client, &format!("SET {name} 1")));
+    is_ok(&mut client, "SET over 1 PX 2");
+    thread::sleep(Duration::from_millis(4));
+    let cases: [(&str, &[&str]); 9] = [
+        ("*", &["a*c", "a[c", "abc", "axc", "b"]),
+        ("a?c", &["a*c", "a[c", "abc", "axc"]),
+        ("a[a-c]c", &["abc"]),
+        ("a[^a-c]c", &["a*c", "a[c", "axc"]),
+        (r"a\*c", &["a*c"]),
+        (r"a\[c", &["a[c"]),
+        ("*b*", &["abc", "b"]),
+        ("a*?c", &["a*c", "a[c", "abc", "axc"]),
+        ("ov*", &[]),
+    ];
+    for (pattern, wanted) in cases {
+        let (cursor, mut names) = scanned(&mut client, &format!("SCAN 0 MATCH {pattern} COUNT 1000"));
+        names.sort();
+        assert_eq!((&cursor[..], names), ("0", wanted.iter().map(|it| it.to_string()).collect()), "{pattern}");
+    }
+    says(
+        &mut client,
+        "SCAN 0 TYPE list => *2 $1 0 *0\nSCAN x => -ERR invalid cursor\nSCAN 0 COUNT 0 => -ERR syntax error",
+    );
+}
+
+#[test]
+fn info_tells_what_the_queue_holds() {
+    let mut client = client(&keyspace());
+    is_ok(&mut client, "SET a 1 PX 60000");
+    assert!(said(&mut client, "INFO").contains("waiting:1 cancelled_not_freed:0 slots_worn:0 late_ms:0 "));
+    is_ok(&mut client, "SET b 1 PX 2");
+    thread::sleep(Duration::from_millis(20));
+    // Nobody took it out, nor does INFO.
+    let told = said(&mut client, "INFO");
+    let late = told.split("late_ms:").nth(1).unwrap().split(' ').next().unwrap();
+    assert!(told.contains("waiting:2 ") && late.parse::<u64>().unwrap() >= 18, "{told}");
+    says(&mut client, "GET b => $-1");
+    assert!(said(&mut client, "INFO").contains("waiting:1 cancelled_not_freed:0 slots_worn:0 late_ms:0 "));
+}
+
+/// Slots of few stamps, so that a queue is worn again and again: one name that comes and goes, and others that stay.
+#[test]
+fn a_worn_queue_is_renewed_while_it_serves() {
+    let keyspace = Arc::new(Keyspace::of(0, 64 << 20, 3).unwrap());
+    let (mut writer, mut other) = (client(&keyspace), client(&keyspace));
+    for at in 0..500 {
+        is_ok(&mut writer, &format!("SET stays:{at} 1 PX 600000"));
+        assert_eq!(ask(&mut other, &format!("PEXPIRE stays:{at} 700000 GT")), Reply::Integer(1));
+    }
+    for _ in 0..5_000 {
+        is_ok(&mut writer, "SET comes 1 PX 60000");
+        assert_eq!(ask(&mut writer, "DEL comes"), Reply::Integer(1));
+        // Each earlier deadline takes a stamp of a slot that stays in use.
+        is_ok(&mut writer, "SET stays:0 1 PX 500000");
+        is_ok(&mut writer, "SET stays:0 1 PX 400000");
+    }
+    for at in 1..500 {
+        assert!((690_000..=700_000).contains(&left(&mut other, &format!("stays:{at}"))));
+        // By what it remembers from before, and as one who never asked.
+        assert_eq!(ask(&mut other, &format!("PEXPIRE stays:{at} 800000 GT")), Reply::Integer(1));
+        assert!((790_000..=800_000).contains(&left(&mut writer, &format!("stays:{at}"))));
+    }
+    let held = keyspace.held();
+    assert_eq!((held.keys, held.expires), (500, 500));
+}

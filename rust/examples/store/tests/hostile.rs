@@ -1,0 +1,439 @@
+//! Clients that do harm: a named error or a closed connection, and everybody else is served as before.
+
+use std::io::{BufRead, BufReader, Read, Write};
+use std::net::TcpStream;
+use std::process::{Child, ChildStdout, Command, Stdio};
+use std::thread;
+use std::time::{Duration, Instant};
+
+/// A server of its own, which ends with the test.
+struct Store {
+    child: Child,
+    said: BufReader<ChildStdout>,
+    address: String,
+}
+
+impl Store {
+    fn new(options: &[&str]) -> Store {
+        let mut command = Command::new(env!("CARGO_BIN_EXE_store"));
+        command.args(["--port", "0"]).args(options).stdout(Stdio::piped()).stderr(Stdio::piped());
+        let mut child = command.spawn().unwrap();
+        let (mut said, mut first) = (BufReader::new(child.stdout.take().unwrap()), String::new());
+        said.read_line(&mut first).unwrap();
+        assert!(first.contains("without passwords"), "{first}");
+        let address = first.split([' ', ',']).find(|it| it.starts_with("127.0.0.1:")).unwrap().to_string();
+        Store { child, said, address }
+    }
+
+    /// Asks it to end, which it has to do in order: what it says then, and what it warned of before.
+    fn ends(mut self) -> (String, String) {
+        let ended = Command::new("kill").args(["-TERM", &self.child.id().to_string()]).status().unwrap();
+        assert!(ended.success());
+        let (mut said, mut warned) = (String::new(), String::new());
+        self.said.read_to_string(&mut said).unwrap();
+        self.child.stderr.take().unwrap().read_to_string(&mut warned).unwrap();
+        assert!(self.child.wait().unwrap().success());
+        (said, warned)
+    }
+
+    fn connect(&self) -> TcpStream {
+        let stream = TcpStream::connect(&self.address).unwrap();
+        stream.set_read_timeout(Some(Duration::from_secs(30))).unwrap();
+        stream
+    }
+
+    /// What is answered until the connection ends.
+    fn ends_with(&self, sent: &[u8]) -> String {
+        let mut stream = self.connect();
+        // A connection that was closed while this was sent is what is looked for.
+        let _ = stream.write_all(sent);
+        let mut answer = Vec::new();
+        let _ = stream.read_to_end(&mut answer);
+        String::from_utf8_lossy(&answer).into_owned()
+    }
+
+    fn is_well(&self) {
+        let mut stream = self.connect();
+        assert_eq!(ask(&mut stream, &[b"SET", b"well", b"1"]), "+OK\r\n");
+        assert_eq!(ask(&mut stream, &[b"GET", b"well"]), "$1\r\n1\r\n");
+    }
+
+    /// The memory that it holds, in KiB.
+    fn held(&self) -> u64 {
+        let status = std::fs::read_to_string(format!("/proc/{}/status", self.child.id())).unwrap();
+        let line = status.lines().find(|line| line.starts_with("VmRSS:")).unwrap();
+        line.split_whitespace().nth(1).unwrap().parse().unwrap()
+    }
+}
+
+impl Drop for Store {
+    fn drop(&mut self) {
+        let _ = self.child.kill();
+        let _ = self.child.wait();
+    }
+}
+
+fn request(args: &[&[u8]]) -> Vec<u8> {
+    let mut bytes = format!("*{}\r\n", args.len()).into_bytes();
+    for arg in args {
+        bytes.extend_from_slice(format!("${}\r\n", arg.len()).as_bytes());
+        bytes.extend_from_slice(arg);
+        bytes.extend_from_slice(b"\r\n");
+    }
+    bytes
+}
+
+/// The answer to a request: a line, with the content of a bulk string.
+fn ask(stream: &mut TcpStream, args: &[&[u8]]) -> String {
+    stream.write_all(&request(args)).unwrap();
+    answer(stream)
+}
+
+fn answer(stream: &mut TcpStream) -> String {
+    let mut reader = BufReader::with_capacity(1, stream);
+    let mut line = String::new();
+    reader.read_line(&mut line).unwrap();
+    if let Some(length) = line.strip_prefix('$').and_then(|it| it.trim().parse::<usize>().ok()) {
+        let mut content = vec![0; length + 2];
+        reader.read_exact(&mut content).unwrap();
+        line.push_str(&String::from_utf8_lossy(&content));
+    }
+    line
+}
+
+#[test]
+fn broken_frames_end_their_connection_by_name() {
+    let store = Store::new(&[]);
+    let cases: [(&[u8], &str); 13] = [
+        (b"*x\r\n", "-ERR Protocol error: invalid multibulk length\r\n"),
+        (b"*99999999999\r\n", "-ERR Protocol error: invalid multibulk length\r\n"),
+        (b"*65537\r\n", "-ERR Protocol error: invalid multibulk length\r\n"),
+        (b"*1\r\n:1\r\n", "-ERR Protocol error: expected '$', got ':'\r\n"),
+        (b"*1\r\n\r\n", "-ERR Protocol error: expected '$', got ' '\r\n"),
+        (b"*1\r\n$-1\r\n", "-ERR Protocol error: invalid bulk length\r\n"),
+        (b"*1\r\n$99999999999999999999\r\n", "-ERR Protocol error: invalid bulk length\r\n"),
+        (b"*1\r\n$1048577\r\n", "-ERR Protocol error: invalid bulk length\r\n"),
+        (b"*1\r\n$4\r\nPINGxx", "-ERR Protocol error: expected the end of a line\r\n"),
+        (&[b'a'; 70_000], "-ERR Protocol error: too big inline request\r\n"),
+        (b"ECHO \"a\r\n", "-ERR Protocol error: unbalanced quotes in request\r\n"),
+        (b"*1\r\n$4\r\nPING\r\n*1\r\n$x\r\n", "+PONG\r\n-ERR Protocol error: invalid bulk length\r\n"),
+        (b"*1\r\n$4\r\nQUIT\r\n*1\r\n$4\r\nPING\r\n", "+OK\r\n"),
+    ];
+    for (sent, told) in cases {
+        assert_eq!(store.ends_with(sent), told, "{:?}", sent[..sent.len().min(50)].escape_ascii().to_string());
+    }
+    store.is_well();
+}
+
+#[test]
+fn random_bytes_harm_nobody() {
+    let store = Store::new(&[]);
+    let mut draw = 88_172_645_463_325_252_u64;
+    for _ in 0..200 {
+        let mut sent = b"*3\r\n$3\r\nSET\r\n$1\r\na\r\n$1\r\nb\r\n".to_vec();
+        for _ in 0..40 {
+            draw ^= draw << 13;
+            draw ^= draw >> 7;
+            draw ^= draw << 17;
+            let at = draw as usize % sent.len();
+            sent[at] = b"*$\r\n0123456789-\xff"[(draw >> 32) as usize % 16];
+        }
+        let mut stream = store.connect();
+        stream.write_all(&sent).unwrap();
+    }
+    store.is_well();
+}
+
+#[test]
+fn half_commands_wait_and_harm_nobody() {
+    let store = Store::new(&[]);
+    let whole = request(&[b"SET", b"half", b"0123456789"]);
+    let mut halves: Vec<TcpStream> = (1..whole.len()).map(|_| store.connect()).collect();
+    for (at, stream) in halves.iter_mut().enumerate() {
+        stream.write_all(&whole[..at + 1]).unwrap();
+    }
+    store.is_well();
+    for (at, stream) in halves.iter_mut().enumerate() {
+        stream.write_all(&whole[at + 1..]).unwrap();
+        assert_eq!(answer(stream), "+OK\r\n");
+    }
+    // A request that comes byte by byte.
+    let mut stream = store.connect();
+    for byte in request(&[b"GET", b"half"]) {
+        stream.write_all(&[byte]).unwrap();
+    }
+    assert_eq!(answer(&mut stream), "$10\r\n0123456789\r\n");
+}
+
+#[test]
+fn keys_and_values_of_a_mebibyte_are_kept_and_longer_ones_refused() {
+    let store = Store::new(&["--memory", "640"]);
+    let long = vec![b'k'; 1 << 20];
+    let mut stream = store.connect();
+    assert_eq!(ask(&mut stream, &[b"SET", &long, b"v", b"PX", b"60000"]), "+OK\r\n");
+    assert_eq!(ask(&mut stream, &[b"GET", &long]), "$1\r\nv\r\n");
+    assert_eq!(ask(&mut stream, &[b"SET", b"v", &long]), "+OK\r\n");
+    assert_eq!(ask(&mut stream, &[b"GET", b"v"]).len(), (1 << 20) + 12);
+    assert_eq!(ask(&mut stream, &[b"DEL", &long]), ":1\r\n");
+    let two = request(&[b"SET", &long, &long]);
+    assert_eq!(store.ends_with(&two), "-ERR Protocol error: too big a request\r\n");
+    store.is_well();
+}
+
+#[test]
+fn a_client_that_stops_reading_is_closed_and_holds_little() {
+    // The one thread serves others meanwhile.
+    let store = Store::new(&["--threads", "1"]);
+    let mut stream = store.connect();
+    let value = vec![b'v'; 1 << 20];
+    assert_eq!(ask(&mut stream, &[b"SET", b"v", &value]), "+OK\r\n");
+    let held = store.held();
+    let asked = request(&[b"GET", b"v"]).repeat(2_000);
+    // Two GiB of replies are asked for, and none is read.
+    stream.set_write_timeout(Some(Duration::from_secs(1))).unwrap();
+    let _ = stream.write_all(&asked);
+    let begun = Instant::now();
+    while !ask(&mut store.connect(), &[b"INFO"]).contains("connected_clients:1\r") {
+        assert!(begun.elapsed() < Duration::from_secs(40), "the connection isn't closed");
+        assert!(store.held() < held + 16 * 1024, "{} KiB are held", store.held() - held);
+        store.is_well();
+        thread::sleep(Duration::from_millis(200));
+    }
+    store.is_well();
+}
+
+/// The values of what it asks for are overwritten meanwhile: it holds one of them, and not the old ones of all.
+#[test]
+fn a_client_that_leaves_many_values_unread_holds_one() {
+    let store = Store::new(&[]);
+    let names: Vec<String> = (0..24).map(|at| format!("name:{at}")).collect();
+    let mut asked: Vec<&[u8]> = vec![b"MGET"];
+    asked.extend(names.iter().map(|it| it.as_bytes()));
+    let (mut unread, mut writer) = (Vec::new(), store.connect());
+    let mut held = 0;
+    for round in 0..8 {
+        let value = vec![b'a' + round; 1 << 20];
+        for name in &names {
+            assert_eq!(ask(&mut writer, &[b"SET", name.as_bytes(), &value]), "+OK\r\n");
+        }
+        held = if round == 0 { store.held() } else { held };
+        let mut stream = store.connect();
+        stream.write_all(&request(&asked)).unwrap();
+        // Its reply has begun.
+        stream.read_exact(&mut [0; 5]).unwrap();
+        unread.push(stream);
+    }
+    // Each has a value and what its connection buffers; a writer has what it sends.
+    assert!(store.held() < held + 48 * 1024, "{} KiB more are held", store.held() - held);
+    store.is_well();
+}
+
+#[test]
+fn a_thousand_connections_are_served_and_the_next_is_refused_by_name() {
+    let store = Store::new(&["--keys", "10000"]);
+    let mut clients: Vec<TcpStream> = (0..1_000).map(|_| store.connect()).collect();
+    for (at, stream) in clients.iter_mut().enumerate() {
+        let name = format!("name:{at}");
+        assert_eq!(ask(stream, &[b"SET", name.as_bytes(), b"v", b"PX", b"600000"]), "+OK\r\n");
+    }
+    assert_eq!(ask(&mut clients[0], &[b"DBSIZE"]), ":1000\r\n");
+    assert_eq!(store.ends_with(b""), "-ERR max number of clients reached\r\n");
+    // Each extends a key of another, by a handle of its own.
+    for (at, stream) in clients.iter_mut().enumerate() {
+        let name = format!("name:{}", 999 - at);
+        assert_eq!(ask(stream, &[b"PEXPIRE", name.as_bytes(), b"700000", b"GT"]), ":1\r\n");
+    }
+    drop(clients);
+    let begun = Instant::now();
+    while store.ends_with(b"*1\r\n$4\r\nQUIT\r\n") != "+OK\r\n" {
+        assert!(begun.elapsed() < Duration::from_secs(20), "seats aren't given back");
+    }
+    store.is_well();
+}
+
+#[test]
+fn no_room_is_an_error_by_name_and_nothing_is_lost() {
+    let store = Store::new(&["--keys", "0", "--memory", "64"]);
+    let mut stream = store.connect();
+    // A shard has a hundred places for keys that expire: 64 shards have 6,400.
+    let mut refused = 0;
+    for at in 0..20_000 {
+        let name = format!("name:{at}");
+        match &ask(&mut stream, &[b"SET", name.as_bytes(), b"v", b"PX", b"600000"])[..] {
+            "+OK\r\n" => {}
+            "-OOM no room for another key that expires\r\n" => refused += 1,
+            other => panic!("{other}"),
+        }
+    }
+    assert_eq!(refused, 13_600);
+    assert_eq!(ask(&mut stream, &[b"DBSIZE"]), ":6400\r\n");
+    assert_eq!(ask(&mut stream, &[b"SET", b"without", b"v"]), "+OK\r\n");
+    assert_eq!(ask(&mut stream, &[b"PEXPIRE", b"without", b"1000"]), "-OOM no room for another key that expires\r\n");
+    assert_eq!(ask(&mut stream, &[b"TTL", b"without"]), ":-1\r\n");
+    // A shard has a MiB, its keys take some of it.
+    let value = vec![b'v'; 1 << 20];
+    let told = "-OOM command not allowed when used memory > 'maxmemory'.\r\n";
+    assert_eq!(ask(&mut stream, &[b"SET", b"without", &value]), told);
+    assert_eq!(ask(&mut stream, &[b"GET", b"without"]), "$1\r\nv\r\n");
+    assert_eq!(ask(&mut stream, &[b"FLUSHALL"]), "+OK\r\n");
+    assert_eq!(ask(&mut stream, &[b"SET", b"again", b"v", b"PX", b"600000"]), "+OK\r\n");
+}
+
+/// What a browser sends where a page posts a form of text to this port.
+const POST: &str = "POST / HTTP/1.1\r\nHost: localhost:6400\r\nUser-Agent: Mozilla/5.0\r\nContent-Type: text/plain\r\n\
+                    Content-Length: 18\r\nOrigin: https://example.org\r\nConnection: keep-alive\r\n\r\n\
+                    SET evil written\r\n";
+
+#[test]
+fn a_web_page_reads_and_writes_nothing() {
+    let store = Store::new(&[]);
+    let get = "GET / HTTP/1.1\r\nHost: localhost:6400\r\nAccept: */*\r\n\r\nSET evil written\r\n";
+    let words: &[&[u8]] = &[b"pOsT", b"SET evil written"];
+    for sent in [POST.as_bytes(), get.as_bytes(), b"PING\r\nhOsT: x\r\nSET evil written\r\n", &request(words)] {
+        assert_eq!(store.ends_with(sent), "", "{}", sent.escape_ascii());
+        assert_eq!(ask(&mut store.connect(), &[b"GET", b"evil"]), "$-1\r\n");
+    }
+    store.is_well();
+    let (_, warned) = store.ends();
+    assert!(warned.contains("127.0.0.1:") && warned.contains("sent POST or Host: as a command"), "{warned}");
+    assert!(warned.lines().count() <= 4, "each thread warns once a minute: {warned}");
+}
+
+/// How much more than its `--memory` a process may hold: the program, its threads, and what the allocator keeps for
+/// itself.
+const MARGIN: u64 = 24 << 10;
+
+#[test]
+fn half_commands_hold_no_more_than_the_memory_that_was_given() {
+    let store = Store::new(&["--memory", "64", "--keys", "10000"]);
+    let mut whole = request(&[b"SET", &[b'k'; 1_000_000], &[b'v'; 1_000_000]]);
+    let rest = whole.split_off(whole.len() - 1_000);
+    let mut honest = store.connect();
+    let mut halves: Vec<TcpStream> = (0..200).map(|_| store.connect()).collect();
+    for stream in &mut halves {
+        // One that is refused is closed while it sends.
+        let _ = stream.write_all(&whole);
+        assert_eq!(ask(&mut honest, &[b"SET", b"small", b"value", b"PX", b"60000"]), "+OK\r\n");
+        assert!(store.held() < (64 << 10) + MARGIN, "{} KiB are held", store.held());
+    }
+    let (mut kept, mut refused) = (0, 0);
+    for mut stream in halves {
+        let _ = stream.write_all(&rest);
+        let mut told = String::new();
+        let _ = BufReader::new(stream).read_line(&mut told);
+        match &told[..] {
+            "-OOM command not allowed when used memory > 'maxmemory'.\r\n" => kept += 1,
+            "-OOM the memory for connections is used up\r\n" => refused += 1,
+            other => panic!("{other:?}"),
+        }
+    }
+    assert!(kept >= 4 && refused >= 180 && kept + refused == 200, "{kept} were kept and {refused} refused");
+    // What they held is given back.
+    assert_eq!(ask(&mut honest, &[b"SET", b"large", &[b'v'; 500_000]]), "+OK\r\n");
+    assert_eq!(ask(&mut honest, &[b"GET", b"large"]).len(), 500_011);
+    store.is_well();
+}
+
+#[test]
+fn unread_values_hold_no_more_than_the_memory_that_was_given() {
+    let store = Store::new(&["--memory", "64", "--keys", "10000"]);
+    let (mut writer, mut unread) = (store.connect(), Vec::new());
+    // Where they weren't counted they would be twice what was given.
+    for round in 0..190 {
+        // Each waits for a value of its own, which nobody else has any more.
+        assert_eq!(ask(&mut writer, &[b"SET", b"v", &[b'a' + round % 26; 700_000]]), "+OK\r\n");
+        let mut stream = store.connect();
+        let _ = stream.write_all(&request(&[b"GET", b"v"]).repeat(20));
+        let _ = stream.read_exact(&mut [0; 5]);
+        unread.push(stream);
+        assert!(store.held() < (64 << 10) + MARGIN, "{} KiB are held", store.held());
+    }
+    drop(unread);
+    store.is_well();
+}
+
+/// Replies that are too short to be held as values, of which each request of a piece has one.
+#[test]
+fn many_short_replies_are_held_a_few_at_a_time() {
+    let store = Store::new(&["--threads", "1"]);
+    assert_eq!(ask(&mut store.connect(), &[b"SET", b"v", &[b'v'; 15_000]]), "+OK\r\n");
+    let (held, mut unread) = (store.held(), Vec::new());
+    for _ in 0..10 {
+        let mut stream = store.connect();
+        // Nine MB of replies: more than a socket takes.
+        stream.write_all(&request(&[b"GET", b"v"]).repeat(600)).unwrap();
+        stream.read_exact(&mut [0; 5]).unwrap();
+        unread.push(stream);
+        store.is_well();
+    }
+    assert!(store.held() < held + 16 * 1024, "{} KiB are held", store.held() - held);
+    // They come as soon as they are read.
+    for mut stream in unread {
+        let mut rest = vec![0; 600 * 15_010 - 5];
+        stream.read_exact(&mut rest).unwrap();
+        assert!(rest.ends_with(b"v\r\n"));
+    }
+}
+
+#[test]
+fn where_the_memory_of_connections_is_used_up_the_next_is_refused_by_name() {
+    let store = Store::new(&["--memory", "1", "--keys", "100"]);
+    let mut clients: Vec<TcpStream> = (0..100).map(|_| store.connect()).collect();
+    clients.iter_mut().for_each(|it| assert_eq!(ask(it, &[b"PING"]), "+PONG\r\n"));
+    // A quarter of a MiB has room for less than 128 of 2 KiB.
+    let more: Vec<TcpStream> = (0..60).map(|_| store.connect()).collect();
+    let refused = more.iter().filter(|it| {
+        let mut line = String::new();
+        it.set_read_timeout(Some(Duration::from_millis(100))).unwrap();
+        let _ = BufReader::new(*it).read_line(&mut line);
+        assert!(line.is_empty() || line == "-OOM the memory for connections is used up\r\n", "{line}");
+        !line.is_empty()
+    });
+    let refused = refused.count();
+    assert!(refused > 0, "all are served");
+    clients.iter_mut().for_each(|it| assert_eq!(ask(it, &[b"PING"]), "+PONG\r\n"));
+}
+
+#[test]
+fn the_end_comes_in_order() {
+    let store = Store::new(&["--threads", "2"]);
+    let (mut busy, mut idle) = (store.connect(), store.connect());
+    assert_eq!(ask(&mut idle, &[b"PING"]), "+PONG\r\n");
+    assert_eq!(ask(&mut busy, &[b"SET", b"v", &[b'v'; 100_000]]), "+OK\r\n");
+    // Two MB that the socket doesn't take at once: they are taken while the server ends.
+    busy.write_all(&request(&[b"GET", b"v"]).repeat(20)).unwrap();
+    let mut answer = vec![0; 8];
+    busy.read_exact(&mut answer).unwrap();
+    let reader = thread::spawn(move || {
+        let mut rest = Vec::new();
+        busy.read_to_end(&mut rest).unwrap();
+        answer.len() + rest.len()
+    });
+    let address = store.address.clone();
+    let (said, warned) = store.ends();
+    assert_eq!(reader.join().unwrap(), 20 * 100_011);
+    assert_eq!(idle.read(&mut [0; 1]).unwrap(), 0, "its connection is closed");
+    assert!(said.contains("0 connections are left") && warned.is_empty(), "{said}{warned}");
+    assert!(TcpStream::connect(address).is_err());
+}
+
+/// Twelve MB are asked for and none is read until the server ends, so most of them wait in it then.
+#[test]
+fn what_was_asked_for_is_sent_at_the_end() {
+    let store = Store::new(&["--threads", "1"]);
+    let mut late = store.connect();
+    assert_eq!(ask(&mut late, &[b"SET", b"v", &[b'v'; 100_000]]), "+OK\r\n");
+    late.write_all(&request(&[b"GET", b"v"]).repeat(120)).unwrap();
+    late.read_exact(&mut [0; 8]).unwrap();
+    let reader = thread::spawn(move || {
+        // Meanwhile the server was told to end, and has looked at each connection.
+        thread::sleep(Duration::from_millis(500));
+        let mut rest = Vec::new();
+        // A connection that is closed too early may tell an error.
+        let _ = late.read_to_end(&mut rest);
+        8 + rest.len()
+    });
+    let (said, _) = store.ends();
+    assert_eq!(reader.join().unwrap(), 120 * 100_011);
+    assert!(said.contains("0 connections are left"), "{said}");
+}

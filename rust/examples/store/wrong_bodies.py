@@ -1,0 +1,207 @@
+#!/usr/bin/env python3
+"""wrong_bodies.py [NAME..]: bodies with a bug each, every one of which has to fail the test that is named with it.
+
+A body is built in a copy of this folder, and has to build: a bug that the compiler sees tells nothing of the tests.
+"""
+
+import os
+import pathlib
+import shutil
+import subprocess
+import sys
+import tempfile
+
+HERE = pathlib.Path(__file__).resolve().parent
+KEYSPACE, COMMAND, KEYS, EXPIRY, ASKED, SCAN, KEEPER, RESP, OUTPUT, SEATS, CONNECTION, LOOP = FILES = [f"src/{it}.rs" for it in (
+    "keyspace", "command", "command/keys", "command/expiry", "command/connection", "command/scan", "keeper", "resp", "output",
+    "seats", "connection", "event_loop")]
+# The bug, the file, what stands there, what is put in its place, and the test that sees it.
+BODIES = [
+    ("gt_takes_the_lock", EXPIRY, "if only.gt && when > now as i64 {", "if only.gt && when < 0 {", "a_later_deadline_takes_no_lock"),
+    ("gt_takes_an_earlier_deadline", EXPIRY, "if when <= until => Some(false)", "if when <= until => Some(true)",
+     "a_later_deadline_takes_no_lock"),
+    ("lt_is_ignored", EXPIRY, "(!self.lt || when < until as i64)", "(!self.lt || true)", "expire_changes_what_its_conditions_allow"),
+    ("nx_is_ignored_by_expire", EXPIRY, "!self.nx && (!self.gt", "(!self.gt", "expire_changes_what_its_conditions_allow"),
+    ("xx_is_ignored_by_expire", EXPIRY, "Life::Endless => !self.xx && !self.gt,", "Life::Endless => !self.gt,",
+     "expire_changes_what_its_conditions_allow"),
+    ("keepttl_is_dropped", KEYS, "if self.is_kept => Ok(Lifetime::Kept)", "if self.is_kept => Ok(Lifetime::Endless)", "set_does_what_its_options_say"),
+    ("nx_is_ignored_by_set", KEYS, "{ !options.only_new }", "{ true }", "set_does_what_its_options_say"),
+    ("xx_is_ignored_by_set", KEYS, "{ !options.only_old }", "{ true }", "set_does_what_its_options_say"),
+    ("get_tells_the_new_value", KEYS, "        let old = place.value().cloned();\n        let is_done = if old.is_some()",
+     "        let is_old = place.value().is_some();\n        let old = place.value().map(|_| words[2].into());\n        let is_done = if is_old",
+     "set_does_what_its_options_say"),
+    ("seconds_are_taken_as_milliseconds", EXPIRY, "time.checked_mul(1000)", "Some(time)", "set_does_what_its_options_say"),
+    ("expireat_counts_from_now", EXPIRY, 'Expire("expireat", Unit::Seconds, false)', 'Expire("expireat", Unit::Seconds, true)',
+     "deadlines_since_1970_are_told_back_to_the_millisecond"),
+    ("incr_drops_the_deadline", KEYS, "place.set(new.to_string().as_bytes(), Lifetime::Kept)",
+     "place.set(new.to_string().as_bytes(), Lifetime::Endless)", "incr_keeps_the_deadline"),
+    ("incr_wraps", KEYS, "old.checked_add(by).ok_or(Refusal::Overflow)?", "old.wrapping_add(by)", "incr_keeps_the_deadline"),
+    ("a_name_is_remembered_without_its_entry", EXPIRY,
+     "        if let Some(is_done) = extend_entry(desk, &entry, when) {\n            return is_done;\n        }\n        desk.known",
+     "        return extend_entry(desk, &entry, when).unwrap_or(false);\n        #[allow(unreachable_code)]\n        desk.known",
+     "a_remembered_extend_reaches_no_other_key"),
+    ("seen_at_its_deadline", KEYSPACE, "if now < deadline => Some", "if now <= deadline => Some", "no_key_is_seen_at_its_deadline"),
+    ("gone_before_its_deadline", KEYSPACE, "        let entry = match old {\n            // An extend",
+     "        let when = when - 1;\n        let entry = match old {\n            // An extend", "no_key_is_seen_at_its_deadline"),
+    ("reader_sees_what_is_over", KEYSPACE, "        if let Some(life) = record.life(handle, now) {\n            return Some(read(record, life));",
+     "        if let Some(life) = record.life(handle, 0) {\n            return Some(read(record, life));", "no_command_sees_a_key_that_is_over"),
+    ("mget_sees_what_is_over", COMMAND, "output.reply(&keys::value(self, name));",
+     "output.reply(&self.desk.keyspace.value_whenever(name));", "no_command_sees_a_key_that_is_over"),
+    ("writer_sees_what_is_over", KEYSPACE, "Some(record) if record.life(handle, now).is_none() => {}",
+     "Some(record) if record.life(handle, 0).is_none() => {}", "no_command_sees_a_key_that_is_over"),
+    ("a_reader_tells_gone_before_it_came_out", KEYSPACE, "        drop(names);\n        let names = self.write_now(shard, now, handle, name);",
+     "        if handle.look(&record.entry?).is_ok() {\n            return None;\n        }\n        drop(names);\n"
+     "        let names = self.write_now(shard, now, handle, name);", "no_command_sees_a_key_that_is_over"),
+    ("each_deadline_wears_its_slot", KEYSPACE, "Some(old) if self.handle.extend(&old, when) == Ok(when) => return Ok(old),", "",
+     "a_later_deadline_wears_no_slot"),
+    ("an_earlier_deadline_is_taken_for_an_extend", KEYSPACE, "extend(&old, when) == Ok(when)", "extend(&old, when).is_ok()",
+     "expire_changes_what_its_conditions_allow"),
+    ("past_deadline_keeps_the_key", KEYSPACE, "        if when <= self.now {\n            self.remove();\n        } else if",
+     "        if when <= self.now {\n        } else if", "a_deadline_that_is_over_takes_the_key_off"),
+    ("past_set_keeps_the_key", KEYSPACE, "if when <= self.now) {\n            self.remove();", "if when <= self.now) {",
+     "a_deadline_that_is_over_takes_the_key_off"),
+    ("dbsize_counts_what_is_over", KEYSPACE, "            self.take_out(shard, now);\n            self.read(shard).records.len()",
+     "            let _ = now;\n            self.read(shard).records.len()", "no_command_sees_a_key_that_is_over"),
+    ("info_takes_out", KEYSPACE, "            let names = self.read(shard);\n            let queue",
+     "            self.take_out(shard, self.clock.now());\n            let names = self.read(shard);\n            let queue",
+     "no_command_sees_a_key_that_is_over"),
+    ("flushall_leaves_a_shard", KEYSPACE, "let mut all: Vec<_> = (0..SHARDS)", "let mut all: Vec<_> = (1..SHARDS)", "flushall_leaves_nothing"),
+    ("flushall_leaves_deadlines", KEYSPACE, "        self.queue.clear();\n", "",
+     "flushall_leaves_nothing"),
+    ("persist_of_no_deadline_answers_1", KEYSPACE, "        entry.is_some()\n", "        entry.is_some() || self.life.is_some()\n",
+     "persist_takes_a_deadline_off_where_there_is_one"),
+    ("persist_leaves_the_deadline", KEYSPACE, "        self.drop_entry(entry);\n        entry.is_some()", "        entry.is_some()",
+     "persist_takes_a_deadline_off_where_there_is_one"),
+    ("set_leaves_the_old_deadline", KEYSPACE, "                self.drop_entry(old);\n                None", "                None",
+     "set_does_what_its_options_say"),
+    ("bytes_are_never_given_back", KEYSPACE, "        self.bytes -= size(&out.value, &record.value);", "",
+     "memory_is_counted_back_to_nothing"),
+    ("a_table_keeps_its_room", KEYSPACE, "self.records.shrink_to(2 * count);", "", "the_room_of_what_is_gone_is_given_back"),
+    ("no_alarm_for_an_earlier_deadline", KEYSPACE, "self.keyspace.alarm(self.shard % KEEPERS).ring_before(when);", "",
+     "keepers_give_back_what_nobody_asks_for"),
+    ("what_is_over_waits_to_be_asked_for", KEEPER, "filter_map(|shard| keyspace.take_out(shard, now))",
+     "filter_map(|shard| keyspace.take_out(shard, 0 * now))", "keepers_give_back_what_nobody_asks_for"),
+    ("a_keeper_leaves_shards", KEEPER, "(keeper..SHARDS).step_by(KEEPERS)", "(keeper..SHARDS - KEEPERS).step_by(KEEPERS)",
+     "keepers_give_back_what_nobody_asks_for"),
+    ("an_error_ends_its_line_early", RESP, "text.replace(['\\r', '\\n'], \" \")", "text", "replies_are_written_whole"),
+    ("a_minus_before_zero_is_a_number", RESP, 'digits == b"0" && digits.len() == text.len()', 'digits == b"0"',
+     "integers_are_those_of_the_protocol"),
+    ("a_request_may_be_of_any_length", RESP, "if self.size > REQUEST_LIMIT {", "if self.size > REQUEST_LIMIT * 1000 {",
+     "keys_and_values_of_a_mebibyte"),
+    ("arguments_without_end", RESP, "*count <= WORDS_LIMIT as i64", "*count < i64::MAX", "broken_frames_end_their_connection"),
+    ("an_mget_holds_all_its_values", COMMAND, "for name in &words[*told..] {",
+     "let all: Vec<_> = words[*told..].iter().map(|name| keys::value(self, name)).collect();\n        Box::leak(Box::new(all));\n"
+     "        for name in &words[*told..] {",
+     "a_client_that_leaves_many_values_unread"),
+    ("no_patience_ends", CONNECTION, "since.elapsed() >= PATIENCE", "since.elapsed() >= PATIENCE * 1000", "a_client_that_stops_reading"),
+    ("seats_are_never_given_back", SEATS, "        self.seats.taken.fetch_sub(1, SeqCst);", "", "a_thousand_connections"),
+    ("a_web_page_is_served", COMMAND, "if ATTACKS.iter().any(", "if words.is_empty() && ATTACKS.iter().any(", "a_web_page_reads_and_writes_nothing"),
+    ("half_requests_count_for_nothing", CONNECTION, "PER_SEAT + self.input.capacity() + ", "PER_SEAT + ",
+     "half_commands_hold_no_more_than_the_memory"),
+    ("whoever_holds_nothing_is_welcome", SEATS, "        if seats.is_crowded() {\n            return Err(NoSeat::Memory);\n        }", "",
+     "where_the_memory_of_connections_is_used_up"),
+    ("a_word_may_follow_a_quote", RESP, "rest.first().map_or(true, |it| is_blank(*it))", "rest.len() < usize::MAX", "quotes_hold_words_together"),
+    ("another_database_is_the_same", ASKED, "Err(Refusal::Database)", 'Ok(Reply::Status("OK"))', "a_connection_is_told_of_itself"),
+    ("hello_changes_nothing", ASKED, "    client.session.protocol = protocol;\n", "    let _ = protocol;\n", "a_connection_is_told_of_itself"),
+    ("getex_persists_nothing", KEYS, "        if options.is_endless {\n            place.persist();", "        if options.is_endless {",
+     "set_and_get_take_a_time_of_their_own"),
+    ("getdel_leaves_the_key", KEYS, "        let value = place.value().cloned();\n        place.remove();", "        let value = place.value().cloned();",
+     "set_and_get_take_a_time_of_their_own"),
+    ("decrby_goes_up", KEYS, "by.checked_neg().ok_or(Refusal::DecrOverflow)?", "by", "numbers_go_up_and_down"),
+    ("a_scan_loses_a_name_a_call", KEYSPACE, "filter(|it| it.0 >= position)", "filter(|it| it.0 > position)",
+     "a_scan_tells_each_name_that_stays"),
+    ("a_scan_tells_what_is_over", KEYSPACE, "            self.take_out(shard, now);\n            let names = self.read(shard);\n            let placed",
+     "            let _ = now;\n            let names = self.read(shard);\n            let placed", "a_scan_tells_what_its_pattern_fits"),
+    ("a_star_takes_nothing", SCAN, "                    (rest, left) = (after, others);", "                    return false;",
+     "a_scan_tells_what_its_pattern_fits"),
+    ("a_renewal_leaves_the_deadline", KEYSPACE, "                record.entry = Some(entry);", "                let _ = entry;",
+     "a_worn_queue_is_renewed"),
+    ("no_queue_is_renewed", KEYSPACE, "self.queue.worn() >= self.queue.capacity().div_ceil(2)", "self.queue.worn() > usize::MAX - 1",
+     "a_worn_queue_is_renewed"),
+    ("info_tells_no_lateness", KEYSPACE, "late: sum.queue.late.max(late)", "late: sum.queue.late.min(late)", "info_tells_what_the_queue_holds"),
+    ("a_refused_deadline_loses_the_value", KEYSPACE, "Lifetime::Until(when) => Some(self.entry_until(name.clone(), old, when)?),",
+     "Lifetime::Until(when) => self.entry_until(name.clone(), old, when).ok(),", "no_room_is_an_error_by_name"),
+    ("unread_values_count_for_nothing", OUTPUT, "self.long.as_ref().map_or(0, |(value, _)| value.len())", "0",
+     "unread_values_hold_no_more_than_the_memory"),
+    ("what_waits_to_be_sent_counts_for_nothing", OUTPUT, "self.bytes.capacity() + self.long", "self.long", "what_waits_to_be_sent_counts_as_memory"),
+    ("what_is_unsent_at_the_end_is_dropped", LOOP, "after == After::Waits && !is_stuck;", "after == After::Waits;",
+     "what_was_asked_for_is_sent_at_the_end"),
+    ("short_replies_are_held_back_whole", OUTPUT, "self.long.is_some() || self.bytes.len() - self.sent >= ENOUGH", "self.long.is_some()",
+     "many_short_replies_are_held_a_few_at_a_time"),
+    ("memory_without_end", KEYSPACE, "if bytes > self.keyspace.room {", "if bytes > usize::MAX - 1 {", "no_room_is_an_error_by_name"),
+]
+# What is changed elsewhere too.
+FURTHER = {
+    "mget_sees_what_is_over": (KEYSPACE, "#[cfg(test)]\nimpl Keyspace {", """impl Keyspace {
+    pub fn value_whenever(&self, name: &[u8]) -> crate::resp::Reply {
+        let names = self.read(self.shard_of(name));
+        names.records.get(name).map_or(crate::resp::Reply::Nil, |it| crate::resp::Reply::Bulk(it.value.clone()))
+    }
+}
+
+#[cfg(test)]
+impl Keyspace {"""),
+}
+
+
+def stale(path, old, *_):
+    """Whether a body changes what doesn't stand there any more, or stands there twice."""
+    return (HERE / path).read_text().count(old) != 1
+
+
+def replace(folder, path, old, new):
+    file = folder / path
+    file.write_text(file.read_text().replace(old, new))
+
+
+def ran(folder, test):
+    """What a test prints, and whether it passes. It alone is built, without what a debugger wants."""
+    of = ["--test", "hostile"] if f"fn {test}" in (folder / "tests" / "hostile.rs").read_text() else ["--bin", "store"]
+    # It ends the test too, and not cargo alone.
+    command = ["timeout", "300", "cargo", "test", "--offline", "--quiet", *of, test]
+    done = subprocess.run(command, cwd=folder, stdout=subprocess.PIPE, stderr=subprocess.STDOUT, text=True,
+                          env={**os.environ, "CARGO_PROFILE_DEV_DEBUG": "0", "RUST_BACKTRACE": "0"})
+    return done.stdout, done.returncode == 0
+
+
+def refused(folder, name, path, old, new, test):
+    """Why the test that is named doesn't see this body, nothing where it fails."""
+    kept = {it: (folder / it).read_text() for it in FILES}
+    try:
+        replace(folder, path, old, new)
+        if name in FURTHER:
+            replace(folder, *FURTHER[name])
+        printed, is_passed = ran(folder, test)
+        if not is_passed and "error: could not compile" not in printed and "test result: FAILED. 0 passed; 1 failed" in printed:
+            return ""
+        return f"isn't seen by {test}, which passes, doesn't end or isn't built: {printed[-2000:]}"
+    finally:
+        for it, text in kept.items():
+            (folder / it).write_text(text)
+
+
+def main():
+    asked = set(sys.argv[1:])
+    if not asked <= {it[0] for it in BODIES}:
+        sys.exit("wrong_bodies.py: there is no such body")
+    for name, *body in [*BODIES, *((name, *body) for name, body in FURTHER.items())]:
+        if stale(*body):
+            sys.exit(f"wrong_bodies.py: what {name} changes doesn't stand in {body[0]} once")
+    top = HERE.parents[2]
+    failed = count = 0
+    with tempfile.TemporaryDirectory() as room:
+        folder = pathlib.Path(room) / "rust" / "examples" / "store"
+        for part in ("rust/hontkhale", "rust/examples/store"):
+            shutil.copytree(top / part, pathlib.Path(room) / part, ignore=shutil.ignore_patterns("target"))
+        for name, *body in BODIES:
+            if asked and name not in asked:
+                continue
+            why = refused(folder, name, *body)
+            count, failed = count + 1, failed + bool(why)
+            print(f"{name}: {why or 'seen by ' + body[-1]}", flush=True)
+    print(f"wrong_bodies.py: {count - failed} of {count} wrong bodies are seen by their tests")
+    sys.exit(failed > 0)
+
+
+if __name__ == "__main__":
+    main()

@@ -1,0 +1,143 @@
+use crate::key::Key;
+use crate::link::{Refusal, Step};
+use crate::shared::Shared;
+use std::error::Error;
+use std::fmt;
+use std::sync::Arc;
+use std::time::Duration;
+use tokio::time::Instant;
+
+/// Extends and cancels the entries of one [`DelayQueue`](crate::DelayQueue) from any thread, while its owner inserts,
+/// polls, or waits. It serves entries that came after it, too, and may outlive its queue, whose entries have ended then and
+/// whose memory is given back.
+///
+/// A call is one atomic step beside a few loads. The owner is waited for in three cases: at the first call of a thread at
+/// each part of the queue; for an entry that [`compact`](crate::DelayQueue::compact) or a worn slot moved; and where more
+/// threads come than there are callers, until the owner's next poll issues more. It holds that lock while it adds, moves or
+/// drops a part, and not in a poll. Threads wait for each other for the length of such a step, where more than 16 of them
+/// call handles.
+///
+/// Nobody is woken: the owner comes upon an extended entry when it would have been due, and files it anew. No value is
+/// dropped by a handle's call.
+///
+/// ```
+/// # #[tokio::main(flavor = "current_thread")]
+/// # async fn main() {
+/// use hontkhale_tokio::DelayQueue;
+/// use std::time::Duration;
+/// let mut sessions = DelayQueue::new();
+/// let handle = sessions.handle();
+/// let key = sessions.insert("ann", Duration::from_secs(30));
+/// std::thread::spawn(move || handle.extend(&key, Duration::from_secs(60))).join().unwrap().unwrap();
+/// # }
+/// ```
+#[derive(Clone)]
+pub struct Handle {
+    shared: Arc<Shared>,
+}
+
+/// Why a call on an entry is refused.
+#[derive(Clone, Copy, Debug, PartialEq, Eq)]
+#[non_exhaustive]
+pub enum EntryError {
+    /// The deadline is too far ahead: some 139 years after the queue was made.
+    TooFar,
+    /// The entry came out, was removed or cancelled, or the queue isn't there any more.
+    Ended,
+}
+
+impl Handle {
+    pub(crate) fn of(shared: Arc<Shared>) -> Handle {
+        Handle { shared }
+    }
+
+    /// Raises the deadline of an entry to `timeout` from now, and answers the deadline that is then in force: that one, or
+    /// a later one that it had.
+    ///
+    /// # Errors
+    /// `TooFar`, `Ended`.
+    #[inline]
+    pub fn extend(&self, key: &Key, timeout: Duration) -> Result<Instant, EntryError> {
+        let tick = self.shared.clock.tick_after(timeout).ok_or(EntryError::TooFar)?;
+        let deadline = self.step(key, Step::Extend(tick))?;
+        Ok(self.shared.clock.moment(deadline))
+    }
+
+    /// Raises the deadline of an entry to `when`, and answers the deadline that is then in force: `when`, or a later one
+    /// that it had. No extend that was accepted is lost.
+    ///
+    /// # Errors
+    /// `TooFar`, `Ended`.
+    #[inline]
+    pub fn extend_at(&self, key: &Key, when: Instant) -> Result<Instant, EntryError> {
+        let tick = self.shared.clock.tick_at(when);
+        let deadline = self.step(key, Step::Extend(tick))?;
+        Ok(self.shared.clock.moment(deadline))
+    }
+
+    /// Cancels an entry, and answers the deadline that it gave up. It never comes out; the queue's next poll drops its value
+    /// and frees its place, and until then it counts in [`len`](crate::DelayQueue::len).
+    ///
+    /// # Errors
+    /// `Ended`.
+    ///
+    /// ```
+    /// # #[tokio::main(flavor = "current_thread")]
+    /// # async fn main() {
+    /// # use hontkhale_tokio::{DelayQueue, EntryError};
+    /// let mut requests = DelayQueue::new();
+    /// let handle = requests.handle();
+    /// let key = requests.insert("a request", std::time::Duration::from_secs(2));
+    /// assert!(handle.cancel(&key).is_ok());
+    /// assert_eq!(handle.cancel(&key), Err(EntryError::Ended));
+    /// assert!(requests.try_remove(&key).is_none());
+    /// # }
+    /// ```
+    pub fn cancel(&self, key: &Key) -> Result<Instant, EntryError> {
+        let deadline = self.step(key, Step::Cancel)?;
+        self.shared.tell_cancel();
+        Ok(self.shared.clock.moment(deadline))
+    }
+
+    /// The step from this thread's seat at the entry's part.
+    #[inline(always)]
+    fn step(&self, key: &Key, step: Step) -> Result<u64, EntryError> {
+        match self.shared.step(key, step) {
+            Some(Ok(deadline)) => Ok(deadline),
+            refused => self.step_again(key, step, refused.and_then(Result::err)),
+        }
+    }
+
+    /// The step anew, where it wasn't made at once: it is refused, or the thread has no seat, or the entry was moved.
+    #[cold]
+    fn step_again(&self, key: &Key, step: Step, refused: Option<Refusal>) -> Result<u64, EntryError> {
+        let refused = match refused {
+            Some(Refusal::Moved) | None => match self.shared.step_by_links(key, step) {
+                Ok(deadline) => return Ok(deadline),
+                Err(refused) => refused,
+            },
+            Some(refused) => refused,
+        };
+        Err(match refused {
+            Refusal::TooFar => EntryError::TooFar,
+            Refusal::Ended | Refusal::Moved => EntryError::Ended,
+        })
+    }
+}
+
+impl fmt::Debug for Handle {
+    fn fmt(&self, f: &mut fmt::Formatter<'_>) -> fmt::Result {
+        f.debug_struct("Handle").finish_non_exhaustive()
+    }
+}
+
+impl fmt::Display for EntryError {
+    fn fmt(&self, f: &mut fmt::Formatter<'_>) -> fmt::Result {
+        match self {
+            EntryError::TooFar => write!(f, "the deadline is too far ahead"),
+            EntryError::Ended => write!(f, "the entry has ended"),
+        }
+    }
+}
+
+impl Error for EntryError {}

@@ -1,0 +1,96 @@
+//! Values in a shared queue, which are never dropped while one of its locks is held.
+//!
+//! A shard drops the value of an entry that was cancelled as it comes upon it, under its lock. The drop of a value is its
+//! user's code and may call the queue. So what stands in a shard is a [`Held`]: dropped there, it lays its value aside, and
+//! whoever had the shard drops the value afterwards, with [`Leavings::clear`].
+
+use std::sync::atomic::{AtomicBool, AtomicUsize, Ordering::SeqCst};
+use std::sync::{Arc, Mutex, MutexGuard, PoisonError};
+
+/// A value in a shard.
+pub(crate) struct Held<T> {
+    value: Option<T>,
+    lane: Arc<Lane<T>>,
+}
+
+/// The way of the values of one route. It has its own count of holds, so that threads of other routes don't wait for it.
+#[repr(align(64))]
+pub(crate) struct Lane<T>(Arc<Leavings<T>>);
+
+/// Values that were laid aside.
+pub(crate) struct Leavings<T> {
+    values: Mutex<Vec<T>>,
+    count: AtomicUsize,
+    /// Whether the queue has ended, which drops its values itself then: no lock of it is left.
+    is_over: AtomicBool,
+}
+
+impl<T> Held<T> {
+    pub fn new(value: T, lane: &Arc<Lane<T>>) -> Held<T> {
+        Held { value: Some(value), lane: Arc::clone(lane) }
+    }
+
+    pub fn into_inner(mut self) -> T {
+        self.value.take().expect("a value until it is taken or dropped")
+    }
+}
+
+impl<T> Drop for Held<T> {
+    fn drop(&mut self) {
+        if let Some(value) = self.value.take() {
+            self.lane.0.lay_aside(value);
+        }
+    }
+}
+
+impl<T> Leavings<T> {
+    /// One lane for each of so many routes.
+    pub fn lanes(self: &Arc<Leavings<T>>, routes: usize) -> Vec<Arc<Lane<T>>> {
+        (0..routes).map(|_| Arc::new(Lane(Arc::clone(self)))).collect()
+    }
+
+    fn values(&self) -> MutexGuard<'_, Vec<T>> {
+        self.values.lock().unwrap_or_else(PoisonError::into_inner)
+    }
+
+    fn lay_aside(&self, value: T) {
+        if self.is_over.load(SeqCst) {
+            drop(value);
+        } else {
+            self.values().push(value);
+            self.count.fetch_add(1, SeqCst);
+        }
+    }
+
+    /// Drops what was laid aside. The caller holds no lock. Where a drop panics the values behind it stay for the next call.
+    #[inline]
+    pub fn clear(&self) {
+        if self.count.load(SeqCst) > 0 {
+            self.drop_all();
+        }
+    }
+
+    #[cold]
+    fn drop_all(&self) {
+        loop {
+            let value = self.values().pop();
+            let Some(value) = value else {
+                return;
+            };
+            self.count.fetch_sub(1, SeqCst);
+            drop(value);
+        }
+    }
+
+    /// The queue has ended: nothing is laid aside any more.
+    pub fn end(&self) {
+        self.is_over.store(true, SeqCst);
+        self.drop_all();
+    }
+}
+
+impl<T> Default for Leavings<T> {
+    fn default() -> Leavings<T> {
+        Leavings { values: Mutex::default(), count: AtomicUsize::new(0), is_over: AtomicBool::new(false) }
+    }
+}

@@ -1,0 +1,241 @@
+//! A part of the queue: a queue of hontkhale's for one owner, of a fixed number of slots. Its values stand in it.
+
+use crate::draws::Draws;
+use crate::key::Key;
+use crate::link::Link;
+use crate::shared::Shared;
+use hontkhale::{CallError, Caller, CoreConfig, CoreError, DelayCore, Keeper, Look, Piece, Removed, Turn};
+use std::sync::{Arc, Mutex, PoisonError};
+
+/// The slots of the first part. Each later one has twice as many, up to hontkhale's limit.
+pub(crate) const FIRST_SLOTS: usize = 64;
+
+/// The numbers of the parts of the program's queues.
+static PARTS: Draws = Draws::from_one();
+
+pub(crate) struct Part<T> {
+    queue: DelayCore<T, Keeper>,
+    /// The part's number.
+    pub number: u64,
+    /// The part's place in the row.
+    pub spot: usize,
+    /// Whether its entries are being moved out, so that nothing is put in.
+    pub is_left: bool,
+    /// Whether a reset or a remove may have left nothing at the part's wake.
+    pub is_stale: bool,
+    /// What handles need of the part, and the births of its entries. While no handle was made it knows of no reset.
+    pub link: Arc<Link>,
+    is_shared: bool,
+    /// Looks at deadlines on behalf of calls that change nothing.
+    reader: Mutex<Caller>,
+}
+
+impl<T> Part<T> {
+    /// A part of so many slots, at a tick.
+    pub fn new(slots: usize, last_stamp: u32, tick: u64) -> Part<T> {
+        let number = PARTS.draw();
+        let config = CoreConfig { shard: 0, capacity: slots, last_stamp };
+        let mut queue = hontkhale::numbered_queue(config).expect("memory for more entries");
+        let reader = Mutex::new(queue.issue().expect("a queue's first caller"));
+        let link = Arc::new(Link::new(number, slots));
+        let mut part = Part { queue, number, spot: 0, is_left: false, is_stale: false, link, is_shared: false, reader };
+        part.note(tick);
+        part
+    }
+
+    /// Brings an empty part to a tick, so that its entries are filed near to it.
+    pub fn note(&mut self, tick: u64) {
+        let turn = self.queue.poll(tick);
+        debug_assert!(matches!(turn, Ok(Turn::Idle)), "an empty part has nothing to do");
+    }
+
+    /// The greatest tick that the part was polled at.
+    #[inline]
+    pub fn noted(&self) -> u64 {
+        self.queue.noted()
+    }
+
+    /// From here on handles find the entries.
+    pub fn share(&mut self, shared: &Shared) {
+        for place in self.places().collect::<Vec<Key>>() {
+            if let Some(stamp) = self.stamp(&place) {
+                self.link.note(place.slot(), place.born(), stamp);
+            }
+        }
+        self.is_shared = true;
+        self.issue(shared);
+        shared.add(self.spot, Arc::clone(&self.link));
+    }
+
+    /// Issues the callers that are wanted.
+    pub fn issue(&mut self, shared: &Shared) {
+        let queue = &mut self.queue;
+        self.link.issue(shared.callers(), || queue.issue().ok());
+    }
+
+    /// The slots that aren't worn.
+    pub fn slots(&self) -> usize {
+        self.queue.capacity() - self.queue.worn()
+    }
+
+    /// The slots that are free.
+    pub fn free(&self) -> usize {
+        self.slots() - self.queue.len()
+    }
+
+    /// Whether half the slots are worn.
+    pub fn is_worn(&self) -> bool {
+        2 * self.queue.worn() >= self.queue.capacity()
+    }
+
+    pub fn worn(&self) -> usize {
+        self.queue.worn()
+    }
+
+    /// The entries, those among them that were cancelled and not yet reaped.
+    #[inline]
+    pub fn len(&self) -> usize {
+        self.queue.len()
+    }
+
+    /// Whether an entry more would have no room.
+    pub fn is_full(&self) -> bool {
+        self.queue.len() == self.queue.capacity()
+    }
+
+    /// Puts a value in, or gives it back where no slot is free.
+    #[inline(always)]
+    pub fn insert(&mut self, value: T, when: u64) -> Result<Key, T> {
+        match self.queue.insert(value, when) {
+            Ok(key) => {
+                let (slot, born) = (key.entry().index(), key.stamp());
+                self.link.note(slot as usize, born, born);
+                Ok(Key::of(self.number, self.spot, slot, born))
+            }
+            Err((_, value)) => Err(value),
+        }
+    }
+
+    /// Polls the queue at a tick, by at most so many steps.
+    #[inline]
+    pub fn poll(&mut self, tick: u64, most: u32) -> Piece<T> {
+        // Until there is an answer nothing is known of it, so it is polled on.
+        self.is_stale = true;
+        let piece = match most {
+            // Without a limit the whole poll does the same, by fewer instructions for each entry that moves.
+            u32::MAX => self.queue.poll(tick).map(Piece::Answer),
+            _ => self.queue.poll_some(tick, most),
+        };
+        let piece = piece.expect("a tick that the clock showed");
+        if let Piece::Answer(Turn::Waiting { .. } | Turn::Idle) = piece {
+            self.is_stale = false;
+        }
+        piece
+    }
+
+    /// The user's key of what came out.
+    #[inline]
+    pub fn key(&self, key: hontkhale::Key) -> Key {
+        let entry = key.entry();
+        Key::of(self.number, self.spot, entry.index(), entry.born())
+    }
+
+    /// Gives an entry another deadline.
+    #[inline]
+    pub fn reset(&mut self, place: &Key, when: u64) -> Result<(), CoreError> {
+        if self.is_shared {
+            return self.reset_shared(place, when);
+        }
+        self.queue.reset(&place.entry(), when)?;
+        self.is_stale = true;
+        Ok(())
+    }
+
+    /// The same where handles may be calling: one that meets the new stamp finds it noted, or the old one for as long as that
+    /// is in force.
+    fn reset_shared(&mut self, place: &Key, when: u64) -> Result<(), CoreError> {
+        let stamp = self.link.stamp(place).ok_or(CoreError::Missing)?;
+        self.link.note(place.slot(), place.born(), stamp + 1);
+        match self.queue.reset(&place.entry(), when) {
+            Ok(_) => {
+                self.is_stale = true;
+                Ok(())
+            }
+            Err(error) => {
+                self.link.note(place.slot(), place.born(), stamp);
+                Err(error)
+            }
+        }
+    }
+
+    /// Takes an entry out.
+    #[inline]
+    pub fn remove(&mut self, place: &Key) -> Result<Removed<T>, CoreError> {
+        let removed = self.queue.remove(&place.entry())?;
+        self.is_stale = true;
+        Ok(removed)
+    }
+
+    /// Drops the values of the entries that handles cancelled, and frees their slots.
+    pub fn sweep(&mut self) {
+        self.is_stale = true;
+        self.queue.sweep();
+    }
+
+    /// The same of those that handles noted since, at most so many. Answers how many it looked at.
+    pub fn reap(&mut self, most: u32, shared: &Shared) -> u32 {
+        self.is_stale = true;
+        let queue = &mut self.queue;
+        self.link.take_cancelled(most, |slot| {
+            shared.count_heeded();
+            queue.sweep_some(slot, 1);
+        })
+    }
+
+    /// What an entry is at its present stamp, and that stamp; none where it is missing.
+    fn look(&self, place: &Key) -> Option<(Look, u32)> {
+        self.queue.filed(&place.entry())?;
+        let mut reader = self.reader.lock().unwrap_or_else(PoisonError::into_inner);
+        let born = place.born();
+        match reader.look(&place.stamped(born)) {
+            Ok(look) => Some((look, born)),
+            Err(CallError::Stale { seen }) => Some((reader.look(&place.stamped(seen)).ok()?, seen)),
+            Err(_) => None,
+        }
+    }
+
+    fn stamp(&self, place: &Key) -> Option<u32> {
+        self.look(place).map(|(_, stamp)| stamp)
+    }
+
+    /// The deadline in force of an entry.
+    pub fn deadline(&self, place: &Key) -> Option<u64> {
+        match self.look(place)?.0 {
+            Look::StillLive(deadline) => Some(deadline),
+            _ => None,
+        }
+    }
+
+    /// The tick at which the part has something to do, none where it is empty.
+    pub fn next_wake(&self) -> Option<u64> {
+        self.queue.next_wake()
+    }
+
+    /// The places of the entries, those among them that were cancelled and not yet reaped. It goes over all slots.
+    pub fn places(&self) -> impl Iterator<Item = Key> + '_ {
+        let births = (0..self.queue.capacity()).filter_map(|slot| Some((slot, self.link.born(slot)?)));
+        let keys = births.map(|(slot, born)| Key::of(self.number, self.spot, slot as u32, born));
+        keys.filter(|key| self.queue.filed(&key.entry()).is_some())
+    }
+
+    /// The deadline and the place of an entry that has the least deadline.
+    pub fn first(&self) -> Option<(u64, Key)> {
+        let least = self.key(self.queue.peek()?);
+        match self.deadline(&least) {
+            // It is filed least, and none has a deadline before the tick by which it is filed.
+            Some(deadline) if self.queue.filed(&least.entry()) == Some(deadline) => Some((deadline, least)),
+            // A handle extended or cancelled it, or a slot is gone through whose entries are filed at its start.
+            _ => self.places().filter_map(|place| Some((self.deadline(&place)?, place))).min_by_key(|it| it.0),
+        }
+    }
+}

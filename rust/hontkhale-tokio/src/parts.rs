@@ -1,0 +1,611 @@
+//! The queue without its clock: a row of parts that grows, in ticks of one millisecond.
+//!
+//! An entry stays in its part until it ends, but that `compact` or a worn slot moves it. What comes out is merged by the
+//! parts' wakes: no part is polled beyond the tick at which another may have something.
+//!
+//! No value is dropped while a lock is held: a part that goes with cancelled entries in it is dropped last.
+
+use crate::budget::Budget;
+use crate::key::Key;
+use crate::moves::Moves;
+use crate::part::{Part, FIRST_SLOTS};
+use crate::shared::Shared;
+use hontkhale::{CoreError, Piece, Turn, CAPACITY_LIMIT, LAST_TICK};
+use std::mem;
+use std::ops::Deref;
+use std::sync::atomic::{AtomicU64, Ordering};
+use std::sync::{Arc, Mutex, PoisonError};
+
+/// As many parts as a key can tell apart.
+const PARTS_LIMIT: usize = 65_536;
+/// The wake of a part that is empty.
+pub(crate) const NEVER: u64 = u64::MAX;
+/// How far an empty part may be behind.
+const BEHIND: u64 = 64;
+
+pub(crate) struct Parts<T> {
+    shared: Owner,
+    /// A part keeps its place, which its keys name. The place of a part that went is taken by a later one.
+    row: Vec<Option<Part<T>>>,
+    /// For each part a tick before which nothing comes out of it.
+    wakes: Vec<u64>,
+    /// The part that takes the next insert.
+    open: usize,
+    /// The part that an entry left last.
+    left: usize,
+    moves: Moves,
+    /// What is put in comes out no earlier: the deadline of what came out last, or the tick up to which nothing was left.
+    tick: u64,
+    last_stamp: u32,
+    /// Whether there was ever a handle.
+    has_handles: bool,
+    /// The key of what comes out next, since it was asked for, and its deadline: 0 where nobody asked.
+    peeked: Mutex<Option<Key>>,
+    peeked_at: AtomicU64,
+}
+
+/// What a poll finds.
+pub(crate) enum Found<T> {
+    Out(Out<T>),
+    /// Nothing before that tick.
+    Waiting(u64),
+    Idle,
+    /// The budget is spent, and there is more to do.
+    Working,
+}
+
+/// An entry that came out or was removed.
+pub(crate) struct Out<T> {
+    pub key: Key,
+    pub deadline: u64,
+    pub value: T,
+}
+
+/// A deadline beyond the last tick.
+#[derive(Debug)]
+pub(crate) struct TooFar;
+
+/// Notes that there is more to heed, where it is dropped.
+struct Again<'a>(&'a Shared);
+
+impl Drop for Again<'_> {
+    fn drop(&mut self) {
+        self.0.tell();
+    }
+}
+
+/// The owner's hold of what it shares with handles, which end with it.
+struct Owner(Arc<Shared>);
+
+impl Deref for Owner {
+    type Target = Arc<Shared>;
+
+    fn deref(&self) -> &Arc<Shared> {
+        &self.0
+    }
+}
+
+impl Drop for Owner {
+    fn drop(&mut self) {
+        self.0.close_all();
+    }
+}
+
+impl<T> Parts<T> {
+    /// Parts of so many slots together.
+    pub fn new(capacity: usize, last_stamp: u32, shared: Shared) -> Parts<T> {
+        let mut parts = Parts {
+            row: Vec::new(),
+            wakes: Vec::new(),
+            open: 0,
+            left: 0,
+            moves: Moves::default(),
+            tick: 0,
+            last_stamp,
+            shared: Owner(Arc::new(shared)),
+            has_handles: false,
+            peeked: Mutex::default(),
+            peeked_at: AtomicU64::new(0),
+        };
+        parts.add_slots(capacity);
+        parts
+    }
+
+    pub fn shared(&self) -> &Arc<Shared> {
+        &self.shared
+    }
+
+    /// From here on handles find the entries.
+    pub fn share(&mut self) {
+        if mem::replace(&mut self.has_handles, true) {
+            return;
+        }
+        for part in self.row.iter_mut().flatten() {
+            part.share(&self.shared);
+        }
+        self.shared.links().moved.extend(self.moves.iter());
+    }
+
+    /// Puts a value in.
+    #[inline]
+    pub fn insert(&mut self, value: T, when: u64) -> Result<Key, TooFar> {
+        let when = when.max(self.tick);
+        self.look_out_for(when);
+        match self.put(self.open, value, when) {
+            Ok(key) => Ok(key),
+            Err(value) => self.insert_elsewhere(value, when),
+        }
+    }
+
+    #[cold]
+    fn insert_elsewhere(&mut self, value: T, when: u64) -> Result<Key, TooFar> {
+        if when > LAST_TICK {
+            return Err(TooFar);
+        }
+        self.open = self.left;
+        match self.put(self.open, value, when) {
+            Ok(key) => Ok(key),
+            Err(value) => {
+                let key = self.put_somewhere(value, when);
+                drop(self.leave_worn_parts());
+                Ok(key)
+            }
+        }
+    }
+
+    /// Puts a value into a part, or gives it back where no slot is free or the deadline is beyond the last tick.
+    #[inline(always)]
+    fn put(&mut self, spot: usize, value: T, when: u64) -> Result<Key, T> {
+        let part = match self.row.get_mut(spot) {
+            Some(Some(part)) if !part.is_left => part,
+            _ => return Err(value),
+        };
+        let wake = &mut self.wakes[spot];
+        if *wake == NEVER && part.noted() + BEHIND < self.tick {
+            part.note(self.tick);
+        }
+        let key = part.insert(value, when)?;
+        *wake = (*wake).min(when);
+        Ok(key)
+    }
+
+    fn put_somewhere(&mut self, mut value: T, when: u64) -> Key {
+        loop {
+            self.open = self.find_room();
+            match self.put(self.open, value, when) {
+                Ok(key) => return key,
+                Err(back) => value = back,
+            }
+        }
+    }
+
+    /// The part that has the most room, or a new one.
+    fn find_room(&mut self) -> usize {
+        let roomy = self.parts().filter(|part| !part.is_left).map(|part| (part.free(), part.spot));
+        match roomy.filter(|it| it.0 > 0).max() {
+            Some((_, spot)) => spot,
+            None => self.add_part(self.next_slots()),
+        }
+    }
+
+    /// How many slots the next part has, by the entries that there are: twice the last part's where no slot is worn.
+    fn next_slots(&self) -> usize {
+        (self.len() + 1).next_power_of_two().clamp(FIRST_SLOTS, CAPACITY_LIMIT)
+    }
+
+    /// Adds parts of so many slots together.
+    fn add_slots(&mut self, slots: usize) {
+        let mut left = slots;
+        while left > 0 {
+            let next = left.min(CAPACITY_LIMIT);
+            self.add_part(next);
+            left -= next;
+        }
+    }
+
+    fn add_part(&mut self, slots: usize) -> usize {
+        let free = self.row.iter().position(Option::is_none).unwrap_or(self.row.len());
+        assert!(free < PARTS_LIMIT, "max entries exceeded");
+        let mut part = Part::new(slots, self.last_stamp, self.tick);
+        part.spot = free;
+        if self.has_handles {
+            part.share(&self.shared);
+        }
+        if free == self.row.len() {
+            self.row.push(None);
+            self.wakes.push(NEVER);
+        }
+        self.row[free] = Some(part);
+        free
+    }
+
+    /// Takes a part out, in which at most cancelled entries are left.
+    fn take_part(&mut self, spot: usize) -> Option<Part<T>> {
+        let part = self.row[spot].take();
+        self.wakes[spot] = NEVER;
+        if self.has_handles {
+            self.shared.close(spot);
+        }
+        part
+    }
+
+    /// Moves what is left out of the parts of which half the slots are worn, and takes them out.
+    #[must_use]
+    fn leave_worn_parts(&mut self) -> Vec<Part<T>> {
+        let worn: Vec<usize> = self.parts().filter(|part| part.is_worn()).map(|part| part.spot).collect();
+        self.leave_parts(worn)
+    }
+
+    /// Moves every entry of these parts to others, and takes the parts out.
+    #[must_use]
+    fn leave_parts(&mut self, spots: Vec<usize>) -> Vec<Part<T>> {
+        for &spot in &spots {
+            if let Some(part) = &mut self.row[spot] {
+                part.is_left = true;
+            }
+        }
+        let mut gone = Vec::with_capacity(spots.len());
+        for spot in spots {
+            let places: Vec<Key> = self.row[spot].iter().flat_map(Part::places).collect();
+            for place in places {
+                // A handle may have cancelled it meanwhile.
+                let _ = self.carry(place, None);
+            }
+            gone.extend(self.take_part(spot));
+        }
+        gone
+    }
+
+    /// Moves an entry to another slot, under the same user's key, and under another deadline where one is given.
+    fn carry(&mut self, place: Key, when: Option<u64>) -> Result<(), CoreError> {
+        self.open = self.find_room();
+        let shared = Arc::clone(&self.shared);
+        // A handle that finds the entry moved waits until its new place is noted. No value is dropped meanwhile, since the room
+        // was found before.
+        let mut links = if self.has_handles { Some(shared.links()) } else { None };
+        let part = self.part_mut(&place).ok_or(CoreError::Missing)?;
+        part.link.note_moved(&place);
+        let taken = part.remove(&place)?;
+        let key = self.moves.key(place);
+        let deadline = when.unwrap_or(taken.deadline);
+        let new = self.put(self.open, taken.value, deadline);
+        let new = new.unwrap_or_else(|_| unreachable!("a part that has a free slot"));
+        self.moves.note(key, new);
+        if let Some(links) = &mut links {
+            links.moved.insert(key, new);
+        }
+        Ok(())
+    }
+
+    /// Notes how late it is, and takes out what is due first, within a budget.
+    #[inline]
+    pub fn poll(&mut self, reached: u64, budget: &mut Budget) -> Found<T> {
+        if self.shared.has_news() && !self.heed(budget) {
+            return Found::Working;
+        }
+        match *self.peeked_at.get_mut() {
+            0 => self.poll_parts(reached, budget),
+            deadline => self.poll_peeked(deadline, reached, budget),
+        }
+    }
+
+    #[inline]
+    fn poll_parts(&mut self, reached: u64, budget: &mut Budget) -> Found<T> {
+        loop {
+            let (spot, wake, second) = self.soonest();
+            if wake == NEVER {
+                self.tick = self.tick.max(reached);
+                return Found::Idle;
+            }
+            let part = self.row[spot].as_mut().expect("only a part has a wake");
+            if wake > reached && part.noted() >= reached && !part.is_stale {
+                return self.waiting(wake, reached);
+            }
+            let most = match budget.piece() {
+                Some(most) => most,
+                None => return Found::Working,
+            };
+            match part.poll(reached.min(second), most) {
+                Piece::Answer(Turn::Out(taken)) => return self.out(spot, taken),
+                Piece::Answer(Turn::Waiting { next }) => {
+                    let wake = wake.max(next);
+                    self.wakes[spot] = wake;
+                    if reached < wake && wake < second {
+                        return self.waiting(wake, reached);
+                    }
+                }
+                Piece::Answer(_) => self.wakes[spot] = NEVER,
+                _ => budget.grow(),
+            }
+        }
+    }
+
+    /// A poll after a peek: of entries of one millisecond that one comes out which was named.
+    #[cold]
+    fn poll_peeked(&mut self, deadline: u64, reached: u64, budget: &mut Budget) -> Found<T> {
+        let key = self.peeked.get_mut().unwrap_or_else(PoisonError::into_inner).filter(|_| deadline <= reached);
+        let Some(key) = key.filter(|key| self.deadline(key) == Some(deadline)) else {
+            return self.poll_parts(reached, budget);
+        };
+        let found = self.poll_parts(deadline - 1, budget);
+        if let Found::Out(_) | Found::Working = found {
+            return found;
+        }
+        self.forget_peek();
+        match self.remove(&key) {
+            Some(out) => {
+                self.tick = self.tick.max(deadline);
+                Found::Out(out)
+            }
+            // A handle cancelled it just now.
+            None => self.poll_parts(reached, budget),
+        }
+    }
+
+    #[inline]
+    fn waiting(&mut self, wake: u64, reached: u64) -> Found<T> {
+        self.tick = self.tick.max(reached);
+        Found::Waiting(wake)
+    }
+
+    /// What came out of a part.
+    #[inline]
+    fn out(&mut self, spot: usize, taken: hontkhale::Expired<T>) -> Found<T> {
+        let deadline = taken.deadline;
+        self.left = spot;
+        self.wakes[spot] = deadline;
+        self.tick = deadline;
+        let entry = taken.key.entry();
+        let number = self.row[spot].as_ref().map_or(0, |part| part.number);
+        let place = Key::of(number, spot, entry.index(), entry.born());
+        Found::Out(self.ended(place, deadline, taken.value))
+    }
+
+    /// The part with the least wake, that wake, and the least of the others'.
+    #[inline]
+    fn soonest(&self) -> (usize, u64, u64) {
+        if let [wake] = self.wakes[..] {
+            return (0, wake, NEVER);
+        }
+        let (mut spot, mut wake, mut second) = (0, NEVER, NEVER);
+        for (it, &at) in self.wakes.iter().enumerate() {
+            if at < wake {
+                (spot, second, wake) = (it, wake, at);
+            } else if at < second {
+                second = at;
+            }
+        }
+        (spot, wake, second)
+    }
+
+    /// Whether a part has a step to make before a tick.
+    pub fn has_step_before(&self, tick: u64) -> bool {
+        self.parts().any(|part| part.next_wake().is_some_and(|next| next < tick))
+    }
+
+    /// Reaps what handles cancelled, and issues the callers that are wanted. False where the budget is spent before.
+    #[cold]
+    fn heed(&mut self, budget: &mut Budget) -> bool {
+        self.shared.heed();
+        // Where the budget is spent, or a value's drop panics, the next poll goes on.
+        let again = Again(&self.shared);
+        for part in self.row.iter_mut().flatten() {
+            part.issue(again.0);
+            while part.link.has_cancels() {
+                let Some(most) = budget.piece() else {
+                    return false;
+                };
+                let reaped = part.reap(most, again.0);
+                budget.give_back(most - reaped);
+            }
+        }
+        mem::forget(again);
+        true
+    }
+
+    /// Gives the entry of a key another deadline.
+    #[inline]
+    pub fn reset(&mut self, key: &Key, when: u64) -> Result<(), CoreError> {
+        let when = when.max(self.tick);
+        if when > LAST_TICK {
+            return Err(CoreError::TooFar { limit: LAST_TICK });
+        }
+        let place = self.moves.place(key);
+        let part = self.part_mut(&place).ok_or(CoreError::Missing)?;
+        match part.reset(&place, when) {
+            Ok(()) => {
+                let wake = &mut self.wakes[place.spot()];
+                *wake = (*wake).min(when);
+            }
+            Err(CoreError::Worn) => self.reset_elsewhere(place, when)?,
+            Err(error) => return Err(error),
+        }
+        self.look_out_for(when);
+        Ok(())
+    }
+
+    #[cold]
+    fn reset_elsewhere(&mut self, place: Key, when: u64) -> Result<(), CoreError> {
+        self.carry(place, Some(when))?;
+        drop(self.leave_worn_parts());
+        Ok(())
+    }
+
+    /// Takes the entry of a key out.
+    #[inline]
+    pub fn remove(&mut self, key: &Key) -> Option<Out<T>> {
+        let place = self.moves.place(key);
+        self.take_out(place)
+    }
+
+    /// Takes the entry at a place out.
+    #[inline]
+    fn take_out(&mut self, place: Key) -> Option<Out<T>> {
+        let taken = self.part_mut(&place)?.remove(&place).ok()?;
+        self.left = place.spot();
+        Some(self.ended(place, taken.deadline, taken.value))
+    }
+
+    /// What leaves from a place, under the user's key.
+    #[inline]
+    fn ended(&mut self, place: Key, deadline: u64, value: T) -> Out<T> {
+        let key = if self.moves.is_empty() { place } else { self.forget(place) };
+        Out { key, deadline, value }
+    }
+
+    #[cold]
+    fn forget(&mut self, place: Key) -> Key {
+        match self.moves.end(&place) {
+            Some(key) => {
+                if self.has_handles {
+                    self.shared.links().moved.remove(&key);
+                }
+                key
+            }
+            None => place,
+        }
+    }
+
+    /// The deadline in force of the entry of a key.
+    pub fn deadline(&self, key: &Key) -> Option<u64> {
+        let place = self.moves.place(key);
+        self.part(&place)?.deadline(&place)
+    }
+
+    /// The key of the entry that comes out next.
+    pub fn peek(&self) -> Option<Key> {
+        let mut peeked = self.peeked.lock().unwrap_or_else(PoisonError::into_inner);
+        let known = peeked.filter(|key| self.deadline(key) == Some(self.peeked_at.load(Ordering::Relaxed)));
+        // Nothing sooner was put in since, and no deadline was lowered.
+        if known.is_some() {
+            return known;
+        }
+        let first = self.parts().filter_map(Part::first).min_by_key(|first| first.0);
+        *peeked = first.map(|(_, place)| self.moves.key(place));
+        self.peeked_at.store(first.map_or(0, |(deadline, _)| deadline), Ordering::Relaxed);
+        *peeked
+    }
+
+    fn forget_peek(&mut self) {
+        *self.peeked.get_mut().unwrap_or_else(PoisonError::into_inner) = None;
+        *self.peeked_at.get_mut() = 0;
+    }
+
+    /// Notes that an entry has a deadline, which may come before the one that the last peek named.
+    #[inline]
+    fn look_out_for(&mut self, when: u64) {
+        if when < *self.peeked_at.get_mut() {
+            self.forget_peek();
+        }
+    }
+
+    /// The least deadline of all entries.
+    pub fn least(&self) -> Option<u64> {
+        let key = self.peek()?;
+        self.deadline(&key)
+    }
+
+    /// The entries, those among them that were cancelled and not yet reaped.
+    pub fn len(&self) -> usize {
+        self.parts().map(Part::len).sum()
+    }
+
+    pub fn is_empty(&self) -> bool {
+        self.len() == 0
+    }
+
+    /// Whether nothing is left but what handles cancelled.
+    pub fn holds_none_live(&self) -> bool {
+        self.len() <= self.shared.cancels()
+    }
+
+    /// The slots that aren't worn.
+    pub fn capacity(&self) -> usize {
+        self.parts().map(Part::slots).sum()
+    }
+
+    /// The worn slots.
+    pub fn worn(&self) -> usize {
+        self.parts().map(Part::worn).sum()
+    }
+
+    /// Makes room for so many more entries.
+    pub fn reserve(&mut self, additional: usize) {
+        let free: usize = self.parts().map(Part::free).sum();
+        if free < additional {
+            self.add_slots((additional - free).max(self.next_slots()));
+        }
+    }
+
+    /// Takes every entry out. Where a value's drop panics, the entries that are left stay as they are.
+    pub fn clear(&mut self) {
+        for spot in 0..self.row.len() {
+            let places: Vec<Key> = self.row[spot].iter().flat_map(Part::places).collect();
+            places.into_iter().for_each(|place| drop(self.take_out(place)));
+            if let Some(part) = &mut self.row[spot] {
+                part.sweep();
+                if part.len() == 0 {
+                    self.wakes[spot] = NEVER;
+                }
+            }
+        }
+    }
+
+    /// Lets the empty parts go.
+    pub fn shrink_to_fit(&mut self) {
+        for spot in 0..self.row.len() {
+            if self.row[spot].as_ref().is_some_and(|part| part.len() == 0) {
+                drop(self.take_part(spot));
+            }
+        }
+        self.cut_row();
+        self.moves.shrink_to_fit();
+    }
+
+    /// Moves the entries of parts that aren't full together, so that no slot is free.
+    pub fn compact(&mut self) {
+        // The values of cancelled entries are dropped first, while nothing else is under way.
+        self.row.iter_mut().flatten().for_each(Part::sweep);
+        let left: Vec<usize> = self.parts().filter(|part| !part.is_full()).map(|part| part.spot).collect();
+        let entries = left.iter().filter_map(|&spot| self.row[spot].as_ref()).map(Part::len).sum();
+        self.add_slots(entries);
+        let gone = self.leave_parts(left);
+        self.cut_row();
+        self.forget_the_ended();
+        drop(gone);
+    }
+
+    /// Forgets the places of moved entries that handles cancelled.
+    fn forget_the_ended(&mut self) {
+        let mut moves = mem::take(&mut self.moves);
+        moves.retain(|place| self.part(place).is_some_and(|part| part.deadline(place).is_some()));
+        moves.shrink_to_fit();
+        if self.has_handles {
+            self.shared.links().moved = moves.iter().collect();
+        }
+        self.moves = moves;
+    }
+
+    /// Lets the places at the end of the row go that no part has.
+    fn cut_row(&mut self) {
+        let held = self.row.iter().rposition(Option::is_some).map_or(0, |spot| spot + 1);
+        self.row.truncate(held);
+        self.wakes.truncate(held);
+        self.row.shrink_to_fit();
+        self.wakes.shrink_to_fit();
+    }
+
+    #[inline]
+    fn part(&self, place: &Key) -> Option<&Part<T>> {
+        self.row.get(place.spot())?.as_ref().filter(|part| part.number == place.part())
+    }
+
+    #[inline]
+    fn part_mut(&mut self, place: &Key) -> Option<&mut Part<T>> {
+        self.row.get_mut(place.spot())?.as_mut().filter(|part| part.number == place.part())
+    }
+
+    fn parts(&self) -> impl Iterator<Item = &Part<T>> {
+        self.row.iter().flatten()
+    }
+}

@@ -1,0 +1,544 @@
+use crate::budget::{Budget, DEFAULT_BUDGET};
+use crate::handle::{EntryError, Handle};
+use crate::key::{Expired, Key};
+use crate::numbers::{Latest, Numbers};
+use crate::parts::{Found, Out, Parts, TooFar, NEVER};
+use crate::shared::Shared;
+use crate::timer::Timer;
+use futures_core::{ready, Stream};
+use hontkhale::{CoreError, LAST_STAMP, LAST_TICK};
+use std::fmt;
+use std::pin::Pin;
+use std::sync::Arc;
+use std::task::{Context, Poll, Waker};
+use std::time::Duration;
+use tokio::time::Instant;
+
+/// A queue whose entries come out when their deadline is reached, with the calls of [`tokio_util`'s `DelayQueue`][peer].
+///
+/// Deadlines are rounded up to milliseconds from the queue's making. Entries come out in the order of their deadlines; those
+/// of one millisecond in any order. Where nothing is due, [`poll_expired`](DelayQueue::poll_expired) is pending, and its
+/// task is woken by the runtime's timer, or by an insert or reset that comes sooner. A poll makes so many steps at most and
+/// wakes its task for the rest: see [`set_budget`](DelayQueue::set_budget). The queue grows as it fills, and is used within a
+/// runtime with time.
+///
+/// Beside that, a [`Handle`] extends and cancels entries from any thread, while the owner inserts, polls or waits.
+///
+/// ```
+/// # #[tokio::main(flavor = "current_thread", start_paused = true)]
+/// # async fn main() {
+/// use hontkhale_tokio::DelayQueue;
+/// use std::{future::poll_fn, time::Duration};
+/// let mut queue = DelayQueue::new();
+/// queue.insert("late", Duration::from_secs(20));
+/// let key = queue.insert("early", Duration::from_secs(10));
+/// queue.reset(&key, Duration::from_secs(30));
+/// let first = poll_fn(|cx| queue.poll_expired(cx)).await.unwrap();
+/// assert_eq!(first.into_inner(), "late");
+/// # }
+/// ```
+///
+/// [peer]: https://docs.rs/tokio-util/latest/tokio_util/time/delay_queue/struct.DelayQueue.html
+pub struct DelayQueue<T> {
+    parts: Parts<T>,
+    /// The greatest tick that is known to be over.
+    reached: u64,
+    timer: Timer,
+    /// The task that waits until the tick `armed`: an insert or reset before that wakes it.
+    waker: Option<Waker>,
+    armed: u64,
+    /// Whether an entry was reset since the task began to wait.
+    has_resets: bool,
+    /// Whether the clock was looked at since the task was woken. Where more came due meanwhile, the timer tells it.
+    has_looked: bool,
+    latest: Latest,
+    /// The most steps of a poll, as they were set, and as a poll begins with them.
+    budget: u32,
+    fresh: Budget,
+}
+
+// No value is ever pinned.
+impl<T> Unpin for DelayQueue<T> {}
+
+impl<T> DelayQueue<T> {
+    /// An empty queue, which takes memory with its first entry.
+    ///
+    /// ```
+    /// # #[tokio::main(flavor = "current_thread")]
+    /// # async fn main() {
+    /// let queue = hontkhale_tokio::DelayQueue::<u32>::new();
+    /// assert_eq!(queue.capacity(), 0);
+    /// # }
+    /// ```
+    pub fn new() -> DelayQueue<T> {
+        DelayQueue::with_capacity(0)
+    }
+
+    /// An empty queue with room for so many entries.
+    ///
+    /// # Panics
+    /// Where memory is refused.
+    ///
+    /// ```
+    /// # #[tokio::main(flavor = "current_thread")]
+    /// # async fn main() {
+    /// let queue = hontkhale_tokio::DelayQueue::<u32>::with_capacity(10);
+    /// assert_eq!(queue.capacity(), 10);
+    /// # }
+    /// ```
+    pub fn with_capacity(capacity: usize) -> DelayQueue<T> {
+        DelayQueue::with_last_stamp(capacity, LAST_STAMP)
+    }
+
+    /// A queue whose slots wear out sooner than they have to.
+    pub(crate) fn with_last_stamp(capacity: usize, last_stamp: u32) -> DelayQueue<T> {
+        let parts = Parts::new(capacity, last_stamp, Shared::new());
+        DelayQueue {
+            parts,
+            reached: 0,
+            timer: Timer::default(),
+            waker: None,
+            armed: 0,
+            has_resets: false,
+            has_looked: false,
+            latest: Latest::default(),
+            budget: DEFAULT_BUDGET,
+            fresh: Budget::of_or_whole(DEFAULT_BUDGET),
+        }
+    }
+
+    /// The most steps that a poll makes.
+    pub fn budget(&self) -> u32 {
+        self.budget
+    }
+
+    /// Sets the most steps that a poll makes, 128 at first. A step moves or takes out one entry, drops the value of one that a
+    /// [`Handle`] cancelled, or brings the wheels to where there is one, in constant time but for a value's drop. A poll that
+    /// has more to do is pending, and wakes its task at once, so that other tasks have their turn in between. 0 is taken as 1.
+    ///
+    /// `u32::MAX` is no limit: a poll makes all of its steps, as the peer's does. It takes fewer instructions for each entry then,
+    /// and the longest poll is as long as what is due, or has to move, at once.
+    ///
+    /// ```
+    /// # #[tokio::main(flavor = "current_thread", start_paused = true)]
+    /// # async fn main() {
+    /// use std::{future::poll_fn, time::Duration};
+    /// let mut queue = hontkhale_tokio::DelayQueue::new();
+    /// queue.set_budget(32);
+    /// for session in 0..1_000 {
+    ///     queue.insert(session, Duration::from_secs(30));
+    /// }
+    /// let mut ended = 0;
+    /// while let Some(_) = poll_fn(|cx| queue.poll_expired(cx)).await {
+    ///     ended += 1;
+    /// }
+    /// assert_eq!((ended, queue.budget()), (1_000, 32));
+    /// # }
+    /// ```
+    pub fn set_budget(&mut self, steps: u32) {
+        self.budget = steps;
+        self.fresh = Budget::of_or_whole(steps);
+    }
+
+    /// Puts a value in that comes out at `when`, or at once where `when` is over. Constant time, but that the queue may grow.
+    ///
+    /// # Panics
+    /// Where `when` is more than 139 years after the queue's making, where it would hold 2³² entries, or memory is refused.
+    ///
+    /// ```
+    /// # #[tokio::main(flavor = "current_thread")]
+    /// # async fn main() {
+    /// use std::time::Duration;
+    /// use tokio::time::Instant;
+    /// let mut queue = hontkhale_tokio::DelayQueue::new();
+    /// let key = queue.insert_at("foo", Instant::now() + Duration::from_secs(5));
+    /// assert_eq!(queue.remove(&key).into_inner(), "foo");
+    /// # }
+    /// ```
+    #[track_caller]
+    pub fn insert_at(&mut self, value: T, when: Instant) -> Key {
+        let tick = self.parts.shared().clock.tick_at(when);
+        match self.parts.insert(value, tick) {
+            Ok(key) => {
+                self.wake_before(tick);
+                key
+            }
+            Err(TooFar) => panic!("invalid deadline: beyond the last tick, {LAST_TICK}"),
+        }
+    }
+
+    /// Puts a value in that comes out after `timeout`: [`insert_at`](DelayQueue::insert_at) that long from now.
+    ///
+    /// # Panics
+    /// As `insert_at` does.
+    #[track_caller]
+    pub fn insert(&mut self, value: T, timeout: Duration) -> Key {
+        self.insert_at(value, Instant::now() + timeout)
+    }
+
+    /// Takes out the first entry whose deadline is reached. Pending where none is, and the task is woken for the next, and
+    /// where the [budget](DelayQueue::set_budget) is spent, and the task is woken at once; none where the queue is empty, and
+    /// the task is woken by an insert.
+    pub fn poll_expired(&mut self, cx: &mut Context<'_>) -> Poll<Option<Expired<T>>> {
+        if self.armed > 0 && self.armed < NEVER {
+            // The task waited, so what is due came due since the clock was looked at.
+            self.look();
+        }
+        let mut budget = self.fresh;
+        loop {
+            match self.parts.poll(self.reached, &mut budget) {
+                Found::Out(out) => {
+                    self.armed = 0;
+                    self.latest.note(out.deadline, self.reached, &self.parts.shared().clock);
+                    return Poll::Ready(Some(self.expired(out)));
+                }
+                Found::Idle => {
+                    self.arm(NEVER, cx);
+                    return Poll::Ready(None);
+                }
+                Found::Working => {
+                    // It is woken already, so nothing that comes sooner has to. Other tasks run before it comes again.
+                    self.armed = 0;
+                    self.has_looked = false;
+                    cx.waker().wake_by_ref();
+                    return Poll::Pending;
+                }
+                Found::Waiting(wake) if self.has_looked => ready!(self.poll_sleep(wake, cx)),
+                Found::Waiting(_) => self.look(),
+            }
+        }
+    }
+
+    /// Looks at the clock, on behalf of the task.
+    fn look(&mut self) {
+        self.has_looked = true;
+        self.note_clock();
+    }
+
+    /// The tick that the clock shows is left to the timer, which rounds a moment within it up.
+    fn note_clock(&mut self) {
+        let over = self.parts.shared().clock.tick_over();
+        self.reached = self.reached.max(over.saturating_sub(1).min(LAST_TICK));
+    }
+
+    /// Sleeps until a tick. Ready where it is reached.
+    fn poll_sleep(&mut self, wake: u64, cx: &mut Context<'_>) -> Poll<()> {
+        let moment = self.parts.shared().clock.moment(wake);
+        if self.timer.poll_until(moment, cx).is_ready() {
+            self.reached = wake;
+            return Poll::Ready(());
+        }
+        self.arm(wake, cx);
+        Poll::Pending
+    }
+
+    /// Notes that the task waits until a tick.
+    fn arm(&mut self, wake: u64, cx: &mut Context<'_>) {
+        self.armed = wake;
+        self.has_resets = false;
+        self.has_looked = false;
+        match &mut self.waker {
+            Some(waker) if waker.will_wake(cx.waker()) => {}
+            waker => *waker = Some(cx.waker().clone()),
+        }
+    }
+
+    /// Wakes the task if it waits for a later tick.
+    #[inline]
+    fn wake_before(&mut self, tick: u64) {
+        if tick < self.armed {
+            self.wake();
+        }
+    }
+
+    /// Wakes the task where the first reset since it began to wait leaves the wheels a step to make that is over already:
+    /// the entry that it waits for may have gone to a later slot, and a task that makes the step now waits for the right one.
+    #[inline]
+    fn wake_to_step(&mut self) {
+        if self.armed > 0 && !self.has_resets {
+            self.has_resets = true;
+            if self.parts.has_step_before(self.armed) {
+                self.note_clock();
+                if self.parts.has_step_before(self.armed.min(self.reached + 1)) {
+                    self.wake();
+                }
+            }
+        }
+    }
+
+    #[cold]
+    fn wake(&mut self) {
+        self.armed = 0;
+        if let Some(waker) = self.waker.take() {
+            waker.wake();
+        }
+    }
+
+    #[inline]
+    fn expired(&self, out: Out<T>) -> Expired<T> {
+        Expired { key: out.key, data: out.value, tick: out.deadline, clock: self.parts.shared().clock }
+    }
+
+    /// Takes an entry out. Constant time.
+    ///
+    /// # Panics
+    /// Where no entry is in the queue under that key: it came out, was removed, or a [`Handle`] cancelled it. See
+    /// [`try_remove`](DelayQueue::try_remove).
+    #[track_caller]
+    pub fn remove(&mut self, key: &Key) -> Expired<T> {
+        match self.try_remove(key) {
+            Some(expired) => expired,
+            None => panic!("invalid key"),
+        }
+    }
+
+    /// Takes an entry out, where there is one under that key. Constant time.
+    ///
+    /// ```
+    /// # #[tokio::main(flavor = "current_thread")]
+    /// # async fn main() {
+    /// let mut queue = hontkhale_tokio::DelayQueue::new();
+    /// let key = queue.insert("foo", std::time::Duration::from_secs(5));
+    /// assert_eq!(queue.try_remove(&key).unwrap().into_inner(), "foo");
+    /// assert!(queue.try_remove(&key).is_none());
+    /// # }
+    /// ```
+    pub fn try_remove(&mut self, key: &Key) -> Option<Expired<T>> {
+        let out = self.parts.remove(key)?;
+        if self.armed > 0 && self.parts.holds_none_live() {
+            self.wake();
+        }
+        Some(self.expired(out))
+    }
+
+    /// Gives an entry another deadline, earlier or later, under the same key. Constant time.
+    ///
+    /// # Panics
+    /// Where `when` is too far ahead, as for `insert_at`, or no entry is in the queue under that key. See
+    /// [`try_reset_at`](DelayQueue::try_reset_at).
+    ///
+    /// ```
+    /// # #[tokio::main(flavor = "current_thread")]
+    /// # async fn main() {
+    /// use std::time::Duration;
+    /// use tokio::time::Instant;
+    /// let mut queue = hontkhale_tokio::DelayQueue::new();
+    /// let key = queue.insert("foo", Duration::from_secs(5));
+    /// queue.reset_at(&key, Instant::now() + Duration::from_secs(1));
+    /// assert!(queue.deadline(&key) < Instant::now() + Duration::from_secs(2));
+    /// # }
+    /// ```
+    #[track_caller]
+    pub fn reset_at(&mut self, key: &Key, when: Instant) {
+        match self.try_reset_at(key, when) {
+            Ok(()) => {}
+            Err(EntryError::TooFar) => panic!("invalid deadline"),
+            Err(_) => panic!("invalid key"),
+        }
+    }
+
+    /// Gives an entry another deadline, where it is there yet: a [`Handle`] may have cancelled it.
+    ///
+    /// # Errors
+    /// `TooFar`, `Ended`.
+    #[inline]
+    pub fn try_reset_at(&mut self, key: &Key, when: Instant) -> Result<(), EntryError> {
+        let tick = self.parts.shared().clock.tick_at(when);
+        match self.parts.reset(key, tick) {
+            Ok(()) => {
+                self.wake_before(tick);
+                self.wake_to_step();
+                Ok(())
+            }
+            Err(CoreError::TooFar { .. }) => Err(EntryError::TooFar),
+            Err(_) => Err(EntryError::Ended),
+        }
+    }
+
+    /// Gives an entry the deadline `timeout` from now: [`reset_at`](DelayQueue::reset_at) that long from now.
+    ///
+    /// # Panics
+    /// As `reset_at` does.
+    #[track_caller]
+    pub fn reset(&mut self, key: &Key, timeout: Duration) {
+        self.reset_at(key, Instant::now() + timeout);
+    }
+
+    /// The deadline of an entry, as handles left it.
+    ///
+    /// # Panics
+    /// Where no entry is in the queue under that key. See [`try_deadline`](DelayQueue::try_deadline).
+    #[track_caller]
+    pub fn deadline(&self, key: &Key) -> Instant {
+        match self.try_deadline(key) {
+            Some(deadline) => deadline,
+            None => panic!("invalid key"),
+        }
+    }
+
+    /// The deadline of an entry, where it is there yet.
+    pub fn try_deadline(&self, key: &Key) -> Option<Instant> {
+        let tick = self.parts.deadline(key)?;
+        Some(self.parts.shared().clock.moment(tick))
+    }
+
+    /// The key of the entry that the next poll gives, unless one that comes sooner is put in before, or a [`Handle`] extends
+    /// or cancels it. None where there is no entry. Of entries of one millisecond the poll gives the one that was named.
+    ///
+    /// Constant time while the entry that was named stays as it is. Else the entries are looked through that come next: those
+    /// of one slot of the wheels, or, where a handle extended or cancelled the first of them or a poll is amid a slot, all.
+    ///
+    /// ```
+    /// # #[tokio::main(flavor = "current_thread")]
+    /// # async fn main() {
+    /// use std::time::Duration;
+    /// let mut queue = hontkhale_tokio::DelayQueue::new();
+    /// assert_eq!(queue.peek(), None);
+    /// queue.insert("late", Duration::from_secs(5));
+    /// let early = queue.insert("early", Duration::from_secs(1));
+    /// assert_eq!(queue.peek(), Some(early));
+    /// # }
+    /// ```
+    pub fn peek(&self) -> Option<Key> {
+        self.parts.peek()
+    }
+
+    /// Takes every entry out and drops its value. The room stays. A task that waits for an entry is woken for the end.
+    ///
+    /// Where a value's drop panics, the entries behind it stay in the queue, under their keys: none is lost.
+    pub fn clear(&mut self) {
+        self.parts.clear();
+        if self.armed > 0 && self.armed < NEVER {
+            self.wake();
+        }
+    }
+
+    /// How many entries fit in without growth.
+    pub fn capacity(&self) -> usize {
+        self.parts.capacity()
+    }
+
+    /// The number of entries; one that a [`Handle`] cancelled counts until the queue comes upon its place.
+    pub fn len(&self) -> usize {
+        self.parts.len()
+    }
+
+    /// Whether there is no entry.
+    pub fn is_empty(&self) -> bool {
+        self.parts.is_empty()
+    }
+
+    /// Makes room for at least so many more entries, in one part of the queue or several. No entry is moved.
+    ///
+    /// # Panics
+    /// Where memory is refused.
+    ///
+    /// ```
+    /// # #[tokio::main(flavor = "current_thread")]
+    /// # async fn main() {
+    /// let mut queue = hontkhale_tokio::DelayQueue::new();
+    /// queue.insert("hello", std::time::Duration::from_secs(10));
+    /// queue.reserve(10);
+    /// assert!(queue.capacity() >= 11);
+    /// # }
+    /// ```
+    pub fn reserve(&mut self, additional: usize) {
+        self.parts.reserve(additional);
+    }
+
+    /// Moves entries together so that no room is left over, under the keys that they have. It goes over every entry.
+    ///
+    /// ```
+    /// # #[tokio::main(flavor = "current_thread")]
+    /// # async fn main() {
+    /// use std::time::Duration;
+    /// let mut queue = hontkhale_tokio::DelayQueue::with_capacity(10);
+    /// queue.insert(5, Duration::from_secs(5));
+    /// let key = queue.insert(10, Duration::from_secs(10));
+    /// queue.insert(15, Duration::from_secs(15));
+    /// queue.remove(&key);
+    /// queue.compact();
+    /// assert_eq!(queue.capacity(), 2);
+    /// # }
+    /// ```
+    pub fn compact(&mut self) {
+        self.parts.compact();
+    }
+
+    /// Lets room go that is in empty parts of the queue. No entry is moved; see [`compact`](DelayQueue::compact).
+    pub fn shrink_to_fit(&mut self) {
+        self.parts.shrink_to_fit();
+    }
+
+    /// What a server watches, by one call: how much waits, how late it is, and what is held. It looks through the entries
+    /// as [`peek`](DelayQueue::peek) does. From the first call on each poll that gives an entry reads the clock once.
+    ///
+    /// ```
+    /// # #[tokio::main(flavor = "current_thread", start_paused = true)]
+    /// # async fn main() {
+    /// use std::time::Duration;
+    /// let mut queue = hontkhale_tokio::DelayQueue::new();
+    /// let handle = queue.handle();
+    /// let key = queue.insert("ann", Duration::from_secs(30));
+    /// queue.insert("bob", Duration::from_secs(40));
+    /// handle.cancel(&key).unwrap();
+    /// tokio::time::advance(Duration::from_secs(42)).await;
+    /// let text = "1 waiting, 1 cancelled, 0 slots worn, 1 handles, 2.000 s late, at most 2.000 s";
+    /// assert_eq!(queue.numbers().to_string(), text);
+    /// # }
+    /// ```
+    pub fn numbers(&self) -> Numbers {
+        let clock = &self.parts.shared().clock;
+        let cancelled = self.parts.shared().cancels().min(self.len());
+        let late = self.parts.least().map_or(0, |deadline| clock.tick_over().saturating_sub(deadline));
+        self.latest.note_late(late);
+        Numbers {
+            waiting: self.len() - cancelled,
+            cancelled,
+            worn: self.parts.worn(),
+            handles: Arc::strong_count(self.parts.shared()) - 1,
+            late: Duration::from_millis(late),
+            latest: self.latest.ask(),
+        }
+    }
+
+    /// A handle, which extends and cancels entries from any thread. It may be cloned.
+    ///
+    /// ```
+    /// # #[tokio::main(flavor = "current_thread")]
+    /// # async fn main() {
+    /// use std::time::Duration;
+    /// use tokio::time::Instant;
+    /// let mut leases = hontkhale_tokio::DelayQueue::new();
+    /// let handle = leases.handle();
+    /// let key = leases.insert("a lease", Duration::from_secs(5));
+    /// let renewed = handle.extend(&key, Duration::from_secs(50)).unwrap();
+    /// assert_eq!(leases.deadline(&key), renewed);
+    /// # }
+    /// ```
+    pub fn handle(&mut self) -> Handle {
+        self.parts.share();
+        Handle::of(self.parts.shared().clone())
+    }
+}
+
+impl<T> Default for DelayQueue<T> {
+    fn default() -> DelayQueue<T> {
+        DelayQueue::new()
+    }
+}
+
+impl<T> Stream for DelayQueue<T> {
+    type Item = Expired<T>;
+
+    fn poll_next(self: Pin<&mut Self>, cx: &mut Context<'_>) -> Poll<Option<Expired<T>>> {
+        self.get_mut().poll_expired(cx)
+    }
+}
+
+impl<T> fmt::Debug for DelayQueue<T> {
+    fn fmt(&self, f: &mut fmt::Formatter<'_>) -> fmt::Result {
+        let (len, capacity) = (self.len(), self.capacity());
+        f.debug_struct("DelayQueue").field("len", &len).field("capacity", &capacity).finish_non_exhaustive()
+    }
+}

@@ -1,0 +1,166 @@
+//! What the handles of a queue share with its owner: the links of its parts, seats at them, and the new places of the entries
+//! that were moved.
+
+use crate::clock::Clock;
+use crate::key::Key;
+use crate::link::{Link, Refusal, Step};
+use crate::seats::{Seat, Seats, ROWS};
+use std::collections::HashMap;
+use std::sync::atomic::{AtomicBool, AtomicIsize, AtomicUsize, Ordering};
+use std::sync::{Arc, Mutex, MutexGuard, PoisonError};
+
+/// The callers that a part has at first.
+const FIRST_CALLERS: usize = 8;
+/// The most callers that a part is given: one for each row of seats, and one that stays.
+const MOST_CALLERS: usize = ROWS + 1;
+
+pub(crate) struct Shared {
+    pub clock: Clock,
+    pub seats: Seats,
+    links: Mutex<Links>,
+    /// Whether a part has something for the owner to heed.
+    has_news: AtomicBool,
+    /// The cancels of handles that the owner hasn't heeded yet. It heeds one as soon as its bit is set, which is before it is
+    /// counted here: so there may be fewer than none for a moment.
+    cancels: AtomicIsize,
+    /// How many callers each part should have.
+    callers: AtomicUsize,
+}
+
+/// The links of a queue's parts, by their places, and where moved entries are now, by their keys.
+#[derive(Default)]
+pub(crate) struct Links {
+    row: Vec<Option<Arc<Link>>>,
+    pub moved: HashMap<Key, Key>,
+}
+
+impl Shared {
+    pub fn new() -> Shared {
+        Shared {
+            clock: Clock::new(),
+            seats: Seats::default(),
+            links: Mutex::default(),
+            has_news: AtomicBool::new(false),
+            cancels: AtomicIsize::new(0),
+            callers: AtomicUsize::new(FIRST_CALLERS),
+        }
+    }
+
+    /// The links, for a moment: nobody's code runs while they are held.
+    pub fn links(&self) -> MutexGuard<'_, Links> {
+        self.links.lock().unwrap_or_else(PoisonError::into_inner)
+    }
+
+    /// From here on handles find a part's entries.
+    pub fn add(&self, spot: usize, link: Arc<Link>) {
+        let mut links = self.links();
+        if links.row.len() <= spot {
+            links.row.resize(spot + 1, None);
+        }
+        links.row[spot] = Some(link);
+    }
+
+    /// From here on handles find nothing at a part's place.
+    pub fn close(&self, spot: usize) {
+        let mut links = self.links();
+        if let Some(link) = links.row.get_mut(spot) {
+            *link = None;
+            self.seats.leave(spot);
+        }
+    }
+
+    /// Takes all away that handles have of the queue.
+    pub fn close_all(&self) {
+        let mut links = self.links();
+        let gone = std::mem::take(&mut *links);
+        self.seats.leave_all();
+        drop(links);
+        drop(gone);
+    }
+
+    /// Whether handles left something for the owner.
+    #[inline]
+    pub fn has_news(&self) -> bool {
+        self.has_news.load(Ordering::Relaxed)
+    }
+
+    /// The owner's note that it heeds what is there now.
+    pub fn heed(&self) {
+        self.has_news.swap(false, Ordering::SeqCst);
+    }
+
+    /// A note that a part has something for the owner.
+    pub fn tell(&self) {
+        self.has_news.store(true, Ordering::SeqCst);
+    }
+
+    /// A handle's note of a cancel.
+    pub fn tell_cancel(&self) {
+        self.cancels.fetch_add(1, Ordering::SeqCst);
+        self.tell();
+    }
+
+    /// The owner's note that it heeds a cancel.
+    pub fn count_heeded(&self) {
+        self.cancels.fetch_sub(1, Ordering::SeqCst);
+    }
+
+    /// The cancels that the owner hasn't heeded.
+    pub fn cancels(&self) -> usize {
+        self.cancels.load(Ordering::SeqCst).max(0) as usize
+    }
+
+    /// How many callers each part should have.
+    pub fn callers(&self) -> usize {
+        self.callers.load(Ordering::SeqCst)
+    }
+
+    /// A step from this thread's seat at the entry's part, none where it has no seat.
+    #[inline(always)]
+    pub fn step(&self, key: &Key, step: Step) -> Option<Result<u64, Refusal>> {
+        self.seats.at(key, |seat| seat.link.step(&mut seat.caller, key, step))
+    }
+
+    /// The step where the thread has no seat, or the entry was moved. The thread gets a seat, if there is one to give.
+    #[cold]
+    pub fn step_by_links(&self, key: &Key, step: Step) -> Result<u64, Refusal> {
+        let links = self.links();
+        let place = links.moved.get(key).unwrap_or(key);
+        let link = links.of(place).ok_or(Refusal::Ended)?;
+        let mut seats = self.seats.own();
+        if seats.len() <= place.spot() {
+            seats.resize_with(place.spot() + 1, || None);
+        }
+        let seat = &mut seats[place.spot()];
+        if seat.is_none() {
+            let mut spare = link.spare();
+            // The last caller stays, for threads that come while there is no other.
+            match spare.len() {
+                0 | 1 => {
+                    self.want_callers(link);
+                    let caller = spare.last_mut().ok_or(Refusal::Ended)?;
+                    return link.step(caller, place, step);
+                }
+                _ => *seat = spare.pop().map(|caller| Seat { part: link.part, link: Arc::clone(link), caller }),
+            }
+        }
+        let seat = seat.as_mut().expect("a seat that was just given");
+        link.step(&mut seat.caller, place, step)
+    }
+
+    /// A handle's note that a part has no caller to give.
+    fn want_callers(&self, link: &Link) {
+        let issued = link.issued();
+        if issued < MOST_CALLERS {
+            self.callers.fetch_max((2 * issued).min(MOST_CALLERS), Ordering::SeqCst);
+            self.tell();
+        }
+    }
+}
+
+impl Links {
+    /// The link of the entry's part.
+    fn of(&self, place: &Key) -> Option<&Arc<Link>> {
+        self.row.get(place.spot())?.as_ref().filter(|link| link.part == place.part())
+    }
+}

@@ -1,0 +1,248 @@
+//! The parts beside a plain model, with slots that wear out after a few stamps, so that entries move all the time.
+
+use crate::budget::Budget;
+use crate::doors::{Bells, Door};
+use crate::handle::{EntryError, Handle};
+use crate::key::Key;
+use crate::parts::{Found, Parts};
+use crate::shared::Shared;
+use std::collections::HashMap;
+use std::rc::Rc;
+use std::sync::Arc;
+
+/// Marsaglia's xorshift.
+struct Dice(u64);
+
+impl Dice {
+    fn below(&mut self, limit: u64) -> u64 {
+        self.0 ^= self.0 << 13;
+        self.0 ^= self.0 >> 7;
+        self.0 ^= self.0 << 17;
+        self.0 % limit
+    }
+}
+
+/// What is in, by its key: the deadline in force and the value, which is also `held` until it is dropped.
+struct Twin {
+    dice: Dice,
+    parts: Parts<Rc<u64>>,
+    handle: Handle,
+    has_handle: bool,
+    entries: HashMap<Key, (u64, Rc<u64>)>,
+    row: Vec<Key>,
+    /// Keys whose entries have ended.
+    ended: Vec<Key>,
+    /// The values of cancelled entries, which the next poll drops.
+    cancelled: Vec<Rc<u64>>,
+    now: u64,
+    tick: u64,
+    next: u64,
+    most: usize,
+}
+
+impl Twin {
+    fn new(seed: u64, last_stamp: u32, has_handle: bool, most: usize) -> Twin {
+        let mut dice = Dice(seed);
+        let mut parts = Parts::new(dice.below(3) as usize, last_stamp, Shared::new());
+        if has_handle {
+            parts.share();
+        }
+        Twin {
+            dice,
+            handle: Handle::of(parts.shared().clone()),
+            parts,
+            has_handle,
+            entries: HashMap::new(),
+            row: Vec::new(),
+            ended: Vec::new(),
+            cancelled: Vec::new(),
+            now: 0,
+            tick: 0,
+            next: 0,
+            most,
+        }
+    }
+
+    fn tick_ahead(&mut self) -> u64 {
+        let ahead = [3, 70, 5_000, 300_000][self.dice.below(4) as usize];
+        (self.now + self.dice.below(ahead)).saturating_sub(2)
+    }
+
+    fn draw(&mut self) -> Option<Key> {
+        match self.row.len() as u64 {
+            0 => None,
+            many => Some(self.row[self.dice.below(many) as usize]),
+        }
+    }
+
+    fn end(&mut self, key: Key) -> (u64, Rc<u64>) {
+        let at = self.row.iter().position(|&it| it == key).expect("a key that is in");
+        self.row.swap_remove(at);
+        self.ended.push(key);
+        self.entries.remove(&key).expect("an entry that is in")
+    }
+
+    fn insert(&mut self) {
+        let when = self.tick_ahead();
+        let value = Rc::new(self.next);
+        self.next += 1;
+        let key = self.parts.insert(value.clone(), when).unwrap();
+        assert!(self.entries.insert(key, (when.max(self.tick), value)).is_none(), "a key is given twice");
+        assert!(!self.ended.contains(&key), "a key is given again");
+        self.row.push(key);
+    }
+
+    fn reset(&mut self, key: Key) {
+        let when = self.tick_ahead();
+        self.parts.reset(&key, when).unwrap();
+        self.entries.get_mut(&key).unwrap().0 = when.max(self.tick);
+    }
+
+    fn remove(&mut self, key: Key) {
+        let out = self.parts.remove(&key).unwrap();
+        let (deadline, value) = self.end(key);
+        assert_eq!((out.key, out.deadline, &out.value), (key, deadline, &value));
+    }
+
+    fn extend(&mut self, key: Key) {
+        let when = self.tick_ahead();
+        let moment = self.parts.shared().clock.moment(when);
+        let deadline = self.handle.extend_at(&key, moment).unwrap();
+        let entry = self.entries.get_mut(&key).unwrap();
+        entry.0 = entry.0.max(when);
+        assert_eq!(deadline, self.parts.shared().clock.moment(entry.0));
+    }
+
+    fn cancel(&mut self, key: Key) {
+        let given_up = self.handle.cancel(&key).unwrap();
+        let (deadline, value) = self.end(key);
+        assert_eq!(given_up, self.parts.shared().clock.moment(deadline));
+        self.cancelled.push(value);
+    }
+
+    fn refuse(&mut self) {
+        if let Some(&key) = self.ended.get(self.dice.below(1 + self.ended.len() as u64) as usize) {
+            assert!(self.parts.reset(&key, self.now).is_err());
+            assert!(self.parts.remove(&key).is_none());
+            assert!(self.parts.deadline(&key).is_none());
+            let ended = Err(EntryError::Ended);
+            assert_eq!(self.handle.extend_at(&key, self.parts.shared().clock.moment(self.now)), ended);
+            assert_eq!(self.handle.cancel(&key), ended);
+        }
+    }
+
+    fn poll(&mut self) {
+        self.now += [0, 1, 5, 64, 1_000, 40_000][self.dice.below(6) as usize];
+        loop {
+            let least = self.entries.values().map(|entry| entry.0).min();
+            let mut budget = Budget::of_or_whole(match self.dice.below(40) as u32 {
+                0 => u32::MAX,
+                steps => steps,
+            });
+            match self.parts.poll(self.now, &mut budget) {
+                Found::Out(out) => {
+                    let (deadline, value) = self.end(out.key);
+                    assert_eq!((Some(out.deadline), out.deadline, &out.value), (least, deadline, &value));
+                    assert!(deadline <= self.now);
+                    self.tick = deadline;
+                }
+                Found::Waiting(wake) => {
+                    assert!(least.map_or(true, |least| least > self.now && least >= wake) && wake > self.now);
+                    break;
+                }
+                Found::Idle => {
+                    assert_eq!(least, None);
+                    break;
+                }
+                Found::Working => {}
+            }
+        }
+        self.tick = self.tick.max(self.now);
+        for value in self.cancelled.drain(..) {
+            assert_eq!(Rc::strong_count(&value), 1, "a cancelled value stays");
+        }
+        assert_eq!(self.parts.len(), self.row.len(), "a poll frees the places of cancelled entries");
+    }
+
+    fn call(&mut self) {
+        let key = self.draw();
+        match (self.dice.below(100), key) {
+            (0..=29, _) if self.row.len() < self.most => self.insert(),
+            (0..=49, Some(key)) => self.reset(key),
+            (50..=59, Some(key)) => self.remove(key),
+            (60..=69, Some(key)) if self.has_handle => self.extend(key),
+            (70..=73, Some(key)) if self.has_handle => self.cancel(key),
+            (74..=79, _) => self.refuse(),
+            (80..=94, _) => self.poll(),
+            (95, _) => {
+                self.parts.compact();
+                assert_eq!(self.parts.capacity(), self.row.len());
+            }
+            (96, _) => self.parts.shrink_to_fit(),
+            (97, _) => self.parts.reserve(self.next as usize % 100),
+            (98, _) if self.dice.below(20) == 0 => {
+                self.parts.clear();
+                self.ended.append(&mut self.row);
+                self.entries.clear();
+                self.poll();
+            }
+            _ => {}
+        }
+        let len = self.parts.len();
+        assert!(len >= self.row.len() && len <= self.row.len() + self.next as usize);
+        assert!(self.has_handle || len == self.row.len());
+        for key in self.row.iter().take(3) {
+            assert_eq!(self.parts.deadline(key), Some(self.entries[key].0));
+        }
+        let first = self.parts.peek().map(|key| self.entries[&key].0);
+        assert_eq!(first, self.entries.values().map(|entry| entry.0).min());
+    }
+}
+
+#[test]
+fn parts_with_slots_that_wear_out_agree_with_a_model() {
+    for seed in 1..=60 {
+        let last_stamp = [1, 2, 3, 7, 1_000_000][seed as usize % 5];
+        let most = [1, 3, 70, 300][seed as usize / 5 % 4];
+        let mut twin = Twin::new(seed << 32 | 0x9e37_79b9, last_stamp, seed % 2 == 0, most);
+        for _ in 0..4_000 {
+            twin.call();
+        }
+    }
+}
+
+#[test]
+fn worn_parts_go() {
+    let mut parts = Parts::new(0, 2, Shared::new());
+    parts.share();
+    let stays = parts.insert(0, 1_000_000).unwrap();
+    for value in 1..100_000 {
+        let key = parts.insert(value, 10).unwrap();
+        assert!(parts.remove(&key).is_some());
+    }
+    assert!(parts.capacity() < 1_000, "{}", parts.capacity());
+    assert_eq!(parts.remove(&stays).map(|out| out.value), Some(0));
+}
+
+#[test]
+fn what_comes_beside_a_look_is_not_slept_through() {
+    let (door, bells) = (Door::default(), Arc::<Bells>::default());
+    let (seat, ring) = door.take_over(&bells, 0);
+    ring();
+    for (inserted, may_wait) in [(None, true), (Some(7), false), (Some(1 << 40), false)] {
+        let look = door.look(seat).expect("the shard's seat");
+        if let Some(tick) = inserted {
+            door.ring_before(tick);
+        }
+        assert_eq!(look.arm(100), may_wait, "{inserted:?}");
+        assert_eq!(bells.take_rung(), 0, "a stream that looks isn't woken");
+    }
+    assert!(door.look(seat).expect("the shard's seat").arm(100));
+    door.ring_before(100);
+    assert_eq!(bells.take_rung(), 0);
+    door.ring_before(99);
+    assert_eq!(bells.take_rung(), 1);
+    let (other, ring) = door.take_over(&Arc::default(), 0);
+    ring();
+    assert!(door.look(seat).is_none() && door.look(other).is_some());
+}

@@ -1,0 +1,70 @@
+//! A task that sleeps is woken where its queue has come to its end.
+
+mod common;
+
+use common::{ends, ms, paused, Wakes};
+use hontkhale_tokio::DelayQueue;
+use std::sync::Arc;
+use std::task::{Context, Poll, Waker};
+
+#[test]
+fn a_remove_that_leaves_only_cancelled_entries_wakes_the_task() {
+    ends(|| {
+        paused().block_on(async {
+            for cancelled in 0..3 {
+                let wakes = Arc::<Wakes>::default();
+                let waker = Waker::from(wakes.clone());
+                let mut cx = Context::from_waker(&waker);
+                let mut queue = DelayQueue::new();
+                let handle = queue.handle();
+                let keys: Vec<_> = (0..=cancelled).map(|at| queue.insert(at, ms(3_408_000 + at))).collect();
+                assert!(queue.poll_expired(&mut cx).is_pending());
+                keys[1..].iter().for_each(|key| assert!(handle.cancel(key).is_ok()));
+                assert_eq!(wakes.take(), 0, "a cancel wakes nobody");
+                queue.remove(&keys[0]);
+                assert_eq!(wakes.take(), 1, "the end is told with {cancelled} cancelled");
+                assert!(matches!(queue.poll_expired(&mut cx), Poll::Ready(None)));
+            }
+        });
+    });
+}
+
+#[test]
+fn a_reset_of_the_last_that_a_handle_cancelled_wakes_nobody_for_long() {
+    ends(|| {
+        paused().block_on(async {
+            let wakes = Arc::<Wakes>::default();
+            let waker = Waker::from(wakes.clone());
+            let mut cx = Context::from_waker(&waker);
+            let mut queue = DelayQueue::new();
+            let handle = queue.handle();
+            let (one, other) = (queue.insert("one", ms(50_000)), queue.insert("other", ms(60_000)));
+            assert!(queue.poll_expired(&mut cx).is_pending());
+            handle.cancel(&one).unwrap();
+            assert!(queue.poll_expired(&mut cx).is_pending());
+            assert_eq!(queue.len(), 1, "the poll has freed the place of a cancelled entry");
+            queue.remove(&other);
+            assert_eq!(wakes.take(), 1);
+            assert!(matches!(queue.poll_expired(&mut cx), Poll::Ready(None)));
+        });
+    });
+}
+
+#[test]
+fn a_clear_wakes_the_task() {
+    ends(|| {
+        paused().block_on(async {
+            let wakes = Arc::<Wakes>::default();
+            let waker = Waker::from(wakes.clone());
+            let mut cx = Context::from_waker(&waker);
+            let mut queue = DelayQueue::new();
+            queue.insert("a", ms(50_000));
+            assert!(queue.poll_expired(&mut cx).is_pending());
+            queue.clear();
+            assert_eq!(wakes.take(), 1, "the end is told");
+            assert!(matches!(queue.poll_expired(&mut cx), Poll::Ready(None)));
+            queue.clear();
+            assert_eq!(wakes.take(), 0, "there was no entry");
+        });
+    });
+}

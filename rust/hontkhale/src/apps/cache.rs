@@ -1,0 +1,152 @@
+//! An expiring cache of one owner: values that are seen until their deadline.
+
+use crate::apps::seen::Seen;
+use crate::apps::stock::{least_deadline, Stock};
+use crate::apps::timers::{is_setting, Timers};
+use crate::core::CoreError;
+use crate::ticks::LAST_STAMP;
+use core::hash::{BuildHasher, Hash};
+use std::collections::hash_map::RandomState;
+use std::collections::HashMap;
+
+/// Values by keys, each seen until its deadline. Ticks are of one millisecond and are handed in: no clock is read.
+///
+/// ```
+/// use hontkhale::TtlCache;
+///
+/// let mut cache = TtlCache::with_capacity(100).unwrap();
+/// cache.put("key", 1, 500, 1_000).unwrap();
+/// assert_eq!(cache.get(&"key", 1_499), Some(&1));
+/// assert_eq!(cache.get(&"key", 1_500), None);
+/// assert_eq!(cache.purge(1_500), Ok(1));
+/// ```
+///
+/// The cache keeps a moment, at first 0; a call at `now` is made at the greater of `now` and the moment. What is due stays
+/// until a put or a purge drops it, but isn't seen.
+///
+/// A slot has a stamp for each put and each renewal, and is worn at its last one. [`TtlCache::set`] and [`TtlCache::touch`]
+/// begin the stamps again where they are at their end, so a cache that is only changed by them runs for years. They take
+/// memory then; else only `new` and a put do.
+pub struct TtlCache<K: Eq + Hash, V, S: BuildHasher = RandomState> {
+    pub(crate) stock: Stock<K, V, S>,
+    pub(crate) timers: Timers<K>,
+    pub(crate) moment: u64,
+}
+
+impl<K: Eq + Hash, V> TtlCache<K, V> {
+    /// A cache for so many keys where nothing is kept, at moment 0. Time and memory as the capacity; the map takes its own
+    /// later, as puts fill it.
+    ///
+    /// The map's hasher is std's, which is seeded; [`TtlCache::with_hasher`] takes another.
+    ///
+    /// # Errors
+    /// BadConfig where the capacity isn't 1 to 65536 or the last stamp isn't 1 to 1048575, and else NoMemory.
+    pub fn new(capacity: usize, last_stamp: u32) -> Result<TtlCache<K, V>, CoreError> {
+        TtlCache::made(capacity, last_stamp, RandomState::new())
+    }
+
+    /// As [`TtlCache::new`], with as many stamps a slot as there are.
+    ///
+    /// # Errors
+    /// BadConfig where the capacity isn't 1 to 65536, and else NoMemory.
+    pub fn with_capacity(capacity: usize) -> Result<TtlCache<K, V>, CoreError> {
+        TtlCache::made(capacity, LAST_STAMP, RandomState::new())
+    }
+}
+
+impl<K, V, S> TtlCache<K, V, S>
+where
+    K: Eq + Hash,
+    S: BuildHasher,
+{
+    /// As [`TtlCache::with_capacity`], with a hasher of the caller's.
+    ///
+    /// # Errors
+    /// BadConfig where the capacity isn't 1 to 65536, and else NoMemory.
+    pub fn with_hasher(capacity: usize, hasher: S) -> Result<TtlCache<K, V, S>, CoreError> {
+        TtlCache::made(capacity, LAST_STAMP, hasher)
+    }
+
+    fn made(capacity: usize, last_stamp: u32, hasher: S) -> Result<TtlCache<K, V, S>, CoreError> {
+        if !is_setting(capacity, last_stamp) {
+            return Err(CoreError::BadConfig);
+        }
+        let timers = Timers::new(capacity, last_stamp)?;
+        Ok(TtlCache {
+            stock: HashMap::with_hasher(hasher),
+            timers,
+            moment: 0,
+        })
+    }
+}
+
+impl<K: Eq + Hash, V, S: BuildHasher> TtlCache<K, V, S> {
+    /// The moment, at first 0: the greatest tick of a put, a renewal or a purge. A call at an earlier tick is made at the
+    /// moment.
+    pub fn moment(&self) -> u64 {
+        self.moment
+    }
+
+    /// How many keys are kept, seen or due.
+    pub fn len(&self) -> usize {
+        self.timers.len()
+    }
+
+    /// Whether no key is kept.
+    pub fn is_empty(&self) -> bool {
+        self.len() == 0
+    }
+
+    /// How many keys may be kept at once, while no slot is worn.
+    pub fn capacity(&self) -> usize {
+        self.timers.capacity()
+    }
+
+    /// How many slots hold no key and have no stamp left: so many keys fewer may be kept at once, until a refresh.
+    pub fn worn(&self) -> usize {
+        self.timers.worn()
+    }
+
+    /// The value at a key, where its deadline is later than `now` and than the moment. Constant time.
+    pub fn get(&self, key: &K, now: u64) -> Option<&V> {
+        let kept = self.stock.get(key)?;
+        if now.max(self.moment) < kept.deadline {
+            Some(&kept.value)
+        } else {
+            None
+        }
+    }
+
+    /// Whether a value is seen at a key. Constant time.
+    pub fn contains(&self, key: &K, now: u64) -> bool {
+        self.get(key, now).is_some()
+    }
+
+    /// What is seen at `now`: each key with its value, once, in no order that is promised. It goes over all that is kept.
+    pub fn seen(&self, now: u64) -> Seen<'_, K, V> {
+        Seen {
+            entries: self.stock.iter(),
+            moment: now.max(self.moment),
+        }
+    }
+
+    /// The least deadline of what is kept, seen or due: before it a purge has nothing to drop. None where nothing is kept.
+    /// Time as the keys whose deadlines share the first one's slot of the wheel; as all that is kept, where the first deadline
+    /// is more than two years ahead.
+    pub fn next_deadline(&self) -> Option<u64> {
+        match self.timers.first_deadline() {
+            Some(deadline) => Some(deadline),
+            None => least_deadline(&self.stock),
+        }
+    }
+
+    /// A tick to purge at next: before it nothing that is kept is due. None where nothing is kept. Constant time, however many
+    /// deadlines there are.
+    ///
+    /// It isn't after the least deadline, but may lie before it: then a purge there drops nothing, and the next wake after that
+    /// purge is nearer. Whoever purges at each wake purges at most six times for one deadline less than two years ahead. It may
+    /// lie before the moment where the moment was set by a renewal, or where the cache was refreshed.
+    pub fn next_wake(&self) -> Option<u64> {
+        self.timers.next_wake()
+    }
+}

@@ -1,0 +1,113 @@
+//! The calls that change a cache.
+
+use crate::apps::cache::TtlCache;
+use crate::apps::stock::{renew_at, timer_of};
+use crate::core::CoreError;
+use crate::ticks::LAST_TICK;
+use core::hash::{BuildHasher, Hash};
+
+/// What a put answers: the value that was seen at its key before; or why it is refused, with key and value.
+pub type PutAnswer<K, V> = Result<Option<V>, (CoreError, K, V)>;
+
+impl<K: Eq + Hash, V, S: BuildHasher> TtlCache<K, V, S> {
+    /// Puts a value at a key until `now + ttl`, or the moment's where that is later: the moment is set, and what is due then
+    /// is dropped. A key that is kept keeps its slot, and its old value is handed back. Constant time, but for what is
+    /// dropped and for a growth of the map.
+    ///
+    /// Refused as TickTooLarge for a `now` beyond the last tick and as TooFar for a deadline beyond it, and then nothing
+    /// changes; and, when the moment is set and what is due is dropped, as Worn for a key that is kept and whose slot has
+    /// no stamp left, as Full for one that isn't and for which no slot is free, and as NoMemory. Key and value come back.
+    ///
+    /// In Rust the hash and the comparison of a key may panic here. The put is lost then, and what was kept goes on until its
+    /// deadline; but where the map is growing, std's map may lose keys.
+    pub fn put(&mut self, key: K, value: V, ttl: u64, now: u64) -> PutAnswer<K, V>
+    where
+        K: Clone,
+    {
+        if now > LAST_TICK {
+            return Err((CoreError::TickTooLarge { limit: LAST_TICK }, key, value));
+        }
+        let moment = now.max(self.moment());
+        if LAST_TICK - moment < ttl {
+            return Err((CoreError::TooFar { limit: LAST_TICK }, key, value));
+        }
+        self.pass(moment);
+        self.drop_due();
+        let when = moment + ttl;
+        if self.holds(&key) {
+            match self.replace(&key, value, when) {
+                Ok(old) => Ok(Some(old)),
+                Err(value) => Err((CoreError::Worn, key, value)),
+            }
+        } else {
+            self.add(key, value, when)?;
+            Ok(None)
+        }
+    }
+
+    /// Takes out the value at a key that is seen at `now`. The moment stays. Constant time.
+    pub fn take(&mut self, key: &K, now: u64) -> Option<V> {
+        let timer = timer_of(&self.stock, key)?;
+        if timer.deadline <= now.max(self.moment) {
+            return None;
+        }
+        let Some(kept) = self.stock.remove(key) else {
+            unreachable!();
+        };
+        self.timers.stop(&timer.key);
+        Some(kept.value)
+    }
+
+    /// Gives a key that is seen at `now` the deadline `now + ttl`, or the moment's where that is later, and answers it; the
+    /// moment is set. Constant time.
+    ///
+    /// Refused, and then nothing changes, as TickTooLarge for a `now` beyond the last tick, as TooFar for a deadline beyond
+    /// it, as Missing where the key isn't seen, and as Worn where its slot has no stamp left.
+    pub fn renew(&mut self, key: &K, ttl: u64, now: u64) -> Result<u64, CoreError> {
+        if now > LAST_TICK {
+            return Err(CoreError::TickTooLarge { limit: LAST_TICK });
+        }
+        let moment = now.max(self.moment);
+        if LAST_TICK - moment < ttl {
+            return Err(CoreError::TooFar { limit: LAST_TICK });
+        }
+        let Some(kept) = self.stock.get_mut(key) else {
+            return Err(CoreError::Missing);
+        };
+        if kept.deadline <= moment {
+            return Err(CoreError::Missing);
+        }
+        let when = moment + ttl;
+        let Some(next) = self.timers.restart(&kept.key, when) else {
+            return Err(CoreError::Worn);
+        };
+        renew_at(kept, when, next);
+        self.moment = moment;
+        Ok(when)
+    }
+
+    /// Sets the moment, drops all that is due then, and answers how much. Time as what is dropped. Refused as TickTooLarge
+    /// beyond the last tick, and then nothing changes.
+    pub fn purge(&mut self, now: u64) -> Result<usize, CoreError> {
+        if now > LAST_TICK {
+            return Err(CoreError::TickTooLarge { limit: LAST_TICK });
+        }
+        let moment = now.max(self.moment());
+        self.pass(moment);
+        Ok(self.drop_due())
+    }
+
+    /// Sets the moment and takes out one key with its value that is due then, and none where nothing is due. So whoever
+    /// calls it until none comes gets each pair that a purge would drop. Time as a poll of the queue of deadlines.
+    ///
+    /// # Errors
+    /// TickTooLarge beyond the last tick, and then nothing changes.
+    pub fn take_expired(&mut self, now: u64) -> Result<Option<(K, V)>, CoreError> {
+        if now > LAST_TICK {
+            return Err(CoreError::TickTooLarge { limit: LAST_TICK });
+        }
+        let moment = now.max(self.moment());
+        self.pass(moment);
+        Ok(self.take_due())
+    }
+}

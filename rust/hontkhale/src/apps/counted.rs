@@ -1,0 +1,78 @@
+//! A cache that counts how often it saw what it was asked for.
+
+use crate::apps::cache::TtlCache;
+use crate::apps::memo::MemoAnswer;
+use core::hash::{BuildHasher, Hash};
+use std::collections::hash_map::RandomState;
+
+/// A cache whose look-ups are counted: as a hit where a value was seen, and else as a miss.
+///
+/// ```
+/// use hontkhale::{CountedCache, TtlCache};
+///
+/// let mut cache = CountedCache::new(TtlCache::with_capacity(100).unwrap());
+/// let long = cache.get_or_insert_with("key", 500, 1_000, || 1).unwrap();
+/// let short = cache.get_or_insert_with("key", 500, 1_001, || unreachable!()).unwrap();
+/// assert_eq!((long, short, cache.hits(), cache.misses()), (1, 1, 1, 1));
+/// ```
+///
+/// A count stays at the greatest `u64` where it came so far. What goes by the cache itself isn't counted.
+pub struct CountedCache<K: Eq + Hash, V, S: BuildHasher = RandomState> {
+    /// The cache.
+    pub cache: TtlCache<K, V, S>,
+    hits: u64,
+    misses: u64,
+}
+
+impl<K: Eq + Hash, V, S: BuildHasher> CountedCache<K, V, S> {
+    /// A cache of which no look-up was counted yet.
+    pub fn new(cache: TtlCache<K, V, S>) -> CountedCache<K, V, S> {
+        CountedCache {
+            cache,
+            hits: 0,
+            misses: 0,
+        }
+    }
+
+    /// How many look-ups saw a value, at most the greatest `u64`.
+    pub fn hits(&self) -> u64 {
+        self.hits
+    }
+
+    /// How many look-ups saw none, at most the greatest `u64`.
+    pub fn misses(&self) -> u64 {
+        self.misses
+    }
+
+    // Counts a look-up.
+    fn count(&mut self, hit: bool) {
+        if hit {
+            self.hits = self.hits.saturating_add(1);
+        } else {
+            self.misses = self.misses.saturating_add(1);
+        }
+    }
+}
+
+impl<K: Eq + Hash, V, S: BuildHasher> CountedCache<K, V, S> {
+    /// Whether a value is seen at a key, as [`TtlCache::contains`], counted.
+    pub fn sees(&mut self, key: &K, now: u64) -> bool {
+        let hit = self.cache.contains(key, now);
+        self.count(hit);
+        hit
+    }
+
+    /// As [`TtlCache::get_or_insert_with`], counted: as a hit exactly where `make` isn't called.
+    ///
+    /// # Errors
+    /// As [`TtlCache::get_or_insert_with`]; it is counted then too.
+    pub fn get_or_insert_with<F>(&mut self, key: K, ttl: u64, now: u64, make: F) -> MemoAnswer<V>
+    where
+        F: FnOnce() -> V,
+        K: Clone,
+        V: Clone,
+    {
+        self.sees(&key, now);
+        self.cache.get_or_insert_with(key, ttl, now, make)
+    }
+}

@@ -1,0 +1,83 @@
+//! What the calls of a cache are made of, each exact.
+
+use crate::apps::cache::TtlCache;
+use crate::apps::kept::Kept;
+use crate::apps::stock::replace_at;
+use crate::core::CoreError;
+use core::hash::{BuildHasher, Hash};
+use std::collections::hash_map::Entry;
+
+impl<K: Eq + Hash, V, S: BuildHasher> TtlCache<K, V, S> {
+    // Sets the moment.
+    pub(crate) fn pass(&mut self, moment: u64) {
+        self.moment = moment;
+    }
+
+    // Takes out one entry that is due at the moment, if there is one.
+    pub(crate) fn take_due(&mut self) -> Option<(K, V)> {
+        loop {
+            let key = self.timers.stop_due(self.moment)?;
+            // A map may have lost a key where a hash panicked while it moved its keys.
+            if let Some(kept) = self.stock.remove(&key) {
+                return Some((key, kept.value));
+            }
+        }
+    }
+
+    // Drops all that is due at the moment, and answers how much.
+    pub(crate) fn drop_due(&mut self) -> usize {
+        let mut dropped = 0usize;
+        while let Some(_due) = self.take_due() {
+            dropped += 1;
+        }
+        dropped
+    }
+
+    // Whether a key is kept. One that is due has no timer any more where its hash panicked as it was to be dropped.
+    pub(crate) fn holds(&self, key: &K) -> bool {
+        matches!(self.stock.get(key), Some(kept) if kept.deadline > self.moment)
+    }
+
+    // Puts a value at a key that is kept; hands it back where the slot has no stamp left.
+    pub(crate) fn replace(&mut self, key: &K, value: V, when: u64) -> Result<V, V> {
+        let Some(kept) = self.stock.get_mut(key) else {
+            unreachable!();
+        };
+        match self.timers.restart(&kept.key, when) {
+            Some(next) => Ok(replace_at(kept, value, when, next)),
+            None => Err(value),
+        }
+    }
+
+    // Puts a key that isn't kept at a free slot.
+    pub(crate) fn add(&mut self, key: K, value: V, when: u64) -> Result<(), (CoreError, K, V)>
+    where
+        K: Clone,
+    {
+        let (linked, worn) = (self.timers.len(), self.timers.worn());
+        if linked + worn == self.timers.capacity() {
+            return Err((CoreError::Full { linked, worn }, key, value));
+        }
+        let copy = key.clone();
+        if self.stock.try_reserve(1).is_err() {
+            return Err((CoreError::NoMemory, key, value));
+        }
+        // The key is hashed here, and not once its timer runs: its hash may panic.
+        let place = self.stock.entry(key);
+        let timer = self.timers.start(copy, when);
+        let kept = Kept {
+            value,
+            deadline: when,
+            key: timer,
+        };
+        match place {
+            Entry::Vacant(place) => {
+                place.insert(kept);
+            }
+            Entry::Occupied(mut place) => {
+                place.insert(kept);
+            }
+        }
+        Ok(())
+    }
+}

@@ -1,0 +1,21 @@
+//! The callers of a queue's words.
+
+use crate::core::queue::DelayCore;
+use crate::core::words::SharedWords;
+
+impl<T, W: SharedWords> DelayCore<T, W> {
+    /// Issues a caller of the words.
+    pub fn issue(&mut self) -> Result<W::Caller, W::Fault> {
+        self.words.issue()
+    }
+
+    /// The issued callers that are not given back.
+    pub fn out(&mut self) -> u64 {
+        self.words.out()
+    }
+
+    /// The accepted cancels of all callers, where none is out; else the number of callers that are out.
+    pub fn returned(&mut self) -> Result<u64, u64> {
+        self.words.returned()
+    }
+}

@@ -1,0 +1,81 @@
+//! The live entries of a queue, one after the other, and the value of one of them.
+
+use crate::core::queue::DelayCore;
+use crate::core::vec_words::VecWords;
+use crate::core::words::Words;
+use crate::ticks::{EntryId, Key, Mark};
+
+/// A live entry of a queue over plain words.
+pub struct LiveEntry<'a, T> {
+    /// Its key, of the present stamp.
+    pub key: Key,
+    /// Its deadline in force, a tick of one millisecond.
+    pub deadline: u64,
+    /// Its value.
+    pub value: &'a T,
+}
+
+/// The live entries of a queue over plain words, as an iterator over those that are left.
+///
+/// ```
+/// use hontkhale::DelayCore;
+///
+/// let mut queue = DelayCore::with_capacity(4)?;
+/// queue.insert_or_drop("a", 10)?;
+/// queue.insert_or_drop("b", 20)?;
+/// let sum: u64 = queue.entries().map(|entry| entry.deadline).sum();
+/// assert_eq!(sum, 30);
+/// # Ok::<(), hontkhale::CoreError>(())
+/// ```
+pub struct Entries<'a, T> {
+    queue: &'a DelayCore<T, VecWords>,
+    slot: usize,
+}
+
+impl<T, W: Words> DelayCore<T, W> {
+    /// The value of an entry; none where no entry is linked with that shard, index and birth stamp. One that a caller
+    /// cancelled has its value until it is reaped. Constant time.
+    pub fn get(&self, entry: &EntryId) -> Option<&T> {
+        let index = self.find(entry)?;
+        let held = self.slots.held(index)?;
+        Some(held.1)
+    }
+}
+
+impl<T> DelayCore<T, VecWords> {
+    // The live entry at a slot.
+    fn entry_at(&self, slot: usize) -> Option<LiveEntry<'_, T>> {
+        let held = self.slots.held(slot)?;
+        let word = self.words.word(slot);
+        let Mark::LiveMark = word.mark else {
+            return None;
+        };
+        let entry = EntryId::new(self.shard, slot as u32, held.0);
+        Some(LiveEntry {
+            key: Key::new(entry, word.stamp),
+            deadline: word.field,
+            value: held.1,
+        })
+    }
+
+    /// The live entries, one after the other, by their slots: each with its key, its deadline in force and its value. A
+    /// step looks at slots until it finds a live entry, so all of them take as much time as there are slots.
+    pub fn entries(&self) -> Entries<'_, T> {
+        Entries { queue: self, slot: 0 }
+    }
+}
+
+impl<'a, T> Iterator for Entries<'a, T> {
+    type Item = LiveEntry<'a, T>;
+
+    fn next(&mut self) -> Option<LiveEntry<'a, T>> {
+        while self.slot < self.queue.capacity() {
+            let slot = self.slot;
+            self.slot += 1;
+            if let Some(entry) = self.queue.entry_at(slot) {
+                return Some(entry);
+            }
+        }
+        None
+    }
+}

@@ -1,0 +1,131 @@
+//! The free indexes of a row of slots.
+//!
+//! The indexes that were freed last stand on a small stack and are given first: their rows are still near. All others
+//! are bits of words, with a bit of a summary for each word that isn't 0, and are given in rising order from where the
+//! last was given, so that a fill walks through the memory in its order. The stack also serves a queue that is nearly
+//! full, where the few free bits would lie far apart. Each call takes constant time.
+
+use crate::index::{nth, nth_mut};
+use crate::memory::{filled, room_for, AllocError};
+use alloc::vec::Vec;
+
+// How many of the indexes that were freed last stand on the stack.
+const RECENT: usize = 64;
+
+// The bits of a word.
+const BITS: usize = 64;
+
+// A bit for each of 1,024 words.
+type Summary = [u64; 16];
+
+/// Which indexes are free.
+pub struct FreeSlots {
+    recent: Vec<u16>,
+    bits: Vec<u64>,
+    summary: Summary,
+    /// The word that gave the last index.
+    current: usize,
+}
+
+// The place of the lowest bit of a word that is 1.
+fn lowest_bit(word: u64) -> Option<usize> {
+    if word == 0 {
+        None
+    } else {
+        Some(word.trailing_zeros() as usize)
+    }
+}
+
+/// A word that the summary has a bit for: in rising order from `from`, and then again from the first.
+// Called once a word, so it stays out of its callers' loops.
+#[inline(never)]
+fn next_word(summary: &Summary, from: usize) -> Option<usize> {
+    let group = from / BITS;
+    if let Some(ahead) = lowest_bit(*nth(summary, group) >> (from % BITS)) {
+        return Some(from + ahead);
+    }
+    for turn in 0..16 {
+        let next = (group + 1 + turn) % 16;
+        if let Some(bit) = lowest_bit(*nth(summary, next)) {
+            return Some(BITS * next + bit);
+        }
+    }
+    None
+}
+
+// A word of bits that isn't 0: the one that gave the last index, or the next that the summary knows.
+#[inline]
+fn filled_word(bits: &[u64], summary: &Summary, last: usize) -> Option<usize> {
+    if *nth(bits, last) != 0 {
+        Some(last)
+    } else {
+        next_word(summary, last)
+    }
+}
+
+// Sets the bit of an index, and its word's in the summary where it is the word's first.
+#[inline]
+fn set_bit(bits: &mut [u64], summary: &mut Summary, index: usize) {
+    let word = index / BITS;
+    let held = *nth(bits, word);
+    *nth_mut(bits, word) = held | 1 << (index % BITS);
+    if held == 0 {
+        *nth_mut(summary, word / BITS) |= 1 << (word % BITS);
+    }
+}
+
+// Clears the lowest bit of a word that isn't 0, and the word's bit in the summary where it was its only one.
+#[inline]
+fn take_bit(bits: &mut [u64], summary: &mut Summary, word: usize) -> usize {
+    let held = *nth(bits, word);
+    let bit = held.trailing_zeros() as usize;
+    let left = held & !(1 << bit);
+    *nth_mut(bits, word) = left;
+    if left == 0 {
+        *nth_mut(summary, word / BITS) &= !(1 << (word % BITS));
+    }
+    BITS * word + bit
+}
+
+impl FreeSlots {
+    /// Room for the indexes below `capacity`, of which none is free.
+    pub fn new(capacity: usize) -> Result<FreeSlots, AllocError> {
+        let recent = room_for(RECENT)?;
+        let words = capacity.saturating_sub(1) / BITS + 1;
+        let bits = filled(0, words)?;
+        Ok(FreeSlots {
+            recent,
+            bits,
+            summary: [0; 16],
+            current: 0,
+        })
+    }
+}
+
+impl FreeSlots {
+    /// Frees an index, to be given in its order.
+    pub fn set(&mut self, index: usize) {
+        set_bit(self.bits.as_mut_slice(), &mut self.summary, index);
+    }
+
+    /// Frees an index, to be given soon.
+    #[inline]
+    pub fn give(&mut self, index: usize) {
+        if self.recent.len() < RECENT {
+            self.recent.push(index as u16);
+        } else {
+            self.set(index);
+        }
+    }
+
+    /// Takes a free index, if there is one.
+    #[inline]
+    pub fn take(&mut self) -> Option<usize> {
+        if let Some(top) = self.recent.pop() {
+            return Some(top as usize);
+        }
+        let word = filled_word(&self.bits, &self.summary, self.current)?;
+        self.current = word;
+        Some(take_bit(self.bits.as_mut_slice(), &mut self.summary, word))
+    }
+}

@@ -1,0 +1,65 @@
+//! The front door: what most users of a queue of one owner write.
+
+use crate::core::errors::{BadNumber, CoreConfig, CoreError};
+use crate::core::queue::DelayCore;
+use crate::core::vec_words::VecWords;
+use crate::core::words::Words;
+use crate::ticks::{Key, CAPACITY_LIMIT, LAST_STAMP};
+
+impl CoreConfig {
+    /// Shard 0, with that many slots, each of which may be used until the last stamp there is.
+    pub fn of(capacity: usize) -> CoreConfig {
+        CoreConfig {
+            shard: 0,
+            capacity,
+            last_stamp: LAST_STAMP,
+        }
+    }
+
+    /// Whether a queue can be made by these numbers. A `BadConfig` tells no number, so ask here first where the numbers
+    /// come from outside.
+    ///
+    /// # Errors
+    /// The first number that is out of its range: the capacity, and then the last stamp.
+    pub fn check(&self) -> Result<(), BadNumber> {
+        if self.capacity == 0 || self.capacity > CAPACITY_LIMIT {
+            return Err(BadNumber::BadCapacity(self.capacity));
+        }
+        if self.last_stamp == 0 || self.last_stamp > LAST_STAMP {
+            return Err(BadNumber::BadLastStamp(self.last_stamp));
+        }
+        Ok(())
+    }
+}
+
+impl<T> DelayCore<T, VecWords> {
+    /// A queue of one owner for that many entries, over plain words, at tick 0 with nothing linked. All of its memory is
+    /// taken here.
+    ///
+    /// # Errors
+    /// BadConfig where the capacity isn't 1 to [`CAPACITY_LIMIT`], and else NoMemory.
+    pub fn with_capacity(capacity: usize) -> Result<DelayCore<T, VecWords>, CoreError> {
+        if capacity == 0 || capacity > CAPACITY_LIMIT {
+            return Err(CoreError::BadConfig);
+        }
+        let words = VecWords::new(capacity)?;
+        match DelayCore::new(CoreConfig::of(capacity), words) {
+            Ok(queue) => Ok(queue),
+            Err((error, _)) => Err(error),
+        }
+    }
+}
+
+impl<T, W: Words> DelayCore<T, W> {
+    /// As [`DelayCore::insert`], for callers that answer a refusal with `?`: the value is dropped then.
+    ///
+    /// # Errors
+    /// TooFar beyond the last tick, and else Full where no slot is free.
+    #[inline]
+    pub fn insert_or_drop(&mut self, value: T, when: u64) -> Result<Key, CoreError> {
+        match self.insert(value, when) {
+            Ok(key) => Ok(key),
+            Err((error, _)) => Err(error),
+        }
+    }
+}

@@ -1,0 +1,95 @@
+//! What the queue answers.
+
+use crate::ticks::Key;
+
+/// An entry that came out of a poll.
+#[derive(Debug)]
+pub struct Expired<T> {
+    /// Its key of the present stamp.
+    pub key: Key,
+    /// Its deadline in force.
+    pub deadline: u64,
+    /// The greatest tick that was noted, which the deadline is not after.
+    pub noted: u64,
+    /// Its value.
+    pub value: T,
+}
+
+/// What a sweep of some slots answers.
+#[derive(Clone, Copy, Debug, PartialEq, Eq)]
+pub struct Swept {
+    /// How many cancelled entries it reaped.
+    pub reaped: usize,
+    /// The slot to go on from, none behind the last.
+    pub next: Option<usize>,
+}
+
+/// An entry that was removed.
+#[derive(Debug)]
+pub struct Removed<T> {
+    /// Its key of the present stamp.
+    pub key: Key,
+    /// The deadline that was in force.
+    pub deadline: u64,
+    /// Its value.
+    pub value: T,
+}
+
+/// What a poll answers.
+#[derive(Debug)]
+pub enum Turn<T> {
+    /// An entry whose deadline in force is reached.
+    Out(Expired<T>),
+    /// None is due: there is nothing to do before the tick `next`.
+    Waiting {
+        /// The next wake of the wheel, a tick of one millisecond.
+        next: u64,
+    },
+    /// Nothing is linked.
+    Idle,
+}
+
+/// What a poll in pieces answers.
+#[derive(Debug)]
+pub enum Piece<T> {
+    /// The answer of the poll.
+    Answer(Turn<T>),
+    /// The call made all of its steps, and more may be left.
+    Working,
+}
+
+/// How a step of a poll comes to a later tick.
+#[derive(Clone, Copy)]
+pub enum Pace {
+    /// Slot by slot: each that starts is opened whole.
+    Whole,
+    /// To the start of a slot, which is left as it is.
+    InPieces,
+}
+
+/// What a step of a poll came to.
+pub enum Progress<T> {
+    /// An entry came out.
+    Gave(Expired<T>),
+    /// The queue went on.
+    Went,
+    /// None is due at the noted tick.
+    Rests,
+}
+
+/// How many entries came and went.
+#[derive(Clone, Copy, Debug, PartialEq, Eq)]
+pub struct Tally {
+    /// Inserts.
+    pub inserted: u64,
+    /// Entries that came out.
+    pub expired: u64,
+    /// Entries that were removed.
+    pub removed: u64,
+    /// Cancelled entries that were reaped.
+    pub cancelled: u64,
+    /// Entries that are linked.
+    pub linked: u64,
+    /// Moves from one level's slot to a lower level's slot, or the greatest u64.
+    pub moves: u64,
+}

@@ -1,0 +1,175 @@
+//! How a queue goes on for years: over fresh words, under a higher number.
+//!
+//! A slot has as many stamps as its queue's last one, and holds nothing more once they are used. Where nothing is linked the
+//! queue may be renewed: each slot begins anew, and the queue's keys carry a higher number from then on. So each key from
+//! before is refused for good.
+
+use crate::core::errors::CoreError;
+use crate::core::queue::DelayCore;
+use crate::core::slots::Slots;
+use crate::core::words::Words;
+use crate::fresh::are_fresh;
+use crate::ticks::{CAPACITY_LIMIT, LAST_STAMP};
+use core::{fmt, mem};
+
+/// Why a queue isn't renewed.
+#[derive(Clone, Copy, Debug, PartialEq, Eq)]
+pub enum RenewError {
+    /// Entries are linked, live or cancelled and not yet reaped.
+    StillLinked {
+        /// How many.
+        linked: usize,
+    },
+    /// The new number isn't higher than the queue's, so keys may carry it.
+    UsedNumber {
+        /// The queue's number.
+        number: u32,
+    },
+    /// The words aren't as many as the slots, or the fresh slots not as many or with another last stamp.
+    WrongRows,
+}
+
+impl fmt::Display for RenewError {
+    fn fmt(&self, f: &mut fmt::Formatter<'_>) -> fmt::Result {
+        match self {
+            RenewError::StillLinked { linked } => write!(f, "{linked} entries are still linked"),
+            RenewError::UsedNumber { number } => {
+                write!(f, "the queue had the number {number}, and the new one isn't higher")
+            }
+            RenewError::WrongRows => f.write_str("the words are not one a slot"),
+        }
+    }
+}
+
+#[cfg(feature = "std")]
+impl std::error::Error for RenewError {}
+
+/// Words and slots that were never used, one of each, for [`DelayCore::renew_with`]. Their memory is taken where they are
+/// made: outside of the lock that a queue lies behind, say.
+pub struct FreshRows<T, W: Words> {
+    words: W,
+    slots: Slots<T>,
+}
+
+impl<T, W: Words> FreshRows<T, W> {
+    /// Those words, with a slot for each that has `last_stamp` stamps.
+    ///
+    /// # Errors
+    /// BadConfig where the words aren't 1 to [`CAPACITY_LIMIT`] or the last stamp isn't 1 to [`LAST_STAMP`], and else
+    /// NoMemory. The words come back then.
+    pub fn new(words: W, last_stamp: u32) -> Result<FreshRows<T, W>, (CoreError, W)> {
+        let capacity = words.rows();
+        if capacity == 0 || capacity > CAPACITY_LIMIT || last_stamp == 0 || last_stamp > LAST_STAMP {
+            return Err((CoreError::BadConfig, words));
+        }
+        match Slots::new(capacity, last_stamp) {
+            Ok(slots) => Ok(FreshRows { words, slots }),
+            Err(_refused) => Err((CoreError::NoMemory, words)),
+        }
+    }
+}
+
+impl<T, W: Words> FreshRows<T, W> {
+    /// From now on the queue that goes on over them sets aside what it lets go, as by [`DelayCore::set_aside`].
+    pub fn set_aside(&mut self) {
+        self.slots.set_aside();
+    }
+}
+
+impl<T, W: Words> DelayCore<T, W> {
+    /// Goes on over fresh words, under the number `shard`, and answers the words that it had. No slot is worn then, and
+    /// each has all its stamps again. The ticks go on. Every key from before has a lower number, so the queue's calls
+    /// refuse it for good. Callers of the old words stay at those, and reach nothing new. A caller of the new words
+    /// reads no number: it is to be given none of the old keys.
+    ///
+    /// It takes no memory, and goes over every slot once.
+    ///
+    /// # Errors
+    /// StillLinked where an entry is linked, then UsedNumber where the number isn't higher than the queue's, and then
+    /// WrongRows where the words aren't as many as the slots. The words come back then, and nothing changes.
+    ///
+    /// # Panics
+    /// Where the words were in use before.
+    ///
+    /// ```
+    /// use hontkhale::{CoreConfig, CoreError, DelayCore, VecWords};
+    ///
+    /// # fn main() -> Result<(), CoreError> {
+    /// let config = CoreConfig { shard: 0, capacity: 1, last_stamp: 1 };
+    /// let mut queue = DelayCore::new(config, VecWords::new(1)?).map_err(|refused| refused.0)?;
+    /// queue.insert_or_drop("value", 10)?;
+    /// queue.clear();
+    /// assert!(matches!(queue.insert_or_drop("value", 10), Err(CoreError::Full { linked: 0, worn: 1 })));
+    ///
+    /// if queue.is_empty() && queue.worn() > 0 {
+    ///     let words = VecWords::new(queue.capacity())?;
+    ///     assert!(queue.renew(queue.shard() + 1, words).is_ok());
+    /// }
+    /// queue.insert_or_drop("value", 10)?;
+    /// # Ok(())
+    /// # }
+    /// ```
+    pub fn renew(&mut self, shard: u32, words: W) -> Result<W, (RenewError, W)> {
+        let mut words = words;
+        assert!(
+            are_fresh(&mut words),
+            "the words that a queue is renewed by are in use already"
+        );
+        let linked = self.slots.linked();
+        if linked > 0 {
+            return Err((RenewError::StillLinked { linked }, words));
+        }
+        if shard <= self.shard {
+            let number = self.shard;
+            return Err((RenewError::UsedNumber { number }, words));
+        }
+        if words.rows() != self.slots.capacity() {
+            return Err((RenewError::WrongRows, words));
+        }
+        self.slots.forget();
+        self.shard = shard;
+        self.inserted = 0;
+        self.expired = 0;
+        self.removed = 0;
+        Ok(mem::replace(&mut self.words, words))
+    }
+
+    /// As [`DelayCore::renew`], with slots that were never used in the place of the queue's own, too. It answers the words
+    /// and the slots that it had, which hold nothing.
+    ///
+    /// It takes no memory and gives none back, and is of constant time. What is set aside goes with the old slots; whether
+    /// the queue sets aside is then as `FreshRows::set_aside` said of the new ones.
+    ///
+    /// # Errors
+    /// StillLinked where an entry is linked, then UsedNumber where the number isn't higher than the queue's, and then
+    /// WrongRows where the rows aren't as many as the slots, or have another last stamp. The rows come back then, and
+    /// nothing changes.
+    #[allow(clippy::type_complexity, clippy::result_large_err)]
+    pub(crate) fn renew_with(
+        &mut self,
+        shard: u32,
+        rows: FreshRows<T, W>,
+    ) -> Result<(W, Slots<T>), (RenewError, FreshRows<T, W>)> {
+        let linked = self.slots.linked();
+        if linked > 0 {
+            return Err((RenewError::StillLinked { linked }, rows));
+        }
+        if shard <= self.shard {
+            let number = self.shard;
+            return Err((RenewError::UsedNumber { number }, rows));
+        }
+        if rows.slots.capacity() != self.slots.capacity() {
+            return Err((RenewError::WrongRows, rows));
+        }
+        if rows.slots.last() != self.slots.last() {
+            return Err((RenewError::WrongRows, rows));
+        }
+        let FreshRows { words, slots } = rows;
+        self.shard = shard;
+        self.inserted = 0;
+        self.expired = 0;
+        self.removed = 0;
+        let old = mem::replace(&mut self.slots, slots);
+        Ok((mem::replace(&mut self.words, words), old))
+    }
+}

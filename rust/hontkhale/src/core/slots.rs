@@ -1,0 +1,372 @@
+//! The fixed row of slots, and which of them are free.
+//!
+//! A slot has a stamp, at first 0, which rises by one with each value that is put there and with each reset of what is
+//! held there. A slot that holds nothing at the last stamp is worn: it is never used again. All the memory is taken by
+//! `new`. Every other call is of constant time but `forget`, which goes over every slot.
+//!
+//! A value that is let go is dropped at once. In a row that sets aside it stays in its slot, which holds nothing from then
+//! on, until somebody takes it out: so whoever keeps the row behind a lock can drop it once the lock is free.
+
+use crate::core::aside::Aside;
+use crate::core::free_slots::FreeSlots;
+use crate::index::{nth, nth_mut};
+use crate::memory::{room_for, AllocError};
+use alloc::vec::Vec;
+use core::mem;
+
+/// What is held at a slot.
+pub struct Held<T> {
+    /// The stamp under which the value was put there.
+    pub born: u32,
+    /// The value.
+    pub value: T,
+}
+
+// A slot as it lies in memory: one row, so that an insert and a removal touch one line.
+struct Cell<T> {
+    stamp: u32,
+    // The birth stamp of what it holds, and 0 where it holds nothing.
+    born: u32,
+    // What it holds, or a value that was let go and is set aside here.
+    value: Option<T>,
+}
+
+impl<T> Cell<T> {
+    fn unused() -> Self {
+        Cell {
+            stamp: 0,
+            born: 0,
+            value: None,
+        }
+    }
+
+    #[inline]
+    fn stamp(&self) -> u32 {
+        self.stamp
+    }
+
+    #[inline]
+    fn is_held(&self) -> bool {
+        self.born > 0
+    }
+
+    #[inline]
+    fn born(&self) -> Option<u32> {
+        if self.born > 0 {
+            Some(self.born)
+        } else {
+            None
+        }
+    }
+
+    #[inline]
+    fn held(&self) -> Option<(u32, &T)> {
+        if self.born == 0 {
+            return None;
+        }
+        match &self.value {
+            Some(value) => Some((self.born, value)),
+            None => None,
+        }
+    }
+
+    // Puts a value in, and answers the one that was set aside here.
+    #[inline]
+    fn fill(&mut self, value: T) -> Option<T> {
+        self.stamp += 1;
+        self.born = self.stamp;
+        // A value without a drop is never set aside.
+        if mem::needs_drop::<T>() {
+            return self.value.replace(value);
+        }
+        self.value = Some(value);
+        None
+    }
+
+    #[inline]
+    fn vacate(&mut self) -> Held<T> {
+        let value = self.value.take().unwrap();
+        let born = self.born;
+        self.born = 0;
+        Held { born, value }
+    }
+
+    // Lets go of what it holds, which is set aside here.
+    fn let_go(&mut self) {
+        self.born = 0;
+    }
+
+    // Takes out what was set aside here, if anything was.
+    fn take_aside(&mut self) -> Option<T> {
+        if self.born != 0 {
+            return None;
+        }
+        self.value.take()
+    }
+
+    // Whether it holds nothing, and nothing is set aside here.
+    fn is_clean(&self) -> bool {
+        self.born == 0 && self.value.is_none()
+    }
+
+    // Sets a value aside here. False where there is no place, and it is dropped.
+    fn put_aside(&mut self, value: T) -> bool {
+        if self.born > 0 || self.value.is_some() {
+            return false;
+        }
+        self.value = Some(value);
+        true
+    }
+
+    // As if it had never been used; but what was set aside stays.
+    fn forget(&mut self) {
+        self.stamp = 0;
+        self.born = 0;
+    }
+
+    #[inline]
+    fn raise(&mut self) {
+        self.stamp += 1;
+    }
+}
+
+/// The fixed row of slots.
+pub struct Slots<T> {
+    last: u32,
+    held_count: usize,
+    /// How many slots are free.
+    free_count: usize,
+    cells: Vec<Cell<T>>,
+    free: FreeSlots,
+    aside: Aside,
+}
+
+impl<T> Slots<T> {
+    /// A row of slots that were never used.
+    pub fn new(capacity: usize, last: u32) -> Result<Slots<T>, AllocError> {
+        let mut cells = room_for(capacity)?;
+        let mut free = FreeSlots::new(capacity)?;
+        for index in 0..capacity {
+            cells.push(Cell::unused());
+            free.set(index);
+        }
+        Ok(Slots {
+            last,
+            held_count: 0,
+            free_count: capacity,
+            cells,
+            free,
+            aside: Aside::new(),
+        })
+    }
+}
+
+impl<T> Slots<T> {
+    /// From now on what is let go is set aside, where its drop does anything.
+    pub fn set_aside(&mut self) {
+        self.aside.keep();
+    }
+
+    /// How many values are set aside.
+    #[inline(always)]
+    pub fn aside(&self) -> usize {
+        self.aside.count::<T>()
+    }
+}
+
+impl<T> Slots<T> {
+    /// How many slots there are.
+    #[inline]
+    pub fn capacity(&self) -> usize {
+        self.cells.len()
+    }
+
+    /// How many slots hold a value.
+    #[inline]
+    pub fn linked(&self) -> usize {
+        self.held_count
+    }
+
+    /// How many slots are worn: they hold nothing and have no stamp left.
+    #[inline]
+    pub fn worn(&self) -> usize {
+        self.cells.len() - self.held_count - self.free_count
+    }
+
+    /// The last stamp.
+    #[inline]
+    pub fn last(&self) -> u32 {
+        self.last
+    }
+
+    /// The present stamp of a slot.
+    #[inline]
+    pub fn stamp(&self, index: usize) -> u32 {
+        let cell = nth(&self.cells, index);
+        cell.stamp()
+    }
+
+    /// Whether a slot holds a value.
+    #[inline]
+    pub fn is_held(&self, index: usize) -> bool {
+        let cell = nth(&self.cells, index);
+        cell.is_held()
+    }
+
+    /// The birth stamp of what a slot holds.
+    #[inline]
+    pub fn born(&self, index: usize) -> Option<u32> {
+        let cell = nth(&self.cells, index);
+        cell.born()
+    }
+
+    /// What a slot holds: its birth stamp, and a reference to the value.
+    #[inline]
+    pub fn held(&self, index: usize) -> Option<(u32, &T)> {
+        let cell = nth(&self.cells, index);
+        cell.held()
+    }
+
+    /// Puts a value into a free slot, under that slot's next stamp, and answers its index; hands the value back where no
+    /// slot is free.
+    #[inline]
+    pub fn fill(&mut self, value: T) -> Result<usize, T> {
+        let Some(index) = self.free.take() else {
+            return Err(value);
+        };
+        let cell = nth_mut(&mut self.cells, index);
+        let parted = cell.fill(value);
+        self.held_count += 1;
+        self.free_count -= 1;
+        self.put_aside(parted);
+        Ok(index)
+    }
+
+    /// Takes out what a slot holds.
+    #[inline]
+    pub fn vacate(&mut self, index: usize) -> Held<T> {
+        let cell = nth_mut(&mut self.cells, index);
+        let held = cell.vacate();
+        if cell.stamp() < self.last {
+            self.free.give(index);
+            self.free_count += 1;
+        }
+        self.held_count -= 1;
+        held
+    }
+
+    /// Lets go of what a slot holds. The value is dropped, once all else is done; or it is set aside, where the row does so.
+    #[inline]
+    pub fn let_go(&mut self, index: usize) {
+        if !self.aside.keeps::<T>() {
+            self.vacate(index);
+            return;
+        }
+        let cell = nth_mut(&mut self.cells, index);
+        cell.let_go();
+        let stamp = cell.stamp();
+        if stamp < self.last {
+            self.free.give(index);
+            self.free_count += 1;
+        }
+        self.held_count -= 1;
+        self.aside.more(index);
+    }
+
+    // Takes out what was set aside at a slot, if anything was.
+    fn take_aside_at(&mut self, index: usize) -> Option<T> {
+        if index >= self.cells.len() {
+            return None;
+        }
+        let cell = nth_mut(&mut self.cells, index);
+        cell.take_aside()
+    }
+
+    /// Takes out a value that is set aside, if there is one. It looks at slots that are told it, and passes each once for a
+    /// value that was let go there.
+    pub fn take_aside(&mut self) -> Option<T> {
+        for _turn in 0..self.aside.most(self.cells.len()) {
+            let index = self.aside.next()?;
+            if let Some(value) = self.take_aside_at(index) {
+                self.aside.took(index);
+                return Some(value);
+            }
+        }
+        None
+    }
+
+    // Whether a slot holds nothing, and nothing is set aside there.
+    fn is_clean(&self, index: usize) -> bool {
+        if index >= self.cells.len() {
+            return false;
+        }
+        let cell = nth(&self.cells, index);
+        cell.is_clean()
+    }
+
+    // Takes out a value that is set aside, where no slot is known that has a place for one.
+    #[inline(never)]
+    fn take_unless_clean(&mut self) -> Option<T> {
+        if self.is_clean(self.aside.clean()) {
+            return None;
+        }
+        self.take_aside()
+    }
+
+    /// Takes out a value that is set aside, where a fill might find no other slot for one that is set aside in its own.
+    #[inline(always)]
+    pub fn take_crowded(&mut self) -> Option<T> {
+        if self.aside() == 0 {
+            return None;
+        }
+        self.take_unless_clean()
+    }
+
+    // Sets aside at another slot what was set aside at one that is filled. It is dropped where that has no place.
+    #[inline(never)]
+    fn put_aside_at(&mut self, index: usize, value: T) {
+        if index >= self.cells.len() {
+            self.aside.fewer();
+            return;
+        }
+        let cell = nth_mut(&mut self.cells, index);
+        if cell.put_aside(value) {
+            self.aside.note(index);
+        } else {
+            self.aside.fewer();
+        }
+    }
+
+    #[inline(always)]
+    fn put_aside(&mut self, parted: Option<T>) {
+        if let Some(value) = parted {
+            let clean = self.aside.clean();
+            self.put_aside_at(clean, value);
+        }
+    }
+
+    /// Gives what a slot holds its next stamp.
+    #[inline]
+    pub fn raise(&mut self, index: usize) {
+        let cell = nth_mut(&mut self.cells, index);
+        cell.raise();
+    }
+
+    // Makes a slot that holds nothing as if it had never been used.
+    fn forget_at(&mut self, index: usize) {
+        let cell = nth_mut(&mut self.cells, index);
+        let was_worn = cell.stamp() >= self.last;
+        cell.forget();
+        if was_worn {
+            self.free.set(index);
+            self.free_count += 1;
+        }
+    }
+
+    /// Makes each slot of a row that holds nothing as if it had never been used. It goes over every slot.
+    pub fn forget(&mut self) {
+        for index in 0..self.cells.len() {
+            self.forget_at(index);
+        }
+    }
+}

@@ -1,0 +1,270 @@
+//! How the types are shown that hold entries: by their numbers, and never by an entry's value.
+
+use crate::core::{DelayCore, Entries, Held, LiveEntry, Pending, PlainQueue, PlainTurn, VecWords, Words};
+use crate::words::{Caller, Keeper};
+use core::fmt::{Debug, Formatter, Result};
+
+impl<T, W: Words> Debug for DelayCore<T, W> {
+    fn fmt(&self, f: &mut Formatter<'_>) -> Result {
+        f.debug_struct("DelayCore")
+            .field("shard", &self.shard())
+            .field("len", &self.len())
+            .field("capacity", &self.capacity())
+            .field("tick", &self.tick())
+            .field("noted", &self.noted())
+            .field("next_wake", &self.next_wake())
+            .finish_non_exhaustive()
+    }
+}
+
+impl Debug for VecWords {
+    fn fmt(&self, f: &mut Formatter<'_>) -> Result {
+        f.debug_struct("VecWords")
+            .field("rows", &self.rows())
+            .finish_non_exhaustive()
+    }
+}
+
+impl Debug for Keeper {
+    fn fmt(&self, f: &mut Formatter<'_>) -> Result {
+        f.debug_struct("Keeper")
+            .field("rows", &self.rows())
+            .finish_non_exhaustive()
+    }
+}
+
+impl Debug for Caller {
+    fn fmt(&self, f: &mut Formatter<'_>) -> Result {
+        f.debug_struct("Caller")
+            .field("cancels", &self.cancels())
+            .finish_non_exhaustive()
+    }
+}
+
+impl<T> Debug for Entries<'_, T> {
+    fn fmt(&self, f: &mut Formatter<'_>) -> Result {
+        f.debug_struct("Entries").finish_non_exhaustive()
+    }
+}
+
+impl<T> Debug for LiveEntry<'_, T> {
+    fn fmt(&self, f: &mut Formatter<'_>) -> Result {
+        f.debug_struct("LiveEntry")
+            .field("key", &self.key)
+            .field("deadline", &self.deadline)
+            .finish_non_exhaustive()
+    }
+}
+
+impl<T> Debug for Held<T> {
+    fn fmt(&self, f: &mut Formatter<'_>) -> Result {
+        f.debug_struct("Held").field("born", &self.born).finish_non_exhaustive()
+    }
+}
+
+impl<T> Debug for Pending<T> {
+    fn fmt(&self, f: &mut Formatter<'_>) -> Result {
+        f.debug_struct("Pending")
+            .field("deadline", &self.deadline)
+            .finish_non_exhaustive()
+    }
+}
+
+impl<T> Debug for PlainTurn<T> {
+    fn fmt(&self, f: &mut Formatter<'_>) -> Result {
+        match self {
+            PlainTurn::PlainOut { deadline, .. } => f
+                .debug_struct("PlainOut")
+                .field("deadline", deadline)
+                .finish_non_exhaustive(),
+            PlainTurn::PlainWaiting => f.write_str("PlainWaiting"),
+            PlainTurn::PlainIdle => f.write_str("PlainIdle"),
+        }
+    }
+}
+
+impl<T> Debug for PlainQueue<T> {
+    fn fmt(&self, f: &mut Formatter<'_>) -> Result {
+        f.debug_struct("PlainQueue")
+            .field("len", &self.len())
+            .field("capacity", &self.capacity())
+            .field("tick", &self.tick())
+            .field("noted", &self.noted())
+            .finish_non_exhaustive()
+    }
+}
+
+#[cfg(feature = "std")]
+mod with_std {
+    use super::{Debug, Formatter, Result};
+    use crate::apps::{CountedCache, IdleSessions, Name, Seen, TtlCache};
+    use crate::lasting::{LastingHandle, LastingPacedStream, LastingQueue, LastingStream, LockedLasting};
+    use crate::pool::{HandlePool, Lent};
+    use crate::shards::{Handle, LockedShard, Parked, ShardState, SharedDelayQueue};
+    use crate::stream::{ExpiredStream, MillisecondTicks, PacedStream};
+    use std::hash::{BuildHasher, Hash};
+
+    impl<T> Debug for SharedDelayQueue<T> {
+        fn fmt(&self, f: &mut Formatter<'_>) -> Result {
+            f.debug_struct("SharedDelayQueue")
+                .field("shards", &self.shards())
+                .finish_non_exhaustive()
+        }
+    }
+
+    impl<T> Debug for ShardState<T> {
+        fn fmt(&self, f: &mut Formatter<'_>) -> Result {
+            f.debug_struct("ShardState")
+                .field("shard", &self.shard())
+                .field("len", &self.len())
+                .field("capacity", &self.capacity())
+                .field("noted", &self.noted())
+                .field("next_wake", &self.next_wake())
+                .field("parked", &self.parked())
+                .finish_non_exhaustive()
+        }
+    }
+
+    impl<T> Debug for LockedShard<'_, T> {
+        fn fmt(&self, f: &mut Formatter<'_>) -> Result {
+            f.debug_tuple("LockedShard").field(&**self).finish()
+        }
+    }
+
+    impl Debug for Parked {
+        fn fmt(&self, f: &mut Formatter<'_>) -> Result {
+            f.debug_struct("Parked")
+                .field("next", &self.next)
+                .finish_non_exhaustive()
+        }
+    }
+
+    impl Debug for Handle {
+        fn fmt(&self, f: &mut Formatter<'_>) -> Result {
+            f.debug_struct("Handle")
+                .field("cancels", &self.cancels())
+                .finish_non_exhaustive()
+        }
+    }
+
+    impl<T, S> Debug for ExpiredStream<'_, T, S> {
+        fn fmt(&self, f: &mut Formatter<'_>) -> Result {
+            f.debug_struct("ExpiredStream")
+                .field("shard", &self.shard)
+                .field("ended", &self.ended)
+                .finish_non_exhaustive()
+        }
+    }
+
+    impl<T, S> Debug for PacedStream<'_, T, S> {
+        fn fmt(&self, f: &mut Formatter<'_>) -> Result {
+            f.debug_struct("PacedStream").finish_non_exhaustive()
+        }
+    }
+
+    impl Debug for MillisecondTicks {
+        fn fmt(&self, f: &mut Formatter<'_>) -> Result {
+            f.debug_struct("MillisecondTicks").finish_non_exhaustive()
+        }
+    }
+
+    impl Default for MillisecondTicks {
+        fn default() -> MillisecondTicks {
+            MillisecondTicks::new()
+        }
+    }
+
+    impl<T> Debug for LastingQueue<T> {
+        fn fmt(&self, f: &mut Formatter<'_>) -> Result {
+            f.debug_struct("LastingQueue")
+                .field("shards", &self.shards())
+                .finish_non_exhaustive()
+        }
+    }
+
+    impl Debug for LastingHandle {
+        fn fmt(&self, f: &mut Formatter<'_>) -> Result {
+            f.debug_struct("LastingHandle")
+                .field("cancels", &self.cancels())
+                .finish_non_exhaustive()
+        }
+    }
+
+    impl<T> Debug for LockedLasting<'_, T> {
+        fn fmt(&self, f: &mut Formatter<'_>) -> Result {
+            f.debug_struct("LockedLasting")
+                .field("number", &self.number())
+                .field("takes", &self.takes())
+                .field("len", &self.len())
+                .field("capacity", &self.capacity())
+                .field("next_wake", &self.next_wake())
+                .field("parked", &self.parked())
+                .finish_non_exhaustive()
+        }
+    }
+
+    impl<T, K> Debug for LastingStream<'_, T, K> {
+        fn fmt(&self, f: &mut Formatter<'_>) -> Result {
+            f.debug_struct("LastingStream").finish_non_exhaustive()
+        }
+    }
+
+    impl<T, K> Debug for LastingPacedStream<'_, T, K> {
+        fn fmt(&self, f: &mut Formatter<'_>) -> Result {
+            f.debug_struct("LastingPacedStream").finish_non_exhaustive()
+        }
+    }
+
+    impl<K: Eq + Hash, V, S: BuildHasher> Debug for TtlCache<K, V, S> {
+        fn fmt(&self, f: &mut Formatter<'_>) -> Result {
+            f.debug_struct("TtlCache")
+                .field("len", &self.len())
+                .field("capacity", &self.capacity())
+                .field("moment", &self.moment())
+                .finish_non_exhaustive()
+        }
+    }
+
+    impl<K: Eq + Hash, V, S: BuildHasher> Debug for CountedCache<K, V, S> {
+        fn fmt(&self, f: &mut Formatter<'_>) -> Result {
+            f.debug_struct("CountedCache")
+                .field("cache", &self.cache)
+                .field("hits", &self.hits())
+                .field("misses", &self.misses())
+                .finish()
+        }
+    }
+
+    impl<K, V> Debug for Seen<'_, K, V> {
+        fn fmt(&self, f: &mut Formatter<'_>) -> Result {
+            f.debug_struct("Seen").finish_non_exhaustive()
+        }
+    }
+
+    impl Debug for IdleSessions {
+        fn fmt(&self, f: &mut Formatter<'_>) -> Result {
+            f.debug_struct("IdleSessions")
+                .field("shards", &self.shards())
+                .field("idle", &self.idle())
+                .finish_non_exhaustive()
+        }
+    }
+
+    impl Debug for Name {
+        fn fmt(&self, f: &mut Formatter<'_>) -> Result {
+            f.debug_tuple("Name").field(&self.text()).finish()
+        }
+    }
+
+    impl<H> Debug for HandlePool<H> {
+        fn fmt(&self, f: &mut Formatter<'_>) -> Result {
+            f.debug_struct("HandlePool").finish_non_exhaustive()
+        }
+    }
+
+    impl<H: Debug> Debug for Lent<'_, H> {
+        fn fmt(&self, f: &mut Formatter<'_>) -> Result {
+            f.debug_tuple("Lent").field(&**self).finish()
+        }
+    }
+}

@@ -1,0 +1,47 @@
+//! A delay queue for years: shards that are renewed one by one while the others serve.
+//!
+//! A slot has 1,048,575 stamps and a keeper issues 1,024 callers, so a shard wears out. A [`LastingQueue`] closes a
+//! worn shard to new entries, lets it drain, and opens it again under its next number: a shard at the place p of n has
+//! the numbers p, p + n, p + 2n and so on. A key carries its shard's number. So a key from before a renewal is refused
+//! for good, and no key of one generation ever reaches an entry of another.
+//!
+//! Whoever polls a shard does it by hand, at its next wake, or as a task that is parked there and woken.
+
+mod aside;
+mod audit;
+mod calls;
+mod config;
+mod ended;
+mod entered;
+mod errors;
+mod handle;
+mod keeping;
+mod many;
+mod names;
+mod numbered;
+mod opening;
+mod paced;
+mod parked;
+mod pieces;
+mod poller;
+mod queue;
+mod quiet;
+mod reaping;
+mod seen;
+mod shard;
+mod state;
+mod stream;
+
+pub use config::{BadLastingNumber, LastingConfig, SHARD_LIMIT};
+pub use ended::{Ended, LastingTally, LastingTotals};
+pub use entered::LockedLasting;
+pub use errors::{HandleError, LastingError, ReopenError};
+pub use handle::LastingHandle;
+pub use keeping::Kept;
+pub use numbered::NumberedCaller;
+pub use paced::LastingPacedStream;
+pub use parked::Parked;
+pub use queue::LastingQueue;
+pub use shard::LastingShard;
+pub use state::PlaceState;
+pub use stream::{LastingFault, LastingStream, Ticks};

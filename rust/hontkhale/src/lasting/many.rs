@@ -1,0 +1,75 @@
+//! A poll that takes out many entries under one lock.
+
+use crate::core::{CoreError, Expired};
+use crate::lasting::errors::LastingError;
+use crate::lasting::parked::{keep_or_leave, Leaver};
+use crate::lasting::queue::LastingQueue;
+use crate::lasting::quiet::unlock;
+use crate::lasting::shard::LastingShard;
+use crate::words::{poll_into, ManyTurn};
+use alloc::vec::Vec;
+
+impl<T> LastingShard<T> {
+    // As `poll_many`, but who leaves is handed over.
+    #[inline]
+    pub(crate) fn poll_many_quietly(
+        &mut self,
+        tick: u64,
+        row: &mut Vec<Expired<T>>,
+    ) -> (Result<ManyTurn, CoreError>, Leaver) {
+        let answer = poll_into(&mut self.core, tick, row);
+        (answer, keep_or_leave(&self.core, &mut self.parked))
+    }
+
+    /// As [`LastingQueue::poll_many`], of a shard in hand.
+    ///
+    /// # Errors
+    /// TickTooLarge beyond the last tick. Nothing changes then.
+    pub fn poll_many(&mut self, tick: u64, row: &mut Vec<Expired<T>>) -> Result<ManyTurn, CoreError> {
+        let (answer, leaver) = self.poll_many_quietly(tick, row);
+        leaver.wake();
+        answer
+    }
+}
+
+impl<T> LastingQueue<T> {
+    /// Polls the shard at a place under one lock until the caller's own row is full, or nothing is due: the entries stand
+    /// behind what stood in the row, in order, as many as it has free room for. `tick` is of one millisecond. Call again
+    /// while it answers More, with the row emptied. A closed shard is polled as any other. It takes no memory, and its cost
+    /// is that of so many polls, but for their locks.
+    ///
+    /// A row without room takes nothing out, and no tick is noted then.
+    ///
+    /// # Errors
+    /// Unknown out of range, before all else, and then TickTooLarge beyond the last tick. Nothing changes then.
+    ///
+    /// ```
+    /// use hontkhale::{LastingConfig, LastingQueue, ManyTurn};
+    ///
+    /// # fn main() -> Result<(), Box<dyn std::error::Error>> {
+    /// let queue = LastingQueue::new(LastingConfig::of(2, 1_000))?;
+    /// for number in 0..100 {
+    ///     queue.insert(1, number, 5).map_err(|refused| refused.0)?;
+    /// }
+    /// let mut row = Vec::with_capacity(64);
+    /// assert_eq!(queue.poll_many(1, 5, &mut row), Ok(ManyTurn::More));
+    /// assert_eq!(row.drain(..).count(), 64);
+    /// assert_eq!(queue.poll_many(1, 5, &mut row), Ok(ManyTurn::Idle));
+    /// assert_eq!(row.len(), 36);
+    /// # Ok(())
+    /// # }
+    /// ```
+    pub fn poll_many(&self, place: usize, tick: u64, row: &mut Vec<Expired<T>>) -> Result<ManyTurn, LastingError> {
+        if place >= self.shards() {
+            return Err(LastingError::Unknown);
+        }
+        let mut shard = self.lock(place);
+        let (answer, leaver) = shard.poll_many_quietly(tick, row);
+        let aside = unlock(shard, leaver);
+        self.drop_aside(place, aside);
+        match answer {
+            Ok(turn) => Ok(turn),
+            Err(error) => Err(LastingError::Core(error)),
+        }
+    }
+}

@@ -1,0 +1,73 @@
+//! A caller of one generation of a shard.
+
+use crate::core::{CallError, Look};
+use crate::ticks::{Key, LAST_TICK};
+use crate::words::Caller;
+
+/// Extends and cancels the entries of one generation of a shard, and looks at them, without a lock. A key of another
+/// generation, or of another shard, is unknown to it.
+pub struct NumberedCaller {
+    number: u32,
+    caller: Caller,
+}
+
+impl NumberedCaller {
+    pub(crate) fn of(number: u32, caller: Caller) -> NumberedCaller {
+        NumberedCaller { number, caller }
+    }
+
+    /// The number of its shard.
+    pub fn number(&self) -> u32 {
+        self.number
+    }
+
+    /// As [`Caller::extend`], for a key of its number.
+    ///
+    /// # Errors
+    /// TooFar beyond the last tick, Unknown for a key of another number or one that no slot has, Stale and Ended.
+    #[inline]
+    pub fn extend(&mut self, key: &Key, when: u64) -> Result<u64, CallError> {
+        if key.entry().shard() == self.number {
+            return self.caller.extend(key, when);
+        }
+        if when > LAST_TICK {
+            return Err(CallError::TooFar { limit: LAST_TICK });
+        }
+        Err(CallError::Unknown)
+    }
+
+    /// As [`Caller::cancel`], for a key of its number.
+    ///
+    /// # Errors
+    /// Unknown for a key of another number or one that no slot has, Stale and Ended.
+    #[inline]
+    pub fn cancel(&mut self, key: &Key) -> Result<u64, CallError> {
+        if key.entry().shard() == self.number {
+            return self.caller.cancel(key);
+        }
+        Err(CallError::Unknown)
+    }
+
+    /// As [`Caller::look`], for a key of its number.
+    ///
+    /// # Errors
+    /// Unknown for a key of another number or one that no slot has, and Stale.
+    #[inline]
+    pub fn look(&mut self, key: &Key) -> Result<Look, CallError> {
+        if key.entry().shard() == self.number {
+            return self.caller.look(key);
+        }
+        Err(CallError::Unknown)
+    }
+
+    /// The number of its accepted cancels.
+    pub fn cancels(&self) -> u64 {
+        self.caller.cancels()
+    }
+
+    /// Gives the caller back, and answers the number of its accepted cancels.
+    pub fn give_back(self) -> u64 {
+        let NumberedCaller { number: _, caller } = self;
+        caller.give_back()
+    }
+}

@@ -1,0 +1,115 @@
+//! What expires at one place of a lasting queue, as a stream whose polls make at most so many steps.
+
+use crate::core::{CoreError, Expired, Piece, Turn};
+use crate::lasting::errors::LastingError;
+use crate::lasting::parked::Parked;
+use crate::lasting::queue::LastingQueue;
+use crate::lasting::shard::LastingShard;
+use crate::lasting::stream::{LastingFault, LastingStream, Ticks};
+use core::num::NonZeroU32;
+use core::task::{Context, Poll};
+
+impl<T> LastingShard<T> {
+    /// As `LastingShard::poll_or_park`, by at most `most` steps. Where more is to do nothing is parked: the polled
+    /// task is woken, and the answer is Pending.
+    ///
+    /// # Errors
+    /// As `poll_or_park`.
+    pub fn poll_some_or_park(
+        &mut self,
+        tick: u64,
+        most: u32,
+        cx: &mut Context<'_>,
+    ) -> Poll<Result<Expired<T>, LastingError>> {
+        if let Some(before) = self.take_parked() {
+            Parked::forget(before);
+        }
+        match self.poll_some(tick, most) {
+            Ok(Piece::Working) => {
+                cx.waker().wake_by_ref();
+                Poll::Pending
+            }
+            Ok(Piece::Answer(Turn::Out(expired))) => Poll::Ready(Ok(expired)),
+            Ok(Piece::Answer(Turn::Waiting { next })) => self.wait(Some(next), cx),
+            Ok(Piece::Answer(Turn::Idle)) => self.wait(None, cx),
+            Err(error) => Poll::Ready(Err(LastingError::Core(error))),
+        }
+    }
+}
+
+impl<T> LastingQueue<T> {
+    /// As [`LastingQueue::poll_or_park`], by at most `most` steps while the shard's lock is held, each in constant time
+    /// but for a value's drop. Where more is to do nothing is parked: the polled task is woken, the lock let go, and
+    /// the answer is Pending. So others may take the lock before the task is polled again.
+    ///
+    /// # Errors
+    /// As `poll_or_park`.
+    pub fn poll_some_or_park(
+        &self,
+        place: usize,
+        tick: u64,
+        most: u32,
+        cx: &mut Context<'_>,
+    ) -> Poll<Result<Expired<T>, LastingError>> {
+        if place >= self.shards() {
+            return Poll::Ready(Err(LastingError::Unknown));
+        }
+        let mut shard = self.lock(place);
+        let before = shard.take_parked();
+        let answer = shard.poll_some_or_park(tick, most, cx);
+        let aside = shard.aside();
+        drop(shard);
+        if let Some(before) = before {
+            Parked::forget(before);
+        }
+        self.drop_aside_at_rest(place, aside, answer.is_pending());
+        answer
+    }
+}
+
+/// A [`LastingStream`] whose polls make at most so many steps of their shard while its lock is held.
+///
+/// A poll that has made them all and has more to do wakes its own task, lets the lock go and is Pending. It gives what
+/// its stream would give, and parks as that does. What is under way stands in the shard: whether this is dropped, or
+/// turned back into its stream, the next poll of the place goes on there.
+pub struct LastingPacedStream<'q, T, K> {
+    stream: LastingStream<'q, T, K>,
+    steps: NonZeroU32,
+}
+
+impl<'q, T, K> LastingStream<'q, T, K> {
+    /// This stream with at most so many steps a poll. A step is an entry that is settled, reaped or filed anew, or an
+    /// arrival of the wheel, and takes constant time but for a value's drop.
+    pub fn paced(self, steps: NonZeroU32) -> LastingPacedStream<'q, T, K> {
+        LastingPacedStream { stream: self, steps }
+    }
+}
+
+impl<'q, T, K> LastingPacedStream<'q, T, K> {
+    /// Its stream, which makes whole polls.
+    pub fn into_inner(self) -> LastingStream<'q, T, K> {
+        self.stream
+    }
+}
+
+impl<'q, T, K: Ticks> LastingPacedStream<'q, T, K> {
+    /// An entry that is due, one of least deadline, or Pending: parked at the next wake or for an insert, or woken,
+    /// with more to do. Faults are those of its stream. Its cost is that of its steps.
+    pub fn poll_next(&mut self, cx: &mut Context<'_>) -> Poll<Option<Result<Expired<T>, LastingFault>>> {
+        let stream = &mut self.stream;
+        let tick = stream.ticks.now();
+        match self
+            .stream
+            .queue
+            .poll_some_or_park(self.stream.place, tick, self.steps.get(), cx)
+        {
+            Poll::Pending => Poll::Pending,
+            Poll::Ready(Ok(expired)) => Poll::Ready(Some(Ok(expired))),
+            Poll::Ready(Err(LastingError::Core(CoreError::TickTooLarge { limit }))) => {
+                Poll::Ready(Some(Err(LastingFault::TickTooLarge { limit })))
+            }
+            Poll::Ready(Err(LastingError::Core(CoreError::NoMemory))) => Poll::Ready(Some(Err(LastingFault::NoMemory))),
+            Poll::Ready(Err(_)) => unreachable!(),
+        }
+    }
+}

@@ -1,0 +1,92 @@
+//! Shards behind locks, each renewed by itself.
+
+use crate::core::{CoreConfig, CoreError};
+use crate::index::nth;
+use crate::lasting::config::LastingConfig;
+use crate::lasting::names;
+use crate::lasting::shard::LastingShard;
+use crate::locks::{Mutex, MutexGuard};
+use crate::words::locked_shards;
+use alloc::vec::Vec;
+
+/// A delay queue in shards, each behind a lock of its own, which are renewed one by one while the others serve.
+///
+/// ```
+/// use hontkhale::{Kept, LastingConfig, LastingQueue, Turn};
+///
+/// # fn main() -> Result<(), Box<dyn std::error::Error>> {
+/// let queue = LastingQueue::new(LastingConfig::of(2, 100))?;
+/// let key = queue.insert(0, "value", 100).map_err(|refused| refused.0)?;
+/// queue.handle()?.extend(&key, 200)?;
+/// assert!(matches!(queue.poll(0, 200)?, Turn::Out(expired) if expired.value == "value"));
+///
+/// // Whoever polls calls this in a quiet moment.
+/// assert_eq!(queue.keep_going()?, Kept::Fine);
+/// # Ok(())
+/// # }
+/// ```
+///
+/// It hands out no `&mut` of a shard, so no two shards change places.
+///
+/// No call drops a value under a lock: what it reaps or clears it drops once the lock is free, so a value's drop may call the
+/// queue. Where a drop panics the shard is whole, and a later poll, sweep, clear or `keep_going` drops the rest. So does it
+/// behind a poll that gave an entry: that one drops nothing, since a panic would lose the entry.
+pub struct LastingQueue<T> {
+    pub(crate) shards: Vec<Mutex<LastingShard<T>>>,
+    pub(crate) name: u64,
+}
+
+impl<T> LastingQueue<T> {
+    /// A queue of empty shards at tick 0, all of which take entries. All memory of the queue is taken here: no other
+    /// call takes any, but `handle` and its renewal, `keep_going`, `states`, and `poll_or_park` for a waker.
+    ///
+    /// # Errors
+    /// BadConfig where a number of the configuration is out of its range, and else NoMemory.
+    pub fn new(config: LastingConfig) -> Result<LastingQueue<T>, CoreError> {
+        LastingQueue::named(config, names::next())
+    }
+
+    /// As `new`, with a name that the queue keeps and that its handles have. A handle is renewed by a queue of that
+    /// name alone.
+    ///
+    /// # Errors
+    /// As `new`.
+    fn named(config: LastingConfig, name: u64) -> Result<LastingQueue<T>, CoreError> {
+        let Ok(()) = config.check() else {
+            return Err(CoreError::BadConfig);
+        };
+        let core = CoreConfig {
+            shard: 0,
+            capacity: config.capacity,
+            last_stamp: config.last_stamp,
+        };
+        match locked_shards(config.shards as u32, core) {
+            Ok(shards) => Ok(LastingQueue { shards, name }),
+            Err(error) => Err(error),
+        }
+    }
+}
+
+impl<T> LastingQueue<T> {
+    /// The number of shards, from 2 to [`SHARD_LIMIT`](crate::SHARD_LIMIT).
+    pub fn shards(&self) -> usize {
+        self.shards.len()
+    }
+
+    /// The name that it was given where it was made. No other queue of the process has it.
+    pub fn name(&self) -> u64 {
+        self.name
+    }
+}
+
+impl<T> LastingQueue<T> {
+    // The shard at a place, with its lock held. The number is compared once: no call makes it another place's.
+    #[inline]
+    pub(crate) fn lock(&self, place: usize) -> MutexGuard<'_, LastingShard<T>> {
+        let shard = nth(&self.shards, place).lock();
+        if shard.number() as usize % self.shards.len() != place {
+            panic!("a closure of `lend` put the state of another shard here");
+        }
+        shard
+    }
+}

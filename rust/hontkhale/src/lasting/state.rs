@@ -1,0 +1,75 @@
+//! What a shard tells of itself under one lock, and what all shards tell in turn.
+
+use crate::lasting::ended::LastingTally;
+use crate::lasting::errors::LastingError;
+use crate::lasting::queue::LastingQueue;
+use crate::lasting::shard::LastingShard;
+use crate::memory::{room_for, AllocError};
+use alloc::vec::Vec;
+
+/// The state of the shard at a place, at one moment.
+#[derive(Clone, Copy, Debug, PartialEq, Eq)]
+pub struct PlaceState {
+    /// The number of its present generation, which its keys carry.
+    pub number: u32,
+    /// Whether it takes entries.
+    pub takes: bool,
+    /// The number of its slots.
+    pub capacity: usize,
+    /// The number of linked entries, live or cancelled and not yet reaped.
+    pub linked: usize,
+    /// The number of worn slots, which hold nothing and have no stamp left. It is closed once they are half.
+    pub worn: usize,
+    /// The tick of one millisecond at which it has something to do, none where nothing is linked. No live entry has a
+    /// deadline before it; the least deadline may be later, where its entry is filed further ahead or was extended.
+    pub next_wake: Option<u64>,
+    /// How many entries came and went, in the present generation and in those before it.
+    pub tally: LastingTally,
+}
+
+impl<T> LastingShard<T> {
+    /// Its state. Constant time.
+    pub fn state(&self) -> PlaceState {
+        PlaceState {
+            number: self.number(),
+            takes: self.takes(),
+            capacity: self.capacity(),
+            linked: self.len(),
+            worn: self.worn(),
+            next_wake: self.next_wake(),
+            tally: self.tally(),
+        }
+    }
+}
+
+impl<T> LastingQueue<T> {
+    /// The state of the shard at a place: all of it is of one moment. Constant time.
+    ///
+    /// # Errors
+    /// Unknown out of range.
+    pub fn state(&self, place: usize) -> Result<PlaceState, LastingError> {
+        if place >= self.shards() {
+            return Err(LastingError::Unknown);
+        }
+        let shard = self.lock(place);
+        Ok(shard.state())
+    }
+
+    // The same of a place that is in range.
+    fn state_at(&self, place: usize) -> PlaceState {
+        self.lock(place).state()
+    }
+
+    /// The states of all shards, in the order of their places, each under its own lock in turn.
+    ///
+    /// # Errors
+    /// Where memory for the row is refused.
+    pub fn states(&self) -> Result<Vec<PlaceState>, AllocError> {
+        let shards = self.shards();
+        let mut states = room_for(shards)?;
+        for place in 0..shards {
+            states.push(self.state_at(place));
+        }
+        Ok(states)
+    }
+}

@@ -1,0 +1,179 @@
+//! The delay queue that servers can trust: values that come out at their deadlines, and deadlines that any thread
+//! extends without a lock.
+//!
+#![cfg_attr(feature = "std", doc = "```")]
+#![cfg_attr(not(feature = "std"), doc = "```ignore")]
+//! use hontkhale::{QueueConfig, SharedDelayQueue, Turn};
+//! use std::thread;
+//!
+//! let queue = SharedDelayQueue::new(QueueConfig::of(1, 1_000))?;
+//! let key = queue.insert_or_drop(0, "lease", 30_000)?;
+//!
+//! let mut handle = queue.handle()?;
+//! let extended = thread::scope(|scope| scope.spawn(|| handle.extend(&key, 45_000)).join().unwrap());
+//! assert_eq!(extended, Ok(45_000));
+//!
+//! assert!(matches!(queue.poll(0, 30_000)?, Turn::Waiting { next } if next <= 45_000));
+//! assert!(matches!(queue.poll(0, 45_000)?, Turn::Out(expired) if expired.value == "lease"));
+//! # Ok::<(), hontkhale::QueueError>(())
+//! ```
+//!
+//! A tick is one millisecond. A queue reads no clock: it is told the tick, by a [`Clock`] or by whatever a program
+//! counts by. Its memory is taken when it is made; inserts, resets, removals and polls take none, and take constant
+//! time but for the slots that a poll opens.
+//!
+//! # Which queue
+//!
+//! | Who has it | Type |
+//! |---|---|
+//! | one owner | [`DelayCore`] over [`VecWords`], made by [`DelayCore::with_capacity`] |
+//! | one owner, whose entries any thread extends and cancels | [`shared_queue`], with a [`Caller`] for each thread |
+//! | many threads, shards behind locks | [`SharedDelayQueue`], with a [`Handle`] for each thread |
+//! | the same, for years | [`LastingQueue`], whose shards are renewed one by one |
+//!
+//! [`ExpiredStream`] and [`LastingStream`] give what expires to a task, [`Receiver`] to a thread that waits; [`TtlCache`] keeps values until their
+//! deadlines, [`IdleSessions`] ends what nobody touched, [`HandlePool`] lends handles, [`Wheel`] is the timing wheel
+//! alone. A stream has a call `poll_next` of its own, since the crate depends on no other; the crate hontkhale-streams
+//! makes a `Stream` of each, as `futures::stream::poll_fn(|cx| stream.poll_next(cx))` does.
+//!
+//! A call that takes a value answers a refusal as a pair, with the value that comes back; of it `?` makes a [`Refused`].
+//!
+//! # What is proved
+//!
+//! The queue is written in Rattle, which is Rust with contracts, and each function is proved before it is built. This
+//! crate is that source with its contracts erased, line by line, by a script that is compared with it at each change.
+//! So what is trusted is that script and rustc. The README has one function side by side, and what the script rewrites.
+//!
+//! # Features
+//!
+//! `std` is on by default. Without it the crate has no std, but alloc: the wheel, the queue of one owner, and callers.
+//!
+//! `proved-bounds` turns off the bounds checks that the proofs have made idle, in one module of four functions, which
+//! has the only `unsafe` of the crate. It is sound, since what the proofs require of a caller is required of nobody
+//! outside: such a function is inside the crate, or checks it in every build. Without the feature the crate forbids
+//! `unsafe`.
+//!
+//! # Memory and panics
+//!
+//! Where memory is refused, a call answers NoMemory; std's `Arc` alone, of which a row of shared words takes one of few
+//! bytes when it is made, aborts. A lock isn't poisoned by a panic: whatever panics in a program's own code, a shard is
+//! whole.
+#![cfg_attr(not(feature = "std"), no_std, allow(rustdoc::broken_intra_doc_links))]
+#![cfg_attr(not(feature = "proved-bounds"), forbid(unsafe_code))]
+#![cfg_attr(feature = "proved-bounds", deny(unsafe_code))]
+#![warn(missing_docs, missing_debug_implementations)]
+// The erased modules keep the shape and the names of what was proved.
+#![allow(
+    clippy::enum_variant_names,
+    clippy::len_zero,
+    clippy::manual_find,
+    clippy::manual_is_multiple_of,
+    clippy::manual_map,
+    clippy::manual_ok_err,
+    clippy::manual_unwrap_or,
+    clippy::manual_unwrap_or_default,
+    clippy::module_inception,
+    clippy::needless_return,
+    clippy::question_mark,
+    clippy::while_let_on_iterator
+)]
+
+extern crate alloc;
+
+mod checked_wheel;
+#[cfg(feature = "std")]
+mod clock;
+mod debug;
+mod due;
+mod fresh;
+mod index;
+#[cfg(feature = "std")]
+mod locks;
+mod memory;
+#[cfg(feature = "std")]
+mod receiver;
+mod refused;
+
+// A module has what its crate has, also what only the tests of the source name.
+#[allow(dead_code, unused_imports)]
+mod core;
+#[allow(dead_code, unused_imports)]
+mod ticks;
+#[allow(dead_code, unused_imports)]
+mod wheel;
+#[allow(dead_code, unused_imports)]
+mod words;
+
+#[cfg(feature = "std")]
+mod apps;
+#[cfg(feature = "std")]
+#[allow(dead_code, unused_imports)]
+mod lasting;
+#[cfg(feature = "std")]
+mod pool;
+#[cfg(feature = "std")]
+pub mod replay;
+#[cfg(feature = "std")]
+#[allow(dead_code, unused_imports)]
+mod shards;
+#[cfg(feature = "std")]
+mod stream;
+
+pub use crate::checked_wheel::Wheel;
+pub use crate::due::Due;
+pub use crate::memory::AllocError;
+pub use crate::refused::Refused;
+
+pub use crate::core::{
+    BadNumber, CallError, CoreConfig, CoreError, DelayCore, Entries, Expired, LiveEntry, Look, Pending, Piece,
+    PlainQueue, PlainTurn, ReapError, Removed, RenewError, Swept, Tally, Turn, VecWords,
+};
+pub use crate::ticks::{is_same_entry, is_same_key, EntryId, Key, CAPACITY_LIMIT, LAST_STAMP, LAST_TICK, REACH};
+pub use crate::wheel::{Place, WheelError};
+pub use crate::words::{numbered_queue, shared_queue, Caller, Keeper, WordsError, HANDLE_LIMIT};
+
+#[cfg(feature = "std")]
+pub use crate::apps::{CountedCache, IdleSessions, MemoAnswer, Name, PutAnswer, Seen, TtlCache};
+#[cfg(feature = "std")]
+pub use crate::clock::Clock;
+#[cfg(feature = "std")]
+pub use crate::lasting::{
+    BadLastingNumber, Ended, HandleError, Kept, LastingConfig, LastingError, LastingFault, LastingHandle,
+    LastingPacedStream, LastingQueue, LastingStream, LastingTally, LastingTotals, LockedLasting, PlaceState, ReopenError,
+    Ticks,
+};
+#[cfg(feature = "std")]
+pub use crate::pool::{HandlePool, Lent};
+#[cfg(feature = "std")]
+pub use crate::receiver::{Closer, Receiver};
+#[cfg(feature = "std")]
+pub use crate::shards::{
+    Handle, HandlesOut, LockedShard, Parked, QueueConfig, QueueError, ShardState, SharedDelayQueue, Totals, SHARD_LIMIT,
+};
+#[cfg(feature = "std")]
+pub use crate::stream::{ExpiredStream, MillisecondTicks, PacedStream, StreamFault, TickSource};
+#[cfg(feature = "std")]
+pub use crate::words::ManyTurn;
+
+// The project's own tests, erased: each line stands where it stands in its source.
+#[cfg(all(test, feature = "std"))]
+#[rustfmt::skip]
+// The tests keep the shape of their source, and ask for a newer Rust than the crate.
+#[allow(
+    clippy::assertions_on_constants,
+    clippy::drop_non_drop,
+    clippy::empty_line_after_outer_attr,
+    clippy::incompatible_msrv,
+    clippy::let_unit_value,
+    clippy::needless_range_loop,
+    clippy::ok_expect,
+    clippy::redundant_closure,
+    clippy::type_complexity,
+    clippy::unit_arg,
+    clippy::useless_format
+)]
+mod tests;
+
+#[cfg(all(doctest, feature = "std"))]
+#[doc = include_str!("../README.md")]
+struct Page;

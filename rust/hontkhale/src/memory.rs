@@ -1,0 +1,98 @@
+//! Memory that may be refused: std's collections by calls that answer so.
+
+use alloc::collections::TryReserveError;
+#[cfg(any(feature = "std", test))]
+use alloc::string::String;
+use alloc::vec::Vec;
+use core::fmt;
+
+/// Memory was refused.
+#[derive(Clone, Copy, Debug, PartialEq, Eq)]
+pub struct AllocError;
+
+impl fmt::Display for AllocError {
+    fn fmt(&self, f: &mut fmt::Formatter<'_>) -> fmt::Result {
+        f.write_str("out of memory")
+    }
+}
+
+#[cfg(feature = "std")]
+impl std::error::Error for AllocError {}
+
+impl From<TryReserveError> for AllocError {
+    fn from(_: TryReserveError) -> AllocError {
+        AllocError
+    }
+}
+
+/// An empty vector with room for exactly so many.
+pub(crate) fn room_for<T>(count: usize) -> Result<Vec<T>, AllocError> {
+    let mut items = Vec::new();
+    items.try_reserve_exact(count)?;
+    Ok(items)
+}
+
+/// A vector of so many copies.
+pub(crate) fn filled<T: Clone>(item: T, count: usize) -> Result<Vec<T>, AllocError> {
+    let mut items = room_for(count)?;
+    items.resize(count, item);
+    Ok(items)
+}
+
+/// A copy of a text.
+#[cfg(feature = "std")]
+pub(crate) fn copy_of(text: &str) -> Result<String, AllocError> {
+    let mut copy = String::new();
+    copy.try_push_str(text)?;
+    Ok(copy)
+}
+
+#[cfg(any(feature = "std", test))]
+struct Text(String);
+
+#[cfg(any(feature = "std", test))]
+impl fmt::Write for Text {
+    fn write_str(&mut self, piece: &str) -> fmt::Result {
+        self.0.try_push_str(piece).map_err(|_| fmt::Error)
+    }
+}
+
+/// The text that a format gives. What is formatted here fails for want of memory alone.
+#[cfg(any(feature = "std", test))]
+pub(crate) fn text_of(what: fmt::Arguments<'_>) -> Result<String, AllocError> {
+    let mut text = Text(String::new());
+    match fmt::write(&mut text, what) {
+        Ok(()) => Ok(text.0),
+        Err(fmt::Error) => Err(AllocError),
+    }
+}
+
+/// Growth that may be refused.
+pub(crate) trait TryPush<P> {
+    /// Puts a piece at the end.
+    fn try_push(&mut self, piece: P) -> Result<(), AllocError>;
+}
+
+impl<T> TryPush<T> for Vec<T> {
+    fn try_push(&mut self, item: T) -> Result<(), AllocError> {
+        self.try_reserve(1)?;
+        self.push(item);
+        Ok(())
+    }
+}
+
+/// A text's growth that may be refused.
+#[cfg(any(feature = "std", test))]
+pub(crate) trait TryPushStr {
+    /// Puts a text at the end.
+    fn try_push_str(&mut self, text: &str) -> Result<(), AllocError>;
+}
+
+#[cfg(any(feature = "std", test))]
+impl TryPushStr for String {
+    fn try_push_str(&mut self, text: &str) -> Result<(), AllocError> {
+        self.try_reserve(text.len())?;
+        self.push_str(text);
+        Ok(())
+    }
+}

@@ -1,0 +1,28 @@
+//! Delay queues behind locks, one a shard, whose entries are extended and cancelled without them.
+
+mod aside;
+mod audit;
+mod callers;
+mod calls;
+mod errors;
+mod handle;
+mod locked;
+mod many;
+mod parked;
+mod poller;
+mod queue;
+mod quiet;
+mod read_shard;
+mod readers;
+mod state;
+mod through;
+mod totals;
+mod waiting;
+
+pub use errors::{QueueConfig, QueueError, SHARD_LIMIT};
+pub use handle::Handle;
+pub use locked::LockedShard;
+pub use parked::Parked;
+pub use queue::SharedDelayQueue;
+pub use state::ShardState;
+pub use totals::{HandlesOut, Totals};

@@ -1,0 +1,69 @@
+//! The totals of all shards.
+
+use crate::core::Tally;
+use crate::shards::queue::SharedDelayQueue;
+use crate::shards::state::ShardState;
+use crate::shards::totals::{HandlesOut, Totals};
+
+const NOTHING: Totals = Totals {
+    inserted: 0,
+    expired: 0,
+    removed: 0,
+    cancelled: 0,
+    live: 0,
+};
+
+fn sum(one: &Totals, other: &Totals) -> Totals {
+    Totals {
+        inserted: one.inserted + other.inserted,
+        expired: one.expired + other.expired,
+        removed: one.removed + other.removed,
+        cancelled: one.cancelled + other.cancelled,
+        live: one.live + other.live,
+    }
+}
+
+// The totals of a shard's tally, where callers accepted so many cancels.
+fn totals_of(tally: &Tally, cancelled: u64) -> Totals {
+    Totals {
+        inserted: tally.inserted,
+        expired: tally.expired,
+        removed: tally.removed,
+        cancelled,
+        live: tally.inserted - tally.expired - tally.removed - cancelled,
+    }
+}
+
+impl<T> ShardState<T> {
+    /// The totals, where every caller is given back: what was inserted is what expired, was removed, was cancelled
+    /// (reaped or not) and is live. Refused with the number of callers that are out.
+    pub fn audit(&mut self) -> Result<Totals, HandlesOut> {
+        let tally = self.core.tally();
+        match self.core.returned() {
+            Ok(cancelled) => Ok(totals_of(&tally, cancelled)),
+            Err(out) => Err(HandlesOut { out }),
+        }
+    }
+}
+
+impl<T> SharedDelayQueue<T> {
+    // The totals of one shard.
+    fn audit_of(&self, shard: usize) -> Result<Totals, HandlesOut> {
+        let Ok(mut shard) = self.read(shard) else {
+            unreachable!()
+        };
+        shard.audit()
+    }
+
+    /// The totals of all shards, each taken in turn under its own lock, where every caller of every handle is given back.
+    /// Refused with the number that is out by the first shard that has one. It takes no memory.
+    ///
+    /// A handle that was dropped and not given back is out for good: then no audit tells totals any more.
+    pub fn audit(&self) -> Result<Totals, HandlesOut> {
+        let mut sums = NOTHING;
+        for shard in 0..self.shards() {
+            sums = sum(&sums, &self.audit_of(shard)?);
+        }
+        Ok(sums)
+    }
+}

@@ -1,0 +1,51 @@
+//! The poller that waits for a shard: one at a time.
+
+use crate::shards::parked::{ring, Parked};
+use crate::shards::state::ShardState;
+use core::task::Waker;
+
+impl<T> ShardState<T> {
+    /// The tick of one millisecond until which a poller is parked; none where none is.
+    pub fn parked(&self) -> Option<u64> {
+        match &self.parked {
+            Some(poller) => Some(poller.next),
+            None => None,
+        }
+    }
+
+    /// Parks a poller until `next`, a tick of one millisecond that is not after the next wake: nobody may park where
+    /// nothing is linked. It takes the place of one that was parked before, which is not woken.
+    pub fn park(&mut self, next: u64, waker: Waker) {
+        assert!(
+            matches!(self.next_wake(), Some(wake) if next <= wake),
+            "a poller is parked after the next wake"
+        );
+        self.unpark();
+        self.parked = Some(Parked { next, waker });
+    }
+
+    /// Takes the parked poller out and does not wake it. True where there was one.
+    pub fn unpark(&mut self) -> bool {
+        match self.take_parked() {
+            Some(poller) => {
+                Parked::forget(poller);
+                true
+            }
+            None => false,
+        }
+    }
+
+    /// Takes the parked poller out and hands it over, unwoken. Whoever has its waker may wake it, or let it go, once the
+    /// shard's lock is free.
+    pub fn take_parked(&mut self) -> Option<Parked> {
+        self.parked.take()
+    }
+
+    /// Takes out and wakes a poller that is parked at or before `tick`, of one millisecond. True where there was one.
+    pub fn ring(&mut self, tick: u64) -> bool {
+        let rung = ring(&mut self.parked, tick);
+        let is_rung = rung.is_some();
+        rung.wake();
+        is_rung
+    }
+}

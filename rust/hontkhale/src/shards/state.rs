@@ -1,0 +1,141 @@
+//! The value behind a shard's lock: a queue over shared words, and the poller that waits for it.
+
+use crate::core::{CoreError, DelayCore, Piece, ReapError, Removed, Swept, Turn};
+use crate::shards::parked::{keep_until, Leaver, Parked};
+use crate::ticks::{EntryId, Key};
+use crate::words::Keeper;
+
+// Takes the poller out where it stands parked against the parked law with the queue as it is now. Where none is parked, which is
+// so in most calls, the next wake isn't asked for.
+#[inline(always)]
+pub(crate) fn keep_or_leave<T>(core: &DelayCore<T, Keeper>, parked: &mut Option<Parked>) -> Leaver {
+    if parked.is_some() {
+        keep_until(parked, core.next_wake())
+    } else {
+        Leaver { poller: None }
+    }
+}
+
+// Wakes the poller where it stands parked against the parked law with the queue as it is now.
+#[inline(always)]
+fn keep_or_wake<T>(core: &DelayCore<T, Keeper>, parked: &mut Option<Parked>) {
+    keep_or_leave(core, parked).wake();
+}
+
+/// The value behind a shard's lock: a queue over words that callers share, and the poller that is parked there.
+///
+/// It always keeps the shard law of its queue, whatever the callers do meanwhile, and the parked law: where a poller is
+/// parked there is a next wake, and the parked tick is not after it. A call that would break the parked law takes the
+/// poller out and wakes it, at once: the lock is held meanwhile. A call of the queue by name wakes it once the lock is free.
+#[repr(align(64))]
+pub struct ShardState<T> {
+    pub(crate) core: DelayCore<T, Keeper>,
+    pub(crate) parked: Option<Parked>,
+}
+
+impl<T> From<DelayCore<T, Keeper>> for ShardState<T> {
+    fn from(core: DelayCore<T, Keeper>) -> ShardState<T> {
+        // No value is dropped under the lock.
+        let mut core = core;
+        core.set_aside();
+        ShardState { core, parked: None }
+    }
+}
+
+impl<T> ShardState<T> {
+    /// Puts an entry in that is live until `when`, a tick of one millisecond, or until the wheel's tick where `when`
+    /// lies before it, and answers its key. Constant time. Refused as TooFar beyond the last tick, and else as Full
+    /// where no slot is free; the value comes back then.
+    #[inline(always)]
+    pub fn insert(&mut self, value: T, when: u64) -> Result<Key, (CoreError, T)> {
+        // It is dropped where this ends: all else is done by then.
+        let _crowded = self.take_crowded();
+        let answer = self.core.insert(value, when);
+        keep_or_wake(&self.core, &mut self.parked);
+        answer
+    }
+
+    /// Gives a live entry another deadline, earlier or later, but not before the wheel's tick, and its slot's next
+    /// stamp: the keys from before are stale for callers. Answers the new key. Constant time. Refused as TooFar
+    /// beyond the last tick, then as Missing, as WasCancelled, and as Worn where the slot has no stamp left.
+    #[inline(always)]
+    pub fn reset(&mut self, entry: &EntryId, when: u64) -> Result<Key, CoreError> {
+        let answer = self.core.reset(entry, when);
+        keep_or_wake(&self.core, &mut self.parked);
+        answer
+    }
+
+    /// Takes a live entry out, with its key, its deadline in force and its value. Constant time. Refused as Missing
+    /// where no entry is linked with that shard, index and birth stamp, and as WasCancelled where a caller cancelled
+    /// it.
+    #[inline(always)]
+    pub fn remove(&mut self, entry: &EntryId) -> Result<Removed<T>, CoreError> {
+        let answer = self.core.remove(entry);
+        keep_or_wake(&self.core, &mut self.parked);
+        answer
+    }
+
+    /// The deadline in force of a live entry, a tick of one millisecond, by one look at its word. Refused as `remove`
+    /// is. The poller stays.
+    #[inline]
+    pub fn deadline(&mut self, entry: &EntryId) -> Result<u64, CoreError> {
+        self.core.deadline(entry)
+    }
+
+    /// Notes a tick of one millisecond, and takes out one entry whose deadline in force is reached by the greatest
+    /// tick noted: call again until the answer is Waiting (nothing is due; `next` is the next tick at which there is
+    /// something to do) or Idle (nothing is linked). Refused as TickTooLarge beyond the last tick, which is not noted
+    /// then.
+    #[inline(always)]
+    pub fn poll(&mut self, tick: u64) -> Result<Turn<T>, CoreError> {
+        let answer = self.core.poll(tick);
+        keep_or_wake(&self.core, &mut self.parked);
+        answer
+    }
+
+    /// Does of a [`ShardState::poll`] at most `most` steps, each in constant time but for a value's drop. Call again while
+    /// it answers Working: each such call leaves at least so many steps fewer. Between the calls the lock may be let go,
+    /// and every other call may be made.
+    ///
+    /// Whoever is told Working by a call of no step at all learns nothing. Refused as TickTooLarge beyond the last tick,
+    /// which is not noted then.
+    pub fn poll_some(&mut self, tick: u64, most: u32) -> Result<Piece<T>, CoreError> {
+        let answer = self.core.poll_some(tick, most);
+        keep_or_wake(&self.core, &mut self.parked);
+        answer
+    }
+
+    /// Reaps each linked entry that is found cancelled, and answers how many. Their values are dropped. It looks at every
+    /// slot.
+    pub fn sweep(&mut self) -> usize {
+        let reaped = self.core.sweep();
+        keep_or_wake(&self.core, &mut self.parked);
+        reaped
+    }
+
+    /// Reaps each linked entry that is found cancelled at `count` slots from `from` on, as `sweep` does at all of them, and
+    /// tells the slot to go on from. So many calls go round a shard as it has pieces, and each takes no longer than its piece:
+    /// the lock is free between them.
+    pub fn sweep_some(&mut self, from: usize, count: usize) -> Swept {
+        let swept = self.core.sweep_some(from, count);
+        keep_or_wake(&self.core, &mut self.parked);
+        swept
+    }
+
+    /// Reaps the entry of that name where it is found cancelled: its value is dropped, and its slot is free for another, or
+    /// worn. Constant time. Refused as Missing where no entry is linked with that shard, index and birth stamp, and as
+    /// Live where it is found live.
+    pub fn reap(&mut self, entry: &EntryId) -> Result<(), ReapError> {
+        let answer = self.core.reap(entry);
+        keep_or_wake(&self.core, &mut self.parked);
+        answer
+    }
+
+    /// Ends every linked entry, and drops its value: each live one as removed, and those that were cancelled are
+    /// reaped. It answers how many it ended as removed, and goes over every slot. No poller is left parked.
+    pub fn clear(&mut self) -> usize {
+        let removed = self.core.clear();
+        keep_or_wake(&self.core, &mut self.parked);
+        removed
+    }
+}

@@ -1,0 +1,30 @@
+//! How a task that is polled is parked in a shard.
+
+use crate::shards::{LockedShard, Parked};
+use crate::stream::fault::StreamFault;
+use core::task::{Context, Waker};
+
+// Lets a poller go that a stream took out, and doesn't wake it. Its waker is the user's: so the shard's lock is to be free.
+pub(crate) fn let_sleep(before: Option<Parked>) {
+    if let Some(poller) = before {
+        Parked::forget(poller);
+    }
+}
+
+// Registers with the context, and parks its task at the next wake. The name stands for the shard, as a source that
+// fires where it wakes its poller.
+pub(crate) fn wait<T>(shard: &mut LockedShard<'_, T>, next: u64, cx: &mut Context<'_>) -> Result<(), StreamFault> {
+    let slot = Some(cx.waker().clone());
+    park_with(shard, next, slot)
+}
+
+/// Parks a poller at the shard's next wake, with the waker that a registration left. It takes the place of one that was
+/// parked before, which is not woken. Refused as NoMemory where the registration left none; the shard stays as it was
+/// then. A future of your own over a locked shard may use it.
+pub fn park_with<T>(shard: &mut LockedShard<'_, T>, next: u64, slot: Option<Waker>) -> Result<(), StreamFault> {
+    let Some(waker) = slot else {
+        return Err(StreamFault::NoMemory);
+    };
+    shard.park(next, waker);
+    Ok(())
+}

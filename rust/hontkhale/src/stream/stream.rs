@@ -1,0 +1,149 @@
+//! The stream of a shard's expired entries.
+
+use crate::core::{CoreError, Expired, Turn};
+use crate::shards::{LockedShard, QueueError, SharedDelayQueue};
+use crate::stream::fault::StreamFault;
+use crate::stream::parking::{let_sleep, wait};
+use crate::stream::source::TickSource;
+use core::task::{Context, Poll};
+
+/// What expires in one shard, at the ticks of a source.
+///
+/// Each poll takes the shard's lock once. It gives one entry that is due. It ends for now where nothing is linked, and
+/// later polls go on. Else it parks in the shard until the shard's next wake, one poller a shard. The shard wakes it
+/// where its next wake comes sooner or is gone, and [`SharedDelayQueue::ring`] wakes it at a tick. It may be polled
+/// again at any time. A stream that is dropped stays parked until then.
+///
+/// After a tick that is refused it has ended for good: its polls take no lock, and its source is asked no more.
+///
+/// ```
+/// use hontkhale::{ExpiredStream, MillisecondTicks, QueueConfig, SharedDelayQueue};
+/// use std::future::poll_fn;
+///
+/// async fn first(queue: &SharedDelayQueue<String>) -> Option<String> {
+///     let mut stream = ExpiredStream::new(queue, 0, MillisecondTicks::new()).ok()?;
+///     let expired = poll_fn(|cx| stream.poll_next(cx)).await?;
+///     Some(expired.ok()?.value)
+/// }
+/// ```
+pub struct ExpiredStream<'q, T, S> {
+    pub(crate) queue: &'q SharedDelayQueue<T>,
+    pub(crate) shard: usize,
+    pub(crate) source: S,
+    pub(crate) ended: bool,
+}
+
+impl<'q, T, S> ExpiredStream<'q, T, S> {
+    /// A stream of a shard. Refused as Unknown for a shard out of range; the source comes back then.
+    pub fn new(
+        queue: &'q SharedDelayQueue<T>,
+        shard: usize,
+        source: S,
+    ) -> Result<ExpiredStream<'q, T, S>, (QueueError, S)> {
+        if shard >= queue.shards() {
+            return Err((QueueError::Unknown, source));
+        }
+        Ok(ExpiredStream {
+            queue,
+            shard,
+            source,
+            ended: false,
+        })
+    }
+}
+
+impl<'q, T, S: TickSource> ExpiredStream<'q, T, S> {
+    /// One poll of the stream on a shard whose lock is held, which [`SharedDelayQueue::enter`] gave: what
+    /// `Stream::poll_next` does under its lock. The shard that it polls is the one in hand.
+    ///
+    /// It takes the parked poller out, asks its source for the tick, and polls the shard once at it. An entry that comes
+    /// out is given. Where the shard waits the polled task is parked at its next wake.
+    ///
+    /// The waker that was parked is let go under the lock. Where that may call the queue, take it out before, by
+    /// [`LockedShard::take_parked`], and let it go once the lock is free, as `Stream::poll_next` does.
+    pub fn poll_locked(
+        &mut self,
+        shard: &mut LockedShard<'_, T>,
+        cx: &mut Context<'_>,
+    ) -> Poll<Option<Result<Expired<T>, StreamFault>>> {
+        if self.ended {
+            return Poll::Ready(None);
+        }
+        let answer = turn(shard, &mut self.source, cx);
+        self.ended = ends(&answer);
+        answer
+    }
+}
+
+impl<'q, T, S: TickSource> ExpiredStream<'q, T, S> {
+    /// An entry that is due, one of least deadline; Pending, parked at the next wake; or None where nothing is linked.
+    /// A tick beyond the last one gives TickTooLarge once, and from then on None. Where no waker can be made for want
+    /// of memory it gives NoMemory, and goes on. Its cost is that of one poll of the shard.
+    ///
+    /// It is [`ExpiredStream::poll_locked`] under the shard's lock, which it doesn't take where it has ended for good. A waker
+    /// that was parked before is let go once the lock is free. Under the lock the polled task's own is made, and the source
+    /// is asked: neither may take that lock.
+    pub fn poll_next(&mut self, cx: &mut Context<'_>) -> Poll<Option<Result<Expired<T>, StreamFault>>> {
+        if self.ended {
+            Poll::Ready(None)
+        } else {
+            let Ok(mut shard) = self.queue.enter(self.shard) else {
+                unreachable!()
+            };
+            let before = shard.take_parked();
+            let answer = self.poll_locked(&mut shard, cx);
+            let aside = shard.aside();
+            drop(shard);
+            let_sleep(before);
+            drop_at_rest(self.queue, self.shard, aside, &answer);
+            answer
+        }
+    }
+}
+
+// Drops so many values that are set aside in a shard, behind a poll that gave no entry. A drop that panics would lose the
+// entry that one gave.
+pub(crate) fn drop_at_rest<T>(
+    queue: &SharedDelayQueue<T>,
+    shard: usize,
+    aside: usize,
+    answer: &Poll<Option<Result<Expired<T>, StreamFault>>>,
+) {
+    let gives = matches!(answer, Poll::Ready(Some(Ok(_))));
+    if !gives {
+        queue.drop_aside(shard, aside);
+    }
+}
+
+// Whether a stream has ended for good after this answer.
+pub(crate) fn ends<T>(answer: &Poll<Option<Result<Expired<T>, StreamFault>>>) -> bool {
+    let Poll::Ready(Some(item)) = answer else {
+        return false;
+    };
+    let Err(fault) = item else {
+        return false;
+    };
+    match fault {
+        StreamFault::TickTooLarge { limit: _ } => true,
+        StreamFault::NoMemory => false,
+    }
+}
+
+// One poll of a stream, while the shard's lock is held.
+fn turn<T, S: TickSource>(
+    shard: &mut LockedShard<'_, T>,
+    source: &mut S,
+    cx: &mut Context<'_>,
+) -> Poll<Option<Result<Expired<T>, StreamFault>>> {
+    shard.unpark();
+    match shard.poll(source.now()) {
+        Ok(Turn::Out(expired)) => Poll::Ready(Some(Ok(expired))),
+        Ok(Turn::Waiting { next }) => match wait(shard, next, cx) {
+            Ok(()) => Poll::Pending,
+            Err(fault) => Poll::Ready(Some(Err(fault))),
+        },
+        Ok(Turn::Idle) => Poll::Ready(None),
+        Err(CoreError::TickTooLarge { limit }) => Poll::Ready(Some(Err(StreamFault::TickTooLarge { limit }))),
+        Err(_) => unreachable!(),
+    }
+}

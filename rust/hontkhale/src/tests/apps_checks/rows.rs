@@ -1,0 +1,151 @@
+//! The worked rows.
+
+use crate::tests::kit::Fail;
+use super::same;
+use super::calls::Call::{Capacity, Get, Len, Moment, NextDeadline, Purge, Put, Renew, Seen, Take};
+use super::calls::{Letters, each_answers, plays_up_to};
+use crate::apps::TtlCache;
+use crate::core::CoreError;
+use crate::ticks::LAST_STAMP;
+
+// The last tick, as the tables of the rows have it.
+const LAST: u64 = 4398046511103;
+
+const FULL: CoreError = CoreError::Full { linked: 2, worn: 0 };
+
+const TOO_LARGE: CoreError = CoreError::TickTooLarge { limit: LAST };
+
+const TOO_FAR: CoreError = CoreError::TooFar { limit: LAST };
+
+#[test]
+fn cache_walk() -> Result<(), Fail> {
+    let calls = &[
+        Put('a', 1, 10, 0, Ok(None)),
+        Get('a', 9, Some(1)),
+        Get('a', 10, None),
+        Put('b', 2, 10, 0, Ok(None)),
+        Put('c', 3, 5, 0, Err(FULL)),
+        Put('c', 3, 5, 10, Ok(None)),
+        Len(1),
+        Renew('c', 20, 12, Ok(32)),
+        Put('c', 4, 1, 12, Ok(Some(3))),
+        Take('c', 12, Some(4)),
+        Renew('c', 1, 12, Err(CoreError::Missing)),
+        Purge(68719476736, Ok(0)),
+        Purge(LAST + 1, Err(TOO_LARGE)),
+    ];
+    plays_up_to(2, LAST_STAMP, calls)
+}
+
+#[test]
+fn cache_worn_key() -> Result<(), Fail> {
+    let calls = &[
+        Put('a', 1, 5, 0, Ok(None)),
+        Put('a', 2, 5, 0, Err(CoreError::Worn)),
+        Get('a', 0, Some(1)),
+    ];
+    plays_up_to(2, 1, calls)
+}
+
+fn refused(capacity: usize, last_stamp: u32) -> Option<CoreError> {
+    TtlCache::<char, u32>::new(capacity, last_stamp).err()
+}
+
+#[test]
+fn bad_configs() {
+    let table: &[(usize, u32, Option<CoreError>)] = &[
+        (0, 1, Some(CoreError::BadConfig)),
+        (65537, 1, Some(CoreError::BadConfig)),
+        (1, 0, Some(CoreError::BadConfig)),
+        (1, 1048576, Some(CoreError::BadConfig)),
+        (1, 1, None),
+        (65536, 1048575, None),
+    ];
+    for (number, (capacity, last_stamp, answer)) in table.iter().enumerate() {
+        let refused = refused(*capacity, *last_stamp);
+        same(number, refused, *answer);
+    }
+}
+
+// What the readers tell from a put to the purge that drops it.
+#[test]
+fn cache_readers() -> Result<(), Fail> {
+    let calls = &[
+        Len(0),
+        Capacity(3),
+        Moment(0),
+        NextDeadline(None),
+        Put('a', 1, 30, 5, Ok(None)),
+        Put('b', 2, 10, 5, Ok(None)),
+        Len(2),
+        Moment(5),
+        Seen(5, 2, 3),
+        Seen(14, 2, 3),
+        Seen(15, 1, 1),
+        Seen(34, 1, 1),
+        Seen(35, 0, 0),
+        NextDeadline(Some(15)),
+        Purge(15, Ok(1)),
+        NextDeadline(Some(35)),
+        Len(1),
+    ];
+    plays_up_to(3, LAST_STAMP, calls)
+}
+
+// How far ahead the wheel of a queue reaches.
+const REACH: u64 = 68719476735;
+
+// The least deadline is told where the queue files what is further ahead than its wheel reaches, too.
+#[test]
+fn far_deadlines() -> Result<(), Fail> {
+    let calls = &[
+        Put('a', 1, REACH + 100, 0, Ok(None)),
+        NextDeadline(Some(REACH + 100)),
+        Put('b', 2, REACH - 30, 50, Ok(None)),
+        NextDeadline(Some(REACH + 20)),
+        Purge(REACH + 19, Ok(0)),
+        Purge(REACH + 20, Ok(1)),
+        NextDeadline(Some(REACH + 100)),
+        Purge(REACH + 100, Ok(1)),
+    ];
+    plays_up_to(4, LAST_STAMP, calls)
+}
+
+// A put and a renewal are refused alike, and nothing changes.
+fn refuses(cache: &mut Letters, ttl: u64, now: u64, error: CoreError) {
+    let calls = &[
+        Put('b', 2, ttl, now, Err(error)),
+        Renew('a', ttl, now, Err(error)),
+        Len(1),
+        Moment(0),
+    ];
+    each_answers(cache, calls);
+}
+
+fn out_of_range(cache: &mut Letters) {
+    each_answers(cache, &[Put('a', 1, 5, 0, Ok(None))]);
+    let table: &[(u64, u64, CoreError)] = &[
+        (0, LAST + 1, TOO_LARGE),
+        (u64::MAX, u64::MAX, TOO_LARGE),
+        (1, LAST, TOO_FAR),
+        (u64::MAX, 0, TOO_FAR),
+        (LAST - 6, 7, TOO_FAR),
+    ];
+    for (ttl, now, error) in table {
+        refuses(cache, *ttl, *now, *error);
+    }
+    let calls = &[
+        Put('b', 2, LAST - 7, 7, Ok(None)),
+        Len(1),
+        Moment(7),
+        NextDeadline(Some(LAST)),
+    ];
+    each_answers(cache, calls);
+}
+
+// A value that was refused for its tick or deadline comes back, and nothing changes.
+#[test]
+fn put_out_of_range() -> Result<(), Fail> {
+    out_of_range(&mut TtlCache::new(1, LAST_STAMP)?);
+    Ok(())
+}

@@ -1,0 +1,147 @@
+//! A queue and the one who calls it by key, over plain words and over shared ones.
+
+
+
+use crate::tests::kit::Fail;
+use crate::core::{CallError, CoreConfig, DelayCore, Look, VecWords, Words};
+use crate::ticks::Key;
+use crate::words::{Caller, Keeper};
+
+/// Who makes the calls by key.
+pub trait Calls<W: Words> {
+    fn extend_by(
+        &mut self,
+        core: &mut DelayCore<char, W>,
+        key: &Key,
+        when: u64,
+    ) -> Result<u64, CallError>;
+
+    fn cancel_by(&mut self, core: &mut DelayCore<char, W>, key: &Key) -> Result<u64, CallError>;
+
+    fn look_by(&mut self, core: &mut DelayCore<char, W>, key: &Key) -> Result<Look, CallError>;
+}
+
+/// Over plain words the queue's owner makes them.
+pub struct Owner;
+
+impl Calls<VecWords> for Owner {
+    fn extend_by(
+        &mut self,
+        core: &mut DelayCore<char, VecWords>,
+        key: &Key,
+        when: u64,
+    ) -> Result<u64, CallError> {
+        core.extend(key, when)
+    }
+
+    fn cancel_by(
+        &mut self,
+        core: &mut DelayCore<char, VecWords>,
+        key: &Key,
+    ) -> Result<u64, CallError> {
+        core.cancel(key)
+    }
+
+    fn look_by(
+        &mut self,
+        core: &mut DelayCore<char, VecWords>,
+        key: &Key,
+    ) -> Result<Look, CallError> {
+        core.look(key)
+    }
+}
+
+/// Over shared words a caller does.
+impl Calls<Keeper> for Caller {
+    fn extend_by(
+        &mut self,
+        _core: &mut DelayCore<char, Keeper>,
+        key: &Key,
+        when: u64,
+    ) -> Result<u64, CallError> {
+        self.extend(key, when)
+    }
+
+    fn cancel_by(
+        &mut self,
+        _core: &mut DelayCore<char, Keeper>,
+        key: &Key,
+    ) -> Result<u64, CallError> {
+        self.cancel(key)
+    }
+
+    fn look_by(
+        &mut self,
+        _core: &mut DelayCore<char, Keeper>,
+        key: &Key,
+    ) -> Result<Look, CallError> {
+        self.look(key)
+    }
+}
+
+/// A queue of letters of shard 0, the one who calls it by key, and what it gave out so far.
+pub struct Queue<W: Words, C> {
+    pub core: DelayCore<char, W>,
+    pub calls: C,
+    /// The keys of inserts and resets, in their order.
+    pub keys: Vec<Key>,
+    /// The values that came out.
+    pub out: Vec<char>,
+}
+
+// An empty queue over fresh words.
+fn over<T, W: Words>(
+    last_stamp: u32,
+    words: W,
+) -> Result<DelayCore<T, W>, Fail> {
+    let config = CoreConfig {
+        shard: 0,
+        capacity: words.rows(),
+        last_stamp,
+    };
+    match DelayCore::new(config, words) {
+        Ok(core) => Ok(core),
+        Err((error, _words)) => Err(error.into()),
+    }
+}
+
+/// An empty queue over shared words.
+pub fn over_shared<T>(
+    capacity: usize,
+    last_stamp: u32,
+) -> Result<DelayCore<T, Keeper>, Fail> {
+    over(last_stamp, Keeper::new(capacity)?)
+}
+
+/// A caller of the queue. What an issue says is long, so it is proved here, once for all values.
+pub fn issued<T>(core: &mut DelayCore<T, Keeper>) -> Result<Caller, Fail> {
+    Ok(core.issue()?)
+}
+
+/// A fresh queue over plain words.
+pub fn plain(
+    capacity: usize,
+    last_stamp: u32,
+) -> Result<Queue<VecWords, Owner>, Fail> {
+    Ok(Queue {
+        core: over(last_stamp, VecWords::new(capacity)?)?,
+        calls: Owner,
+        keys: Vec::new(),
+        out: Vec::new(),
+    })
+}
+
+/// A fresh queue over shared words, whose caller is issued through the core.
+pub fn shared(
+    capacity: usize,
+    last_stamp: u32,
+) -> Result<Queue<Keeper, Caller>, Fail> {
+    let mut core = over_shared(capacity, last_stamp)?;
+    let calls = issued(&mut core)?;
+    Ok(Queue {
+        core,
+        calls,
+        keys: Vec::new(),
+        out: Vec::new(),
+    })
+}

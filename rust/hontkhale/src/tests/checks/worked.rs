@@ -1,0 +1,71 @@
+//! Each worked case, over a fresh queue.
+
+use crate::tests::kit::Fail;
+use super::cases::{Case, OVER_BOTH_WORDS, OVER_PLAIN_WORDS};
+use super::queues::{Calls, Queue, plain, shared};
+use super::same;
+use super::step::Step;
+use crate::core::{DelayCore, Words};
+use crate::words::{Caller, Keeper};
+
+// Each step of a case answers as it has to. Steps count from 0.
+fn plays<W: Words, C: Calls<W>>(queue: &mut Queue<W, C>, case: &Case) {
+    let (name, _, _, steps) = case;
+    for (number, step) in steps.iter().enumerate() {
+        let answer = (number, queue.takes(*step));
+        same(*name, answer, (number, Some(true)));
+    }
+}
+
+fn plays_over_plain(cases: &[Case]) -> Result<(), Fail> {
+    for case in cases {
+        plays(&mut plain(case.1, case.2)?, case);
+    }
+    Ok(())
+}
+
+#[test]
+fn cases_over_plain_words() -> Result<(), Fail> {
+    plays_over_plain(OVER_BOTH_WORDS)?;
+    plays_over_plain(OVER_PLAIN_WORDS)
+}
+
+// How many cancels of a case are accepted.
+fn cancels(case: &Case) -> u64 {
+    case.3
+        .iter()
+        .filter(|step| matches!(step, Step::Cancel(_, Ok(_))))
+        .count() as u64
+}
+
+// Behind a case its caller is given back through the queue, and the keeper is told its accepted cancels.
+fn gives_back(core: &mut DelayCore<char, Keeper>, caller: Caller, case: &Case) {
+    let before = (core.out(), core.returned());
+    let given = caller.give_back();
+    let after = (core.out(), core.returned());
+    let cancels = cancels(case);
+    same(
+        case.0,
+        (before, given, after),
+        ((1, Err(1)), cancels, (0, Ok(cancels))),
+    );
+}
+
+fn plays_over_shared(cases: &[Case]) -> Result<(), Fail> {
+    for case in cases {
+        let mut queue = shared(case.1, case.2)?;
+        plays(&mut queue, case);
+        let Queue {
+            mut core,
+            calls,
+            ..
+        } = queue;
+        gives_back(&mut core, calls, case);
+    }
+    Ok(())
+}
+
+#[test]
+fn cases_over_shared_words() -> Result<(), Fail> {
+    plays_over_shared(OVER_BOTH_WORDS)
+}

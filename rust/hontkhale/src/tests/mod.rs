@@ -1,0 +1,9 @@
+//! The project's own tests, erased by rust/erase-tests from those of crates/. What they are given stands in kit.rs.
+
+mod apps_checks;
+mod checks;
+mod kit;
+mod lasting_checks;
+mod scripts;
+mod shard_checks;
+mod stream_checks;

@@ -1,0 +1,5 @@
+mod faults;
+mod readers;
+mod scripts;
+mod table;
+mod writers;

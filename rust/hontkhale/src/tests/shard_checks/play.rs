@@ -1,0 +1,166 @@
+//! A queue of letters and a handle of it, which are given calls: the queue by name, or its shards' states by `lend`.
+
+use super::keys::{Answer, Call, Keys};
+use crate::shards::{Handle, QueueConfig, QueueError, ShardState, SharedDelayQueue};
+
+pub type Letters = SharedDelayQueue<char>;
+
+/// How the calls that the queue has by name are made.
+#[derive(Clone, Copy, Debug)]
+pub enum Way {
+    ByName,
+    ByLend,
+}
+
+pub struct Play {
+    pub queue: Letters,
+    pub handle: Handle,
+    pub keys: Keys,
+}
+
+impl Play {
+    pub fn new(config: QueueConfig) -> Result<Play, QueueError> {
+        let queue = SharedDelayQueue::new(config)?;
+        let handle = queue.handle()?;
+        Ok(Play {
+            queue,
+            handle,
+            keys: Keys::new(config.capacity),
+        })
+    }
+
+    /// Makes a call, and answers as it does; none where no key was given at the place that it names.
+    pub fn answer(&mut self, way: Way, call: Call) -> Option<Answer> {
+        match (call, way) {
+            (Call::Extend(..) | Call::Cancel(_) | Call::LookAt(_), _) => self.by_handle(call),
+            (Call::Len(_) | Call::PlaceOf(_) | Call::FiledAt(_), _) | (_, Way::ByLend) => {
+                by_lend(&self.queue, &mut self.keys, call)
+            }
+            (_, Way::ByName) => by_name(&self.queue, &mut self.keys, call),
+        }
+    }
+
+    fn by_handle(&mut self, call: Call) -> Option<Answer> {
+        Some(match call {
+            Call::Extend(named, when) => {
+                let key = self.keys.named(named)?;
+                let extended = self.handle.extend(&key, when);
+                extended.map_or_else(Answer::NotDone, Answer::Until)
+            }
+            Call::Cancel(named) => {
+                let cancelled = self.handle.cancel(&self.keys.named(named)?);
+                cancelled.map_or_else(Answer::NotDone, Answer::Until)
+            }
+            Call::LookAt(named) => {
+                let look = self.handle.look(&self.keys.named(named)?);
+                look.map_or_else(Answer::NotDone, Answer::Seen)
+            }
+            _ => return None,
+        })
+    }
+}
+
+fn by_name(queue: &Letters, keys: &mut Keys, call: Call) -> Option<Answer> {
+    Some(match call {
+        Call::Insert(route, value, when) => {
+            keys.inserted(value, queue.insert(route, value, when))
+        }
+        Call::Reset(named, when) => {
+            let entry = keys.entry(named)?;
+            keys.given(queue.reset(&entry, when))
+        }
+        Call::Remove(named) => keys.removed(queue.remove(&keys.entry(named)?)),
+        Call::Deadline(named) => {
+            let deadline = queue.deadline(&keys.entry(named)?);
+            deadline.map_or_else(Answer::Refused, Answer::Until)
+        }
+        Call::Poll(shard, tick) => keys.turned(queue.poll(shard, tick)),
+        _ => tells_by_name(queue, call)?,
+    })
+}
+
+// The calls that name a shard alone.
+fn tells_by_name(queue: &Letters, call: Call) -> Option<Answer> {
+    let told = match call {
+        Call::NextWake(shard) => queue.next_wake(shard).map(Answer::Tick),
+        Call::Sweep(shard) => queue.sweep(shard).map(Answer::Count),
+        Call::Clear(shard) => queue.clear(shard).map(Answer::Count),
+        Call::TellTally(shard) => queue.tally(shard).map(Answer::Tallies),
+        Call::Moves(shard) => queue
+            .tally(shard)
+            .map(|tally| Answer::Moved(tally.moves)),
+        Call::Ring(shard, tick) => queue.ring(shard, tick).map(Answer::Rung),
+        Call::Parked(shard) => queue.parked(shard).map(Answer::Tick),
+        _ => return None,
+    };
+    Some(told.unwrap_or_else(Answer::Refused))
+}
+
+// The shard whose state a call is for.
+fn shard_of(queue: &Letters, keys: &Keys, call: Call) -> Option<usize> {
+    match call {
+        Call::Insert(route, ..) => usize::try_from(route.checked_rem(queue.shards() as u64)?).ok(),
+        Call::Reset(named, _)
+        | Call::Remove(named)
+        | Call::Deadline(named)
+        | Call::PlaceOf(named)
+        | Call::FiledAt(named) => Some(keys.entry(named)?.shard() as usize),
+        Call::Poll(shard, _)
+        | Call::NextWake(shard)
+        | Call::Sweep(shard)
+        | Call::Clear(shard)
+        | Call::TellTally(shard)
+        | Call::Moves(shard)
+        | Call::Ring(shard, _)
+        | Call::Parked(shard)
+        | Call::Len(shard) => Some(shard),
+        Call::Extend(..) | Call::Cancel(_) | Call::LookAt(_) => None,
+    }
+}
+
+fn by_lend(queue: &Letters, keys: &mut Keys, call: Call) -> Option<Answer> {
+    let shard = shard_of(queue, keys, call)?;
+    match queue.lend(shard, |state| by_state(state, keys, call)) {
+        Ok(answer) => answer,
+        Err(error) => Some(Answer::Refused(error)),
+    }
+}
+
+fn by_state(state: &mut ShardState<char>, keys: &mut Keys, call: Call) -> Option<Answer> {
+    Some(match call {
+        Call::Insert(_, value, when) => match state.insert(value, when) {
+            Ok(key) => keys.given(Ok(key)),
+            Err((error, back)) => keys.inserted(value, Err((QueueError::Core(error), back))),
+        },
+        Call::Reset(named, when) => {
+            let entry = keys.entry(named)?;
+            keys.given(state.reset(&entry, when).map_err(QueueError::Core))
+        }
+        Call::Remove(named) => {
+            let removed = state.remove(&keys.entry(named)?);
+            keys.removed(removed.map_err(QueueError::Core))
+        }
+        Call::Deadline(named) => match state.deadline(&keys.entry(named)?) {
+            Ok(deadline) => Answer::Until(deadline),
+            Err(error) => Answer::Refused(QueueError::Core(error)),
+        },
+        Call::Poll(_, tick) => keys.turned(state.poll(tick).map_err(QueueError::Core)),
+        Call::PlaceOf(named) => Answer::Stands(state.place(&keys.entry(named)?)),
+        Call::FiledAt(named) => Answer::Tick(state.filed(&keys.entry(named)?)),
+        _ => tells_of_state(state, call)?,
+    })
+}
+
+fn tells_of_state(state: &mut ShardState<char>, call: Call) -> Option<Answer> {
+    Some(match call {
+        Call::NextWake(_) => Answer::Tick(state.next_wake()),
+        Call::Sweep(_) => Answer::Count(state.sweep()),
+        Call::Clear(_) => Answer::Count(state.clear()),
+        Call::TellTally(_) => Answer::Tallies(state.tally()),
+        Call::Moves(_) => Answer::Moved(state.tally().moves),
+        Call::Ring(_, tick) => Answer::Rung(state.ring(tick)),
+        Call::Parked(_) => Answer::Tick(state.parked()),
+        Call::Len(_) => Answer::Count(state.len()),
+        _ => return None,
+    })
+}

@@ -1,0 +1,196 @@
+//! Two queues are given the same 300 calls, drawn by a fixed generator: one by name, the other by `lend` with its states'
+//! calls.
+
+use crate::tests::kit::{Draw, Fail};
+use super::keys::{Call, Named, Part};
+use super::play::{Letters, Play, Way};
+use crate::core::Tally;
+use crate::shards::{QueueConfig, QueueError, Totals};
+
+const SHARDS: usize = 3;
+
+const ROUNDS: u64 = 15;
+
+#[derive(Clone, Copy)]
+enum Kind {
+    Insert,
+    Reset,
+    Remove,
+    Deadline,
+    Poll,
+    NextWake,
+    Sweep,
+    Clear,
+    TellTally,
+    Ring,
+    Parked,
+    Extend,
+    Cancel,
+}
+
+// A round of twenty calls, each call by name among them.
+const ROUND: &[Kind] = &[
+    Kind::Insert,
+    Kind::Insert,
+    Kind::Poll,
+    Kind::Insert,
+    Kind::Reset,
+    Kind::Cancel,
+    Kind::Poll,
+    Kind::Remove,
+    Kind::Insert,
+    Kind::Deadline,
+    Kind::Extend,
+    Kind::Poll,
+    Kind::Sweep,
+    Kind::Insert,
+    Kind::NextWake,
+    Kind::Poll,
+    Kind::TellTally,
+    Kind::Ring,
+    Kind::Clear,
+    Kind::Parked,
+];
+
+// Draws calls, always the same ones.
+struct Calls(Draw);
+
+impl Calls {
+    // A shard, at times one that isn't there.
+    fn shard(&mut self) -> usize {
+        match self.0.below(16) {
+            0 => SHARDS,
+            drawn => drawn as usize % SHARDS,
+        }
+    }
+
+    // One of the last keys that were given out, at times with another shard.
+    fn named(&mut self, keys: usize) -> Named {
+        let nth = keys
+            .saturating_sub(1)
+            .saturating_sub(self.0.below(12) as usize);
+        match self.0.below(16) {
+            0 => Named::Forged(nth, Part::Shard(SHARDS as u32)),
+            1 => Named::Forged(nth, Part::Shard(0)),
+            _ => Named::Nth(nth),
+        }
+    }
+
+    // A deadline that no other turn has: mostly soon, at times behind the wheel's tick, beyond a lap or beyond the last tick.
+    fn deadline(&mut self, turn: u64) -> u64 {
+        let steps = match self.0.below(24) {
+            0 => 0,
+            1 => 1 << 28,
+            2 => 1 << 34,
+            _ => self.0.below(8).saturating_add(turn / 8),
+        };
+        steps.saturating_mul(512).saturating_add(turn)
+    }
+
+    // The tick of a poll, now and then beyond the last one.
+    fn tick(&mut self, turn: u64) -> u64 {
+        match self.0.below(24) {
+            0 => 4398046511104,
+            _ => self.0.below(1024).saturating_add(turn.saturating_mul(64)),
+        }
+    }
+
+    // A call of that kind, where so many keys were given out.
+    fn call(&mut self, kind: Kind, keys: usize, turn: u64) -> Call {
+        let (shard, named) = (self.shard(), self.named(keys));
+        match kind {
+            Kind::Insert => {
+                let letter = char::from(b'a' + (turn % 26) as u8);
+                Call::Insert(self.0.below(1000), letter, self.deadline(turn))
+            }
+            Kind::Reset => Call::Reset(named, self.deadline(turn)),
+            Kind::Remove => Call::Remove(named),
+            Kind::Deadline => Call::Deadline(named),
+            Kind::Poll => Call::Poll(shard, self.tick(turn)),
+            Kind::NextWake => Call::NextWake(shard),
+            Kind::Sweep => Call::Sweep(shard),
+            Kind::Clear => Call::Clear(shard),
+            Kind::TellTally => Call::TellTally(shard),
+            Kind::Ring => Call::Ring(shard, self.tick(turn)),
+            Kind::Parked => Call::Parked(shard),
+            Kind::Extend => Call::Extend(named, self.deadline(turn)),
+            Kind::Cancel => Call::Cancel(named),
+        }
+    }
+}
+
+// A shard's tally, len, tick, noted tick and next wake.
+type Seen = (Tally, usize, u64, u64, Option<u64>);
+
+fn seen(queue: &Letters, shard: usize) -> Result<Seen, QueueError> {
+    queue.lend(shard, |state| {
+        (
+            state.tally(),
+            state.len(),
+            state.tick(),
+            state.noted(),
+            state.next_wake(),
+        )
+    })
+}
+
+fn agree(one: &Play, other: &Play, turn: u64) {
+    assert_eq!(one.keys.last(), other.keys.last(), "turn {turn}");
+    for shard in 0..SHARDS {
+        let (left, right) = (seen(&one.queue, shard), seen(&other.queue, shard));
+        assert_eq!(left, right, "turn {turn}, shard {shard}");
+    }
+}
+
+// Makes a round of calls on both.
+fn round(one: &mut Play, other: &mut Play, calls: &mut Calls, first: u64) {
+    let mut turn = first;
+    for kind in ROUND {
+        let call = calls.call(*kind, one.keys.len(), turn);
+        let answers = (
+            one.answer(Way::ByName, call),
+            other.answer(Way::ByLend, call),
+        );
+        assert_eq!(answers.0, answers.1, "turn {turn}: {call:?}");
+        agree(one, other, turn);
+        turn = turn.saturating_add(1);
+    }
+}
+
+// Gives the handle back, and audits.
+fn end(play: Play) -> Result<(u64, Totals), Fail> {
+    let Play { queue, handle, .. } = play;
+    let cancels = handle.give_back();
+    Ok((cancels, queue.audit()?))
+}
+
+// Fails where a call by name answers and leaves the shard as it was (call_by_name_leaves_shard), or makes its call and then
+// clears the shard (call_by_name_then_clears).
+#[test]
+fn by_name_and_by_lend_agree() -> Result<(), Fail> {
+    let config = QueueConfig {
+        shards: SHARDS,
+        capacity: 8,
+        last_stamp: 5,
+    };
+    let mut one = Play::new(config)?;
+    let mut other = Play::new(config)?;
+    let mut calls = Calls(Draw::new(7));
+    for number in 0..ROUNDS {
+        round(&mut one, &mut other, &mut calls, number * 20);
+    }
+    let (ended, twin) = (end(one)?, end(other)?);
+    assert_eq!(ended, twin);
+    let Totals {
+        inserted,
+        expired,
+        removed,
+        cancelled,
+        ..
+    } = ended.1;
+    assert!(
+        inserted >= 50 && expired >= 15 && removed >= 15 && cancelled >= 3,
+        "{ended:?}"
+    );
+    Ok(())
+}

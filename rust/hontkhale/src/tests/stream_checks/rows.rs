@@ -1,0 +1,101 @@
+//! The worked rows of a stream.
+
+use crate::tests::kit::Fail;
+use super::same;
+use super::steps::Step::{Asked, Parked, Poll, Put, Ring, Woken};
+use super::steps::{Change, change_while_parked, play, play_over};
+use super::streams::Seen::{Ends, Fault, Out, Waits};
+use super::streams::{Letters, Task, letters_and_task};
+use crate::shards::LockedShard;
+use crate::stream::StreamFault;
+use crate::stream::parking::park_with;
+
+// Ended for now it goes on, up to a tick that is refused. After that it gives not even what is due.
+#[test]
+fn stream_by_hand() -> Result<(), Fail> {
+    play_over(
+        &[('v', 10)],
+        &[
+            Poll(0, Waits),
+            Parked(Some(10)),
+            Put('w', 5),
+            Woken(true),
+            Woken(false),
+            Parked(None),
+            Poll(10, Out('w', 5, 10)),
+            Poll(10, Out('v', 10, 10)),
+            Poll(10, Ends),
+            Put('x', 20),
+            Poll(20, Out('x', 20, 20)),
+            Poll(
+                4398046511104,
+                Fault(StreamFault::TickTooLarge {
+                    limit: 4398046511103,
+                }),
+            ),
+            Asked(6),
+            Put('y', 20),
+            Poll(20, Ends),
+            Asked(6),
+        ],
+    )
+}
+
+#[test]
+fn ring_wakes_once() -> Result<(), Fail> {
+    play_over(
+        &[('v', 10)],
+        &[
+            Poll(0, Waits),
+            Parked(Some(10)),
+            Ring(9, false),
+            Ring(10, true),
+            Parked(None),
+            Ring(10, false),
+        ],
+    )
+}
+
+#[test]
+fn parked_then_removed() -> Result<(), Fail> {
+    let (queue, task) = letters_and_task(&[])?;
+    change_while_parked(
+        &queue,
+        &task,
+        Change::Remove,
+        &[
+            Woken(true),
+            Woken(false),
+            Parked(None),
+            Poll(0, Ends),
+            Woken(false),
+        ],
+    )
+}
+
+fn refuses_no_waker(shard: &mut LockedShard<'_, char>) -> Result<(), Fail> {
+    let Some(next) = shard.next_wake() else {
+        return Err(Fail::from("no wake"));
+    };
+    let refused = Err(StreamFault::NoMemory);
+    same("park", park_with(shard, next, None), refused);
+    Ok(())
+}
+
+// The shard is held in here alone.
+fn parks_no_waker(queue: &Letters) -> Result<(), Fail> {
+    let mut shard = queue.enter(0)?;
+    refuses_no_waker(&mut shard)
+}
+
+fn refuses_then_parks(queue: &Letters, task: &Task) -> Result<(), Fail> {
+    parks_no_waker(queue)?;
+    same("parked", queue.parked(0), Ok(None));
+    play(queue, task, &[Poll(0, Waits), Parked(Some(10))])
+}
+
+#[test]
+fn waker_copy_refused() -> Result<(), Fail> {
+    let (queue, task) = letters_and_task(&[('v', 10)])?;
+    refuses_then_parks(&queue, &task)
+}

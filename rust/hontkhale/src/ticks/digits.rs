@@ -1,0 +1,113 @@
+//! Base-64 digits of ticks, and the levels, slots and starts that they name.
+
+use crate::ticks::{LEVELS, REACH};
+
+const TOP_SPAN: u64 = 1073741824;
+
+const LAP: u64 = REACH + 1;
+fn without_lowest(t: u64, places: usize) -> u64 {
+    t >> (6 * places as u64)
+}
+
+/// The base-64 digit of `t` at a place, the lowest place being 0.
+#[inline]
+pub fn digit(t: u64, level: usize) -> u64 {
+    without_lowest(t, level) % 64
+}
+
+/// How many ticks of one millisecond a slot of a level spans.
+#[inline]
+pub fn span(level: usize) -> u64 {
+    1 << (6 * level as u64)
+}
+
+/// The level at which `when` stands, seen from the tick `now`: the highest place in which their digits differ, or the
+/// top level 5 where that is higher. None where they are equal, and `when` is due.
+#[inline]
+pub fn level_of(now: u64, when: u64) -> Option<usize> {
+    // The highest bit in which they differ lies in the highest digit in which they differ.
+    let differing = now ^ when;
+    if differing == 0 {
+        return None;
+    }
+    Some((differing.ilog2() as usize / 6).min(LEVELS - 1))
+}
+
+/// The tick at which a slot of a level starts, seen from the tick `now`. Below the top level it is `now` with its digit
+/// at that level set to `slot` and all lower digits 0. The top level goes round: there it is the least multiple of
+/// `2^30` after `now` with that digit, so that the slot of `now` itself comes last.
+#[inline]
+pub fn slot_start(now: u64, level: usize, slot: u64) -> u64 {
+    if level == LEVELS - 1 {
+        lap_start(now, slot)
+    } else {
+        without_lowest(now, level + 1) * span(level + 1) + slot * span(level)
+    }
+}
+fn lap_start(now: u64, slot: u64) -> u64 {
+    if digit(now, LEVELS - 1) < slot {
+        now / LAP * LAP + slot * TOP_SPAN
+    } else {
+        (now / LAP + 1) * LAP + slot * TOP_SPAN
+    }
+}
+
+#[cfg(test)]
+mod tests {
+    use super::*;
+    use crate::ticks::{LAST_TICK, SLOTS};
+
+    // A tick, a later tick, and the level, the slot and the slot's start at which the second stands, seen from the
+    // first.
+    const PLACES: [(u64, u64, usize, u64, u64); 13] = [
+        (0, 63, 0, 63, 63),
+        (0, 64, 1, 1, 64),
+        (63, 64, 1, 1, 64),
+        (64, 127, 0, 63, 127),
+        (64, 128, 1, 2, 128),
+        (100, 150, 1, 2, 128),
+        (4095, 4096, 2, 1, 4096),
+        (10, 5000, 2, 1, 4096),
+        (4096, 5000, 1, 14, 4992),
+        (4992, 5000, 0, 8, 5000),
+        (0, 68719476735, 5, 63, 67645734912),
+        (68719476735, 68719476736, 5, 0, 68719476736),
+        (5, 68719476740, 5, 0, 68719476736),
+    ];
+
+    #[test]
+    fn place_table() {
+        for (tick, filed, level, slot, start) in PLACES {
+            assert!(tick <= filed && filed <= LAST_TICK && level < LEVELS && slot < SLOTS as u64);
+            assert_eq!(level_of(tick, filed), Some(level), "level of {filed} at {tick}");
+            assert_eq!(digit(filed, level), slot, "slot of {filed} at {tick}");
+            assert_eq!(
+                slot_start(tick, level, slot),
+                start,
+                "start of the slot of {filed} at {tick}"
+            );
+        }
+    }
+
+    #[test]
+    fn equal_ticks_have_no_level() {
+        assert_eq!(level_of(0, 0), None);
+        assert_eq!(level_of(LAST_TICK, LAST_TICK), None);
+    }
+
+    #[test]
+    fn top_level_is_the_highest() {
+        assert_eq!(level_of(0, LAST_TICK), Some(5));
+        assert_eq!(digit(LAST_TICK, 5), 63);
+        // 4095 spans lie behind the last tick, so the next with its digit begins 64 spans later.
+        assert_eq!(slot_start(LAST_TICK, 5, 63), 4159 * 1073741824);
+    }
+
+    #[test]
+    fn spans_grow_by_64() {
+        assert_eq!(
+            [span(0), span(1), span(2), span(3), span(4), span(5)],
+            [1, 64, 4096, 262144, 16777216, 1073741824]
+        );
+    }
+}

@@ -1,0 +1,127 @@
+//! The lists of six levels, of which one is the due list, with occupancy maps.
+
+use crate::index::nth;
+use crate::memory::AllocError;
+use crate::ticks::LEVELS;
+use crate::wheel::circles::Circles;
+use crate::wheel::maps::{clear_bit, first_list, set_bit, Maps};
+
+/// Which list each index stands in, if any, with a bit for each list that isn't empty.
+pub struct Lists {
+    circles: Circles,
+    maps: Maps,
+}
+
+// Clears the bit of a list where its last index has left it.
+fn clear_if_empty(circles: &Circles, maps: &mut Maps, list: usize) {
+    match circles.first(list) {
+        Some(_) => {}
+        None => clear_bit(maps, list),
+    }
+}
+
+impl Lists {
+    /// No index stands in a list.
+    pub fn new(capacity: usize) -> Result<Lists, AllocError> {
+        let circles = Circles::new(capacity)?;
+        Ok(Lists {
+            circles,
+            maps: [0; LEVELS],
+        })
+    }
+
+    /// The number of indexes.
+    pub fn capacity(&self) -> usize {
+        self.circles.capacity()
+    }
+
+    /// The list of an index, and one more, or 0.
+    pub fn home(&self, index: usize) -> u16 {
+        self.circles.home(index)
+    }
+
+    /// The number that says where an index is filed.
+    pub fn filed(&self, index: usize) -> u64 {
+        self.circles.filed(index)
+    }
+
+    /// How often an index moved.
+    pub fn moves(&self, index: usize) -> u8 {
+        self.circles.moves(index)
+    }
+
+    /// The first index of a list.
+    pub fn first(&self, list: usize) -> Option<usize> {
+        match self.circles.first(list) {
+            Some(first) => Some(first),
+            None => None,
+        }
+    }
+
+    /// An index of a list that is filed least there.
+    pub fn least_in(&self, list: usize) -> Option<usize> {
+        self.circles.least_in(list)
+    }
+
+    /// The occupancy map of a level, in which a list shows as empty.
+    pub fn map_without(&self, level: usize, list: usize) -> u64 {
+        let mut maps = self.maps;
+        clear_bit(&mut maps, list);
+        *nth(&maps, level)
+    }
+
+    /// The filled list of the lowest level that has one, there the first after the own one.
+    pub fn first_filled(&self, own: usize) -> Option<usize> {
+        match first_list(&self.maps, own) {
+            Some(list) => Some(list),
+            None => None,
+        }
+    }
+
+    /// Puts a loose index at the end of a list, filed at a tick.
+    pub fn link(&mut self, index: usize, list: usize, filed: u64) {
+        self.circles.link(index, list, filed);
+        set_bit(&mut self.maps, list);
+    }
+
+    /// The number, once the rows were read that an unlink of the index writes.
+    #[inline]
+    pub fn once_near(&self, index: usize, number: u32) -> u32 {
+        self.circles.once_near(index, number)
+    }
+
+    /// Takes an index out of its list.
+    pub fn unlink(&mut self, index: usize) {
+        let list = self.circles.home(index) as usize - 1;
+        self.circles.unlink(index);
+        clear_if_empty(&self.circles, &mut self.maps, list);
+    }
+
+    /// Takes the first index out of a list.
+    pub fn take_first(&mut self, list: usize) -> Option<usize> {
+        let first = self.circles.first(list)?;
+        self.circles.unlink_first(list, first);
+        clear_if_empty(&self.circles, &mut self.maps, list);
+        Some(first)
+    }
+
+    /// Opens a list: each of its indexes is placed again by the new tick. Gives how many of them aren't due yet.
+    pub fn open(&mut self, list: usize, tick: u64) -> u64 {
+        self.circles.close();
+        self.circles.open(&mut self.maps, list, tick)
+    }
+
+    /// Opens a list as it is: its circle hangs on the head of list 0, where none stands. From now on its indexes are seen
+    /// there, filed at the tick.
+    pub fn hang(&mut self, list: usize, tick: u64) {
+        self.circles.close();
+        self.circles.hang(list, tick);
+        set_bit(&mut self.maps, 0);
+        clear_bit(&mut self.maps, list);
+    }
+
+    /// Ends the opening, once all of its indexes have left. Nothing is seen to change.
+    pub fn close(&mut self) {
+        self.circles.close();
+    }
+}

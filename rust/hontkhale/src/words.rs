@@ -1,0 +1,23 @@
+//! Words shared without a lock: the keeper and its callers.
+//!
+//! Each slot of a queue has one word of 64 bits, which says how its entry stands: its stamp, its mark and a deadline.
+//! The [`Keeper`] belongs to the queue's owner and begins and ends entries. Up to 1,024 [`Caller`]s, each in a thread
+//! of its own, extend and cancel entries by one atomic step on that word, whatever the owner does meanwhile.
+
+mod caller;
+mod front;
+mod keeper;
+mod many;
+mod parts;
+mod seated;
+#[cfg(feature = "std")]
+mod shards;
+mod table;
+mod tries;
+
+pub use caller::Caller;
+pub use front::{numbered_queue, shared_queue};
+pub use keeper::{Keeper, WordsError, HANDLE_LIMIT};
+pub use many::{poll_into, ManyTurn};
+#[cfg(feature = "std")]
+pub use shards::locked_shards;

@@ -1,0 +1,128 @@
+//! A seat that extends and cancels, from any thread.
+
+use crate::core::{shown, CallError, Look};
+use crate::ticks::{stamp, unpack, Key, Mark, LAST_TICK};
+use crate::words::parts::{cancelled_word, live_word};
+use crate::words::seated::Seated;
+
+/// Extends and cancels entries, and looks at them, without a lock.
+///
+/// ```
+/// use hontkhale::{shared_queue, Look, Turn};
+/// use std::thread;
+///
+/// let mut queue = shared_queue(1_000)?;
+/// let mut caller = queue.issue().unwrap();
+/// let key = queue.insert_or_drop("lease", 100)?;
+/// let worker = thread::spawn(move || {
+///     assert_eq!(caller.extend(&key, 250), Ok(250));
+///     assert_eq!(caller.look(&key), Ok(Look::StillLive(250)));
+///     caller.give_back();
+/// });
+/// worker.join().unwrap();
+/// assert!(matches!(queue.poll(249)?, Turn::Waiting { .. }));
+/// assert!(matches!(queue.poll(250)?, Turn::Out(expired) if expired.value == "lease"));
+/// # Ok::<(), hontkhale::CoreError>(())
+/// ```
+///
+/// Each call takes one load and at most one atomic step, waits for nobody and takes no memory. A caller that is dropped
+/// counts as out for good.
+pub struct Caller {
+    seat: Seated,
+    cancels: u64,
+}
+
+// The deadline of the word that a step of a stamp found live at that stamp, or why the word refuses the stamp.
+fn deadline_at(found: u64, asked: u32) -> Result<u64, CallError> {
+    let parts = unpack(found);
+    if asked < parts.stamp {
+        return Err(CallError::Stale { seen: parts.stamp });
+    }
+    match parts.mark {
+        Mark::LiveMark => Ok(parts.field),
+        _ => Err(CallError::Ended {
+            how: shown(parts.mark, parts.field),
+        }),
+    }
+}
+
+impl Caller {
+    pub(crate) fn of(seat: Seated) -> Caller {
+        Caller { seat, cancels: 0 }
+    }
+
+    // The slot of a key, where one may have it.
+    fn slot(&self, key: &Key) -> Option<usize> {
+        let index = key.entry().index() as usize;
+        if index < self.seat.rows() && key.stamp() > 0 {
+            Some(index)
+        } else {
+            None
+        }
+    }
+
+    /// Raises the deadline of a live entry to `when`, a tick of one millisecond, and answers the deadline that is then
+    /// in force: `when`, or a later one that it had. Refused as TooFar beyond the last tick, as Unknown where no slot
+    /// has the key, as Stale where the slot has a later stamp, and as Ended where the entry isn't live.
+    pub fn extend(&mut self, key: &Key, when: u64) -> Result<u64, CallError> {
+        if when > LAST_TICK {
+            return Err(CallError::TooFar { limit: LAST_TICK });
+        }
+        let Some(index) = self.slot(key) else {
+            return Err(CallError::Unknown);
+        };
+        let asked = key.stamp();
+        let seen = self.seat.caller_load(index);
+        if stamp(seen) < asked {
+            return Err(CallError::Unknown);
+        }
+        let found = self.seat.extend(index, live_word(asked, when));
+        let before = deadline_at(found, asked)?;
+        Ok(before.max(when))
+    }
+
+    /// Cancels a live entry, and answers the deadline that it gave up. Refused as `extend` is, but never as TooFar.
+    pub fn cancel(&mut self, key: &Key) -> Result<u64, CallError> {
+        let Some(index) = self.slot(key) else {
+            return Err(CallError::Unknown);
+        };
+        let asked = key.stamp();
+        let seen = self.seat.caller_load(index);
+        if stamp(seen) < asked {
+            return Err(CallError::Unknown);
+        }
+        let found = self.seat.cancel(index, cancelled_word(asked));
+        let given_up = deadline_at(found, asked)?;
+        self.cancels += 1;
+        Ok(given_up)
+    }
+
+    /// What the entry of a key is. Refused as Unknown where no slot has the key, and as Stale where the slot has a
+    /// later stamp.
+    pub fn look(&mut self, key: &Key) -> Result<Look, CallError> {
+        let Some(index) = self.slot(key) else {
+            return Err(CallError::Unknown);
+        };
+        let asked = key.stamp();
+        let seen = unpack(self.seat.caller_load(index));
+        if seen.stamp < asked {
+            return Err(CallError::Unknown);
+        }
+        if asked < seen.stamp {
+            return Err(CallError::Stale { seen: seen.stamp });
+        }
+        Ok(shown(seen.mark, seen.field))
+    }
+
+    /// The number of its accepted cancels.
+    pub fn cancels(&self) -> u64 {
+        self.cancels
+    }
+
+    /// Counts the caller as gone and its cancels with it, by one step on the return word, and answers its cancels.
+    pub fn give_back(mut self) -> u64 {
+        let cancels = self.cancels;
+        self.seat.give_back(cancels);
+        cancels
+    }
+}

@@ -1,0 +1,138 @@
+//! The one seat that begins and ends entries.
+
+use crate::core::{Settled, SharedWords, Words};
+use crate::memory::AllocError;
+use crate::ticks::{unpack, Parts, CAPACITY_LIMIT};
+use crate::words::caller::Caller;
+use crate::words::parts::{live_word, ONE_CANCEL};
+use crate::words::seated::Seated;
+use crate::words::tries;
+use core::fmt;
+
+/// The most callers that a keeper issues, given back or not.
+pub const HANDLE_LIMIT: u64 = 1024;
+
+/// Why a keeper or a caller is not made.
+#[derive(Clone, Copy, Debug, PartialEq, Eq)]
+pub enum WordsError {
+    /// The capacity is 0 or beyond [`CAPACITY_LIMIT`].
+    BadConfig,
+    /// Memory was refused.
+    NoMemory,
+    /// The keeper has issued as many callers as it may.
+    TooManyHandles {
+        /// How many it may issue.
+        limit: u64,
+    },
+}
+
+impl fmt::Display for WordsError {
+    fn fmt(&self, f: &mut fmt::Formatter<'_>) -> fmt::Result {
+        match self {
+            WordsError::BadConfig => f.write_str("the capacity is out of its range"),
+            WordsError::NoMemory => f.write_str("out of memory"),
+            WordsError::TooManyHandles { limit } => write!(f, "no more than {limit} handles are issued"),
+        }
+    }
+}
+
+#[cfg(feature = "std")]
+impl std::error::Error for WordsError {}
+
+/// Begins and ends the entries of a row of words, and issues the callers that extend and cancel them. A queue that
+/// [`shared_queue`](crate::shared_queue) makes has one.
+pub struct Keeper {
+    seat: Seated,
+    issued: u64,
+}
+
+impl From<AllocError> for WordsError {
+    fn from(_e: AllocError) -> WordsError {
+        WordsError::NoMemory
+    }
+}
+
+impl Keeper {
+    /// A keeper of that many slots which were never used. Refused as BadConfig for a capacity of 0 or beyond
+    /// [`CAPACITY_LIMIT`], and as NoMemory.
+    pub fn new(capacity: usize) -> Result<Keeper, WordsError> {
+        if capacity == 0 || capacity > CAPACITY_LIMIT {
+            return Err(WordsError::BadConfig);
+        }
+        let seat = Seated::at_new_table(capacity)?;
+        Ok(Keeper { seat, issued: 0 })
+    }
+}
+
+impl Keeper {
+    /// One caller more, which may go to any thread. Refused as TooManyHandles where [`HANDLE_LIMIT`] callers were
+    /// issued, given back or not, and as NoMemory where the table can't be shared once more.
+    pub fn issue(&mut self) -> Result<Caller, WordsError> {
+        if self.issued >= HANDLE_LIMIT {
+            return Err(WordsError::TooManyHandles { limit: HANDLE_LIMIT });
+        }
+        let seat = self.seat.issue()?;
+        self.issued += 1;
+        Ok(Caller::of(seat))
+    }
+
+    /// The callers that were issued and are not given back, by one load. A caller that was dropped is out for good.
+    pub fn out(&mut self) -> u64 {
+        let gone = self.seat.return_load() % ONE_CANCEL;
+        self.issued - gone
+    }
+
+    /// The accepted cancels of all callers, where none is out, and else the number that is out, by one load.
+    pub fn returned(&mut self) -> Result<u64, u64> {
+        let word = self.seat.return_load();
+        let out = self.issued - word % ONE_CANCEL;
+        if out > 0 {
+            return Err(out);
+        }
+        Ok(word / ONE_CANCEL)
+    }
+}
+
+impl Words for Keeper {
+    fn rows(&self) -> usize {
+        self.seat.rows()
+    }
+
+    fn begin(&mut self, index: usize, stamp: u32, when: u64) {
+        self.seat.begin(index, live_word(stamp, when));
+    }
+
+    fn look(&mut self, index: usize) -> Parts {
+        unpack(self.seat.keeper_load(index))
+    }
+
+    fn settle(&mut self, index: usize, stamp: u32, at: u64) -> Settled {
+        tries::settle(&mut self.seat, index, stamp, at)
+    }
+
+    fn renew(&mut self, index: usize, stamp: u32, when: u64) -> Option<u64> {
+        tries::renew(&mut self.seat, index, stamp, when)
+    }
+
+    fn finish(&mut self, index: usize, stamp: u32) -> Option<u64> {
+        tries::finish(&mut self.seat, index, stamp)
+    }
+}
+
+impl SharedWords for Keeper {
+    type Caller = Caller;
+
+    type Fault = WordsError;
+
+    fn issue(&mut self) -> Result<Caller, WordsError> {
+        Keeper::issue(self)
+    }
+
+    fn out(&mut self) -> u64 {
+        Keeper::out(self)
+    }
+
+    fn returned(&mut self) -> Result<u64, u64> {
+        Keeper::returned(self)
+    }
+}

@@ -1,0 +1,52 @@
+//! Ticks by std's clock: whole milliseconds since an instant, which never go back.
+
+use hontkhale::{ExpiredStream, MillisecondTicks, QueueConfig, SharedDelayQueue, TickSource};
+use std::task::{Context, Poll, Waker};
+use std::time::{Duration, Instant};
+
+// An instant that lies so far back.
+fn ago(length: Duration) -> Instant {
+    Instant::now()
+        .checked_sub(length)
+        .expect("a machine that has run for a while")
+}
+
+#[test]
+fn whole_milliseconds_that_never_go_back() {
+    let mut ticks = MillisecondTicks::since(ago(Duration::from_micros(7_999)));
+    let mut last = ticks.now();
+    assert!(last >= 7);
+    for _ in 0..1_000 {
+        let now = ticks.now();
+        assert!(now >= last);
+        last = now;
+    }
+}
+
+// Who asks later is told no earlier tick.
+#[test]
+fn one_start_one_time() {
+    let start = ago(Duration::from_millis(3));
+    let (mut first, mut second) = (MillisecondTicks::since(start), MillisecondTicks::since(start));
+    let told = first.now();
+    assert!(told >= 3 && second.now() >= told);
+}
+
+// A start that is still to come is tick 0 until then.
+#[test]
+fn a_start_in_the_future() {
+    let mut ticks = MillisecondTicks::since(Instant::now() + Duration::from_secs(3_600));
+    assert_eq!(ticks.now(), 0);
+}
+
+#[test]
+fn stream_by_a_clock() {
+    let queue = SharedDelayQueue::new(QueueConfig::of(1, 8)).expect("a queue");
+    queue.insert_or_drop(0, 'v', 2).expect("room");
+    let ticks = MillisecondTicks::since(ago(Duration::from_millis(3)));
+    let mut stream = ExpiredStream::new(&queue, 0, ticks).ok().expect("a stream");
+    match stream.poll_next(&mut Context::from_waker(Waker::noop())) {
+        Poll::Ready(Some(Ok(expired))) => assert_eq!((expired.value, expired.deadline), ('v', 2)),
+        _ => panic!("nothing came out"),
+    }
+}

@@ -1,0 +1,70 @@
+//! Which types go to another thread, and which of them threads may share: both where their values do.
+
+use hontkhale::*;
+
+// A value that may be sent and not shared.
+type Sent = std::cell::Cell<u64>;
+
+// A value that may be shared.
+type Shared = Vec<u64>;
+
+fn sends<T: Send>() {}
+
+fn shares<T: Send + Sync>() {}
+
+struct At(u64);
+
+impl TickSource for At {
+    fn now(&mut self) -> u64 {
+        self.0
+    }
+}
+
+impl Ticks for At {
+    fn now(&mut self) -> u64 {
+        self.0
+    }
+}
+
+#[test]
+fn what_is_sent() {
+    sends::<DelayCore<Sent, VecWords>>();
+    sends::<DelayCore<Sent, Keeper>>();
+    sends::<Caller>();
+    sends::<Handle>();
+    sends::<LastingHandle>();
+    sends::<TtlCache<char, Sent>>();
+    sends::<CountedCache<char, Sent>>();
+    sends::<Expired<Sent>>();
+    sends::<Removed<Sent>>();
+    sends::<Turn<Sent>>();
+    sends::<Piece<Sent>>();
+    sends::<PlainQueue<Sent>>();
+    sends::<PlainTurn<Sent>>();
+}
+
+// A queue of shards may be shared by threads as soon as its values may be sent.
+#[test]
+fn what_is_shared() {
+    shares::<SharedDelayQueue<Sent>>();
+    shares::<LastingQueue<Sent>>();
+    shares::<HandlePool<Sent>>();
+    shares::<IdleSessions>();
+    shares::<ExpiredStream<'_, Sent, At>>();
+    shares::<PacedStream<'_, Sent, At>>();
+    shares::<LastingStream<'_, Sent, At>>();
+    shares::<LastingPacedStream<'_, Sent, At>>();
+    shares::<DelayCore<Shared, VecWords>>();
+    shares::<Entries<'_, Shared>>();
+    shares::<LiveEntry<'_, Shared>>();
+    shares::<TtlCache<char, Shared>>();
+    shares::<Seen<'_, char, Shared>>();
+    shares::<Key>();
+    shares::<EntryId>();
+    shares::<CoreError>();
+    shares::<CallError>();
+    shares::<QueueError>();
+    shares::<LastingError>();
+    shares::<WordsError>();
+    shares::<MillisecondTicks>();
+}

@@ -1,0 +1,34 @@
+//! Hostile use of a queue of shards: threads that race, worn stamps, and forged keys.
+
+#![allow(clippy::incompatible_msrv, clippy::needless_range_loop)]
+
+#[path = "hostile/chains.rs"]
+mod chains;
+#[path = "hostile/clears.rs"]
+mod clears;
+#[path = "hostile/crowd.rs"]
+mod crowd;
+#[allow(dead_code)]
+#[path = "models/draw.rs"]
+mod draw;
+#[path = "hostile/extends.rs"]
+mod extends;
+#[path = "hostile/fates.rs"]
+mod fates;
+#[path = "hostile/forged.rs"]
+mod forged;
+#[path = "hostile/join.rs"]
+mod join;
+#[path = "hostile/numbers.rs"]
+mod numbers;
+#[path = "hostile/owners.rs"]
+mod owners;
+#[path = "hostile/piece_threads.rs"]
+mod piece_threads;
+#[path = "hostile/strangers.rs"]
+mod strangers;
+#[path = "hostile/worn.rs"]
+mod worn;
+
+/// Why a test fails.
+type Fail = Box<dyn std::error::Error + Send + Sync>;

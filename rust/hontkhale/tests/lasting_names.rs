@@ -1,0 +1,86 @@
+//! A handle of a lasting queue is renewed by that queue alone, however alike another one is.
+
+use hontkhale::{CallError, HandleError, Kept, LastingConfig, LastingQueue, Look};
+
+type Queue = LastingQueue<&'static str>;
+
+/// A queue of two shards, each of one slot with two stamps.
+fn queue() -> Queue {
+    let config = LastingConfig {
+        shards: 2,
+        capacity: 1,
+        last_stamp: 2,
+    };
+    LastingQueue::new(config).expect("a queue")
+}
+
+/// Goes on until nothing is due.
+fn renew(queue: &Queue) {
+    while queue.keep_going() != Ok(Kept::Fine) {}
+}
+
+// Both queues have an entry of the same place, slot and stamp. The key of the first extends nothing in the second.
+#[test]
+fn another_queue_of_as_many_shards_renews_no_handle() {
+    let (first, second) = (queue(), queue());
+    let mine = first.insert(0, "mine", 10).expect("a free slot");
+    let theirs = second.insert(0, "theirs", 10).expect("a free slot");
+    assert_eq!(mine, theirs);
+
+    let mut handle = first.handle().expect("a handle");
+    assert_eq!(handle.renew(&second), Err(HandleError::OtherQueue));
+    assert_eq!(handle.extend(&mine, 20), Ok(20));
+    assert_eq!(first.deadline(&mine.entry()), Ok(20));
+    assert_eq!(second.deadline(&theirs.entry()), Ok(10));
+}
+
+// The second queue has renewed a shard, so it has a caller to give that the handle hasn't.
+#[test]
+fn a_renewed_shard_of_another_queue_gives_no_caller() {
+    let (first, second) = (queue(), queue());
+    let mut handle = first.handle().expect("a handle");
+    for _ in 0..2 {
+        let key = second.insert(0, "theirs", 10).expect("a free slot");
+        second.remove(&key.entry()).expect("the entry");
+    }
+    renew(&second);
+    let theirs = second.insert(0, "theirs", 10).expect("a free slot");
+    assert_eq!(theirs.entry().shard(), 2);
+
+    assert_eq!(handle.renew(&second), Err(HandleError::OtherQueue));
+    assert_eq!(handle.cancel(&theirs), Err(CallError::Unknown));
+    let mut theirs_handle = second.handle().expect("a handle");
+    assert!(matches!(theirs_handle.look(&theirs), Ok(Look::StillLive(10))));
+    assert_eq!(handle.renew(&first), Ok(0));
+}
+
+// A queue that stands where a dropped one stood isn't taken for it.
+#[test]
+fn no_two_queues_have_one_name() {
+    let mut names: Vec<u64> = (0..1_000).map(|_| queue().name()).collect();
+    names.sort_unstable();
+    names.dedup();
+    assert_eq!(names.len(), 1_000);
+}
+
+// What a handle gives back is what its callers cancelled since they were taken on.
+#[test]
+fn a_handle_tells_its_cancels() {
+    let queue: LastingQueue<u8> = LastingQueue::new(LastingConfig::of(3, 4)).expect("a queue");
+    let mut handle = queue.handle().expect("a handle");
+    let keys: Vec<_> = (0..9)
+        .map(|route| queue.insert(route, 0, 10).expect("a free slot"))
+        .collect();
+    for (done, key) in keys.iter().take(7).enumerate() {
+        assert_eq!(handle.cancels(), done as u64);
+        assert_eq!(handle.cancel(key), Ok(10));
+        assert_eq!(
+            handle.cancel(key),
+            Err(CallError::Ended {
+                how: Look::LookCancelled
+            })
+        );
+    }
+    assert_eq!(handle.cancels(), 7);
+    assert_eq!(handle.give_back(), 7);
+}

@@ -1,0 +1,195 @@
+//! The calls that take no memory: each is made where every allocation would be seen.
+
+use super::refusing::without_memory;
+use hontkhale::{
+    numbered_queue, CoreConfig, CoreError, DelayCore, ExpiredStream, Handle, HandlePool, Key, LastingConfig,
+    LastingHandle, LastingQueue, Look, PlainQueue, PlainTurn, QueueConfig, SharedDelayQueue, TickSource, TtlCache,
+    Turn, HANDLE_LIMIT,
+};
+use std::task::{Context, Waker};
+
+type Boxes = SharedDelayQueue<Box<u64>>;
+
+// Calls of the owner, each once at the least: the first entry is extended, the second removed, the third is due.
+macro_rules! calls_of_an_owner {
+    ($queue:expr, $values:expr) => {{
+        let (queue, values) = (&mut $queue, $values);
+        let [first, second, third, fourth, late] = values;
+        let first = queue.insert_or_drop(first, 5).expect("room");
+        let second = queue.insert_or_drop(second, 900).expect("room");
+        let renewed = queue.reset(&first.entry(), 700).expect("a stamp");
+        assert_eq!((renewed.stamp(), queue.deadline(&first.entry())), (2, Ok(700)));
+        assert_eq!(queue.remove(&second.entry()).map(|removed| removed.deadline), Ok(900));
+        queue.insert_or_drop(third, 5).expect("room");
+        queue.insert_or_drop(fourth, 70_000).expect("room");
+        assert_eq!(queue.insert_or_drop(late, u64::MAX).is_err(), true);
+        assert!(matches!(queue.poll(5), Ok(Turn::Out(_))));
+        assert!(matches!(queue.poll(600), Ok(Turn::Waiting { .. })));
+        while queue
+            .poll_some(800, 1)
+            .is_ok_and(|piece| matches!(piece, hontkhale::Piece::Working))
+        {}
+        assert!(queue.peek().is_some() && queue.next_wake().is_some());
+        assert_eq!((queue.sweep(), queue.sweep_some(0, 9).reaped), (0, 0));
+        assert_eq!(queue.clear(), queue.tally().removed as usize - 1);
+        assert!(matches!(queue.poll(70_000), Ok(Turn::Idle)));
+    }};
+}
+
+fn boxes() -> [Box<u64>; 5] {
+    [1, 2, 3, 4, 5].map(Box::new)
+}
+
+#[test]
+fn calls_take_no_memory() {
+    let mut plain = DelayCore::with_capacity(4).expect("a queue");
+    let mut shared = numbered_queue(CoreConfig::of(4)).expect("a queue");
+    let values = [boxes(), boxes()];
+    without_memory(|| {
+        let [one, other] = values;
+        calls_of_an_owner!(plain, one);
+        calls_of_an_owner!(shared, other);
+    });
+}
+
+// Callers are issued, up to the limit, without memory, and make their calls so.
+#[test]
+fn callers_take_no_memory() {
+    for capacity in [4, 4_096] {
+        let mut queue = numbered_queue(CoreConfig::of(capacity)).expect("a queue");
+        without_memory(|| {
+            let key = queue.insert_or_drop(Box::<[u64; 0]>::new([]), 5).expect("room");
+            for turn in 0..HANDLE_LIMIT {
+                let mut caller = queue.issue().expect("a caller");
+                assert_eq!(caller.extend(&key, 6 + turn), Ok(6 + turn));
+                assert_eq!(caller.give_back(), 0);
+            }
+            assert!(queue.issue().is_err());
+            assert_eq!((queue.out(), queue.returned()), (0, Ok(0)));
+        });
+    }
+}
+
+// Calls by the names of a shard's entries, which is full at first.
+fn calls_by_key(queue: &Boxes, hand: &mut Handle, shard: u64, values: [Box<u64>; 5]) {
+    let [first, second, third, fourth, fifth] = values;
+    let first = queue.insert_or_drop(shard, first, 10).expect("room").entry();
+    let second = queue.insert_or_drop(shard, second, 10).expect("room");
+    let third = queue.insert_or_drop(shard, third, 10).expect("room").entry();
+    queue.insert_or_drop(shard, fourth, 10).expect("room");
+    let full = CoreError::Full { linked: 4, worn: 0 };
+    assert_eq!(queue.insert_or_drop(shard, fifth, 10), Err(full.into()));
+    let renewed = queue.reset(&first, 5_000).expect("a stamp");
+    assert_eq!(hand.extend(&renewed, 6_000), Ok(6_000));
+    assert_eq!(hand.look(&renewed), Ok(Look::StillLive(6_000)));
+    assert_eq!(hand.cancel(&second), Ok(10));
+    assert_eq!(queue.remove(&third).map(|removed| removed.deadline), Ok(10));
+    assert_eq!(queue.deadline(&first), Ok(6_000));
+}
+
+struct At(u64);
+
+impl TickSource for At {
+    fn now(&mut self) -> u64 {
+        self.0
+    }
+}
+
+// Calls by the name of the shard whose entries were so left: the first is live until 6000, the second cancelled, the
+// fourth due.
+fn calls_by_shard(queue: &Boxes, shard: usize, value: Box<u64>) {
+    assert_eq!(queue.tally(shard).map(|tally| tally.inserted), Ok(4));
+    assert_eq!((queue.parked(shard), queue.ring(shard, 10)), (Ok(None), Ok(false)));
+    assert_eq!(queue.sweep(shard), Ok(1));
+    assert!(matches!(queue.poll(shard, 10), Ok(Turn::Out(_))));
+    let mut stream = ExpiredStream::new(queue, shard, At(20)).ok().expect("a stream");
+    assert!(stream.poll_next(&mut Context::from_waker(Waker::noop())).is_pending());
+    assert_eq!(queue.ring(shard, 6_000), Ok(true));
+    assert!(matches!(queue.poll(shard, 6_000), Ok(Turn::Out(_))));
+    queue.insert_or_drop(shard as u64, value, 7_000).expect("room");
+    assert_eq!(queue.clear(shard), Ok(1));
+    assert_eq!(
+        queue.lend(shard, |state| state.issue().map(|caller| caller.give_back())),
+        Ok(Ok(0))
+    );
+}
+
+#[test]
+fn other_calls_take_no_memory() {
+    let queue = Boxes::new(QueueConfig::of(3, 4)).expect("a queue");
+    let mut hand = queue.handle().expect("a handle");
+    let values = [0, 1, 2].map(|shard| (shard, boxes(), Box::new(shard)));
+    without_memory(|| {
+        for (shard, five, one) in values {
+            calls_by_key(&queue, &mut hand, shard, five);
+            calls_by_shard(&queue, shard as usize, one);
+        }
+        assert_eq!(hand.give_back(), 3);
+        assert!(queue.audit().is_ok());
+    });
+}
+
+// A handle is refused behind the limit, and takes memory before that is known.
+#[test]
+fn issued_callers_take_no_memory() {
+    let queue = Boxes::new(QueueConfig::of(3, 4)).expect("a queue");
+    without_memory(|| {
+        for _ in 0..HANDLE_LIMIT {
+            let caller = queue.enter(1).expect("a shard").issue().expect("a caller");
+            assert_eq!(caller.give_back(), 0);
+        }
+    });
+    assert!(queue.handle().is_err());
+}
+
+fn calls_of_a_lasting_queue(queue: &LastingQueue<Box<u64>>, hand: &mut LastingHandle, values: [Box<u64>; 5]) {
+    let [first, second, third, ..] = values;
+    let insert = |value, when| queue.insert(0, value, when).map_err(|refused| refused.0);
+    let first: Key = insert(first, 5).expect("room");
+    let second = insert(second, 90).expect("room");
+    let third = insert(third, 900).expect("room");
+    assert_eq!(queue.reset(&first.entry(), 7).map(|key| key.stamp()), Ok(2));
+    assert_eq!((hand.extend(&second, 100), hand.cancel(&third)), (Ok(100), Ok(900)));
+    assert!(matches!(queue.poll(0, 7), Ok(Turn::Out(_))));
+    assert!(queue
+        .poll_or_park(0, 8, &mut Context::from_waker(Waker::noop()))
+        .is_pending());
+    assert_eq!((queue.ring(0, 100), queue.sweep(0)), (Ok(true), Ok(1)));
+    assert_eq!(queue.remove(&second.entry()).map(|removed| removed.deadline), Ok(100));
+    assert_eq!((queue.clear(0), queue.close(1)), (Ok(0), Ok(())));
+    assert_eq!((queue.audit().inserted, hand.renew(queue)), (3, Ok(0)));
+}
+
+#[test]
+fn calls_of_a_lasting_queue_take_no_memory() {
+    let queue = LastingQueue::new(LastingConfig::of(2, 4)).expect("a queue");
+    let mut hand = queue.handle().expect("a handle");
+    let values = boxes();
+    without_memory(|| calls_of_a_lasting_queue(&queue, &mut hand, values));
+}
+
+#[test]
+fn the_plain_twin_takes_no_memory() {
+    let mut queue = PlainQueue::new(4).expect("a queue");
+    let [value, ..] = boxes();
+    without_memory(|| {
+        assert!(queue.insert(value, 5).is_ok());
+        assert!(matches!(queue.poll(5), Ok(PlainTurn::PlainOut { deadline: 5, .. })));
+    });
+}
+
+#[test]
+fn reads_of_a_cache_and_a_pool_take_no_memory() {
+    let mut cache: TtlCache<char, Box<u64>> = TtlCache::with_capacity(4).expect("a cache");
+    let pool = HandlePool::new(2).expect("a pool");
+    assert!(cache.put('a', Box::new(1), 10, 0).is_ok());
+    let handle = Box::new(7);
+    without_memory(|| {
+        assert_eq!(cache.get(&'a', 5).map(|value| **value), Some(1));
+        assert_eq!(cache.renew(&'a', 20, 5), Ok(25));
+        assert_eq!(cache.purge(25), Ok(1));
+        assert!(pool.put(handle).is_ok());
+        assert_eq!(pool.lend().map(|lent| **lent), Some(7));
+        assert_eq!(pool.idle(), 1);
+    });
+}

@@ -1,0 +1,304 @@
+//! The calls that take memory, a row for each: how many allocations it has, and which of them can't be refused.
+
+use super::refusing::{refusing, used};
+use hontkhale::replay::{run, ReplayFault};
+use hontkhale::{
+    numbered_queue, AllocError, CoreConfig, CoreError, DelayCore, HandleError, HandlePool, IdleSessions, Keeper, Kept,
+    LastingConfig, LastingQueue, PlainQueue, QueueConfig, QueueError, ReopenError, SharedDelayQueue, TtlCache, Turn,
+    WheelError, WordsError, LAST_STAMP,
+};
+
+#[derive(Clone, Copy, Debug, PartialEq)]
+struct NoMemory;
+
+// A call was accepted, or refused for want of memory.
+type Answer = Result<(), NoMemory>;
+
+// What a call answers for want of memory. It is refused for nothing else.
+macro_rules! no_memory {
+    ($($error:ty: $pattern:pat,)*) => {$(
+        impl From<$error> for NoMemory {
+            fn from(error: $error) -> NoMemory {
+                assert!(matches!(error, $pattern), "{error:?}");
+                NoMemory
+            }
+        }
+    )*};
+}
+
+no_memory! {
+    AllocError: AllocError,
+    CoreError: CoreError::NoMemory,
+    WheelError: WheelError::NoMemory,
+    WordsError: WordsError::NoMemory,
+    QueueError: QueueError::Core(CoreError::NoMemory),
+    HandleError: HandleError::NoMemory,
+    ReopenError: ReopenError::NoMemory,
+    ReplayFault: ReplayFault::NoMemory,
+}
+
+// Makes a call of which the allocation behind so many is refused, drops what it answers, and tells how many it asked
+// for.
+fn asks<T, E: Into<NoMemory>>(grants: u64, call: impl FnOnce() -> Result<T, E>) -> (Answer, u64) {
+    let (answer, asked) = refusing(grants, call);
+    (answer.map(drop).map_err(E::into), asked)
+}
+
+type Boxes = SharedDelayQueue<Box<u64>>;
+
+type Lasting = LastingQueue<Box<u64>>;
+
+fn handle_of_a_queue(grants: u64) -> (Answer, u64) {
+    let queue = Boxes::new(QueueConfig::of(3, 4)).expect("a queue");
+    let answer = asks(grants, || queue.handle().map(|handle| handle.give_back()));
+    assert_eq!(queue.audit().map(|totals| totals.inserted), Ok(0), "no caller is out");
+    answer
+}
+
+fn handle_of_a_lasting_queue(grants: u64) -> (Answer, u64) {
+    let queue = Lasting::new(LastingConfig::of(3, 4)).expect("a queue");
+    asks(grants, || queue.handle().map(|handle| handle.give_back()))
+}
+
+fn states_of_a_lasting_queue(grants: u64) -> (Answer, u64) {
+    let queue = Lasting::new(LastingConfig::of(3, 4)).expect("a queue");
+    asks(grants, || queue.states().map(|states| assert_eq!(states.len(), 3)))
+}
+
+// A shard that is closed and empty is opened again; where memory is refused it stays closed, and the other takes what
+// comes.
+fn opening_of_a_shard(grants: u64) -> (Answer, u64) {
+    let queue = Lasting::new(LastingConfig::of(2, 4)).expect("a queue");
+    queue.close(0).expect("a shard");
+    let answer = asks(grants, || {
+        queue
+            .keep_going()
+            .map(|kept| assert_eq!(kept, Kept::Reopened { place: 0 }))
+    });
+    let key = queue
+        .insert(0, Box::new(1), 5)
+        .map_err(|refused| refused.0)
+        .expect("a key");
+    assert_eq!(key.entry().shard(), if answer.0.is_ok() { 2 } else { 1 });
+    answer
+}
+
+// A put is refused with its key and its value, and no key is kept more.
+fn first_put(grants: u64) -> (Answer, u64) {
+    put_behind(0, grants)
+}
+
+fn second_put(grants: u64) -> (Answer, u64) {
+    put_behind(1, grants)
+}
+
+fn put_behind(keys: usize, grants: u64) -> (Answer, u64) {
+    let mut cache: TtlCache<String, Box<u64>> = TtlCache::with_capacity(16).expect("a cache");
+    for key in 0..keys {
+        assert!(cache.put(key.to_string(), Box::new(0), 10, 0).is_ok());
+    }
+    let (key, value) = (String::from("a key"), Box::new(7));
+    let (answer, asked) = refusing(grants, || cache.put(key, value, 10, 0));
+    let answer = answer.map(drop).map_err(|(error, key, value)| {
+        assert_eq!((key.as_str(), *value), ("a key", 7));
+        NoMemory::from(error)
+    });
+    assert_eq!(cache.len(), keys + usize::from(answer.is_ok()));
+    assert_eq!(cache.contains(&String::from("a key"), 5), answer.is_ok());
+    (answer, asked)
+}
+
+// A refresh leaves what is seen, and gives a worn slot its stamps again where there is memory.
+fn refresh_of_a_cache(grants: u64) -> (Answer, u64) {
+    let mut cache: TtlCache<char, Box<u64>> = TtlCache::new(2, 2).expect("a cache");
+    for value in 0..2 {
+        assert!(cache.put('a', Box::new(value), 10, 0).is_ok());
+    }
+    let answer = asks(grants, || cache.refresh());
+    assert_eq!(cache.get(&'a', 9).map(|value| **value), Some(1));
+    assert_eq!(cache.renew(&'a', 10, 1).is_ok(), answer.0.is_ok());
+    answer
+}
+
+// A login that is refused inserts nothing.
+fn login(grants: u64) -> (Answer, u64) {
+    let sessions = IdleSessions::new(QueueConfig::of(2, 1), 10).expect("sessions");
+    let answer = asks(grants, || sessions.login(0, "ann", 0));
+    let next = sessions.next_idle(0, 10).expect("a shard");
+    assert_eq!(matches!(next, Turn::Out(_)), answer.0.is_ok());
+    answer
+}
+
+// A script ends between two answers.
+fn script(grants: u64) -> (Answer, u64) {
+    let answers = "a at 5\nb at 3\nb expired 3\ntick 4\na expired 5\ntick 9\n";
+    let mut written = Vec::with_capacity(4_096);
+    let mut reader = "delay 1\ninsert a 5\ninsert b 3\ntick 4\ntick 9\n".as_bytes();
+    let answer = asks(grants, || run(&mut reader, &mut written, 4));
+    assert!(answers.as_bytes().starts_with(&written));
+    assert!(written.is_empty() || written.ends_with(b"\n"));
+    assert_eq!(written.len() == answers.len(), answer.0.is_ok());
+    answer
+}
+
+struct Row {
+    name: &'static str,
+    allocations: u64,
+    // The places of those for which std ends the process: the counted cell around the words of a shard, and a key's
+    // own clone.
+    aborting: &'static [u64],
+    makes: fn(grants: u64) -> (Answer, u64),
+}
+
+const ROWS: &[Row] = &[
+    // Its cells, and of the free slots the small stack and the bits; the wheel's row; the words.
+    Row {
+        name: "a queue of one owner",
+        allocations: 5,
+        aborting: &[],
+        makes: |grants| asks(grants, || DelayCore::<Box<u64>, _>::with_capacity(4)),
+    },
+    Row {
+        name: "a queue of one owner, of many entries",
+        allocations: 5,
+        aborting: &[],
+        makes: |grants| asks(grants, || DelayCore::<Box<u64>, _>::with_capacity(4_096)),
+    },
+    Row {
+        name: "a queue over shared words",
+        allocations: 6,
+        aborting: &[1],
+        makes: |grants| asks(grants, || numbered_queue::<Box<u64>>(CoreConfig::of(4))),
+    },
+    Row {
+        name: "a keeper",
+        allocations: 2,
+        aborting: &[1],
+        makes: |grants| asks(grants, || Keeper::new(4)),
+    },
+    Row {
+        name: "the plain twin",
+        allocations: 1,
+        aborting: &[],
+        makes: |grants| asks(grants, || PlainQueue::<Box<u64>>::new(4)),
+    },
+    // The row of shards, that of who waits for their locks, and six for each shard.
+    Row {
+        name: "a queue of one shard",
+        allocations: 8,
+        aborting: &[3],
+        makes: |grants| asks(grants, || Boxes::new(QueueConfig::of(1, 4))),
+    },
+    Row {
+        name: "a queue of three shards",
+        allocations: 20,
+        aborting: &[3, 9, 15],
+        makes: |grants| asks(grants, || Boxes::new(QueueConfig::of(3, 4))),
+    },
+    Row {
+        name: "a handle",
+        allocations: 1,
+        aborting: &[],
+        makes: handle_of_a_queue,
+    },
+    Row {
+        name: "a lasting queue",
+        allocations: 13,
+        aborting: &[2, 8],
+        makes: |grants| asks(grants, || Lasting::new(LastingConfig::of(2, 4))),
+    },
+    Row {
+        name: "a handle of a lasting queue",
+        allocations: 1,
+        aborting: &[],
+        makes: handle_of_a_lasting_queue,
+    },
+    Row {
+        name: "the states of a lasting queue",
+        allocations: 1,
+        aborting: &[],
+        makes: states_of_a_lasting_queue,
+    },
+    Row {
+        name: "the opening of a shard",
+        allocations: 5,
+        aborting: &[1],
+        makes: opening_of_a_shard,
+    },
+    Row {
+        name: "a cache",
+        allocations: 5,
+        aborting: &[],
+        makes: |grants| asks(grants, || TtlCache::<char, u64>::new(2, LAST_STAMP)),
+    },
+    // The copy of its key, and at first room in the map.
+    Row {
+        name: "a first put",
+        allocations: 2,
+        aborting: &[0],
+        makes: first_put,
+    },
+    Row {
+        name: "a second put",
+        allocations: 1,
+        aborting: &[0],
+        makes: second_put,
+    },
+    Row {
+        name: "a refresh",
+        allocations: 5,
+        aborting: &[],
+        makes: refresh_of_a_cache,
+    },
+    Row {
+        name: "sessions",
+        allocations: 14,
+        aborting: &[3, 9],
+        makes: |grants| asks(grants, || IdleSessions::new(QueueConfig::of(2, 1), 10)),
+    },
+    Row {
+        name: "a login",
+        allocations: 1,
+        aborting: &[],
+        makes: login,
+    },
+    Row {
+        name: "a pool",
+        allocations: 1,
+        aborting: &[],
+        makes: |grants| asks(grants, || HandlePool::<Box<u64>>::new(4)),
+    },
+    Row {
+        name: "a script",
+        allocations: 22,
+        aborting: &[],
+        makes: script,
+    },
+];
+
+// Each allocation of a row is refused in turn. The call answers so, leaves everything as it was, and gives back what
+// it took.
+fn each_is_refused(row: &Row) {
+    for grants in (0..=row.allocations).filter(|grants| !row.aborting.contains(grants)) {
+        let before = used();
+        let (answer, asked) = (row.makes)(grants);
+        let expected = if grants < row.allocations {
+            Err(NoMemory)
+        } else {
+            Ok(())
+        };
+        assert_eq!(answer, expected, "{}, behind {grants} grants of {asked}", row.name);
+        assert_eq!(
+            asked,
+            row.allocations.min(grants + 1),
+            "{}, behind {grants} grants",
+            row.name
+        );
+        assert_eq!(used(), before, "{}, behind {grants} grants, leaks", row.name);
+    }
+}
+
+#[test]
+fn each_allocation_is_refused() {
+    ROWS.iter().for_each(each_is_refused);
+}

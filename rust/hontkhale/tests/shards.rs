@@ -1,0 +1,320 @@
+//! A queue of shards from many threads: its handles beside held locks, its refusals, and what a panic leaves.
+
+// The tests ask for a newer Rust than the crate, and an error is shown without the value that came back.
+#![allow(clippy::incompatible_msrv, clippy::ok_expect)]
+
+use hontkhale::{
+    CallError, CoreError, Handle, Key, Look, Piece, QueueConfig, QueueError, ReapError, SharedDelayQueue, Turn,
+    HANDLE_LIMIT, LAST_TICK,
+};
+use std::panic::{catch_unwind, AssertUnwindSafe};
+use std::sync::atomic::{AtomicUsize, Ordering::SeqCst};
+use std::sync::{mpsc, Arc};
+use std::task::{Wake, Waker};
+use std::thread;
+use std::time::Duration;
+
+/// Far longer than a call takes on a machine under load.
+const LIMIT: Duration = Duration::from_secs(20);
+
+fn queue(shards: usize, capacity: usize) -> SharedDelayQueue<String> {
+    SharedDelayQueue::new(QueueConfig::of(shards, capacity)).unwrap()
+}
+
+/// Calls `f` while this thread holds the lock of every shard from this one on.
+fn with_all_held(queue: &SharedDelayQueue<String>, shard: usize, f: &mut dyn FnMut()) {
+    if shard == queue.shards() {
+        f();
+    } else {
+        queue.lend(shard, |_held| with_all_held(queue, shard + 1, f)).unwrap();
+    }
+}
+
+/// Each call that a handle has, once for each key, told when it is done.
+fn calls_at_each(handle: &mut Handle, keys: &[Key], told: &mpsc::Sender<()>) {
+    for key in keys {
+        assert_eq!(handle.extend(key, 500), Ok(500));
+        assert_eq!(handle.look(key), Ok(Look::StillLive(500)));
+    }
+    assert_eq!(handle.cancel(&keys[0]), Ok(500));
+    told.send(()).unwrap();
+}
+
+#[test]
+fn a_handle_works_in_every_shard_while_another_thread_holds_all_locks() {
+    for shards in [1, 4, 64] {
+        let queue = queue(shards, 10);
+        let insert = |at: u64| queue.insert_or_drop(at, at.to_string(), 100).unwrap();
+        let keys: Vec<Key> = (0..shards as u64).map(insert).collect();
+        let mut handle = queue.handle().unwrap();
+        thread::scope(|scope| {
+            let ((held, is_held), (let_go, may_go)) = (mpsc::channel(), mpsc::channel::<()>());
+            let queue = &queue;
+            scope.spawn(move || {
+                with_all_held(queue, 0, &mut || {
+                    held.send(()).unwrap();
+                    let _ = may_go.recv();
+                })
+            });
+            is_held.recv().unwrap();
+            let (told, heard) = mpsc::channel();
+            let (keys, handle) = (&keys, &mut handle);
+            scope.spawn(move || calls_at_each(handle, keys, &told));
+            // A handle that took a lock would wait for the other thread, which waits for this one.
+            let ended = heard.recv_timeout(LIMIT);
+            drop(let_go);
+            assert!(ended.is_ok(), "a handle's call waits while the shards are held");
+        });
+        assert_eq!(
+            queue.deadline(&keys[0].entry()),
+            Err(QueueError::Core(CoreError::WasCancelled))
+        );
+        assert!(keys.iter().skip(1).all(|key| queue.deadline(&key.entry()) == Ok(500)));
+    }
+}
+
+#[test]
+fn shards_out_of_range_are_unknown() {
+    let queue = queue(4, 10);
+    let key = queue.insert_or_drop(3, "a".into(), 10).unwrap();
+    assert_eq!(key.entry().shard(), 3);
+    let unknown = QueueError::Unknown;
+    for shard in [4, 5, 64, usize::MAX] {
+        assert_eq!(queue.poll(shard, LAST_TICK + 1).unwrap_err(), unknown);
+        assert_eq!(queue.poll_some(shard, LAST_TICK + 1, 0).unwrap_err(), unknown);
+        assert_eq!(queue.next_wake(shard), Err(unknown));
+        assert_eq!((queue.sweep(shard), queue.clear(shard)), (Err(unknown), Err(unknown)));
+        assert_eq!(
+            (queue.sweep_some(shard, 0, 1), queue.tally(shard)),
+            (Err(unknown), Err(unknown))
+        );
+        assert_eq!(
+            (queue.ring(shard, 5), queue.parked(shard)),
+            (Err(unknown), Err(unknown))
+        );
+        assert_eq!(queue.lend(shard, |_| panic!("it isn't called")), Err(unknown));
+        assert!(queue.enter(shard).is_err());
+    }
+    assert_eq!(unknown.to_string(), "there is no such shard");
+}
+
+#[test]
+fn a_full_shard_gives_the_value_back() {
+    let queue = queue(2, 1);
+    queue.insert_or_drop(0, "first".into(), 10).unwrap();
+    let (full, value) = queue.insert(2, "second".into(), 10).unwrap_err();
+    assert_eq!(
+        (full, &value[..]),
+        (QueueError::Core(CoreError::Full { linked: 1, worn: 0 }), "second")
+    );
+    let (far, value) = queue.insert(1, "third".into(), LAST_TICK + 1).unwrap_err();
+    assert_eq!(
+        (far, &value[..]),
+        (QueueError::Core(CoreError::TooFar { limit: LAST_TICK }), "third")
+    );
+    queue.insert_or_drop(1, "fourth".into(), LAST_TICK).unwrap();
+    let too_large = QueueError::Core(CoreError::TickTooLarge { limit: LAST_TICK });
+    assert_eq!(queue.poll(0, LAST_TICK + 1).unwrap_err(), too_large);
+    assert!(matches!(queue.poll(0, 10), Ok(Turn::Out(_))));
+}
+
+#[test]
+fn worn_slots_are_refused_by_name() {
+    let config = QueueConfig {
+        last_stamp: 2,
+        ..QueueConfig::of(2, 1)
+    };
+    let queue = SharedDelayQueue::new(config).unwrap();
+    let key = queue.insert_or_drop(0, "a", 10).unwrap();
+    let key = queue.reset(&key.entry(), 20).unwrap();
+    assert_eq!(queue.reset(&key.entry(), 30), Err(QueueError::Core(CoreError::Worn)));
+    assert_eq!(queue.deadline(&key.entry()), Ok(20));
+    queue.remove(&key.entry()).unwrap();
+    let full = QueueError::Core(CoreError::Full { linked: 0, worn: 1 });
+    assert_eq!(queue.insert_or_drop(0, "b", 10), Err(full));
+    queue.insert_or_drop(1, "c", 10).unwrap();
+}
+
+#[test]
+fn a_stale_key_is_refused_by_a_handle_and_taken_by_name() {
+    let queue = queue(4, 10);
+    let mut handle = queue.handle().unwrap();
+    let old = queue.insert_or_drop(2, "a".into(), 10).unwrap();
+    let new = queue.reset(&old.entry(), 20).unwrap();
+    assert_eq!(handle.extend(&old, 30), Err(CallError::Stale { seen: new.stamp() }));
+    assert_eq!(
+        (handle.extend(&new, 30), queue.deadline(&old.entry())),
+        (Ok(30), Ok(30))
+    );
+    assert_eq!(queue.remove(&old.entry()).unwrap().value, "a");
+    assert_eq!(
+        queue.remove(&new.entry()).unwrap_err(),
+        QueueError::Core(CoreError::Missing)
+    );
+    assert_eq!(
+        handle.extend(&new, 50),
+        Err(CallError::Ended {
+            how: Look::LookRemoved(30)
+        })
+    );
+}
+
+/// Handles are issued so many times for good, given back or not.
+#[test]
+fn as_many_handles_as_may_be_are_made() {
+    let queue = queue(2, 4);
+    let mut handles: Vec<Handle> = (0..HANDLE_LIMIT).map(|_| queue.handle().unwrap()).collect();
+    let refused = QueueError::TooManyHandles { limit: HANDLE_LIMIT };
+    assert_eq!(queue.handle().unwrap_err(), refused);
+    handles.pop().unwrap().give_back();
+    assert_eq!(
+        (queue.handle().unwrap_err(), queue.audit().unwrap_err().out),
+        (refused, HANDLE_LIMIT - 1)
+    );
+    handles.into_iter().for_each(|handle| assert_eq!(handle.give_back(), 0));
+    assert_eq!(queue.audit().unwrap().inserted, 0);
+}
+
+#[test]
+fn a_handle_outlives_its_queue() {
+    let queue = queue(2, 4);
+    let keys = [0, 1].map(|shard| queue.insert_or_drop(shard, "a".into(), 10).unwrap());
+    let mut handle = queue.handle().unwrap();
+    queue.clear(1).unwrap();
+    drop(queue);
+    assert_eq!(
+        handle.extend(&keys[1], 20),
+        Err(CallError::Ended {
+            how: Look::LookRemoved(10)
+        })
+    );
+    // A queue that is dropped as it is tells nobody.
+    assert_eq!((handle.extend(&keys[0], 20), handle.give_back()), (Ok(20), 0));
+}
+
+#[test]
+fn a_panic_under_a_lock_leaves_the_shard_good() {
+    let queue = queue(1, 4);
+    let key = queue.insert_or_drop(0, "a".into(), 10).unwrap();
+    let panicked = catch_unwind(AssertUnwindSafe(|| {
+        queue.lend(0, |shard| {
+            shard.insert("b".into(), 20).unwrap();
+            panic!("under the lock");
+        })
+    }));
+    assert!(panicked.is_err());
+    assert_eq!(
+        (queue.deadline(&key.entry()), queue.tally(0).unwrap().linked),
+        (Ok(10), 2)
+    );
+    assert_eq!(queue.clear(0), Ok(2));
+}
+
+#[derive(Default)]
+struct Wakes(AtomicUsize);
+
+impl Wake for Wakes {
+    fn wake(self: Arc<Self>) {
+        self.0.fetch_add(1, SeqCst);
+    }
+}
+
+/// What was put in before the panic wakes the poller that it comes before.
+#[test]
+fn a_panic_under_a_lock_keeps_the_wake() {
+    let (queue, wakes) = (queue(1, 4), Arc::new(Wakes::default()));
+    queue.insert_or_drop(0, "late".into(), 40).unwrap();
+    queue.enter(0).unwrap().park(40, Waker::from(wakes.clone()));
+    let panicked = catch_unwind(AssertUnwindSafe(|| {
+        queue.lend(0, |shard| {
+            shard.insert("soon".into(), 20).unwrap();
+            panic!("under the lock");
+        })
+    }));
+    assert_eq!(
+        (panicked.is_err(), wakes.0.load(SeqCst), queue.parked(0)),
+        (true, 1, Ok(None))
+    );
+}
+
+#[test]
+fn an_audit_counts_what_was_cancelled_and_cleared() {
+    let queue = queue(2, 10);
+    let insert = |at: u64| queue.insert_or_drop(at, at.to_string(), 10 + at).unwrap();
+    let keys: Vec<Key> = (0..10).map(insert).collect();
+    let mut handle = queue.handle().unwrap();
+    for at in [0, 1, 9] {
+        handle.cancel(&keys[at]).unwrap();
+    }
+    assert_eq!(queue.audit().unwrap_err().to_string(), "1 handles are out");
+    assert_eq!(handle.give_back(), 3);
+    // The cancelled ones aren't reaped yet.
+    let totals = queue.audit().unwrap();
+    assert_eq!((totals.inserted, totals.cancelled, totals.live), (10, 3, 7));
+    assert_eq!((queue.clear(0), queue.sweep(1)), (Ok(4), Ok(2)));
+    queue.poll(1, 13).unwrap();
+    let totals = queue.audit().unwrap();
+    assert_eq!((totals.inserted, totals.expired, totals.removed), (10, 1, 4));
+    assert_eq!((totals.cancelled, totals.live), (3, 2));
+}
+
+#[test]
+fn a_shards_lock_is_let_go_between_the_pieces() {
+    let queue = SharedDelayQueue::new(QueueConfig::of(2, 3_000)).unwrap();
+    for value in 0..1_000 {
+        queue.insert_or_drop(1, value, 5_000).unwrap();
+    }
+    thread::scope(|scope| {
+        let ((ask, asked), (done, is_done)) = (mpsc::channel(), mpsc::channel());
+        let queue = &queue;
+        scope.spawn(move || {
+            for value in asked {
+                done.send(queue.insert_or_drop(1, value, 6_000).is_ok()).unwrap();
+            }
+        });
+        for value in 1_000..1_015 {
+            assert!(matches!(queue.poll_some(1, 5_000, 64), Ok(Piece::Working)));
+            ask.send(value).unwrap();
+            // A piece that kept the lock would have the other thread wait for this one.
+            assert_eq!(is_done.recv_timeout(LIMIT), Ok(true));
+        }
+    });
+    let mut outs = Vec::new();
+    while outs.len() < 1_000 {
+        if let Piece::Answer(Turn::Out(out)) = queue.poll_some(1, 5_000, 64).unwrap() {
+            outs.push(out.value);
+        }
+    }
+    outs.sort_unstable();
+    assert!(outs.into_iter().eq(0..1_000));
+    assert_eq!(queue.tally(1).unwrap().linked, 15);
+}
+
+#[test]
+fn shards_sweep_and_reap_in_pieces() {
+    let queue = queue(2, 100);
+    let keys: Vec<Key> = (0..100)
+        .map(|at| queue.insert_or_drop(1, at.to_string(), 50).unwrap())
+        .collect();
+    let mut handle = queue.handle().unwrap();
+    assert_eq!(queue.reap(&keys[3].entry()), Ok(Err(ReapError::Live)));
+    assert!(keys.iter().all(|key| handle.cancel(key).is_ok()));
+    assert_eq!(
+        (queue.reap(&keys[3].entry()), queue.tally(1).unwrap().cancelled),
+        (Ok(Ok(())), 1)
+    );
+    assert_eq!(queue.reap(&keys[3].entry()), Ok(Err(ReapError::Missing)));
+    let swept = queue.sweep_some(1, 0, 64).unwrap();
+    assert_eq!(
+        (swept.reaped, swept.next, queue.tally(1).unwrap().linked),
+        (63, Some(64), 36)
+    );
+    let last = keys[99].entry();
+    let lent = queue.lend(1, |shard| {
+        (shard.sweep_some(64, 30).reaped, shard.reap(&last), shard.len())
+    });
+    assert_eq!(lent, Ok((30, Ok(()), 5)));
+    assert_eq!(queue.sweep_some(0, 0, 64).unwrap().reaped, 0);
+    let too_large = QueueError::Core(CoreError::TickTooLarge { limit: LAST_TICK });
+    assert_eq!(queue.poll_some(1, LAST_TICK + 1, 0).unwrap_err(), too_large);
+}

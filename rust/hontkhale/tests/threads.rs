@@ -1,0 +1,224 @@
+//! Callers in threads of their own beside an owner that polls, owners that share a queue, and readers of one.
+
+// The tests ask for a newer Rust than the crate, and an error is shown without the value that came back.
+#![allow(clippy::incompatible_msrv, clippy::ok_expect)]
+
+use hontkhale::{shared_queue, CallError, Caller, DelayCore, Key, Look, Turn, LAST_TICK};
+use std::sync::{mpsc, Arc, Barrier, Mutex};
+use std::thread;
+
+const ENTRIES: u64 = 1_000;
+const CALLERS: u64 = 4;
+const ROUNDS: u64 = 50;
+
+/// The latest deadline that an extend of this entry was told is in force, by the entry's number.
+type Promised = Vec<u64>;
+
+fn extends(mut caller: Caller, keys: &[Key], seed: u64) -> Promised {
+    let mut promised = vec![0; keys.len()];
+    for round in 1..=ROUNDS {
+        for (entry, key) in keys.iter().enumerate() {
+            let when = round * 100 + (entry as u64 * 7 + seed * 13) % 100;
+            match caller.extend(key, when) {
+                Ok(deadline) => {
+                    assert!(when <= deadline && promised[entry] <= deadline);
+                    promised[entry] = deadline;
+                }
+                Err(CallError::Ended { .. }) => {}
+                Err(refused) => panic!("{refused}"),
+            }
+        }
+    }
+    caller.give_back();
+    promised
+}
+
+#[test]
+fn four_threads_extend_while_one_polls() {
+    let mut queue = shared_queue(ENTRIES as usize).unwrap();
+    let keys: Vec<Key> = (0..ENTRIES)
+        .map(|entry| queue.insert_or_drop(entry, 50).unwrap())
+        .collect();
+    let (keys, start) = (Arc::new(keys), Arc::new(Barrier::new(CALLERS as usize + 1)));
+    let callers: Vec<_> = (0..CALLERS)
+        .map(|seed| {
+            let (caller, keys, start) = (queue.issue().unwrap(), keys.clone(), start.clone());
+            thread::spawn(move || {
+                start.wait();
+                extends(caller, &keys, seed)
+            })
+        })
+        .collect();
+
+    start.wait();
+    let mut ended = vec![None; ENTRIES as usize];
+    for now in 0..=(ROUNDS + 1) * 100 {
+        for expired in queue.due(now).unwrap() {
+            assert!(expired.deadline <= now);
+            let entry = expired.value as usize;
+            assert_eq!(ended[entry].replace(expired.deadline), None, "an entry came out twice");
+        }
+        thread::yield_now();
+    }
+    let promised: Vec<Promised> = callers.into_iter().map(|caller| caller.join().unwrap()).collect();
+
+    // What was extended after its last poll comes out now. No extend that was accepted is lost.
+    for expired in queue.due(ROUNDS * 1_000).unwrap() {
+        assert_eq!(ended[expired.value as usize].replace(expired.deadline), None);
+    }
+    for entry in 0..ENTRIES as usize {
+        let latest = promised.iter().map(|by| by[entry]).max().unwrap().max(50);
+        assert_eq!(ended[entry], Some(latest));
+    }
+    assert_eq!(queue.returned(), Ok(0));
+}
+
+#[test]
+fn cancels_and_outs_add_up() {
+    let mut queue = shared_queue(ENTRIES as usize).unwrap();
+    let keys: Vec<Key> = (0..ENTRIES)
+        .map(|entry| queue.insert_or_drop(entry, 10 + entry).unwrap())
+        .collect();
+    let callers: Vec<_> = (0..CALLERS)
+        .map(|seed| {
+            let (mut caller, keys) = (queue.issue().unwrap(), keys.clone());
+            thread::spawn(move || {
+                for key in keys.iter().skip(seed as usize).step_by(3) {
+                    let _ = caller.cancel(key);
+                }
+                caller.give_back()
+            })
+        })
+        .collect();
+    let outs: usize = (0..ENTRIES + 10).map(|now| queue.due(now).unwrap().count()).sum();
+    let cancels: u64 = callers.into_iter().map(|caller| caller.join().unwrap()).sum();
+    assert!(matches!(queue.poll(ENTRIES + 10), Ok(Turn::Idle)));
+    assert_eq!(queue.returned(), Ok(cancels));
+    let tally = queue.tally();
+    assert_eq!(
+        (tally.expired, tally.cancelled, outs as u64 + cancels),
+        (outs as u64, cancels, ENTRIES)
+    );
+}
+
+/// One pass of calls in which every fifth cancels.
+fn calls(caller: &mut Caller, keys: &[Key], thread: u64) {
+    for pass in 0..20 {
+        for key in keys {
+            let cancels = pass % 5 == thread % 5;
+            let answer = if cancels {
+                caller.cancel(key)
+            } else {
+                caller.extend(key, 200 + pass)
+            };
+            assert!(
+                matches!(
+                    answer,
+                    Ok(_)
+                        | Err(CallError::Ended {
+                            how: Look::LookCancelled
+                        })
+                ),
+                "{answer:?}"
+            );
+        }
+    }
+}
+
+/// The words live as long as somebody has them. Where a queue was dropped, and not cleared, its callers aren't told.
+#[test]
+fn eight_threads_call_on_while_and_after_the_queue_ends() {
+    for round in 0..20 {
+        let mut queue = shared_queue(256).unwrap();
+        let keys: Vec<Key> = (0..256u64)
+            .map(|entry| queue.insert_or_drop(Box::new(entry), 100).unwrap())
+            .collect();
+        let (keys, start) = (Arc::new(keys), Arc::new(Barrier::new(9)));
+        let threads: Vec<_> = (0..8u64)
+            .map(|thread| {
+                let (mut caller, keys, start) = (queue.issue().unwrap(), keys.clone(), start.clone());
+                thread::spawn(move || {
+                    start.wait();
+                    calls(&mut caller, &keys, thread);
+                    caller
+                })
+            })
+            .collect();
+        start.wait();
+        (0..round).for_each(|_| thread::yield_now());
+        drop(queue);
+        let mut callers: Vec<Caller> = threads.into_iter().map(|thread| thread.join().unwrap()).collect();
+        let ended = Err(CallError::Ended {
+            how: Look::LookCancelled,
+        });
+        assert!(callers
+            .iter_mut()
+            .all(|caller| keys.iter().all(|key| caller.extend(key, LAST_TICK) == ended)));
+        assert_eq!(callers.iter().map(Caller::cancels).sum::<u64>(), 256);
+    }
+}
+
+/// Who wants callers to be told clears the queue before it goes.
+#[test]
+fn a_cleared_queue_is_closed_for_its_callers() {
+    let mut queue = shared_queue(2).unwrap();
+    let key = queue.insert_or_drop("v", 10).unwrap();
+    let mut caller = queue.issue().unwrap();
+    queue.clear();
+    drop(queue);
+    let ended = CallError::Ended {
+        how: Look::LookRemoved(10),
+    };
+    assert_eq!((caller.extend(&key, 20), caller.cancel(&key)), (Err(ended), Err(ended)));
+    assert_eq!(caller.give_back(), 0);
+}
+
+#[test]
+fn owners_share_a_queue_behind_a_mutex() {
+    let queue = Arc::new(Mutex::new(DelayCore::with_capacity(400).unwrap()));
+    let (told, heard) = mpsc::channel();
+    let owners: Vec<_> = (0..4u64)
+        .map(|owner| {
+            let (queue, told) = (queue.clone(), told.clone());
+            thread::spawn(move || {
+                for entry in 0..100 {
+                    let key = queue.lock().unwrap().insert_or_drop((owner, entry), entry).unwrap();
+                    told.send(key).unwrap();
+                }
+            })
+        })
+        .collect();
+    owners.into_iter().for_each(|owner| owner.join().unwrap());
+    drop(told);
+    assert_eq!(heard.iter().count(), 400);
+    let mut queue = queue.lock().unwrap();
+    let deadlines: Vec<u64> = queue.due(100).unwrap().map(|expired| expired.deadline).collect();
+    assert!(deadlines.len() == 400 && deadlines.windows(2).all(|it| it[0] <= it[1]));
+    assert!(queue.is_empty());
+}
+
+#[test]
+fn readers_ask_at_once() {
+    let mut queue = DelayCore::with_capacity(64).unwrap();
+    let keys: Vec<Key> = (0..64)
+        .map(|when| queue.insert_or_drop(when, 100 + when).unwrap())
+        .collect();
+    let (queue, keys) = (&queue, &keys);
+    thread::scope(|scope| {
+        for _ in 0..4 {
+            scope.spawn(move || {
+                for _ in 0..200 {
+                    assert_eq!(
+                        (queue.len(), queue.next_wake().is_some(), queue.tally().linked),
+                        (64, true, 64)
+                    );
+                    assert_eq!((queue.peek(), queue.entries().count()), (Some(keys[0]), 64));
+                    assert!(keys.iter().all(|key| {
+                        let until = queue.get(&key.entry()).map(|it| it + 100).unwrap();
+                        queue.look(key) == Ok(Look::StillLive(until))
+                    }));
+                }
+            });
+        }
+    });
+}

@@ -1,0 +1,24 @@
+//! What happens where code of the user runs inside a call, and panics there or calls the queue once more: one test
+//! for each kind of code and each call that runs it.
+//!
+//! Each test runs in a thread of its own and has a time limit of its own, so that one that hangs is seen to fail.
+
+// The tests ask for a newer Rust than the crate, and an error is shown without the value that came back.
+#![allow(clippy::incompatible_msrv, clippy::ok_expect)]
+
+#[path = "user_code/cache_keys.rs"]
+mod cache_keys;
+#[path = "user_code/drops_that_call.rs"]
+mod drops_that_call;
+#[path = "user_code/drops_that_panic.rs"]
+mod drops_that_panic;
+#[path = "user_code/kit.rs"]
+mod kit;
+#[path = "user_code/set_aside.rs"]
+mod set_aside;
+#[path = "user_code/swapped_shards.rs"]
+mod swapped_shards;
+#[path = "user_code/wakes_that_call.rs"]
+mod wakes_that_call;
+#[path = "user_code/wakes_that_panic.rs"]
+mod wakes_that_panic;

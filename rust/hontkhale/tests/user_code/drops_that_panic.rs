@@ -1,0 +1,123 @@
+//! A value's drop panics inside a call: the panic comes out of the call, and the shard is whole.
+
+use super::kit::{
+    insert, insert_cancelled, insert_lasting, insert_lasting_cancelled, is_whole, is_whole_lasting, lasting, panics,
+    park, queue, within_the_limit, Drops, Lasting, Queue, Task,
+};
+
+// Shard 0 has an entry that panics where it is dropped between two that don't, all cancelled; a call reaps them.
+fn reaps_whole<T>(call: impl FnOnce(&Queue) -> T + Send + 'static) {
+    within_the_limit(move || {
+        let (queue, drops) = (queue(), Drops::default());
+        insert_cancelled(&queue, drops.value(), 10);
+        insert_cancelled(&queue, drops.value_that_panics(), 10);
+        insert_cancelled(&queue, drops.value(), 10);
+        assert_eq!(panics(|| call(&queue)), "a value's drop");
+        is_whole(&queue, &drops);
+        assert_eq!(drops.count(), 4, "each value is dropped once");
+        assert_eq!(queue.tally(0).expect("a shard").cancelled, 3);
+    });
+}
+
+#[test]
+fn a_drop_panics_in_sweep() {
+    reaps_whole(|queue| queue.sweep(0));
+}
+
+#[test]
+fn a_drop_panics_in_sweep_some() {
+    reaps_whole(|queue| queue.sweep_some(0, 0, 8));
+}
+
+#[test]
+fn a_drop_panics_in_a_poll_that_reaps() {
+    reaps_whole(|queue| queue.poll(0, 10));
+}
+
+#[test]
+fn a_drop_panics_in_a_poll_in_pieces_that_reaps() {
+    reaps_whole(|queue| {
+        for _ in 0..9 {
+            let _ = queue.poll_some(0, 10, 1);
+        }
+    });
+}
+
+#[test]
+fn a_drop_panics_in_reap() {
+    within_the_limit(|| {
+        let (queue, drops) = (queue(), Drops::default());
+        let key = insert_cancelled(&queue, drops.value_that_panics(), 10);
+        assert_eq!(panics(|| queue.reap(&key.entry())), "a value's drop");
+        assert_eq!(queue.tally(0).expect("a shard").linked, 0);
+        is_whole(&queue, &drops);
+        assert_eq!(drops.count(), 2);
+    });
+}
+
+#[test]
+fn a_drop_panics_in_a_sweep_of_a_lasting_queue() {
+    reaps_whole_lasting(|queue| queue.sweep(0));
+}
+
+#[test]
+fn a_drop_panics_in_a_poll_of_a_lasting_queue() {
+    reaps_whole_lasting(|queue| queue.poll(0, 10));
+}
+
+#[test]
+fn a_drop_panics_in_keep_going() {
+    reaps_whole_lasting(|queue| {
+        queue.close(0).expect("a shard");
+        queue.keep_going()
+    });
+}
+
+fn reaps_whole_lasting<T>(call: impl FnOnce(&Lasting) -> T + Send + 'static) {
+    within_the_limit(move || {
+        let (queue, drops) = (lasting(), Drops::default());
+        insert_lasting_cancelled(&queue, drops.value(), 10);
+        insert_lasting_cancelled(&queue, drops.value_that_panics(), 10);
+        insert_lasting_cancelled(&queue, drops.value(), 10);
+        assert_eq!(panics(|| call(&queue)), "a value's drop");
+        is_whole_lasting_or_closed(&queue, &drops);
+    });
+}
+
+// Where the call closed the shard it is opened again first.
+fn is_whole_lasting_or_closed(queue: &Lasting, drops: &Drops) {
+    for _ in 0..3 {
+        queue.keep_going().expect("memory");
+    }
+    is_whole_lasting(queue, drops);
+    assert_eq!(drops.count(), 4, "each value is dropped once");
+}
+
+#[test]
+fn a_drop_panics_in_clear() {
+    within_the_limit(|| {
+        let (queue, drops, task) = (queue(), Drops::default(), Task::that_counts());
+        insert(&queue, drops.value(), 10);
+        insert(&queue, drops.value_that_panics(), 10);
+        insert(&queue, drops.value(), 10);
+        park(&queue, &task.waker());
+        assert_eq!(panics(|| queue.clear(0)), "a value's drop");
+        is_whole(&queue, &drops);
+        assert_eq!((task.wakes(), drops.count()), (1, 4));
+        assert_eq!(queue.tally(0).expect("a shard").removed, 4);
+    });
+}
+
+#[test]
+fn a_drop_panics_in_a_clear_of_a_lasting_queue() {
+    within_the_limit(|| {
+        let (queue, drops) = (lasting(), Drops::default());
+        insert_lasting(&queue, drops.value(), 10);
+        insert_lasting(&queue, drops.value_that_panics(), 10);
+        insert_lasting(&queue, drops.value(), 10);
+        assert_eq!(panics(|| queue.clear(0)), "a value's drop");
+        is_whole_lasting(&queue, &drops);
+        assert_eq!(drops.count(), 4);
+        assert_eq!(queue.tally(0).expect("a shard").present.removed, 4);
+    });
+}

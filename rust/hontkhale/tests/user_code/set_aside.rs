@@ -1,0 +1,244 @@
+//! Values that were let go under a lock and wait to be dropped: each is dropped once, behind the lock, and shows nowhere.
+
+use super::kit::{
+    adds_up, insert, insert_cancelled, insert_lasting_cancelled, is_whole, lasting, panics, queue, within_the_limit,
+    Drops, Queue, Value,
+};
+use hontkhale::{DelayCore, ExpiredStream, Piece, QueueConfig, SharedDelayQueue, Turn, VecWords};
+use std::sync::Arc;
+use std::task::{Context, Poll};
+
+// Three values of shard 0 are set aside: a sweep let them go, and the first one's drop ended the call.
+fn three_aside(queue: &Queue, drops: &Drops) {
+    insert_cancelled(queue, drops.value_that_panics(), 10);
+    for _ in 0..3 {
+        insert_cancelled(queue, drops.value(), 10);
+    }
+    assert_eq!(panics(|| queue.sweep(0)), "a value's drop");
+    assert_eq!(drops.count(), 1);
+    assert_eq!(aside(queue), 3);
+}
+
+fn aside(queue: &Queue) -> usize {
+    queue.enter(0).expect("a shard").aside()
+}
+
+#[test]
+fn inserts_take_the_slots_of_values_that_are_set_aside() {
+    within_the_limit(|| {
+        let (queue, drops) = (queue(), Drops::default());
+        three_aside(&queue, &drops);
+        let live = Drops::default();
+        let keys: Vec<_> = (0..8).map(|when| insert(&queue, live.value(), 100 + when)).collect();
+        for (key, when) in keys.iter().zip(100..) {
+            assert_eq!(queue.remove(&key.entry()).expect("an entry").deadline, when);
+        }
+        assert_eq!(live.count(), 8, "what is removed is what was put in");
+        assert_eq!(queue.sweep(0), Ok(0));
+        assert_eq!((drops.count(), aside(&queue)), (4, 0), "each is dropped once");
+        is_whole(&queue, &drops);
+    });
+}
+
+#[test]
+fn what_is_set_aside_shows_nowhere() {
+    within_the_limit(|| {
+        let (queue, drops) = (queue(), Drops::default());
+        three_aside(&queue, &drops);
+        let tally = queue.tally(0).expect("a shard");
+        assert_eq!((tally.linked, tally.cancelled), (0, 4));
+        adds_up(&tally);
+        assert_eq!(queue.next_wake(0), Ok(None));
+        queue
+            .lend(0, |shard| {
+                assert_eq!((shard.len(), shard.peek()), (0, None));
+                (0..8).for_each(|index| {
+                    let entry = hontkhale::EntryId::new(0, index, 1);
+                    assert!(shard.place(&entry).is_none() && shard.remove(&entry).is_err());
+                });
+            })
+            .expect("a shard");
+        assert!(matches!(queue.poll(0, 1_000), Ok(Turn::Idle)));
+        assert_eq!(drops.count(), 4, "a poll that rests drops them");
+    });
+}
+
+#[test]
+fn what_is_set_aside_is_dropped_with_the_queue() {
+    within_the_limit(|| {
+        let (queue, drops) = (queue(), Drops::default());
+        three_aside(&queue, &drops);
+        drop(queue);
+        assert_eq!(drops.count(), 4);
+    });
+}
+
+// 300 values are cleared, each of which puts another one in where it is dropped.
+#[test]
+fn a_clear_of_values_that_insert() {
+    within_the_limit(|| {
+        let queue: Arc<Queue> = Arc::new(SharedDelayQueue::new(QueueConfig::of(1, 300)).expect("a queue"));
+        let (drops, late) = (Drops::default(), Drops::default());
+        for when in 0..300 {
+            let (by_drop, late) = (queue.clone(), late.clone());
+            let value = drops.value_that(move || {
+                let refused = by_drop.insert_or_drop(0, late.value(), 1_000 + when);
+                assert!(refused.is_ok(), "there is room");
+            });
+            insert(&queue, value, when);
+        }
+        assert_eq!(queue.clear(0), Ok(300));
+        assert_eq!((drops.count(), late.count(), aside(&queue)), (300, 0, 0));
+        assert_eq!(queue.tally(0).expect("a shard").linked, 300);
+        assert_eq!(queue.clear(0), Ok(300));
+        assert_eq!(late.count(), 300);
+        is_whole(&queue, &drops);
+    });
+}
+
+// Calls on a shard in hand, and a drop that calls the queue by name.
+fn lets_go_in_hand(call: impl FnOnce(&Queue, &Drops) + Send + 'static) {
+    within_the_limit(|| {
+        let (queue, drops) = (queue(), Drops::default());
+        for when in 0..3 {
+            let by_drop = queue.clone();
+            insert_cancelled(
+                &queue,
+                drops.value_that(move || assert!(by_drop.tally(0).is_ok())),
+                when,
+            );
+        }
+        call(&queue, &drops);
+        assert_eq!((drops.count(), aside(&queue)), (3, 0));
+        is_whole(&queue, &drops);
+    });
+}
+
+#[test]
+fn lend_drops_behind_its_lock() {
+    lets_go_in_hand(|queue, drops| {
+        let reaped = queue.lend(0, |shard| (shard.sweep(), drops.count()));
+        assert_eq!(reaped, Ok((3, 0)), "nothing is dropped under the lock");
+    });
+}
+
+#[test]
+fn who_holds_a_shard_drops_behind_its_lock() {
+    lets_go_in_hand(|queue, drops| {
+        let mut shard = queue.enter(0).expect("a shard");
+        assert!(matches!(shard.poll_some(10, 100), Ok(Piece::Answer(Turn::Idle))));
+        let aside = shard.aside();
+        assert_eq!((aside, drops.count()), (3, 0));
+        drop(shard);
+        queue.drop_aside(0, aside);
+    });
+}
+
+#[test]
+fn a_stream_drops_behind_its_lock() {
+    lets_go_in_hand(|queue, _| {
+        let Ok(mut stream) = ExpiredStream::new(queue, 0, Late) else {
+            panic!("a stream")
+        };
+        let mut cx = Context::from_waker(std::task::Waker::noop());
+        assert!(matches!(stream.poll_next(&mut cx), Poll::Ready(None)));
+    });
+}
+
+// Always tells tick 10.
+struct Late;
+
+impl hontkhale::TickSource for Late {
+    fn now(&mut self) -> u64 {
+        10
+    }
+}
+
+// In hand, more inserts than have a place for what was there before: no value is lost, and none is dropped twice.
+#[test]
+fn inserts_in_hand_over_what_is_set_aside() {
+    within_the_limit(|| {
+        let (queue, drops) = (queue(), Drops::default());
+        for when in 0..8 {
+            insert_cancelled(&queue, drops.value(), when);
+        }
+        let linked = queue.lend(0, |shard| {
+            assert_eq!(shard.sweep(), 8);
+            (0..8).for_each(|when| assert!(shard.insert(drops.value(), when).is_ok()));
+            shard.len()
+        });
+        assert_eq!((linked, drops.count(), aside(&queue)), (Ok(8), 8, 0));
+        assert_eq!(queue.clear(0), Ok(8));
+        assert_eq!(drops.count(), 16);
+    });
+}
+
+// A poll that gives an entry leaves what it reaped to a later call: a drop that panics would lose the entry.
+#[test]
+fn a_drop_that_panics_loses_no_entry_that_came_out() {
+    within_the_limit(|| {
+        let (queue, drops) = (queue(), Drops::default());
+        insert_cancelled(&queue, drops.value_that_panics(), 5);
+        let key = insert(&queue, drops.value(), 10);
+        let Ok(Turn::Out(out)) = queue.poll(0, 10) else {
+            panic!("an entry is due")
+        };
+        assert_eq!(out.key, key);
+        assert_eq!(panics(|| queue.poll(0, 10)), "a value's drop");
+        drop(out);
+        is_whole(&queue, &drops);
+        assert_eq!(drops.count(), 3);
+    });
+}
+
+#[test]
+fn a_lasting_queue_renews_a_shard_beside_what_is_set_aside() {
+    within_the_limit(|| {
+        let (queue, drops) = (lasting(), Drops::default());
+        insert_lasting_cancelled(&queue, drops.value_that_panics(), 10);
+        insert_lasting_cancelled(&queue, drops.value(), 10);
+        queue.close(0).expect("a shard");
+        assert_eq!(panics(|| queue.keep_going()), "a value's drop");
+        queue.keep_going().expect("memory");
+        assert_eq!(drops.count(), 2, "a shard that is opened again lets go of the rest");
+    });
+}
+
+// One owner's queue drops what it lets go before the call returns.
+#[test]
+fn one_owner_sets_nothing_aside() {
+    let drops = Drops::default();
+    let mut queue: DelayCore<Value, VecWords> = DelayCore::with_capacity(8).expect("a queue");
+    for when in 0..4 {
+        let Ok(key) = queue.insert(drops.value(), when) else {
+            panic!("room")
+        };
+        assert_eq!(queue.cancel(&key), Ok(when));
+    }
+    assert_eq!((queue.sweep_some(0, 1).reaped, drops.count()), (1, 1));
+    assert!(matches!(queue.poll(1), Ok(Turn::Waiting { next: 2 })));
+    assert_eq!((queue.sweep(), drops.count()), (2, 4));
+}
+
+// One owner's queue that sets aside shows nothing of it, and each value is dropped once: taken out, or with the queue.
+#[test]
+fn one_owner_may_set_aside() {
+    let drops = Drops::default();
+    let mut queue: DelayCore<Value, VecWords> = DelayCore::with_capacity(8).expect("a queue");
+    queue.set_aside();
+    for when in 0..8 {
+        assert!(queue.insert(drops.value(), when).is_ok());
+    }
+    assert_eq!((queue.clear(), queue.aside(), drops.count()), (8, 8, 0));
+    assert_eq!((queue.len(), queue.entries().count()), (0, 0));
+    drop(queue.take_crowded());
+    let key = queue.insert(drops.value(), 9).map_err(|refused| refused.0);
+    assert_eq!(queue.entries().map(|entry| entry.deadline).collect::<Vec<_>>(), [9]);
+    assert!(key.is_ok_and(|key| queue.get(&key.entry()).is_some()));
+    for taken in 2..5 {
+        drop(queue.take_aside());
+        assert_eq!((drops.count(), queue.aside()), (taken, 8 - taken as usize));
+    }
+    drop(queue);
+    assert_eq!(drops.count(), 9);
+}

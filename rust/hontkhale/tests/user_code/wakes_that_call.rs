@@ -1,0 +1,147 @@
+//! A wake polls the queue at once, or the drop of a waker calls it.
+
+use super::kit::{
+    insert, insert_lasting, is_whole, is_whole_lasting, lasting, park, park_lasting, queue, within_the_limit, Drops,
+    Lasting, Queue, Task,
+};
+use hontkhale::{EntryId, Key};
+use std::sync::Arc;
+
+// Shard 0 has an entry that is due at 10, and a poller that polls where it is woken; a call wakes it.
+fn polls<T>(call: impl FnOnce(&Queue, &Drops) -> T + Send + 'static) {
+    within_the_limit(move || {
+        let (queue, drops) = (queue(), Drops::default());
+        let by_wake = queue.clone();
+        let task = Task::that(move || drop(by_wake.poll(0, 0).expect("a turn")));
+        insert(&queue, drops.value(), 10);
+        park(&queue, &task.waker());
+        call(&queue, &drops);
+        assert_eq!(task.wakes(), 1);
+        is_whole(&queue, &drops);
+    });
+}
+
+#[test]
+fn a_wake_polls_in_ring() {
+    polls(|queue, _| queue.ring(0, 10));
+}
+
+#[test]
+fn a_wake_polls_in_insert() {
+    polls(|queue, drops| insert(queue, drops.value(), 5));
+}
+
+#[test]
+fn a_wake_polls_in_reset() {
+    polls(|queue, _| queue.reset(&EntryId::new(0, 0, 1), 3));
+}
+
+#[test]
+fn a_wake_polls_in_remove() {
+    polls(|queue, _| queue.remove(&EntryId::new(0, 0, 1)));
+}
+
+#[test]
+fn a_wake_polls_in_clear() {
+    polls(|queue, _| queue.clear(0));
+}
+
+#[test]
+fn a_wake_polls_in_poll() {
+    polls(|queue, _| queue.poll(0, 10));
+}
+
+fn polls_lasting<T>(call: impl FnOnce(&Lasting, &Drops) -> T + Send + 'static) {
+    within_the_limit(move || {
+        let (queue, drops) = (lasting(), Drops::default());
+        let by_wake = queue.clone();
+        let task = Task::that(move || drop(by_wake.poll(0, 0).expect("a turn")));
+        insert_lasting(&queue, drops.value(), 10);
+        park_lasting(&queue, &task.waker());
+        call(&queue, &drops);
+        assert_eq!(task.wakes(), 1);
+        queue.clear(0).expect("a shard");
+        for _ in 0..3 {
+            queue.keep_going().expect("memory");
+        }
+        is_whole_lasting(&queue, &drops);
+    });
+}
+
+#[test]
+fn a_wake_polls_in_an_insert_of_a_lasting_queue() {
+    polls_lasting(|queue, drops| insert_lasting(queue, drops.value(), 5));
+}
+
+#[test]
+fn a_wake_polls_in_a_ring_of_a_lasting_queue() {
+    polls_lasting(|queue, _| queue.ring(0, 10));
+}
+
+// The entry of shard 0 is cancelled, so a call that reaps it wakes.
+fn polls_where_reaped<T>(call: impl FnOnce(&Lasting, &EntryId) -> T + Send + 'static) {
+    polls_lasting(move |queue, _| {
+        let entry = EntryId::new(0, 0, 1);
+        let mut handle = queue.handle().expect("a handle");
+        assert_eq!(handle.cancel(&Key::new(entry, 1)), Ok(10));
+        call(queue, &entry);
+    });
+}
+
+#[test]
+fn a_wake_polls_in_a_reap_of_a_lasting_queue() {
+    polls_where_reaped(|queue, entry| assert_eq!(queue.reap(entry), Ok(())));
+}
+
+#[test]
+fn a_wake_polls_in_a_sweep_of_some_of_a_lasting_queue() {
+    polls_where_reaped(|queue, _| assert_eq!(queue.sweep_some(0, 0, 1).map(|swept| swept.reaped), Ok(1)));
+}
+
+#[test]
+fn a_dropped_waker_calls_where_it_is_taken_out_of_a_lasting_queue() {
+    within_the_limit(|| {
+        let (queue, drops) = (lasting(), Drops::default());
+        insert_lasting(&queue, drops.value(), 10);
+        let by_drop = queue.clone();
+        park_lasting(&queue, &Task::dropped_by(move || assert!(by_drop.tally(0).is_ok())));
+        assert_eq!((queue.unpark(0), queue.unpark(0)), (Ok(true), Ok(false)));
+        is_whole_lasting(&queue, &drops);
+    });
+}
+
+#[test]
+fn a_wake_polls_in_close() {
+    polls_lasting(|queue, _| queue.close(0));
+}
+
+// A poller is parked in the place of another, whose last waker calls the queue where it is dropped.
+#[test]
+fn a_dropped_waker_calls_where_another_parks() {
+    within_the_limit(|| {
+        let (queue, drops, task) = (queue(), Drops::default(), Task::that_counts());
+        insert(&queue, drops.value(), 10);
+        let by_drop = queue.clone();
+        park(&queue, &Task::dropped_by(move || assert!(by_drop.tally(0).is_ok())));
+        park(&queue, &task.waker());
+        assert_eq!(Arc::strong_count(&queue), 1, "the waker is dropped");
+        assert_eq!(queue.ring(0, 10), Ok(true));
+        assert_eq!(task.wakes(), 1);
+        is_whole(&queue, &drops);
+    });
+}
+
+#[test]
+fn a_dropped_waker_calls_where_another_parks_in_a_lasting_queue() {
+    within_the_limit(|| {
+        let (queue, drops, task) = (lasting(), Drops::default(), Task::that_counts());
+        insert_lasting(&queue, drops.value(), 10);
+        let by_drop = queue.clone();
+        park_lasting(&queue, &Task::dropped_by(move || assert!(by_drop.tally(0).is_ok())));
+        park_lasting(&queue, &task.waker());
+        assert_eq!(Arc::strong_count(&queue), 1, "the waker is dropped");
+        assert_eq!(queue.ring(0, 10), Ok(true));
+        assert_eq!(task.wakes(), 1);
+        is_whole_lasting(&queue, &drops);
+    });
+}
