@@ -205,8 +205,8 @@ fn grants_of_the_makings<R: Abort + Wait>(rt: &R, alloc: Global) -> Result<Optio
 // Where the heap refuses whatever comes behind the makings' own allocations, each other call is accepted.
 #[test]
 fn other_calls_take_no_memory(rt: HostRuntime) -> Result<(), Fail> {
-    // The shards' row; of each shard its words (4 allocations), slots (3) and wheel (1); the row of a handle's callers.
-    let grants = 1 + 3 * 8 + 1;
+    // The rows of the shards and of their waiters; of each shard its words (4), slots (3) and wheel (1); a handle's row.
+    let grants = 2 + 3 * 8 + 1;
     same(
         &rt,
         "grants",

@@ -143,5 +143,5 @@ fn issues<R: Abort + Wait>(rt: &R, heap: &Heap) -> Result<(), Fail> {
 #[test]
 fn issued_callers_take_no_memory(rt: HostRuntime) -> Result<(), Fail> {
     let all = LocalHeap::new(rt.alloc(), 1 << 16)?;
-    issues(&rt, &RefusingHeap::new(&all, 25))
+    issues(&rt, &RefusingHeap::new(&all, 26))
 }
