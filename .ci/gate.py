@@ -1,19 +1,22 @@
 #!/usr/bin/env python3
-"""The gate: what the pages say, the C file's hashes, the tests of the plain Rust, and `rt ci`.
+"""The gate: what the pages say, the C file's hashes, the tests of the plain Rust, `rt ci`, and the wrong bodies.
 
-The first two take seconds, and nothing else is tried where one of them fails. The tests of the plain Rust run beside
-`rt ci` where there are more than two processors, and what they said is told whole behind it. The last line counts what
-passed and what failed in both. The status is that of `rt ci`, or 1 where only another part failed.
+The first two take seconds, and nothing else is tried where one of them fails. `test-edits` comes behind `rt ci`, if
+that passed, with a check for each processor. The tests of the plain Rust run beside the two where there are more than
+two processors, and what they said is told whole at the end. The last line counts what passed and what failed in all.
+The status is that of `rt ci`, or 1 where only another part failed.
 """
 
 import os
 import pathlib
 import re
+import resource
 import shutil
 import signal
 import subprocess
 import sys
 import tempfile
+import time
 
 TOP = pathlib.Path(__file__).resolve().parent.parent
 TESTS = TOP / "rust" / "test"
@@ -33,16 +36,39 @@ def counts(last, status):
     return passed, max(failed, status != 0)
 
 
+def used():
+    """The minutes of the clock, and those of a processor that all parts used which have ended."""
+    its = resource.getrusage(resource.RUSAGE_CHILDREN)
+    return time.monotonic() / 60, (its.ru_utime + its.ru_stime) / 60
+
+
+def tell_times(name, before):
+    """Says what a part took; docs/figures/gate_times reads this."""
+    clock, processor = (now - then for now, then in zip(used(), before))
+    say(f"-- {name} took {clock:.1f} minutes of the clock and {processor:.1f} of a processor")
+
+
 def shown(words):
     """Runs a part and passes on what it says: its status, and what its last line counts."""
     say(f"== {' '.join(words)}")
-    last = ""
+    last, before = "", used()
     with subprocess.Popen(words, stdout=subprocess.PIPE, **SAID) as ran:
         for line in ran.stdout:
             sys.stdout.write(line)
             sys.stdout.flush()
             last = line if line.strip() else last
+    tell_times(" ".join(words), before)
     return ran.returncode, counts(last, ran.returncode)
+
+
+def proved():
+    """Runs `rt ci`, and behind it the wrong bodies of all that it proved."""
+    parts = [shown(["rt", "ci"])]
+    if parts[0][0]:
+        say("rt ci failed, so the wrong bodies were not tried")
+        return parts
+    processors = len(os.sched_getaffinity(0))
+    return [*parts, shown(["python3", "test-edits", "-j", str(processors)])]
 
 
 class Tests:
@@ -64,10 +90,11 @@ class Tests:
         self.begin()
         if self.missing:
             return 1, (0, 1)
-        status = self.ran.wait()
+        before, status = used(), self.ran.wait()
         self.said.seek(0)
         text = self.said.read()
         say("== rust/test\n" + text.rstrip("\n"))
+        tell_times("rust/test, behind the others,", before)
         return status, counts((text.strip().splitlines() or [""])[-1], status)
 
     def stop(self):
@@ -83,12 +110,12 @@ def main():
     try:
         if tests and len(os.sched_getaffinity(0)) > 2:
             tests.begin()
-        parts = [shown(["rt", "ci"]), *([tests.end()] if tests else [])]
+        parts = [*proved(), *([tests.end()] if tests else [])]
     finally:
         if tests:
             tests.stop()
     say(f"{sum(it[0] for _, it in parts)} passed, {sum(it[1] for _, it in parts)} failed")
-    return parts[0][0] or any(status or it[1] for status, it in parts)
+    return parts[0][0] or int(any(status or it[1] for status, it in parts))
 
 
 if __name__ == "__main__":

@@ -115,7 +115,6 @@ FIGURES = {
     "script": runs.script,
     "stored": runs.stored,
     "edits": tree.edits,
-    "wider-edits": tree.wider_edits,
     "lines": tree.lines,
     "lines-over-code": lambda kinds, which="queue": tree.lines(kinds, which) / tree.lines("code", "queue"),
     "functions": tree.functions,
@@ -250,11 +249,11 @@ def gate():
     noted, sums = runs.noted("gate"), {}
     for crate in tree.crates():
         name = f"`{crate.name}`" if crate.role == "queue" else ROLES[crate.role]
-        proof, edits, minutes = sums.get(name, (0, 0, 0))
-        took = [float(noted.get((crate.name, it), 0)) for it in ("proof", "edits")]
-        sums[name] = (proof + took[0], edits + len(crate.edits()), minutes + took[1])
-    lines = [row("Crate", "Proof, tests and programs", "Must-fail edits", "Their minutes"), "|---|--:|--:|--:|"]
-    told = ((name, f"{proof:.1f}", str(edits or ""), f"{minutes:.1f}" if edits else "") for name, (proof, edits, minutes) in sums.items())
+        took = [float(noted.get((crate.name, it), 0)) for it in ("proof", "again", "edits")]
+        took.insert(1, len(crate.edits()))
+        sums[name] = [one + other for one, other in zip(sums.get(name, (0, 0, 0, 0)), took)]
+    lines = [row("Crate", "Proof, tests and programs", "Edits", "Proved again for them", "Their checks"), "|---" + "|--:" * 4 + "|"]
+    told = ((name, *(f"{it:.1f}" if isinstance(it, float) and it else str(it or "") for it in its)) for name, its in sums.items())
     return "\n".join([*lines, *(row(*it) for it in told)])
 
 
@@ -278,7 +277,7 @@ def sizes():
     for crate in tree.crates():
         count = crate.lines()
         numbers = [count[it] for it in ("code", "contract", "specs", "proofs", "test")]
-        numbers.append(len(crate.edits()) + len(crate.wider_edits()))
+        numbers.append(len(crate.edits()))
         for name in (ROLES[crate.role], "all"):
             counted[name] = [a + b for a, b in zip(counted[name], numbers)]
     lines = [row(*heads), "|---" + "|--:" * (len(heads) - 1) + "|"]
@@ -318,9 +317,9 @@ def headline():
 
 
 def edit(name):
-    """A must-fail edit as a diff, and what `rt must-fail` printed of it."""
+    """An edit as a diff, and what `test-edits` printed of it."""
     crate, _, stem = name.partition("/")
-    text = tree.text_of(tree.CRATES / crate / "must-fail" / f"{stem}.edit")
+    text = tree.text_of(tree.CRATES / crate / "edits" / f"{stem}.edit")
     lines, before = ["```diff"], ""
     for word, text in re.findall(r"(?m)^(file|old|new): (.*)$", text):
         if word == "file":

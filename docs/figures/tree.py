@@ -1,4 +1,4 @@
-"""Counts from the tree: lines, functions, definitions, tests, must-fail edits, and the constants of the code."""
+"""Counts from the tree: lines, functions, definitions, tests, edits, and the constants of the code."""
 
 import collections
 import functools
@@ -146,16 +146,12 @@ class Crate:
         return [name for it in self.sources for name in TEST.findall(text_of(it))]
 
     def edits(self):
-        """The edits that the gate tries."""
-        return [it.stem for it in files(self.folder / "must-fail", ".edit")]
-
-    def wider_edits(self):
-        """The edits that `test-edits` tries."""
-        return [it.stem for it in files(self.folder / "wider-edits", ".edit")]
+        """Its wrong bodies, which `test-edits` tries."""
+        return [it.stem for it in files(self.folder / "edits", ".edit")]
 
     def stale_edits(self):
-        """The wider edits that can't be applied: the gate sees no such edit, so the page check does."""
-        return [it.stem for it in files(self.folder / "wider-edits", ".edit") if not self.applies(text_of(it))]
+        """The edits that can't be applied, which is told here in seconds."""
+        return [it.stem for it in files(self.folder / "edits", ".edit") if not self.applies(text_of(it))]
 
     def applies(self, edit):
         """Whether each old text of an edit stands once in its file, after the pairs before it."""
@@ -198,10 +194,6 @@ def lines(kind, which="all"):
 
 def edits(which="all"):
     return sum(len(it.edits()) for it in some(which))
-
-
-def wider_edits(which="all"):
-    return sum(len(it.wider_edits()) for it in some(which))
 
 
 def functions(which="queue"):

@@ -1,0 +1,133 @@
+#!/usr/bin/env python3
+"""Tries the gate itself: that it counts what its parts count, and that a wrong body that isn't refused fails it by name.
+
+usage: .ci/planted.py [gate | edits]     (both, if neither is named)
+
+  gate    `.ci/gate.py` over parts that only say what they are told to; takes a second
+  edits   `test-edits` over a copy of dq_pool, with edits planted beside its own; takes minutes, and wants the kit
+
+Each case is told with what went wrong. The status is 1 where one did.
+"""
+
+import os
+import pathlib
+import shutil
+import subprocess
+import sys
+import tempfile
+
+TOP = pathlib.Path(__file__).resolve().parent.parent
+# What a part says and its status: of `rt ci`, of test-edits and of rust/test.
+WELL = {"rt": ("29 passed, 0 failed", 0), "test-edits": ("442 passed, 0 failed", 0), "rust/test": ("500 passed, 0 failed", 0)}
+# Each case: what isn't well in it, the gate's last line and status, and a line that it has to have.
+GATES = [
+    ({}, "971 passed, 0 failed", 0, "== rust/test"),
+    ({"rt": ("28 passed, 1 failed", 1)}, "528 passed, 1 failed", 1, "rt ci failed, so the wrong bodies were not tried"),
+    ({"rt": ("no memory", 2)}, "500 passed, 1 failed", 2, "rt ci failed, so the wrong bodies were not tried"),
+    ({"test-edits": ("test-edits: NOT REFUSED: it\\n440 passed, 2 failed", 1)}, "969 passed, 2 failed", 1, "test-edits: NOT REFUSED: it"),
+    ({"test-edits": ("it was ended", 130)}, "529 passed, 1 failed", 1, "it was ended"),
+    ({"test-edits": ("442 passed, 0 failed", 1)}, "971 passed, 1 failed", 1, "442 passed, 0 failed"),
+    ({"rust/test": ("498 passed, 2 failed", 1)}, "969 passed, 2 failed", 1, "498 passed, 2 failed"),
+    ({"docs/check": ("a figure differs", 1)}, "0 passed, 1 failed", 1, "a figure differs"),
+    ({"c/check": ("a hash differs", 1)}, "0 passed, 1 failed", 1, "a hash differs"),
+]
+PUT = "if self.handles.len() == self.most {"
+# Edits of dq_pool: the pairs of each, and how the run has to tell of it; none where it has to be refused.
+EDITS = {
+    "take_by_way_of_a_name": ([("src/idle.rt", "self.handles.pop()", "let last = self.handles.pop(); last")], "NOT REFUSED"),
+    "put_where_no_field_is": ([("src/idle.rt", PUT, "if self.handles.len() == self.least {")], "BAD EDIT"),
+    "put_of_a_text_that_is_gone": ([("src/idle.rt", "self.handles.push_back(handle);", "let _ = handle;")], "BAD EDIT"),
+    "len_promises_nothing": ([("src/idle.rt", "result ≡ length self.now.handles", "result ≡ result")], "NOT REFUSED"),
+    "put_hands_back_with_room": ([("src/idle.rt", PUT, "if self.handles.len() != self.most {")], None),
+}
+
+
+def script(path, says, status):
+    """A script in the place of a part, which says something and ends with a status."""
+    path.parent.mkdir(parents=True, exist_ok=True)
+    path.write_text(f"#!/usr/bin/env python3\nimport sys\nprint('{says}')\nsys.exit({status})\n", encoding="utf-8")
+    path.chmod(0o755)
+
+
+def gate(folder, parts, last, status, line):
+    """What went wrong where the parts say these."""
+    parts = {"docs/check": ("", 0), "c/check": ("", 0), **WELL, **parts}
+    for name in ("docs/check", "c/check", "test-edits", "rust/test"):
+        script(folder / name, *parts[name])
+    for name in ("rt", "cargo"):
+        script(folder / "bin" / name, *parts.get(name, ("", 0)))
+    (folder / ".ci").mkdir()
+    shutil.copy(TOP / ".ci" / "gate.py", folder / ".ci")
+    path = f"{folder / 'bin'}{os.pathsep}{os.environ['PATH']}"
+    ran = subprocess.run(["python3", ".ci/gate.py"], cwd=folder, env={**os.environ, "PATH": path}, **SAID)
+    said = ran.stdout.splitlines()
+    wrong = [f"the last line is {said[-1]}"] * (said[-1] != last)
+    wrong += [f"the status is {ran.returncode}"] * (ran.returncode != status)
+    return wrong + [f"no line is {line}"] * (line not in said)
+
+
+SAID = {"stdout": subprocess.PIPE, "stderr": subprocess.STDOUT, "encoding": "utf-8", "check": False}
+
+
+def try_gates():
+    """How many cases of the gate went wrong."""
+    failed = 0
+    for parts, *wanted in GATES:
+        with tempfile.TemporaryDirectory(prefix="planted-") as folder:
+            wrong = gate(pathlib.Path(folder), parts, *wanted)
+        failed += bool(wrong)
+        what = ", ".join(f"{name} says `{says}` and ends with {status}" for name, (says, status) in parts.items())
+        print(f"gate: {what or 'all is well'}: {'; '.join(wrong) or 'as it has to be'}", flush=True)
+    return failed
+
+
+def lay_out(folder):
+    """A tree of test-edits and dq_pool alone, with the planted edits."""
+    shutil.copy(TOP / "test-edits", folder)
+    shutil.copy(TOP / "HANDLES", folder)
+    (folder / "crates.txt").write_text("dq_pool:\n", encoding="utf-8")
+    shutil.copytree(TOP / "crates" / "dq_pool", folder / "crates" / "dq_pool")
+    for name, (pairs, _) in EDITS.items():
+        lines = [f"file: {file}\nold: {old}\nnew: {new}\n" for file, old, new in pairs]
+        (folder / "crates" / "dq_pool" / "edits" / f"{name}.edit").write_text("".join(lines), encoding="utf-8")
+
+
+def edits(folder, words, told):
+    """What went wrong where test-edits tries these: of each edit what it has to tell, and the counts."""
+    ran = subprocess.run(["python3", "test-edits", *words], cwd=folder, **SAID)
+    lost = {it: how for it, how in told.items() if how}
+    last = f"{len(told) - len(lost)} passed, {len(lost)} failed"
+    wrong = [f"no line tells {how} of {it}" for it, how in lost.items() if f"test-edits: {how}: dq_pool/{it}:" not in ran.stdout]
+    named = [it for it, how in told.items() if not how and f": dq_pool/{it}:" in ran.stdout]
+    wrong += [f"{it} counts as failed" for it in named]
+    wrong += [f"the last line doesn't count {last}"] * (not ran.stdout.rstrip().endswith(f": {last}"))
+    wrong += [f"the status is {ran.returncode}"] * (ran.returncode != bool(lost))
+    return wrong + ([f"it said:\n{ran.stdout}"] if wrong else [])
+
+
+def try_edits():
+    """How many cases of the edits went wrong."""
+    its = {it.stem: None for it in (TOP / "crates" / "dq_pool" / "edits").glob("*.edit")}
+    with tempfile.TemporaryDirectory(prefix="planted-") as room:
+        folder = pathlib.Path(room)
+        lay_out(folder)
+        every = edits(folder, ["-j", "2"], {**its, **{it: how for it, (_, how) in EDITS.items()}})
+        print(f"edits: with those planted: {'; '.join(every) or 'as it has to be'}", flush=True)
+        one = edits(folder, ["dq_pool/put_hands_back_with_room"], {"put_hands_back_with_room": None})
+        print(f"edits: one by its name: {'; '.join(one) or 'as it has to be'}", flush=True)
+    return bool(every) + bool(one)
+
+
+def main():
+    tries = {"gate": try_gates, "edits": try_edits}
+    asked = sys.argv[1:] or [*tries]
+    if not set(asked) <= set(tries):
+        print(__doc__.splitlines()[2], file=sys.stderr)
+        return 2
+    failed = sum(tries[it]() for it in asked)
+    print(f"planted: {failed} cases went wrong")
+    return bool(failed)
+
+
+if __name__ == "__main__":
+    sys.exit(main())
