@@ -62,19 +62,34 @@ def bad_links(page):
             yield link
 
 
-# Pages whose programs another script types: `docs/figures/using`.
-TYPED = {"docs/USING.md"}
+# Pages whose programs another script types, and who that is.
+TYPED = {"docs/USING.md": "docs/figures/using"}
+BLOCK = re.compile(r"(?ms)^```([^\n]*)\n(.*?)^```$")
+# The folders of a package whose files cargo builds.
+BUILT = {"src", "tests", "examples"}
 
 
-def unbuilt_blocks(page):
-    """The lines at which a page has Rust that nothing builds: it quotes no file, and no crate has the page as its documentation."""
+def is_documentation(page):
+    """Whether a crate has the page as its documentation, whose blocks are Rust then where nothing else is said."""
     library = page.parent / "src" / "lib.rs"
-    is_documentation = library.exists() and 'doc = include_str!("../README.md")' in text_of(library)
-    if is_documentation or page.relative_to(TOP).as_posix() in TYPED:
-        return []
-    text = text_of(page)
-    quoted = {found.end(1) for found in QUOTE.finditer(text)}
-    return [text.count("\n", 0, it.start()) + 1 for it in re.finditer(r"(?m)^```rust\n", text) if it.end() not in quoted]
+    return library.exists() and 'doc = include_str!("../README.md")' in text_of(library)
+
+
+def is_built(path):
+    """Whether cargo builds a file of the tree: it stands in a folder of a package that has such."""
+    home = next((it for it in (TOP / path).parents if (it / "Cargo.toml").exists()), None)
+    return path.endswith(".rs") and home is not None and (TOP / path).relative_to(home).parts[0] in BUILT
+
+
+def rust_blocks(page):
+    """Each block of Rust of a page: its line, and what builds it, or None. What is quoted stands in that file, as the quotes tell."""
+    text, typed = text_of(page), TYPED.get(page.relative_to(TOP).as_posix())
+    quoted = {found.end(1): found[2] for found in QUOTE.finditer(text)}
+    for found in BLOCK.finditer(text):
+        kind = re.split(r"\W", found[1], maxsplit=1)[0]
+        if kind in {"rust", "ignore", "no_run", "should_panic", "compile_fail"} or not kind and is_documentation(page):
+            path = quoted.get(found.start(2))
+            yield text.count("\n", 0, found.start()) + 1, typed or (path if path and is_built(path) else None)
 
 
 PATH = re.compile(r"`([\w./-]+/[\w.-]+\.(?:rt|antt|md|rs|tsv|py|txt))`")
