@@ -54,6 +54,8 @@ class Job:
         # By this machine's clock, which is the database's here: the last word accepted, and the lease's end by it.
         self.said = time.time()
         self.until = self.said + left / 1000
+        # When its last accepted word was sent: the lease ends a whole lease later, and no sooner.
+        self.sent = 0.0
         self.refused = None
         # The longest time between two accepted words.
         self.gap = 0.0
@@ -74,12 +76,13 @@ class Holder:
         if address in self.connections:
             self.connections.pop(address).close()
 
-    def take(self, count, seconds=30):
+    def take(self, count, seconds=30, also=lambda: None):
         """So many jobs, from whichever worker has them."""
         end = time.monotonic() + seconds
         got = []
         while len(got) < count:
             assert time.monotonic() < end, f"{len(got)} of {count} jobs were given"
+            also()
             for address in self.addresses:
                 try:
                     jobs = self.connection(address).call("JOBS.TAKE", min(100, count - len(got) or 1), "WAIT", 20)
@@ -121,6 +124,7 @@ class Holder:
 
     def hear(self, job, reply, sent, accepted):
         if not isinstance(reply, Refusal):
+            job.sent = sent
             accepted(job, reply)
         elif reply.startswith("MOVED "):
             job.address = reply.split()[2]

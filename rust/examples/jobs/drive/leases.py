@@ -114,18 +114,19 @@ def silent_and_beating(it):
         f"and {kept:.0f} of 150 that beat kept theirs; the database answered within {lag.worst * 1000:.0f} ms",
         flush=True,
     )
-    fencing(it, holder, silent)
+    fencing(it, holder, silent, beating)
     return workers, holder, beating
 
 
-def fencing(it, holder, silent):
-    """Who was silent too long changes nothing; who has the job now does."""
+def fencing(it, holder, silent, beating):
+    """Who was silent too long changes nothing; who has the job now does. The others beat meanwhile."""
     late = silent[:20]
-    again = {job.id: job for job in Holder(holder.addresses).take(150)}
+    again = {job.id: job for job in Holder(holder.addresses).take(150, also=lambda: holder.beat(beating))}
     assert all(again[job.id].attempt == 2 for job in silent), "each is given out again, as the second attempt"
     holder.say(late, "JOBS.BEAT", lambda *_: None)
     assert all(job.refused for job in late), "a beat of the first attempt is accepted"
     for job in late:
+        holder.beat(beating)
         for word in ("JOBS.DONE", "JOBS.FAIL"):
             reply = Connection(again[job.id].address).call(word, job.id, job.attempt)
             assert isinstance(reply, Refusal) and reply.startswith("FENCED "), f"{word} of the first attempt: {reply}"
@@ -137,9 +138,20 @@ def fencing(it, holder, silent):
     print("leases: 150 second attempts are done, and 60 words of the first changed nothing", flush=True)
 
 
+def going_on(beating):
+    """The holders that go on. Who couldn't beat for a whole lease has lost the job, which is the machine's doing."""
+    wrong = [job for job in beating if job.refused and job.refused < job.sent + LEASE]
+    assert not wrong, f"{len(wrong)} holders were replaced within a lease of their last beat"
+    left = [job for job in beating if job.refused is None]
+    if len(left) < len(beating):
+        print(f"leases: the machine kept {len(beating) - len(left)} holders from beating for a whole lease", flush=True)
+    return left
+
+
 def death(it, workers, holder, beating, moment):
     """A worker dies at some moment within the interval: no job is lost, and no beating holder more than was told."""
     holder.beat_for(beating, 2 * INTERVAL + moment, BEAT / 5, workers.look)
+    beating = going_on(beating)
     owners = workers.owners()
     victim = owners[beating[0].id % 64]
     theirs = [job for job in beating if owners[job.id % 64] == victim]
