@@ -10,27 +10,25 @@ TESTS = ("--test", "models", "six_")
 FAULTS = [
     (
         "poll loses late entries", "shards/calls.rs",
-        "let answer = shard.poll_and_unlock(tick);\n"
-        "        Ok(answer?)",
-        "let answer = shard.poll_and_unlock(tick);\n"
+        "let (answer, aside) = locked.poll_and_unlock(tick);\n"
+        "        self.drop_aside(shard, aside);\n",
+        "let (answer, aside) = locked.poll_and_unlock(tick);\n"
+        "        self.drop_aside(shard, aside);\n"
         "        if tick > 1 << 40 {\n"
         "            if let Ok(Turn::Out(it)) = &answer {\n"
         "                if it.deadline % 2 == 1 {\n"
-        "                    return self.poll(it.key.entry().shard() as usize, tick);\n"
+        "                    return self.poll(shard, tick);\n"
         "                }\n"
         "            }\n"
-        "        }\n"
-        "        Ok(answer?)",
+        "        }\n",
     ),
     (
         "clear of shard 2 clears shard 0", "shards/calls.rs",
-        "let shard = self.enter(shard)?;\n"
-        "        let cleared = shard.clear_and_unlock();",
-        "if shard >= 2 && shard < self.shards() {\n"
+        "let (cleared, aside) = locked.clear_and_unlock();",
+        "let (cleared, aside) = locked.clear_and_unlock();\n"
+        "        if shard >= 2 {\n"
         "            self.enter(0)?.clear();\n"
-        "        }\n"
-        "        let shard = self.enter(shard)?;\n"
-        "        let cleared = shard.clear_and_unlock();",
+        "        }",
     ),
     (
         "reset sweeps", "shards/calls.rs",
@@ -57,35 +55,31 @@ FAULTS = [
     ),
     (
         "sweep sweeps the next shard", "shards/calls.rs",
-        "let reaped = shard.sweep_and_unlock();",
-        "let next = (shard.shard() as usize + 1) % self.shards();\n"
-        "        let reaped = shard.sweep_and_unlock();\n"
-        "        self.enter(next)?.sweep();",
+        "let (reaped, aside) = locked.sweep_and_unlock();",
+        "let (reaped, aside) = locked.sweep_and_unlock();\n"
+        "        self.enter((shard + 1) % self.shards())?.sweep();",
     ),
     (
         "poll_some polls shard 0", "shards/calls.rs",
-        "let answer = shard.poll_some_and_unlock(tick, most);",
-        "let is_other = shard.shard() != 0;\n"
-        "        let answer = shard.poll_some_and_unlock(tick, most);\n"
-        "        if is_other && answer.is_ok() {\n"
+        "let (answer, aside) = locked.poll_some_and_unlock(tick, most);",
+        "let (answer, aside) = locked.poll_some_and_unlock(tick, most);\n"
+        "        if shard != 0 && answer.is_ok() {\n"
         "            let _lost = self.poll(0, tick);\n"
         "        }",
     ),
     (
         "sweep_some clears shard 0", "shards/calls.rs",
-        "let swept = shard.sweep_some_and_unlock(from, count);",
-        "let is_other = shard.shard() != 0;\n"
-        "        let swept = shard.sweep_some_and_unlock(from, count);\n"
-        "        if is_other {\n"
+        "let (swept, aside) = locked.sweep_some_and_unlock(from, count);",
+        "let (swept, aside) = locked.sweep_some_and_unlock(from, count);\n"
+        "        if shard != 0 {\n"
         "            self.enter(0)?.clear();\n"
         "        }",
     ),
     (
         "reap clears shard 0", "shards/calls.rs",
-        "let answer = shard.reap_and_unlock(entry);",
-        "let is_other = shard.shard() != 0;\n"
-        "        let answer = shard.reap_and_unlock(entry);\n"
-        "        if is_other {\n"
+        "let (answer, aside) = locked.reap_and_unlock(entry);",
+        "let (answer, aside) = locked.reap_and_unlock(entry);\n"
+        "        if shard != 0 {\n"
         "            self.enter(0)?.clear();\n"
         "        }",
     ),
@@ -140,11 +134,9 @@ FAULTS = [
     ),
     (
         "poll loses late entries", "lasting/calls.rs",
-        "            Ok(turn) => Ok(turn),\n"
-        "            Err(error) => Err(LastingError::Core(error)),",
+        "            Ok(Turn::Out(expired)) => Ok(Turn::Out(expired)),\n",
         "            Ok(Turn::Out(it)) if tick > 1 << 40 && it.deadline % 2 == 1 => self.poll(place, tick),\n"
-        "            Ok(turn) => Ok(turn),\n"
-        "            Err(error) => Err(LastingError::Core(error)),",
+        "            Ok(Turn::Out(expired)) => Ok(Turn::Out(expired)),\n",
     ),
     (
         "clear of place 2 clears place 0", "lasting/calls.rs",
@@ -229,28 +221,28 @@ FAULTS = [
     (
         "sweep sweeps the next place", "lasting/calls.rs",
         "let (reaped, leaver) = shard.sweep_quietly();\n"
-        "        unlock(shard, leaver);",
+        "        let aside = unlock(shard, leaver);\n",
         "let (reaped, leaver) = shard.sweep_quietly();\n"
-        "        unlock(shard, leaver);\n"
-        "        self.lock((place + 1) % self.shards()).sweep();",
+        "        let aside = unlock(shard, leaver);\n"
+        "        self.lock((place + 1) % self.shards()).sweep();\n",
     ),
     (
-        "keep_going sweeps the next place", "lasting/keeping.rs",
-        "let (answer, leaver) = shard.go_on(place, shards);\n"
-        "        unlock(shard, leaver);",
-        "let (answer, leaver) = shard.go_on(place, shards);\n"
-        "        unlock(shard, leaver);\n"
-        "        self.lock((place + 1) % self.shards()).sweep();",
+        "keep_going sweeps the next place", "lasting/opening.rs",
+        "let (begun, leaver) = shard.begin(place, shards);\n"
+        "        let aside = unlock(shard, leaver);\n",
+        "let (begun, leaver) = shard.begin(place, shards);\n"
+        "        let aside = unlock(shard, leaver);\n"
+        "        self.lock((place + 1) % self.shards()).sweep();\n",
     ),
     (
         "poll_some polls place 0", "lasting/pieces.rs",
         "let (answer, leaver) = shard.poll_some_quietly(tick, most);\n"
-        "        unlock(shard, leaver);",
+        "        let aside = unlock(shard, leaver);\n",
         "let (answer, leaver) = shard.poll_some_quietly(tick, most);\n"
-        "        unlock(shard, leaver);\n"
+        "        let aside = unlock(shard, leaver);\n"
         "        if place != 0 && answer.is_ok() {\n"
         "            let _lost = self.poll(0, tick);\n"
-        "        }",
+        "        }\n",
     ),
     (
         "handle takes pollers out", "lasting/handle.rs",
@@ -284,11 +276,9 @@ FAULTS = [
     ),
     (
         "clear forgets its values", "core/sweeps.rs",
-        "let ended = self.words.finish(index, stamp);\n"
-        "        self.wheel.unlink(index);\n"
-        "        self.slots.vacate(index);",
-        "let ended = self.words.finish(index, stamp);\n"
-        "        self.wheel.unlink(index);\n"
-        "        ::core::mem::forget(self.slots.vacate(index));",
+        "                self.removed += 1;\n"
+        "                self.slots.let_go(index);\n",
+        "                self.removed += 1;\n"
+        "                ::core::mem::forget(self.slots.vacate(index));\n",
     ),
 ]
