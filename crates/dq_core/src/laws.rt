@@ -1,6 +1,6 @@
 //! Laws over the calls of a queue, each the contract of an empty function.
 
-ghost use Rattle.dq_core.specs.Readers.{PeeksBoundDeadlines};
+ghost use Rattle.dq_core.specs.Readers.{PeeksBoundDeadlines, WakesBoundDeadlines};
 ghost use Rattle.dq_core.specs.Rests.{RestsLeaveNoCancelled};
 
 use crate::words::Words;
@@ -15,4 +15,10 @@ pub fn rests_leave_no_cancelled<T, W: Words>()
 /// that `peek` names. So what it names comes out before each other deadline where it is filed at its own.
 pub fn peeks_bound_deadlines<T, W: Words>()
     ensures { PeeksBoundDeadlines T W }
+{}
+
+/// At all times no live entry has a deadline before the next wake, at which there is something to do: so nothing is late
+/// that is polled for then.
+pub fn wakes_bound_deadlines<T, W: Words>()
+    ensures { WakesBoundDeadlines T W }
 {}

@@ -2,7 +2,7 @@
 
 use super::same;
 use dq_core::CoreError;
-use dq_lasting::{HandleError, Kept, LastingConfig, LastingQueue, ReopenError};
+use dq_lasting::{HandleError, HandleRenewError, Kept, LastingConfig, LastingQueue, ReopenError};
 use linked_list_allocator::LocalHeap;
 use refusing_heap::RefusingHeap;
 use std::process::Abort;
@@ -60,14 +60,17 @@ fn reopens<'heap, 'all, R: Abort + Wait>(
 fn refused_in<R: Abort>(
     rt: &R,
     reopened: Result<bool, ReopenError>,
-    took: Result<usize, HandleError>,
+    took: Result<usize, HandleRenewError>,
 ) -> Result<Refused, Fail> {
     if reopened? {
         return Ok(Refused::InReopen);
     }
     match took {
         Ok(took) => same(rt, "renew", took, 1),
-        Err(HandleError::NoMemory) => return Ok(Refused::InHandle),
+        Err(HandleRenewError {
+            why: HandleError::NoMemory,
+            ..
+        }) => return Ok(Refused::InHandle),
         Err(error) => return Err(error.into()),
     }
     Ok(Refused::Nowhere)

@@ -4,10 +4,9 @@ use crate::tests::kit::Fail;
 use super::play::Call::{ByHandle, Clear, Close, Insert, KeepGoing, Remove, Sweep, Tell};
 use super::play::HandleCall::{Cancel, Extend, Look, Renew};
 use super::play::Told::{Audit, Deadline, Tally, Wake};
-use super::play::{Texts, plays, queue_and_player, short_lived};
-use super::same;
+use super::play::{plays, queue_and_player, short_lived};
 use crate::core::{CallError, CoreError};
-use crate::lasting::{HandleError, Kept, LastingConfig, LastingError, LastingQueue};
+use crate::lasting::{Kept, LastingConfig, LastingError};
 
 // Three slots are linked, or worn.
 const FULL: LastingError = LastingError::Core(CoreError::Full { linked: 3, worn: 0 });
@@ -59,8 +58,8 @@ fn keep_going_does_what_is_due() -> Result<(), Fail> {
         KeepGoing(Kept::Fine),
         Insert(0, 5, Ok(2)),
         ByHandle(Extend(3, 9, Err(CallError::Unknown))),
-        ByHandle(Renew(1)),
-        ByHandle(Renew(0)),
+        ByHandle(Renew(Ok(1))),
+        ByHandle(Renew(Ok(0))),
         ByHandle(Extend(3, 9, Ok(9))),
         ByHandle(Look(1, Err(CallError::Unknown))),
         Tell(Deadline(1, Err(CoreError::Missing))),
@@ -163,37 +162,6 @@ fn another_shard_is_closed_once_it_is_far_worn() -> Result<(), Fail> {
         last_stamp: 1,
     };
     plays(config, calls)
-}
-
-// Takes all handles of a generation.
-fn takes_handles(queue: &Texts) -> Result<(), Fail> {
-    for _ in 0..1_024 {
-        queue.handle()?.give_back();
-    }
-    let refused = HandleError::TooManyHandles { limit: 1_024 };
-    same("handle", queue.handle().err(), Some(refused));
-    Ok(())
-}
-
-fn takes_each_generations_handles(
-    queue: &Texts,
-) -> Result<(), Fail> {
-    for _ in 0..2 {
-        takes_handles(queue)?;
-        for place in 0..2 {
-            queue.close(place)?;
-            let kept = queue.keep_going();
-            same("keep_going", kept, Ok(Kept::Reopened { place }));
-        }
-    }
-    Ok(())
-}
-
-// The callers of a generation are counted, given back or not.
-#[test]
-fn each_generation_has_so_many_handles() -> Result<(), Fail> {
-    let queue = LastingQueue::new(short_lived(1))?;
-    takes_each_generations_handles(&queue)
 }
 
 // A shard of 600 slots, all of which are linked, and all but the first cancelled, is swept by 256 slots a step, from where
