@@ -152,9 +152,9 @@ impl<A: Allocator> LastingHandle<A> {
     ///
     /// # Errors
     /// OtherQueue exactly where the queue has another name than the one that made the handle, or another number of
-    /// shards; then nothing changes. Else it stops at the first place whose shard issues no caller: TooManyHandles where
-    /// 1,024 of this generation were issued, or NoMemory. The error tells that place, and how many new callers were
-    /// taken on below it, which stay; the callers from there on are those from before.
+    /// shards; then nothing changes. Else it stops at the first place whose shard issues no caller: TooManyHandles
+    /// where 1,024 of this generation were issued, or NoMemory. The error tells that place, and how many new callers
+    /// were taken on below it, which stay; the callers from there on are those from before.
     pub fn renew<R: Wait, T: Drop>(
         &mut self,
         rt: &R,
@@ -166,8 +166,8 @@ impl<A: Allocator> LastingHandle<A> {
         ensures other { IsErrOf result of_another ↔ ¬ IsOfQueue self.old queue.now }
         ensures stays { (¬ IsOfQueue self.old queue.now) → self.new ≡ self.old }
 
-        // Each caller is a new one where its shard was renewed, or was seen to be of that shard's number. It counts the
-        // new ones.
+        // Each caller is a new one where its shard was renewed, or was seen to be of that shard's number. It counts
+        // the new ones.
         ensures renewed { IfOk result (λ count.
             RenewsBelow T queue.now queue.now.shards count self.old self.new) }
 
@@ -254,9 +254,9 @@ impl<T: Drop, A: Allocator + Clone + Drop> LastingQueue<T, A> {
     /// A handle, with a caller of each shard, issued in turn under that shard's lock.
     ///
     /// # Errors
-    /// NoMemory where there is no room for the callers, and then, shard by shard, TooManyHandles where 1,024 callers of
-    /// its generation were issued, given back or not, and NoMemory. The callers that were issued before are given back
-    /// then.
+    /// NoMemory where there is no room for the callers, and then, shard by shard, TooManyHandles where 1,024 callers
+    /// of its generation were issued, given back or not, and NoMemory. The callers that were issued before are given
+    /// back then.
     #[tactic(auto, using(crate::proofs::Locked::issued_more))]
     pub fn handle<R: Wait>(&self, rt: &R) -> Result<LastingHandle<A>, HandleError>
         ensures { LastingQueueHandles T self.now result }

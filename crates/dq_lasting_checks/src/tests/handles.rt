@@ -77,13 +77,7 @@ fn reopens<R: Abort + Wait>(rt: &R, queue: &Texts, player: &mut Player, place: u
 }
 
 // The handle's renewal stops at a place whose shard has issued its callers, and tells how many it took on below.
-fn stops<R: Abort + Wait>(
-    rt: &R,
-    queue: &Texts,
-    player: &mut Player,
-    place: usize,
-    taken: usize,
-) {
+fn stops<R: Abort + Wait>(rt: &R, queue: &Texts, player: &mut Player, place: usize, taken: usize) {
     let stopped = HandleRenewError {
         why: REFUSED,
         place,
@@ -101,7 +95,8 @@ fn begins<R: Abort + Wait>(rt: &R, queue: &Texts, player: &mut Player) {
     }
 }
 
-// Of the entries of the first generation, and of new ones, the handle knows these below a place and those from there on.
+// Of the entries of the first generation, and of new ones, the handle knows these below a place and those from there
+// on.
 fn knows_below<R: Abort + Wait>(
     rt: &R,
     queue: &Texts,

@@ -32,8 +32,8 @@ fn goes_beside<R: Abort + Wait>(rt: &R, queue: &Letters) {
     same(rt, "insert", shard, Some(1));
 }
 
-// A shard that is closed and empty is opened again, once more where memory was refused first, and tells whether it was. A
-// refusal leaves it as it was.
+// A shard that is closed and empty is opened again, once more where memory was refused first, and tells whether it
+// was. A refusal leaves it as it was.
 fn reopens<'heap, 'all, R: Abort + Wait>(
     rt: &R,
     heap: &'heap Heap<'all>,
@@ -67,10 +67,12 @@ fn refused_in<R: Abort>(
     }
     match took {
         Ok(took) => same(rt, "renew", took, 1),
-        Err(HandleRenewError {
-            why: HandleError::NoMemory,
-            ..
-        }) => return Ok(Refused::InHandle),
+        Err(
+            HandleRenewError {
+                why: HandleError::NoMemory,
+                ..
+            },
+        ) => return Ok(Refused::InHandle),
         Err(error) => return Err(error.into()),
     }
     Ok(Refused::Nowhere)
@@ -143,8 +145,9 @@ fn counts_each<R: Abort + Wait>(rt: &R, all: &LocalHeap) -> Result<(), Fail> {
     Ok(())
 }
 
-// A queue of two shards takes a row of them, and eight times for each: four for its words, three for its slots, one for its
-// wheel. A handle takes a row of callers, the states take one, and an opening takes the words and the slots anew.
+// A queue of two shards takes a row of them, and eight times for each: four for its words, three for its slots, one
+// for its wheel. A handle takes a row of callers, the states take one, and an opening takes the words and the slots
+// anew.
 #[test]
 fn each_allocation_refused(rt: HostRuntime) -> Result<(), Fail> {
     let all = LocalHeap::new(rt.alloc(), 1 << 20)?;

@@ -99,9 +99,9 @@ impl LastingHandle {
     ///
     /// # Errors
     /// OtherQueue exactly where the queue has another name than the one that made the handle, or another number of
-    /// shards; then nothing changes. Else it stops at the first place whose shard issues no caller: TooManyHandles where
-    /// 1,024 of this generation were issued, or NoMemory. The error tells that place, and how many new callers were
-    /// taken on below it, which stay; the callers from there on are those from before.
+    /// shards; then nothing changes. Else it stops at the first place whose shard issues no caller: TooManyHandles
+    /// where 1,024 of this generation were issued, or NoMemory. The error tells that place, and how many new callers
+    /// were taken on below it, which stay; the callers from there on are those from before.
     pub fn renew<T>(&mut self, queue: &LastingQueue<T>) -> Result<usize, HandleRenewError> {
         let shards = queue.shards();
         if self.name != queue.name() || self.callers.len() != shards {
@@ -163,9 +163,9 @@ impl<T> LastingQueue<T> {
     /// A handle, with a caller of each shard, issued in turn under that shard's lock.
     ///
     /// # Errors
-    /// NoMemory where there is no room for the callers, and then, shard by shard, TooManyHandles where 1,024 callers of
-    /// its generation were issued, given back or not, and NoMemory. The callers that were issued before are given back
-    /// then.
+    /// NoMemory where there is no room for the callers, and then, shard by shard, TooManyHandles where 1,024 callers
+    /// of its generation were issued, given back or not, and NoMemory. The callers that were issued before are given
+    /// back then.
     pub fn handle(&self) -> Result<LastingHandle, HandleError> {
         let shards = self.shards();
         let Ok(mut callers) = room_for(shards) else {

@@ -72,12 +72,7 @@ fn reopens(queue: &Texts, player: &mut Player, place: usize) {
 }
 
 // The handle's renewal stops at a place whose shard has issued its callers, and tells how many it took on below.
-fn stops(
-    queue: &Texts,
-    player: &mut Player,
-    place: usize,
-    taken: usize,
-) {
+fn stops(queue: &Texts, player: &mut Player, place: usize, taken: usize) {
     let stopped = HandleRenewError {
         why: REFUSED,
         place,
@@ -95,7 +90,8 @@ fn begins(queue: &Texts, player: &mut Player) {
     }
 }
 
-// Of the entries of the first generation, and of new ones, the handle knows these below a place and those from there on.
+// Of the entries of the first generation, and of new ones, the handle knows these below a place and those from there
+// on.
 fn knows_below(
     queue: &Texts,
     player: &mut Player,

@@ -34,8 +34,8 @@ fn a_shard_holds_as_many_as_it_has_slots() -> Result<(), Fail> {
     plays(short_lived(3), calls)
 }
 
-// The shard at place 0, of which one entry was removed and one is left, is closed, drains and is opened again. The handle reaches
-// a new entry once it is renewed, and then no longer one of the generation before.
+// The shard at place 0, of which one entry was removed and one is left, is closed, drains and is opened again. The
+// handle reaches a new entry once it is renewed, and then no longer one of the generation before.
 #[test]
 fn keep_going_does_what_is_due() -> Result<(), Fail> {
     let calls = &[
@@ -68,7 +68,8 @@ fn keep_going_does_what_is_due() -> Result<(), Fail> {
     plays(short_lived(2), calls)
 }
 
-// Two of the four slots of each shard are worn, so both are to be closed, and one of them takes what is inserted at every moment.
+// Two of the four slots of each shard are worn, so both are to be closed, and one of them takes what is inserted at
+// every moment.
 #[test]
 fn one_shard_is_closed_at_a_time() -> Result<(), Fail> {
     let calls = &[
@@ -96,7 +97,8 @@ fn one_shard_is_closed_at_a_time() -> Result<(), Fail> {
     plays(short_lived(4), calls)
 }
 
-// An entry with a far deadline holds the shard at place 0 closed. The other one is worn out and empty, so it is opened again at once.
+// An entry with a far deadline holds the shard at place 0 closed. The other one is worn out and empty, so it is
+// opened again at once.
 #[test]
 fn an_empty_shard_is_opened_while_another_drains() -> Result<(), Fail> {
     let calls = &[
@@ -118,8 +120,8 @@ fn an_empty_shard_is_opened_while_another_drains() -> Result<(), Fail> {
     plays(short_lived(2), calls)
 }
 
-// While the shard at place 0 drains for long, the next is closed once three of its four slots are worn. The last one takes entries
-// though it is as worn.
+// While the shard at place 0 drains for long, the next is closed once three of its four slots are worn. The last one
+// takes entries though it is as worn.
 #[test]
 fn another_shard_is_closed_once_it_is_far_worn() -> Result<(), Fail> {
     let drains = Kept::Drains {
@@ -164,8 +166,8 @@ fn another_shard_is_closed_once_it_is_far_worn() -> Result<(), Fail> {
     plays(config, calls)
 }
 
-// A shard of 600 slots, all of which are linked, and all but the first cancelled, is swept by 256 slots a step, from where
-// the step before ended, and then from the first one again.
+// A shard of 600 slots, all of which are linked, and all but the first cancelled, is swept by 256 slots a step, from
+// where the step before ended, and then from the first one again.
 #[test]
 fn a_closed_shard_is_swept_in_pieces() -> Result<(), Fail> {
     let (queue, mut player) = queue_and_player(short_lived(600))?;
