@@ -5,6 +5,14 @@ from ghosts import words_at
 from tokens import Refused, close_of, tokens_of
 
 
+def fields_of(tokens, brace):
+    """The names of the fields between braces."""
+    return [
+        tokens[i].text for i in range(brace + 1, close_of(tokens, brace))
+        if tokens[i].kind == "word" and tokens[i + 1].text == ":" and tokens[i - 1].text != ":"
+    ]
+
+
 def variants_of(tokens, body):
     """The variants of an enum with their texts: name, form, names of their fields, text."""
     found = []
@@ -29,10 +37,7 @@ def variants_of(tokens, body):
                 form = tokens[at].text
                 close = close_of(tokens, at)
                 if form == "{":
-                    fields = [
-                        tokens[i].text for i in range(at + 1, close)
-                        if tokens[i].kind == "word" and tokens[i + 1].text == ":" and tokens[i - 1].text != ":"
-                    ]
+                    fields = fields_of(tokens, at)
                 else:
                     fields = ["it"]
                 at = close + 1
@@ -103,8 +108,8 @@ def one_error(tokens, at):
     if tokens[index].text == "enum":
         arms = "        match self {\n" + "".join(arm(name, one) for one in variants_of(tokens, body)) + "        }\n"
     else:
-        fields = re.findall(r"\{(\w+)\}", text)
-        names = ", ".join(fields)
+        used = re.findall(r"\{(\w+)\}", text)
+        names = ", ".join(used if len(used) == len(fields_of(tokens, body)) else [*used, ".."])
         arms = f"        let {name} {{ {names} }} = self;\n        write!(f, {text})\n"
     end = close_of(tokens, body) + 1
     new = tokens_of(impls(name, arms, "fmt"))[:-1]

@@ -10,7 +10,8 @@ use std::time::Duration;
 // How long an address is remembered, in ticks of one millisecond.
 const TIME_TO_LIVE: u64 = 3_000;
 
-/// Looks up the host that each line of standard input names. At the end of input it waits until each address is forgotten.
+/// Looks up the host that each line of standard input names. At the end of input it waits until each address is
+/// forgotten.
 pub fn run<R>(rt: &R) -> Result<()>
 where
     R: Clock + Input + Print + AllocGlobal,
@@ -32,7 +33,8 @@ fn forget_all<R>(rt: &R, ticks: &mut impl TickSource, addresses: &mut Addresses)
 where
     R: Clock + Print,
 {
-    // A sleep may end early, and then nothing is forgotten: so the turns are bounded by a number far beyond the hosts.
+    // A sleep may end early, and then nothing is forgotten: so the turns are bounded by a number far beyond the
+    // hosts.
     for _ in 0..1_000 {
         let Some(next) = addresses.next_forgotten() else {
             return Ok(());

@@ -1,7 +1,7 @@
 //! A memoised lookup: a server asks for the address of a host once, and remembers it for a while.
 //!
-//! Without arguments the ticks are handed in, so that each run prints the same. `cache_example live` goes by the real clock:
-//! each line of standard input is the name of a host.
+//! Without arguments the ticks are handed in, so that each run prints the same. `cache_example live` goes by the real
+//! clock: each line of standard input is the name of a host.
 #![tactic(auto)]
 
 mod addresses;

@@ -21,12 +21,12 @@ use std::marker::Model;
 
 /// Values by keys, each seen until its deadline. Ticks are of one millisecond and are handed in: no clock is read.
 ///
-/// The cache keeps a moment, at first 0; a call at `now` is made at the greater of `now` and the moment. What is due stays
-/// until a put or a purge drops it, but isn't seen.
+/// The cache keeps a moment, at first 0; a call at `now` is made at the greater of `now` and the moment. What is due
+/// stays until a put or a purge drops it, but isn't seen.
 ///
-/// A slot has a stamp for each put and each renewal, and is worn at its last one. [`TtlCache::set`] and [`TtlCache::touch`]
-/// begin the stamps again where they are at their end, so a cache that is only changed by them runs for years. They take
-/// memory then; else only `new` and a put do.
+/// A slot has a stamp for each put and each renewal, and is worn at its last one. [`TtlCache::set`] and
+/// [`TtlCache::touch`] begin the stamps again where they are at their end, so a cache that is only changed by them
+/// runs for years. They take memory then; else only `new` and a put do.
 #[derive(Drop)]
 pub struct TtlCache<
     K: Eq + Hash,
@@ -51,11 +51,11 @@ impl<K: Eq + Hash, V, A: Allocator, S: BuildHasher> Model for TtlCache<K, V, A, 
 }
 
 impl<K: Eq + Hash + Drop, V: Drop, A: Allocator + Clone> TtlCache<K, V, A> {
-    /// A cache for so many keys where nothing is kept, at moment 0. Time and memory as the capacity; the map takes its own
-    /// later, as puts fill it.
+    /// A cache for so many keys where nothing is kept, at moment 0. Time and memory as the capacity; the map takes
+    /// its own later, as puts fill it.
     ///
-    /// The map's hasher has no seed, so whoever picks the keys can make a call take as long as there are keys. Where a
-    /// stranger picks them, [`TtlCache::with_hasher`] takes a seeded one.
+    /// The map's hasher has no seed, so whoever picks the keys can make a call take as long as there are keys. Where
+    /// a stranger picks them, [`TtlCache::with_hasher`] takes a seeded one.
     ///
     /// # Errors
     /// BadConfig where the capacity isn't 1 to 65536 or the last stamp isn't 1 to 1048575, and else NoMemory.
@@ -85,8 +85,8 @@ where
     A: Allocator + Clone,
     S: BuildHasher + Drop,
 {
-    /// As [`TtlCache::with_capacity`], with a hasher of the caller's: by `RandomState::new(rt)?` nobody who picks the keys
-    /// can tell which of them share a place of the map.
+    /// As [`TtlCache::with_capacity`], with a hasher of the caller's: by `RandomState::new(rt)?` nobody who picks the
+    /// keys can tell which of them share a place of the map.
     ///
     /// # Errors
     /// BadConfig where the capacity isn't 1 to 65536, and else NoMemory.
@@ -131,8 +131,8 @@ impl<K: Eq + Hash + Drop, V: Drop, A: Allocator, S: BuildHasher> TtlCache<K, V, 
         self.timers.law();
     }
 
-    /// The moment, at first 0: the greatest tick of a put, a renewal or a purge. A call at an earlier tick is made at the
-    /// moment.
+    /// The moment, at first 0: the greatest tick of a put, a renewal or a purge. A call at an earlier tick is made at
+    /// the moment.
     pub fn moment(&self) -> u64
         ensures value { result ≡ self.now.moment }
         ensures tick { result ≤ LAST_TICK }
@@ -192,7 +192,8 @@ impl<K: Eq + Hash + Drop, V: Drop, A: Allocator, S: BuildHasher> TtlCache<K, V, 
         self.get(key, now).is_some()
     }
 
-    /// What is seen at `now`: each key with its value, once, in no order that is promised. It goes over all that is kept.
+    /// What is seen at `now`: each key with its value, once, in no order that is promised. It goes over all that is
+    /// kept.
     pub fn seen(&self, now: u64) -> Seen<'_, K, V>
         ensures all { IsAllSeen K.eq self.now now result }
         ensures few { length result ≤ CAPACITY_LIMIT }
@@ -204,9 +205,9 @@ impl<K: Eq + Hash + Drop, V: Drop, A: Allocator, S: BuildHasher> TtlCache<K, V, 
         }
     }
 
-    /// The least deadline of what is kept, seen or due: before it a purge has nothing to drop. None where nothing is kept.
-    /// Time as the keys whose deadlines share the first one's slot of the wheel; as all that is kept, where the first deadline
-    /// is more than two years ahead.
+    /// The least deadline of what is kept, seen or due: before it a purge has nothing to drop. None where nothing is
+    /// kept. Time as the keys whose deadlines share the first one's slot of the wheel; as all that is kept, where the
+    /// first deadline is more than two years ahead.
     pub fn next_deadline(&self) -> Option<u64>
         ensures { TellsNextDeadline self.now result }
     {
@@ -217,12 +218,13 @@ impl<K: Eq + Hash + Drop, V: Drop, A: Allocator, S: BuildHasher> TtlCache<K, V, 
         }
     }
 
-    /// A tick to purge at next: before it nothing that is kept is due. None where nothing is kept. Constant time, however many
-    /// deadlines there are.
+    /// A tick to purge at next: before it nothing that is kept is due. None where nothing is kept. Constant time,
+    /// however many deadlines there are.
     ///
-    /// It isn't after the least deadline, but may lie before it: then a purge there drops nothing, and the next wake after that
-    /// purge is nearer. Whoever purges at each wake purges at most six times for one deadline less than two years ahead. It may
-    /// lie before the moment where the moment was set by a renewal, or where the cache was refreshed.
+    /// It isn't after the least deadline, but may lie before it: then a purge there drops nothing, and the next wake
+    /// after that purge is nearer. Whoever purges at each wake purges at most six times for one deadline less than
+    /// two years ahead. It may lie before the moment where the moment was set by a renewal, or where the cache was
+    /// refreshed.
     pub fn next_wake(&self) -> Option<u64>
         ensures tells { TellsNextWake self.now result }
 

@@ -16,16 +16,17 @@ use std::hash::{BuildHasher, Hash};
 pub type PutAnswer<K, V> = Result<Option<V>, (CoreError, K, V)>;
 
 impl<K: Eq + Hash + Drop, V: Drop, A: Allocator, S: BuildHasher> TtlCache<K, V, A, S> {
-    /// Puts a value at a key until `now + ttl`, or the moment's where that is later: the moment is set, and what is due then
-    /// is dropped. A key that is kept keeps its slot, and its old value is handed back. Constant time, but for what is
-    /// dropped and for a growth of the map.
+    /// Puts a value at a key until `now + ttl`, or the moment's where that is later: the moment is set, and what is
+    /// due then is dropped. A key that is kept keeps its slot, and its old value is handed back. Constant time, but
+    /// for what is dropped and for a growth of the map.
     ///
-    /// Refused as TickTooLarge for a `now` beyond the last tick and as TooFar for a deadline beyond it, and then nothing
-    /// changes; and, when the moment is set and what is due is dropped, as Worn for a key that is kept and whose slot has
-    /// no stamp left, as Full for one that isn't and for which no slot is free, and as NoMemory. Key and value come back.
+    /// Refused as TickTooLarge for a `now` beyond the last tick and as TooFar for a deadline beyond it, and then
+    /// nothing changes; and, when the moment is set and what is due is dropped, as Worn for a key that is kept and
+    /// whose slot has no stamp left, as Full for one that isn't and for which no slot is free, and as NoMemory. Key
+    /// and value come back.
     ///
-    /// In Rust the hash and the comparison of a key may panic here. The put is lost then, and what was kept goes on until its
-    /// deadline; but where the map is growing, std's map may lose keys.
+    /// In Rust the hash and the comparison of a key may panic here. The put is lost then, and what was kept goes on
+    /// until its deadline; but where the map is growing, std's map may lose keys.
     pub fn put(&mut self, key: K, value: V, ttl: u64, now: u64) -> PutAnswer<K, V>
     where
         K: Clone,
@@ -88,11 +89,11 @@ impl<K: Eq + Hash + Drop, V: Drop, A: Allocator, S: BuildHasher> TtlCache<K, V, 
         Some(kept.value)
     }
 
-    /// Gives a key that is seen at `now` the deadline `now + ttl`, or the moment's where that is later, and answers it; the
-    /// moment is set. Constant time.
+    /// Gives a key that is seen at `now` the deadline `now + ttl`, or the moment's where that is later, and answers
+    /// it; the moment is set. Constant time.
     ///
-    /// Refused, and then nothing changes, as TickTooLarge for a `now` beyond the last tick, as TooFar for a deadline beyond
-    /// it, as Missing where the key isn't seen, and as Worn where its slot has no stamp left.
+    /// Refused, and then nothing changes, as TickTooLarge for a `now` beyond the last tick, as TooFar for a deadline
+    /// beyond it, as Missing where the key isn't seen, and as Worn where its slot has no stamp left.
     pub fn renew(&mut self, key: &K, ttl: u64, now: u64) -> Result<u64, CoreError>
         ensures renews { Renews K.eq self.old key.now ttl now result self.new }
 
@@ -126,8 +127,8 @@ impl<K: Eq + Hash + Drop, V: Drop, A: Allocator, S: BuildHasher> TtlCache<K, V, 
         Ok(when)
     }
 
-    /// Sets the moment, drops all that is due then, and answers how much. Time as what is dropped. Refused as TickTooLarge
-    /// beyond the last tick, and then nothing changes.
+    /// Sets the moment, drops all that is due then, and answers how much. Time as what is dropped. Refused as
+    /// TickTooLarge beyond the last tick, and then nothing changes.
     pub fn purge(&mut self, now: u64) -> Result<usize, CoreError>
         ensures purges { Purges self.old now result self.new }
 
@@ -145,8 +146,9 @@ impl<K: Eq + Hash + Drop, V: Drop, A: Allocator, S: BuildHasher> TtlCache<K, V, 
         Ok(self.drop_due())
     }
 
-    /// Sets the moment and takes out one key with its value that is due then, and none where nothing is due. So whoever
-    /// calls it until none comes gets each pair that a purge would drop. Time as a poll of the queue of deadlines.
+    /// Sets the moment and takes out one key with its value that is due then, and none where nothing is due. So
+    /// whoever calls it until none comes gets each pair that a purge would drop. Time as a poll of the queue of
+    /// deadlines.
     ///
     /// # Errors
     /// TickTooLarge beyond the last tick, and then nothing changes.

@@ -20,11 +20,13 @@ where
     A: Allocator + Clone,
     S: BuildHasher,
 {
-    /// A copy of the value that is seen at a key. Where none is, the one that `make` makes, of which a copy is put there until
-    /// `now + ttl`, as [`TtlCache::set`] does. Where one is seen `make` isn't called, and nothing changes.
+    /// A copy of the value that is seen at a key. Where none is, the one that `make` makes, of which a copy is put
+    /// there until `now + ttl`, as [`TtlCache::set`] does. Where one is seen `make` isn't called, and nothing
+    /// changes.
     ///
     /// # Errors
-    /// As [`TtlCache::set`], and NoMemory where a copy is refused. What was made comes back; none was where a value is seen.
+    /// As [`TtlCache::set`], and NoMemory where a copy is refused. What was made comes back; none was where a value
+    /// is seen.
     pub fn get_or_insert_with<F>(&mut self, key: K, ttl: u64, now: u64, make: F) -> MemoAnswer<V>
     where
         F: FnOnce() -> V + Drop,

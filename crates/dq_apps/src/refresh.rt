@@ -32,8 +32,9 @@ where
     A: Allocator + Clone,
     S: BuildHasher,
 {
-    /// Gives every slot its first stamps again, so that none is worn: the same is kept, and the same is seen at every tick.
-    /// Time as what is kept; memory as [`TtlCache::new`] takes, for as long as the old stamps go over to the new.
+    /// Gives every slot its first stamps again, so that none is worn: the same is kept, and the same is seen at every
+    /// tick. Time as what is kept; memory as [`TtlCache::new`] takes, for as long as the old stamps go over to the
+    /// new.
     ///
     /// # Errors
     /// NoMemory, and then nothing changes.
@@ -55,12 +56,12 @@ where
         Ok(())
     }
 
-    /// As [`TtlCache::renew`], but a slot that has no stamp left is no reason to refuse: the cache is refreshed then, and the
-    /// key renewed. Constant time, but for a refresh.
+    /// As [`TtlCache::renew`], but a slot that has no stamp left is no reason to refuse: the cache is refreshed then,
+    /// and the key renewed. Constant time, but for a refresh.
     ///
     /// # Errors
-    /// As a renewal, and NoMemory where a refresh is refused; what is seen stays. Worn only where the last stamp is 1, so that
-    /// no key can be renewed at all.
+    /// As a renewal, and NoMemory where a refresh is refused; what is seen stays. Worn only where the last stamp is
+    /// 1, so that no key can be renewed at all.
     pub fn touch(&mut self, key: &K, ttl: u64, now: u64) -> Result<u64, CoreError>
         ensures touches { Touches K.eq self.old key.now ttl now result self.new }
 
@@ -87,12 +88,12 @@ where
         self.renew(key, ttl, now)
     }
 
-    /// As [`TtlCache::put`], but a slot that has no stamp left is no reason to refuse: the cache is refreshed then, and the
-    /// value put. Constant time, but for what is dropped, a growth of the map and a refresh.
+    /// As [`TtlCache::put`], but a slot that has no stamp left is no reason to refuse: the cache is refreshed then,
+    /// and the value put. Constant time, but for what is dropped, a growth of the map and a refresh.
     ///
     /// # Errors
-    /// As a put, and NoMemory where a refresh is refused; key and value come back. Worn, and Full with worn slots, only where
-    /// the last stamp is 1.
+    /// As a put, and NoMemory where a refresh is refused; key and value come back. Worn, and Full with worn slots,
+    /// only where the last stamp is 1.
     pub fn set(&mut self, key: K, value: V, ttl: u64, now: u64) -> PutAnswer<K, V>
     where
         K: Clone,

@@ -1,4 +1,5 @@
-//! The timers of a cache's keys, kept by the delay queue of one owner. Nobody cancels one, so each runs until it is due.
+//! The timers of a cache's keys, kept by the delay queue of one owner. Nobody cancels one, so each runs until it is
+//! due.
 ghost use Rattle.std.specs.Prelude.{◌≡◌, ◌≢◌, ℕ, ◌+◌, ◌<◌, ◌≤◌, ◌↔◌, length, IsTrue, IfSome};
 ghost use Rattle.std.specs.List.{count_by};
 ghost use Rattle.dq_apps.specs.TimerTable.{is_set, is_spent, timers_of, HasRoom};
@@ -43,8 +44,8 @@ impl<K, A: Allocator> Model for Timers<K, A> {
 }
 
 impl<K: Drop, A: Allocator + Clone> Timers<K, A> {
-    // Slots of which none is used. Refused as BadConfig where the capacity isn't 1 to 65536 or the last stamp isn't 1 to
-    // 1048575, and else as NoMemory.
+    // Slots of which none is used. Refused as BadConfig where the capacity isn't 1 to 65536 or the last stamp isn't 1
+    // to 1048575, and else as NoMemory.
     pub(crate) fn new(alloc: A, capacity: usize, last_stamp: u32) -> Result<Timers<K, A>, CoreError>
         ensures { MakesTimers capacity last_stamp result }
     {
@@ -67,8 +68,8 @@ impl<K: Drop, A: Allocator + Clone> Timers<K, A> {
         }
     }
 
-    // As many slots with as many stamps, of which none is used. Refused as NoMemory alone: the numbers were in their ranges
-    // when these timers were made.
+    // As many slots with as many stamps, of which none is used. Refused as NoMemory alone: the numbers were in their
+    // ranges when these timers were made.
     pub(crate) fn anew(&self) -> Result<Timers<K, A>, CoreError>
         ensures { MakesAnew self.now result }
     {
@@ -117,9 +118,9 @@ impl<K: Drop, A: Allocator> Timers<K, A> {
         self.queue.capacity()
     }
 
-    // The least deadline of a timer, where the queue files its first one by its own deadline: none is then before it. None
-    // where no timer is set, or where all are more than `REACH` ticks ahead, and so filed earlier. Time as the timers that
-    // share the first one's list.
+    // The least deadline of a timer, where the queue files its first one by its own deadline: none is then before it.
+    // None where no timer is set, or where all are more than `REACH` ticks ahead, and so filed earlier. Time as the
+    // timers that share the first one's list.
     pub(crate) fn first_deadline(&self) -> Option<u64>
         ensures { IfSome result (IsFirst self.now.slots) }
     {
@@ -174,8 +175,8 @@ impl<K: Drop, A: Allocator> Timers<K, A> {
         }
     }
 
-    // Gives a timer another deadline, and its slot's next stamp; none where the slot has none left. A reset is refused for
-    // nothing else: the timer is there, and nobody cancels it.
+    // Gives a timer another deadline, and its slot's next stamp; none where the slot has none left. A reset is
+    // refused for nothing else: the timer is there, and nobody cancels it.
     pub(crate) fn restart(&mut self, key: &Key, when: u64) -> Option<Key>
         requires tick { when ≤ LAST_TICK }
         requires later { self.old.noted ≤ when }

@@ -1,5 +1,5 @@
-//! Tests of the expiring cache and of idle sessions: the worked rows, refused memory, and touches from another thread. They
-//! stand in a crate of their own, so that the two are proved once.
+//! Tests of the expiring cache and of idle sessions: the worked rows, refused memory, and touches from another
+//! thread. They stand in a crate of their own, so that the two are proved once.
 #![tactic(auto)]
 
 #[cfg(test)]

@@ -77,7 +77,8 @@ const NAMES: [&str; 16] = [
     "a", "b", "c", "d", "e", "f", "g", "h", "i", "j", "k", "l", "m", "n", "o", "p",
 ];
 
-// Where the allocation was that was refused: in the making of the cache or the test's own names, or in the put of that turn.
+// Where the allocation was that was refused: in the making of the cache or the test's own names, or in the put of
+// that turn.
 #[derive(Clone, Copy, PartialEq, Eq, Debug)]
 enum Filling {
     Before,

@@ -170,8 +170,8 @@ fn each_allocation_of_a_refresh_is_refused(rt: HostRuntime) -> Result<(), Fail> 
 
 type Texts<'heap> = TtlCache<char, String<&'heap LocalHeap>>;
 
-// Whether a call is taken that puts a value that owns memory, and how much memory is taken then. What it answers is dropped, be
-// it the old value or the one that was refused.
+// Whether a call is taken that puts a value that owns memory, and how much memory is taken then. What it answers is
+// dropped, be it the old value or the one that was refused.
 type Taken = Result<(bool, usize), AllocError>;
 
 fn puts<'heap>(cache: &mut Texts<'heap>, heap: &'heap LocalHeap, key: char, ttl: u64) -> Taken {

@@ -10,8 +10,8 @@ use std::test::Fail;
 /// A heap that refuses one allocation.
 pub type Heap<'all> = RefusingHeap<&'all LocalHeap>;
 
-/// Where each allocation of a walk was refused, in their order. The walk answers the place, none where it met no refusal. It
-/// always gives back what it took.
+/// Where each allocation of a walk was refused, in their order. The walk answers the place, none where it met no
+/// refusal. It always gives back what it took.
 pub fn each_refused<P, F>(rt: &impl Abort, alloc: Global, walk: F) -> Result<Vec<P>, Fail>
 where
     P: Copy,

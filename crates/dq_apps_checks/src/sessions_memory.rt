@@ -90,7 +90,8 @@ fn walk(rt: &(impl Abort + Wait), heap: &Heap) -> Option<Refused> {
 fn each_allocation_of_sessions_is_refused(rt: HostRuntime) -> Result<(), Fail> {
     let places = each_refused(&rt, rt.alloc(), |heap| walk(&rt, heap))?;
 
-    // The rows of shards and of who waits for their locks, and the words, wheel and slots of both; a name; the row of callers.
+    // The rows of shards and of who waits for their locks, and the words, wheel and slots of both; a name; the row of
+    // callers.
     for (place, allocations) in [
         (Refused::New, 18),
         (Refused::Login, 1),

@@ -86,7 +86,8 @@ fn takes_purges(rt: &impl Abort, cache: &mut Letters, ttl: u64, count: usize) {
     same(rt, ttl, purges(rt, cache), Some(count));
 }
 
-// A deadline that stands in the highest level of the wheel takes a purge for each level, and one a tick ahead takes one.
+// A deadline that stands in the highest level of the wheel takes a purge for each level, and one a tick ahead takes
+// one.
 #[test]
 fn six_purges_for_a_deadline(rt: HostRuntime) -> Result<(), Fail> {
     let table: &[(u64, usize)] = &[
@@ -108,7 +109,8 @@ fn six_purges_for_a_deadline(rt: HostRuntime) -> Result<(), Fail> {
     Ok(())
 }
 
-// A renewal and a refresh leave the wheel where it was: the wake may lie before the moment then, and a purge brings it up.
+// A renewal and a refresh leave the wheel where it was: the wake may lie before the moment then, and a purge brings
+// it up.
 #[test]
 fn a_purge_brings_the_wake_up(rt: HostRuntime) -> Result<(), Fail> {
     let calls = &[

@@ -1,7 +1,7 @@
 //! The calls of a caller: from any thread, without a lock.
 //!
-//! A key of another number than that of the queue which issued the caller, as it was then, names no entry of its words. It
-//! is refused as a key that no slot has.
+//! A key of another number than that of the queue which issued the caller, as it was then, names no entry of its
+//! words. It is refused as a key that no slot has.
 ghost use Rattle.dq_c.specs.Callers.{ExtendSays, CancelSays, LookSays, GiveBackSays, OtherExtend};
 
 use crate::answers::{
@@ -23,8 +23,8 @@ fn extend_of_other(when: u64) -> DqAnswer
     only(DQ_UNKNOWN)
 }
 
-/// Raises the deadline of a live entry to `when`, a tick of one millisecond, and tells the deadline that is then in force:
-/// `when`, or a later one that it had. One load and at most one atomic step.
+/// Raises the deadline of a live entry to `when`, a tick of one millisecond, and tells the deadline that is then in
+/// force: `when`, or a later one that it had. One load and at most one atomic step.
 ///
 /// # Errors
 /// DQ_EMPTY, DQ_TOO_FAR with the last tick, DQ_UNKNOWN, DQ_STALE with the slot's stamp, DQ_ENDED with how and when.
@@ -49,8 +49,8 @@ pub extern "C" fn dq_extend(caller: &mut CallerHandle, key: &DqKey, when: u64) -
     }
 }
 
-/// Cancels a live entry, which stays linked until its owner reaps it, and tells the deadline that it gave up. One load
-/// and at most one atomic step.
+/// Cancels a live entry, which stays linked until its owner reaps it, and tells the deadline that it gave up. One
+/// load and at most one atomic step.
 ///
 /// # Errors
 /// DQ_EMPTY, DQ_UNKNOWN, DQ_STALE with the slot's stamp, DQ_ENDED with how and when.

@@ -8,8 +8,8 @@ use crate::answers::{
 use dq_handle::{CallerHandle, QueueHandle, Seat};
 use std::alloc::Global;
 
-/// Issues a caller into an empty handle, which takes keys of the queue's number alone. It may go to another thread, and
-/// outlive the queue.
+/// Issues a caller into an empty handle, which takes keys of the queue's number alone. It may go to another thread,
+/// and outlive the queue.
 ///
 /// # Errors
 /// DQ_EMPTY for the queue's handle, DQ_HELD for the caller's, DQ_NO_MEMORY, DQ_TOO_MANY_CALLERS with how many a queue

@@ -27,9 +27,9 @@ fn fill(core: &mut DelayCore<u64, Keeper>, tick: u64, outs: &mut [DqExpired]) ->
 }
 
 /// Notes a tick of one millisecond, and takes out entries whose deadline in force is reached, as many as the row has
-/// places; they are written from its front, and the rest of the row stays. DQ_OK with how many where the row is full: there
-/// may be more. Else DQ_WAITING with how many and the next tick at which there is something to do, or DQ_IDLE with how many
-/// where nothing is linked.
+/// places; they are written from its front, and the rest of the row stays. DQ_OK with how many where the row is full:
+/// there may be more. Else DQ_WAITING with how many and the next tick at which there is something to do, or DQ_IDLE
+/// with how many where nothing is linked.
 ///
 /// # Errors
 /// DQ_EMPTY, DQ_NO_PLACE for a row of no place, DQ_TICK_TOO_LARGE with the last tick; no tick is noted then.

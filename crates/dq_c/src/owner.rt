@@ -38,8 +38,8 @@ pub extern "C" fn dq_insert(
     }
 }
 
-/// Gives a live entry another deadline, earlier or later, and writes its new key: callers refuse the old one. Constant
-/// time.
+/// Gives a live entry another deadline, earlier or later, and writes its new key: callers refuse the old one.
+/// Constant time.
 ///
 /// # Errors
 /// DQ_EMPTY, DQ_TOO_FAR with the last tick, DQ_MISSING, DQ_WAS_CANCELLED, DQ_WORN; the key stays then.
@@ -59,7 +59,8 @@ pub extern "C" fn dq_reset(queue: &mut QueueHandle, key: &mut DqKey, when: u64) 
     }
 }
 
-/// Takes a live entry out, and writes its key of the present stamp, its deadline in force and its value. Constant time.
+/// Takes a live entry out, and writes its key of the present stamp, its deadline in force and its value. Constant
+/// time.
 ///
 /// # Errors
 /// DQ_EMPTY, DQ_MISSING, DQ_WAS_CANCELLED; what `removed` points at stays then.
@@ -117,8 +118,8 @@ pub extern "C" fn dq_poll(queue: &mut QueueHandle, tick: u64, expired: &mut DqEx
     }
 }
 
-/// Does of a poll at most `most` steps, each in constant time, and answers as [`dq_poll`] where the poll has come to its
-/// answer. Else DQ_WORKING: call again, and what `expired` points at stays. Any other call may be made between.
+/// Does of a poll at most `most` steps, each in constant time, and answers as [`dq_poll`] where the poll has come to
+/// its answer. Else DQ_WORKING: call again, and what `expired` points at stays. Any other call may be made between.
 ///
 /// # Errors
 /// DQ_EMPTY, DQ_TICK_TOO_LARGE with the last tick, which is not noted then.
@@ -156,8 +157,8 @@ pub extern "C" fn dq_sweep(queue: &mut QueueHandle) -> DqAnswer
     told(queue.part.get_mut().core.sweep() as u64)
 }
 
-/// Reaps each linked entry that is found cancelled at `count` slots from `from` on, and looks at no other slot. DQ_WORKING
-/// with how many and the slot to go on from; DQ_OK with how many where no slot is left behind them.
+/// Reaps each linked entry that is found cancelled at `count` slots from `from` on, and looks at no other slot.
+/// DQ_WORKING with how many and the slot to go on from; DQ_OK with how many where no slot is left behind them.
 ///
 /// # Errors
 /// DQ_EMPTY.
@@ -192,8 +193,8 @@ pub extern "C" fn dq_reap(queue: &mut QueueHandle, key: &DqKey) -> DqAnswer
     }
 }
 
-/// Ends every linked entry, and tells how many it ended as removed: those that were cancelled are reaped. It goes over
-/// every slot.
+/// Ends every linked entry, and tells how many it ended as removed: those that were cancelled are reaped. It goes
+/// over every slot.
 ///
 /// # Errors
 /// DQ_EMPTY.

@@ -41,8 +41,8 @@ pub extern "C" fn dq_next_wake(queue: &mut QueueHandle) -> DqAnswer
     }
 }
 
-/// Writes the key of a linked entry that the wheel files least, as of its present stamp: DQ_OK, or DQ_IDLE where nothing
-/// is linked. A caller may have extended or cancelled it meanwhile.
+/// Writes the key of a linked entry that the wheel files least, as of its present stamp: DQ_OK, or DQ_IDLE where
+/// nothing is linked. A caller may have extended or cancelled it meanwhile.
 ///
 /// # Errors
 /// DQ_EMPTY; the key stays then, as it does where nothing is linked.

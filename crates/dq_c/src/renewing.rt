@@ -30,13 +30,14 @@ fn renew(alloc: Global, core: &mut DelayCore<u64, Keeper>, shard: u32) -> DqAnsw
     }
 }
 
-/// Goes on with an empty queue under the number `shard`, with all its stamps: no slot is worn then. The ticks go on. Every
-/// key from before is refused for good, by the queue and by callers that are issued from now on. Callers from before stay
-/// at the old words and the old number, and reach nothing new. It takes memory for the words, and goes over every slot.
+/// Goes on with an empty queue under the number `shard`, with all its stamps: no slot is worn then. The ticks go on.
+/// Every key from before is refused for good, by the queue and by callers that are issued from now on. Callers from
+/// before stay at the old words and the old number, and reach nothing new. It takes memory for the words, and goes
+/// over every slot.
 ///
 /// # Errors
-/// DQ_EMPTY, DQ_STILL_LINKED with how many entries are linked, DQ_USED_NUMBER with the queue's number where `shard` isn't
-/// higher, DQ_NO_MEMORY; nothing changes then.
+/// DQ_EMPTY, DQ_STILL_LINKED with how many entries are linked, DQ_USED_NUMBER with the queue's number where `shard`
+/// isn't higher, DQ_NO_MEMORY; nothing changes then.
 #[unsafe(no_mangle)]
 pub extern "C" fn dq_renew(alloc: Global, queue: &mut QueueHandle, shard: u32) -> DqAnswer
     ensures { RenewSays queue.old.part.value shard result queue.new.part.value }

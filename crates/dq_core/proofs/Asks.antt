@@ -1,17 +1,21 @@
 -- What a queue tells of its entries follows from the shard law.
-use Rattle.std.proofs.Common.{◌≡◌, ℕ, ◌<◌, length, Option, Some, None, refl, sym, ap, ◌∙◌, subst, arith}
+use Rattle.std.proofs.Common.{◌≡◌, ℕ, ◌<◌, ◌≤◌, length, Option, Some, None, refl, sym, ap, ◌∙◌, subst, inl, inr, arith}
 use Rattle.dq_ticks.specs.declared.keys.Key.{Key}
 use Rattle.dq_ticks.specs.declared.keys.EntryId.{EntryId}
 use Rattle.dq_wheel.specs.declared.wheel.Place.{Place}
 use Rattle.dq_wheel.specs.State.{filed_at, IsLeast}
 use Rattle.dq_wheel.specs.Places.{place_for}
+use Rattle.dq_wheel.specs.Wakes.{wake_for, IsWithin}
+use Rattle.dq_ticks.proofs.Laws.{start_le}
+use Rattle.dq_wheel.proofs.Links.{same_or_not}
+use Rattle.dq_wheel.proofs.Wakes.{wake_same, wake_other}
 use Rattle.dq_core.specs.declared.slots.Held.{Held}
 use Rattle.dq_core.specs.Words.{word_at}
 use Rattle.dq_core.specs.Slots.{Row, row_at, IsBorn}
 use Rattle.dq_core.specs.Machine.{Entry, table_at, Has}
 use Rattle.dq_core.specs.Core.{Core, machine, IsLawfulCore, due_by, entry_of}
 use Rattle.dq_core.specs.Calls.{IsFound, IsLinked}
-use Rattle.dq_core.specs.Readers.{TellsLeast, TellsPlace, TellsFiled, PeeksBoundDeadlines}
+use Rattle.dq_core.specs.Readers.{TellsLeast, TellsPlace, TellsFiled, PeeksBoundDeadlines, WakesBoundDeadlines}
 use Rattle.dq_core.proofs.Law.{filed_is}
 use Rattle.dq_core.proofs.Ways.{table_row_is, length-table, none_before}
 use Rattle.dq_core.proofs.Finds.{found_filed}
@@ -58,3 +62,19 @@ pub peeks_bound_deadlines : (T W : Type 0) → PeeksBoundDeadlines T W
 peeks_bound_deadlines T W c k l tells =
     let least = tells.2 in
     (least.0, least.2, none_before c.wheel.filing.tick c.noted c.slots.last_stamp least.0 c.slots.rows c.known c.wheel.filing.filed l.as_known l.each least.3)
+
+-- a wake is no later than what is filed
+wake_reaches : (e f : ℕ) → IsWithin e f → wake_for e f ≤ f
+wake_reaches e f w =
+    elim (same_or_not e f) [
+      | inl same ↦ omega (arith, wake_same e f same, w.not_before)
+      | inr other ↦
+          let later : e < f = omega (arith, w.not_before, other) in
+          omega (arith, wake_other e f other, start_le e f (record { later = later; near = w.near; in_range = w.in_range }))
+    ]
+
+-- what wakes next wakes no later than any live entry's deadline
+pub wakes_bound_deadlines : (T W : Type 0) → WakesBoundDeadlines T W
+wakes_bound_deadlines T W c w l wheel tells =
+    none_before c.wheel.filing.tick c.noted c.slots.last_stamp w c.slots.rows c.known c.wheel.filing.filed l.as_known l.each
+    (λ i f at. omega (arith, tells.least i f at, wake_reaches c.wheel.filing.tick f (wheel.within i f at)))

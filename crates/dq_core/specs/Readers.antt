@@ -2,6 +2,7 @@
 use Rattle.std.specs.Prelude.{◌≡◌, ℕ, ◌+◌, Option, Some, None}
 use Rattle.std.specs.List.{count_by}
 use Rattle.dq_wheel.specs.State.{filed_at, IsLeast}
+use Rattle.dq_wheel.specs.Lawful.{IsLawfulWheel}
 use Rattle.dq_wheel.specs.Places.{place_for}
 use Rattle.dq_wheel.specs.declared.wheel.Place.{Place}
 use Rattle.dq_ticks.specs.declared.keys.Key.{Key}
@@ -10,7 +11,7 @@ use Rattle.dq_core.specs.declared.outcomes.Tally.{Tally}
 use Rattle.dq_core.specs.Slots.{is_held}
 use Rattle.dq_core.specs.Machine.{table_at, NoneLinked, NoneLiveBefore}
 use Rattle.dq_core.specs.Core.{Core, machine, IsLawfulCore}
-use Rattle.dq_core.specs.Calls.{IsLinked, IsMissing}
+use Rattle.dq_core.specs.Calls.{IsLinked, IsMissing, TellsWake}
 
 -- the keeper's own writes, the linked entries and the wheel's moves; each entry that was inserted
 -- is linked, or has ended as expired, as removed or as cancelled
@@ -40,6 +41,12 @@ NoneLiveBeforeFiled c k =
 abbrev pub PeeksBoundDeadlines : Type 0 → Type 0 → Type 0
 PeeksBoundDeadlines T W =
     (c : Core T W) (k : Key) → IsLawfulCore c → TellsLeast c (Some k) → NoneLiveBeforeFiled c k
+
+-- at all times, between the pieces of a poll too, no live entry has a deadline before the next wake
+abbrev pub WakesBoundDeadlines : Type 0 → Type 0 → Type 0
+WakesBoundDeadlines T W =
+    (c : Core T W) (w : ℕ) → IsLawfulCore c → IsLawfulWheel c.wheel → TellsWake c (Some w) →
+    NoneLiveBefore (machine c) w
 
 -- the place of a linked entry
 abbrev pub TellsPlace : {T W : Type 0} → Core T W → EntryId → Option Place → Type 0

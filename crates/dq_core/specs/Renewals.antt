@@ -1,6 +1,6 @@
 -- How a queue is renewed: over fresh words, under a higher number.
-use Rattle.std.specs.Prelude.{◌≡◌, ℕ, ◌<◌, ◌≤◌, ◌≢◌, ◌⊎◌, List, None, Result, Ok, Err, length, replicate}
-use Rattle.std.specs.Prelude.{slice_set}
+use Rattle.std.specs.Prelude.{◌≡◌, ℕ, ◌<◌, ◌≤◌, ◌≢◌, ◌⊎◌, List, None, Result, Ok, Err, length}
+use Rattle.std.specs.Prelude.{replicate, slice_set}
 use Rattle.std.specs.List.{count_by}
 use Rattle.dq_ticks.specs.declared.words.Parts.{Parts}
 use Rattle.dq_ticks.specs.declared.keys.EntryId.{EntryId}
@@ -89,8 +89,8 @@ unused_rows words known counts last =
       slots = record { last_stamp = last; rows = replicate (length known) unused };
     }
 
--- such rows are made exactly where the numbers are in their ranges, but for want of memory; refused,
--- the words come back
+-- such rows are made exactly where the numbers are in their ranges, but for want of memory; where
+-- that is refused the words come back
 abbrev pub MakesRows : {T W : Type 0} →
     W → List Parts → Counts → ℕ → Result (UnusedRows T W) (CoreError × W) → Type 0
 MakesRows words known counts last (Ok r) =

@@ -84,8 +84,8 @@ impl<T: Drop, A: Allocator> DelayCore<T, VecWords<A>, A> {
         })
     }
 
-    /// The live entries, one after the other, by their slots: each with its key, its deadline in force and its value. A
-    /// step looks at slots until it finds a live entry, so all of them take as much time as there are slots.
+    /// The live entries, one after the other, by their slots: each with its key, its deadline in force and its value.
+    /// A step looks at slots until it finds a live entry, so all of them take as much time as there are slots.
     pub fn entries(&self) -> Entries<'_, T, A>
         // All live entries are left to be given.
         ensures lists { result ≡ live_entries self.now }

@@ -31,10 +31,10 @@ impl<T: Drop, A: Allocator> DelayCore<T, VecWords<A>, A> {
         key.entry().shard() == self.shard
     }
 
-    /// Raises the deadline of a live entry to `when`, a tick of one millisecond, and answers the deadline that is then in
-    /// force: `when`, or a later one that it had. Refused as TooFar beyond the last tick, as Unknown where the key is of
-    /// another shard or names no stamp that its slot was given, as Stale where the slot has a later stamp, as Ended where
-    /// the entry isn't live.
+    /// Raises the deadline of a live entry to `when`, a tick of one millisecond, and answers the deadline that is
+    /// then in force: `when`, or a later one that it had. Refused as TooFar beyond the last tick, as Unknown where
+    /// the key is of another shard or names no stamp that its slot was given, as Stale where the slot has a later
+    /// stamp, as Ended where the entry isn't live.
     pub fn extend(&mut self, key: &Key, when: u64) -> Result<u64, CallError>
         // The entry is live until the deadline that is told: `when`, or a later one that it had.
         ensures live { IfOk result (λ d. IsKeyLive self.new key.now d) }
@@ -59,8 +59,8 @@ impl<T: Drop, A: Allocator> DelayCore<T, VecWords<A>, A> {
         self.words.extend(key, when)
     }
 
-    /// Cancels a live entry, which stays linked until it is reaped, and answers the deadline that it gives up. Refused as
-    /// `extend` is, but never as TooFar.
+    /// Cancels a live entry, which stays linked until it is reaped, and answers the deadline that it gives up.
+    /// Refused as `extend` is, but never as TooFar.
     pub fn cancel(&mut self, key: &Key) -> Result<u64, CallError>
         // The entry was live until the deadline that is told, and is cancelled.
         ensures was_live { IfOk result (λ d. IsKeyLive self.old key.now d) }
@@ -80,8 +80,8 @@ impl<T: Drop, A: Allocator> DelayCore<T, VecWords<A>, A> {
         self.words.cancel(key)
     }
 
-    /// What the word that a key names shows: that the entry is live, or how it ended. Refused as Unknown or as Stale, as
-    /// `extend` is.
+    /// What the word that a key names shows: that the entry is live, or how it ended. Refused as Unknown or as Stale,
+    /// as `extend` is.
     pub fn look(&self, key: &Key) -> Result<Look, CallError>
         // A live entry is shown with its deadline in force, and a cancelled one as cancelled.
         ensures live { (d : ℕ) → IsOkAnd result (λ look. look ≡ StillLive d)

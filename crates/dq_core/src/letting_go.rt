@@ -1,8 +1,9 @@
 //! Values of a queue that were let go and wait to be dropped.
 //!
-//! An entry that is reaped or cleared lets its value go. One owner's queue drops it at once. Where the queue is behind a
-//! lock no value's drop should run while the lock is held, since it may call the queue: there the values are set aside, and
-//! whoever lets the lock go takes them out and drops them then. To a contract nothing is told of them: they have left.
+//! An entry that is reaped or cleared lets its value go. One owner's queue drops it at once. Where the queue is
+//! behind a lock no value's drop should run while the lock is held, since it may call the queue: there the values are
+//! set aside, and whoever lets the lock go takes them out and drops them then. To a contract nothing is told of them:
+//! they have left.
 
 ghost use Rattle.std.specs.Prelude.{◌≡◌};
 
@@ -11,11 +12,11 @@ use crate::words::Words;
 use std::alloc::Allocator;
 
 impl<T, W: Words, A: Allocator> DelayCore<T, W, A> {
-    /// From now on the value of each entry that is reaped or cleared is set aside, where its drop does anything, until
-    /// [`Self::take_aside`] takes it out or the queue is dropped. Constant time.
+    /// From now on the value of each entry that is reaped or cleared is set aside, where its drop does anything,
+    /// until [`Self::take_aside`] takes it out or the queue is dropped. Constant time.
     ///
-    /// Whoever sets aside calls [`Self::take_crowded`] before each insert: the slot that it fills may have such a value,
-    /// which is dropped in the insert where no other slot is known to have a place for it.
+    /// Whoever sets aside calls [`Self::take_crowded`] before each insert: the slot that it fills may have such a
+    /// value, which is dropped in the insert where no other slot is known to have a place for it.
     pub fn set_aside(&mut self)
         ensures { self.new ≡ self.old }
     {
@@ -44,8 +45,8 @@ impl<T: Drop, W: Words, A: Allocator> DelayCore<T, W, A> {
         self.slots.take_aside()
     }
 
-    /// Takes out a value that is set aside, where the next insert might find no place for one. Constant time, but for the
-    /// slots that are looked at as by [`Self::take_aside`].
+    /// Takes out a value that is set aside, where the next insert might find no place for one. Constant time, but for
+    /// the slots that are looked at as by [`Self::take_aside`].
     #[inline(always)]
     pub fn take_crowded(&mut self) -> Option<T>
         ensures { self.new ≡ self.old }

@@ -1,8 +1,8 @@
 //! A poll in pieces, for an owner who can't wait for a whole one.
 //!
-//! A poll that comes to the start of a full slot takes a step for each of its entries. Here the slot is opened as it is, in
-//! constant time, and its entries are gone through one by one. A call makes at most so many of these steps, and leaves
-//! the queue lawful behind each.
+//! A poll that comes to the start of a full slot takes a step for each of its entries. Here the slot is opened as it
+//! is, in constant time, and its entries are gone through one by one. A call makes at most so many of these steps,
+//! and leaves the queue lawful behind each.
 
 ghost use Rattle.std.specs.Prelude.{◌≡◌, ℕ, ◌+◌, ◌<◌, ◌≤◌, ◌↔◌, max, IfSome, None, IsErr, OnErr, OnOk};
 ghost use Rattle.dq_core.specs.AtTheCall.{IfOut, IfRests};
@@ -20,8 +20,9 @@ use dq_ticks::LAST_TICK;
 use std::alloc::Allocator;
 
 impl<T: Drop, W: Words, A: Allocator> DelayCore<T, W, A> {
-    /// Does of a [`Self::poll`] at most `most` steps, each in constant time but for a value's drop. Call again while it
-    /// answers Working: each such call leaves at least so many steps fewer. Between the calls every other call may be made.
+    /// Does of a [`Self::poll`] at most `most` steps, each in constant time but for a value's drop. Call again while
+    /// it answers Working: each such call leaves at least so many steps fewer. Between the calls every other call may
+    /// be made.
     ///
     /// Who is told Working by a call of no step at all learns nothing. Refused as TickTooLarge beyond the last tick.
     pub fn poll_some(&mut self, tick: u64, most: u32) -> Result<Piece<T>, CoreError>

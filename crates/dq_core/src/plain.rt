@@ -1,7 +1,7 @@
 //! The slow twin of the queue: a list that each poll searches.
 //!
-//! It answers as a queue that is polled and filled does, and is simple enough to be read at one sitting: the tests hold
-//! the wheel's answers against it. An insert is of constant time, a poll goes once over the list.
+//! It answers as a queue that is polled and filled does, and is simple enough to be read at one sitting: the tests
+//! hold the wheel's answers against it. An insert is of constant time, a poll goes once over the list.
 ghost use Rattle.std.specs.Prelude.{◌≡◌, ◌<◌, ◌==◌, length};
 ghost use Rattle.dq_core.specs.Soonest.{IsSoonest};
 
@@ -75,8 +75,8 @@ impl<T, A: Allocator> Model for PlainQueue<T, A> {
 impl<T: Drop, A: Allocator> PlainQueue<T, A> {
     ghost use Rattle.dq_core.specs.Plain.{IsPlain, PlainMakes, PlainInserts, PlainPolls};
 
-    /// An empty queue at tick 0; `BadConfig` for a capacity of 0 or beyond [`CAPACITY_LIMIT`], `NoMemory` where memory is
-    /// refused. No other call takes memory.
+    /// An empty queue at tick 0; `BadConfig` for a capacity of 0 or beyond [`CAPACITY_LIMIT`], `NoMemory` where
+    /// memory is refused. No other call takes memory.
     pub fn new(alloc: A, capacity: usize) -> Result<PlainQueue<T, A>, CoreError>
         ensures { PlainMakes capacity result }
     {
@@ -120,8 +120,8 @@ impl<T: Drop, A: Allocator> PlainQueue<T, A> {
         self.entries.is_empty()
     }
 
-    /// The tick up to which the queue has gone: the noted tick after a poll that found nothing due, and the entry's deadline
-    /// after one that took an entry out.
+    /// The tick up to which the queue has gone: the noted tick after a poll that found nothing due, and the entry's
+    /// deadline after one that took an entry out.
     pub fn tick(&self) -> u64
         ensures { result ≡ self.now.tick }
     {
@@ -135,9 +135,9 @@ impl<T: Drop, A: Allocator> PlainQueue<T, A> {
         self.noted
     }
 
-    /// Puts an entry in and answers its deadline, which is `when`, raised to the tick where it lies before it. It is refused,
-    /// and the value comes back, with `TooFar` for a deadline beyond the last tick, and else with `Full` where no room is
-    /// left.
+    /// Puts an entry in and answers its deadline, which is `when`, raised to the tick where it lies before it. It is
+    /// refused, and the value comes back, with `TooFar` for a deadline beyond the last tick, and else with `Full`
+    /// where no room is left.
     pub fn insert(&mut self, value: T, when: u64) -> Result<u64, (CoreError, T)>
         ensures { PlainInserts self.old value when result self.new }
     {
@@ -153,8 +153,8 @@ impl<T: Drop, A: Allocator> PlainQueue<T, A> {
         Ok(deadline)
     }
 
-    /// Notes a tick, and takes out an entry of least deadline where that deadline isn't after the noted tick. A tick beyond
-    /// the last one is refused with `TickTooLarge`, and isn't noted.
+    /// Notes a tick, and takes out an entry of least deadline where that deadline isn't after the noted tick. A tick
+    /// beyond the last one is refused with `TickTooLarge`, and isn't noted.
     pub fn poll(&mut self, tick: u64) -> Result<PlainTurn<T>, CoreError>
         ensures { PlainPolls self.old tick result self.new }
     {

@@ -52,11 +52,12 @@ impl<T: Drop, W: Words, A: Allocator> DelayCore<T, W, A> {
 
     /// A linked entry that is filed least, possibly a cancelled one; none where nothing is linked.
     ///
-    /// No live entry has a deadline before the tick by which it is filed, which [`Self::filed`] tells. So where that tick
-    /// is its deadline in force, no live entry comes out before it but one with the same deadline. Else one with an earlier
-    /// deadline may come out first: the entry was extended or cancelled, or was filed more than the wheel's reach ahead; or a
-    /// piece of a poll has opened a slot, whose entries all count as filed at the slot's start until [`Self::poll_some`] has
-    /// gone through them. Over plain words [`Self::entries`] then tells which live entry has the least deadline.
+    /// No live entry has a deadline before the tick by which it is filed, which [`Self::filed`] tells. So where that
+    /// tick is its deadline in force, no live entry comes out before it but one with the same deadline. Else one with
+    /// an earlier deadline may come out first: the entry was extended or cancelled, or was filed more than the
+    /// wheel's reach ahead; or a piece of a poll has opened a slot, whose entries all count as filed at the slot's
+    /// start until [`Self::poll_some`] has gone through them. Over plain words [`Self::entries`] then tells which
+    /// live entry has the least deadline.
     pub fn peek(&self) -> Option<Key>
         ensures { TellsLeast self.now result }
     {

@@ -1,9 +1,9 @@
 //! Laws over whole runs of the queue's machine.
 //!
 //! The machine is what a queue is without its wheel: a table of entries by slots, the wheel's tick and the noted
-//! tick. A run is a list of its events, one after the other. Each call of a queue is such a run, and runs join. So what
-//! holds of every run holds over any list of calls. Over shared words a caller's extend or cancel is an event of the
-//! run too, once the queue has learned of it.
+//! tick. A run is a list of its events, one after the other. Each call of a queue is such a run, and runs join. So
+//! what holds of every run holds over any list of calls. Over shared words a caller's extend or cancel is an event of
+//! the run too, once the queue has learned of it.
 //!
 //! Each function is empty: its contract is the law, and a call of it hands the law to the prover.
 ghost use Rattle.dq_core.specs.Runs.{RunsJoin, OutsComeInOrder, EntriesLeaveOnce};
@@ -11,8 +11,8 @@ ghost use Rattle.dq_core.specs.Runs.{StampsNeverFall, ValuesStay, EndedStaysEnde
 ghost use Rattle.dq_core.specs.RunsOfCalls.{CallsAreRuns, LawsHoldOverCalls, NoBirthIsAhead, WhatLeftHasEnded};
 
 /// Each call that changes a queue is a run from the machine before it to the machine after it, also where the call is
-/// refused. On the run of a poll, or of a piece of one, the entry that it gives expires, and no other. On any other call's
-/// run none does.
+/// refused. On the run of a poll, or of a piece of one, the entry that it gives expires, and no other. On any other
+/// call's run none does.
 pub fn calls_are_runs<T, W>()
     ensures { CallsAreRuns T W }
 {}
@@ -44,15 +44,15 @@ pub fn no_birth_is_ahead<T, W>()
     ensures { NoBirthIsAhead T W }
 {}
 
-/// What has ended is never live again. An entry ends where it expires, is removed, or is cancelled, and a cancelled one stays
-/// in its slot until it is reaped. The law asks that its slot has had its birth stamp, as `no_birth_is_ahead` says. So a keeper
-/// that saw an entry end never sees it live again, whatever callers do.
+/// What has ended is never live again. An entry ends where it expires, is removed, or is cancelled, and a cancelled
+/// one stays in its slot until it is reaped. The law asks that its slot has had its birth stamp, as
+/// `no_birth_is_ahead` says. So a keeper that saw an entry end never sees it live again, whatever callers do.
 pub fn ended_stays_ended<T>()
     ensures { EndedStaysEnded T }
 {}
 
-/// What a call took out has ended, as `ended_stays_ended` asks: what a remove, a poll or a piece of a poll answered. So has
-/// what a cancel by key ended, and what a call found cancelled.
+/// What a call took out has ended, as `ended_stays_ended` asks: what a remove, a poll or a piece of a poll answered.
+/// So has what a cancel by key ended, and what a call found cancelled.
 pub fn what_left_has_ended<T, W>()
     ensures { WhatLeftHasEnded T W }
 {}
@@ -68,9 +68,10 @@ pub fn values_stay<T>()
     ensures { ValuesStay T }
 {}
 
-/// Over any list of calls of a queue, one after the other, all the laws of runs hold at once: what comes out comes in the
-/// order of its deadlines; each entry that was linked is linked still or left exactly once; what had ended before stays
-/// ended, and is never live again; and no stamp falls. Each call is in the list by what `calls_are_runs` says of it, and by its clause `same`.
+/// Over any list of calls of a queue, one after the other, all the laws of runs hold at once: what comes out comes in
+/// the order of its deadlines; each entry that was linked is linked still or left exactly once; what had ended before
+/// stays ended, and is never live again; and no stamp falls. Each call is in the list by what `calls_are_runs` says
+/// of it, and by its clause `same`.
 pub fn laws_hold_over_calls<T, W>()
     ensures { LawsHoldOverCalls T W }
 {}

@@ -1,11 +1,11 @@
 //! The fixed row of slots, and which of them are free.
 //!
-//! A slot has a stamp, at first 0, which rises by one with each value that is put there and with each reset of what is
-//! held there. A slot that holds nothing at the last stamp is worn: it is never used again. All the memory is taken by
-//! `new`. Every other call is of constant time but `forget`, which goes over every slot.
+//! A slot has a stamp, at first 0, which rises by one with each value that is put there and with each reset of what
+//! is held there. A slot that holds nothing at the last stamp is worn: it is never used again. All the memory is
+//! taken by `new`. Every other call is of constant time but `forget`, which goes over every slot.
 //!
-//! A value that is let go is dropped at once. In a row that sets aside it stays in its slot, which holds nothing from then
-//! on, until somebody takes it out: so whoever keeps the row behind a lock can drop it once the lock is free.
+//! A value that is let go is dropped at once. In a row that sets aside it stays in its slot, which holds nothing from
+//! then on, until somebody takes it out: so whoever keeps the row behind a lock can drop it once the lock is free.
 ghost use Rattle.std.specs.Prelude.{◌≡◌, ℕ, ◌+◌, ◌<◌, ◌≤◌, ◌^◌, length, replicate, IfOk, MatchOption, Some, None, true, false};
 ghost use Rattle.std.specs.List.{count_by};
 
@@ -323,8 +323,8 @@ impl<T: Drop, A: Allocator> Slots<T, A> {
         cell.held()
     }
 
-    /// Puts a value into a free slot, under that slot's next stamp, and answers its index; hands the value back where no
-    /// slot is free.
+    /// Puts a value into a free slot, under that slot's next stamp, and answers its index; hands the value back where
+    /// no slot is free.
     #[inline]
     pub fn fill(&mut self, value: T) -> Result<usize, T>
         ensures { IsFilled self.old value result self.new }
@@ -357,7 +357,8 @@ impl<T: Drop, A: Allocator> Slots<T, A> {
         held
     }
 
-    /// Lets go of what a slot holds. The value is dropped, once all else is done; or it is set aside, where the row does so.
+    /// Lets go of what a slot holds. The value is dropped, once all else is done; or it is set aside, where the row
+    /// does so.
     #[inline]
     pub fn let_go(&mut self, index: usize)
         requires { is_held (row_at self.old.rows index) ≡ true }
@@ -389,8 +390,8 @@ impl<T: Drop, A: Allocator> Slots<T, A> {
         cell.take_aside()
     }
 
-    /// Takes out a value that is set aside, if there is one. It looks at slots that are told it, and passes each once for a
-    /// value that was let go there.
+    /// Takes out a value that is set aside, if there is one. It looks at slots that are told it, and passes each once
+    /// for a value that was let go there.
     pub fn take_aside(&mut self) -> Option<T>
         ensures { self.new ≡ self.old }
     {
@@ -426,7 +427,8 @@ impl<T: Drop, A: Allocator> Slots<T, A> {
         self.take_aside()
     }
 
-    /// Takes out a value that is set aside, where a fill might find no other slot for one that is set aside in its own.
+    /// Takes out a value that is set aside, where a fill might find no other slot for one that is set aside in its
+    /// own.
     #[inline(always)]
     pub fn take_crowded(&mut self) -> Option<T>
         ensures { self.new ≡ self.old }

@@ -1,6 +1,7 @@
 //! Calls that go over all slots: a sweep of the cancelled entries, and a clear of all.
 //!
-//! A cancelled entry stays linked until its keeper finds it so: a poll does where the entry comes due, a sweep at once.
+//! A cancelled entry stays linked until its keeper finds it so: a poll does where the entry comes due, a sweep at
+//! once.
 
 ghost use Rattle.std.specs.Prelude.{◌≡◌, ℕ, ◌+◌, ◌<◌, ◌≤◌, ◌⊎◌, ◌↔◌, nat_lt, if◌then◌else◌, length, Some, None, OnOk, OnErr, IsErrOf};
 ghost use Rattle.dq_core.specs.AtTheCall.{linked_in, OthersStay};
@@ -57,8 +58,8 @@ impl<T: Drop, W: Words, A: Allocator> DelayCore<T, W, A> {
         true
     }
 
-    /// Reaps each linked entry that is found cancelled, and answers how many: their values are dropped, and their slots
-    /// are free for others, or worn. It looks at every slot.
+    /// Reaps each linked entry that is found cancelled, and answers how many: their values are dropped, and their
+    /// slots are free for others, or worn. It looks at every slot.
     pub fn sweep(&mut self) -> usize
         // No entry is left that is known as cancelled, and so many are fewer.
         ensures reaped { NoneCancelled (machine self.new) }
@@ -84,8 +85,9 @@ impl<T: Drop, W: Words, A: Allocator> DelayCore<T, W, A> {
         reaped
     }
 
-    /// Reaps each linked entry that is found cancelled at `count` slots from `from` on, as `sweep` does at all of them, and
-    /// tells the slot to go on from. So many calls go round a queue as it has pieces, and each takes no longer than its piece.
+    /// Reaps each linked entry that is found cancelled at `count` slots from `from` on, as `sweep` does at all of
+    /// them, and tells the slot to go on from. So many calls go round a queue as it has pieces, and each takes no
+    /// longer than its piece.
     pub fn sweep_some(&mut self, from: usize, count: usize) -> Swept
         // No entry is left there that is known as cancelled, so many are fewer, and no other slot changes.
         ensures reaped { (i : ℕ) → from ≤ i → i < from + count → NotCancelled (machine self.new) i }
@@ -126,8 +128,8 @@ impl<T: Drop, W: Words, A: Allocator> DelayCore<T, W, A> {
         }
     }
 
-    /// Reaps the entry of that name where it is found cancelled: its value is dropped, and its slot is free for another, or
-    /// worn. Constant time.
+    /// Reaps the entry of that name where it is found cancelled: its value is dropped, and its slot is free for
+    /// another, or worn. Constant time.
     ///
     /// # Errors
     /// `Missing` where no entry is linked with that shard, index and birth stamp; `Live` where it is found live.
@@ -193,8 +195,8 @@ impl<T: Drop, W: Words, A: Allocator> DelayCore<T, W, A> {
         }
     }
 
-    /// Ends every linked entry, and drops its value: each live one as removed, and those that were cancelled are reaped.
-    /// It answers how many it ended as removed, and goes over every slot.
+    /// Ends every linked entry, and drops its value: each live one as removed, and those that were cancelled are
+    /// reaped. It answers how many it ended as removed, and goes over every slot.
     pub fn clear(&mut self) -> usize
         // Nothing is linked any more. So many removals are counted, and no other ending.
         ensures empty { NoneLinked (machine self.new) }

@@ -105,7 +105,8 @@ pub trait Words {
     /// How many steps its keeper has made at the words, where others may change them.
     ghost steps: { Self → ℕ };
 
-    /// Whether a step of a word is a fence, behind which every later read waits: so it is where others may change the words.
+    /// Whether a step of a word is a fence, behind which every later read waits: so it is where others may change the
+    /// words.
     const FENCED: bool = true;
 
     /// What its keeper keeps.
@@ -139,8 +140,8 @@ pub trait Words {
         ensures begun { StillBegun begun self.old self.new }
         ensures one_step { steps self.new ≤ steps self.old + 1 };
 
-    /// Ends a word that is live at exactly `at` as expired, or tells the later deadline or the cancellation that it found,
-    /// by at most one step.
+    /// Ends a word that is live at exactly `at` as expired, or tells the later deadline or the cancellation that it
+    /// found, by at most one step.
     fn settle(&mut self, index: usize, stamp: u32, at: u64) -> Settled
         requires in_range { index < length (known self.old) }
         requires in_force { IsInForce stamp at (word_at (known self.old) index) }

@@ -1,7 +1,7 @@
 //! Owning handles of a queue and of a caller, each a pointer that C may hold.
 //!
-//! C can't hold a `Box`. So a handle has the pointer of one and whether there is one, and to a contract it is an option:
-//! a handle that was freed is empty, and a call refuses it by name without a look behind its pointer.
+//! C can't hold a `Box`. So a handle has the pointer of one and whether there is one, and to a contract it is an
+//! option: a handle that was freed is empty, and a call refuses it by name without a look behind its pointer.
 #![tactic(auto)]
 
 mod caller;

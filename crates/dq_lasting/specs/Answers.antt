@@ -108,7 +108,8 @@ module _ {T : Type 0} where
   -- so many shards from a place on were closed
   abbrev pub ClosedFrom : ℕ → ℕ → ℕ → T → ℕ → Type 0
   ClosedFrom shards place many value when =
-      (t : ℕ) → t < many → InsertsAtPlace shards ((place + t) % shards) value when (Err (Closed, value))
+      (t : ℕ) → t < many →
+      InsertsAtPlace shards ((place + t) % shards) value when (Err (Closed, value))
 
   -- so many shards from a place on refused an insert, which goes on
   abbrev pub PassedOnFrom : ℕ → ℕ → ℕ → T → ℕ → Type 0

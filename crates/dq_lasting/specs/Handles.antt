@@ -6,6 +6,7 @@ use Rattle.dq_words.specs.declared.keeper.WordsError.TheVariants as Words
 use Rattle.dq_lasting.specs.declared.errors.HandleError.{HandleError}
 use Rattle.dq_lasting.specs.declared.errors.HandleError.TheVariants.{TooManyHandles, OtherQueue}
 use Rattle.dq_lasting.specs.declared.errors.HandleError.TheVariants.{NoMemory}
+use Rattle.dq_lasting.specs.declared.errors.HandleRenewError.{HandleRenewError}
 use Rattle.dq_lasting.specs.Answers.{AtPlace}
 use Rattle.dq_lasting.specs.Changes.{LastingIssues}
 use Rattle.dq_lasting.specs.Numbered.{Numbered}
@@ -90,22 +91,20 @@ AreRenewed T shards old new (suc p) count =
 abbrev pub StayFrom : ℕ → List Numbered → List Numbered → Type 0
 StayFrom place old new = (q : ℕ) → place ≤ q → slice_get new q ≡ slice_get old q
 
--- A renewal is refused where the handle isn't of the queue, and nothing changes; else at the first
--- place whose shard issues none, and the callers from there on stay.
-abbrev pub RenewalRefused :
-    (T : Type 0) → QueueView → HandleView → HandleError → HandleView → Type 0
-RenewalRefused T q old e new =
-    ((e ≡ OtherQueue) × (¬ IsOfQueue old q) × (new ≡ old))
-    ⊎ (IsOfQueue old q × (new.name ≡ old.name)
-    × ((place : ℕ) × (count : ℕ) × (place < q.shards)
-    × AreRenewed T q.shards old.callers new.callers place count
-    × StayFrom place old.callers new.callers × IssueRefused T q.shards place e))
+-- how a handle's callers below a place are renewed: so many are new ones, the others up to date
+abbrev pub RenewsBelow : (T : Type 0) → QueueView → ℕ → ℕ → HandleView → HandleView → Type 0
+RenewsBelow T q place count old new = AreRenewed T q.shards old.callers new.callers place count
 
--- The renewal of a handle of this queue takes on a caller of each shard that was renewed, and tells
--- how many.
-abbrev pub RenewsHandle :
-    (T : Type 0) → QueueView → HandleView → Result ℕ HandleError → HandleView → Type 0
-RenewsHandle T q old (Ok count) new =
-    IsOfQueue old q × (new.name ≡ old.name)
-    × AreRenewed T q.shards old.callers new.callers q.shards count
-RenewsHandle T q old (Err e) new = RenewalRefused T q old e new
+-- what is told where a handle is of another queue: nothing was taken on
+abbrev pub of_another : HandleRenewError
+of_another = record { why = OtherQueue; place = 0; taken = 0 }
+
+-- a renewal stopped at a place whose shard issued no caller, for that reason
+abbrev pub StopsRefused : (T : Type 0) → QueueView → HandleRenewError → Type 0
+StopsRefused T q e = (e.place < q.shards) × IssueRefused T q.shards e.place e.why
+
+-- why a renewal stopped
+abbrev pub RenewalStops :
+    (T : Type 0) → QueueView → HandleView → HandleRenewError → Type 0
+RenewalStops T q old e =
+    ((e ≡ of_another) × ¬ IsOfQueue old q) ⊎ (IsOfQueue old q × StopsRefused T q e)

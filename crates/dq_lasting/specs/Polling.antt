@@ -59,7 +59,8 @@ module _ {T : Type 0} where
   rest_of None = Idle
 
   -- the poller is taken out, and then the shard is polled
-  abbrev pub UnparksAndPolls : LastingView T → ℕ → Result (Turn T) CoreError → LastingView T → Type 0
+  abbrev pub UnparksAndPolls :
+      LastingView T → ℕ → Result (Turn T) CoreError → LastingView T → Type 0
   UnparksAndPolls old tick turn new = LastingPolls (with_none_parked old) tick turn new
 
   -- One poll under one lock, at a tick. What comes out is given. Else the polled task is parked at

@@ -1,7 +1,9 @@
 -- What a shard tells of itself under one lock.
-use Rattle.std.specs.Prelude.{◌≡◌, ℕ, ◌+◌, List, [], ◌∷◌, length}
+use Rattle.std.specs.Prelude.{◌≡◌, ℕ, ◌+◌, List, [], ◌∷◌, length, IfSome}
 use Rattle.std.specs.List.{count_by}
 use Rattle.dq_core.specs.Calls.{TellsWake}
+use Rattle.dq_core.specs.Core.{machine}
+use Rattle.dq_core.specs.Machine.{NoneLiveBefore}
 use Rattle.dq_core.specs.Slots.{is_held, is_worn}
 use Rattle.dq_lasting.specs.declared.state.PlaceState.{PlaceState}
 use Rattle.dq_lasting.specs.Answers.{AtPlace}
@@ -16,6 +18,7 @@ pub record IsState {T : Type 0} (s : LastingView T) (r : PlaceState) : Type 0 wh
   pub linked : r.linked ≡ count_by is_held s.core.slots.rows
   pub worn : r.worn ≡ count_by (is_worn s.core.slots.last_stamp) s.core.slots.rows
   pub wake : TellsWake s.core r.next_wake
+  pub none_before : IfSome r.next_wake (λ w. NoneLiveBefore (machine s.core) w)
   pub tally : LastingTells s r.tally s
 
 -- it tells its state, and nothing changes

@@ -93,7 +93,8 @@ impl<'q, T: Drop, A: Allocator> LockedLasting<'q, T, A> {
         self.shard.worn()
     }
 
-    /// The next wake: the tick of one millisecond at which the queue has something to do, none where nothing is linked.
+    /// The next wake: the tick of one millisecond at which the queue has something to do, none where nothing is
+    /// linked.
     pub fn next_wake(&self) -> Option<u64>
         ensures { TellsWake self.now.core result }
     {
@@ -121,8 +122,8 @@ impl<'q, T: Drop, A: Allocator> LockedLasting<'q, T, A> {
         self.shard.noted()
     }
 
-    /// The tick of one millisecond by which an entry is filed, which is not after its deadline in force; none where the
-    /// entry is missing.
+    /// The tick of one millisecond by which an entry is filed, which is not after its deadline in force; none where
+    /// the entry is missing.
     pub fn filed(&self, entry: &EntryId) -> Option<u64>
         ensures { TellsFiled self.now.core entry.now result }
     {
@@ -234,12 +235,13 @@ impl<'q, T: Drop, A: Allocator> LockedLasting<'q, T, A> {
 }
 
 impl<T: Drop, A: Allocator> LastingQueue<T, A> {
-    /// The shard at a place, with its lock held until the answer is dropped: whoever makes many calls there locks once.
+    /// The shard at a place, with its lock held until the answer is dropped: whoever makes many calls there locks
+    /// once.
     ///
     /// A call on the shard in hand wakes who leaves by it at once, under the lock. A thread that holds a shard and
-    /// takes its lock once more, by any call that names the place, waits for ever; so does a waker that calls the queue
-    /// where such a call wakes it, unless `unpark` takes the poller out before. The values that such a call lets go are
-    /// dropped by a later call by name, or by [`LastingQueue::drop_aside`].
+    /// takes its lock once more, by any call that names the place, waits for ever; so does a waker that calls the
+    /// queue where such a call wakes it, unless `unpark` takes the poller out before. The values that such a call
+    /// lets go are dropped by a later call by name, or by [`LastingQueue::drop_aside`].
     ///
     /// # Errors
     /// Unknown exactly out of range.

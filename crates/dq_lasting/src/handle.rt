@@ -1,15 +1,16 @@
 //! A handle extends and cancels entries of every shard, and looks at them, without a lock.
-ghost use Rattle.std.specs.Prelude.{◌≡◌, ◌≢◌, ◌%◌, ◌<◌, ◌≤◌, ◌⊎◌, ◌↔◌, IsErrOf, OnErr, length, vec_len};
+ghost use Rattle.std.specs.Prelude.{◌≡◌, ◌≢◌, ◌%◌, ◌<◌, ◌≤◌, ◌↔◌, IfOk, IfErr, IsErrOf};
+ghost use Rattle.std.specs.Prelude.{length, vec_len};
 ghost use Rattle.dq_words.specs.Counts.{cancels_in, most_begins};
 ghost use Rattle.dq_words.specs.declared.keeper.WordsError.TheVariants.{BadConfig};
 ghost use Rattle.dq_lasting.specs.declared.config.TheConstants.{SHARD_LIMIT};
-ghost use Rattle.dq_lasting.specs.declared.errors.HandleError.TheVariants.{OtherQueue};
 ghost use Rattle.dq_lasting.specs.Numbered.{NumberedExtends, NumberedCancels, NumberedLooks};
 ghost use Rattle.dq_lasting.specs.Queues.{IsOfQueue, OfKey, callers_cancels};
 ghost use Rattle.dq_lasting.specs.Handles.{LastingQueueHandles, IssuesAt, IsSameRefusal};
-ghost use Rattle.dq_lasting.specs.Handles.{NumberAt, TakesOn, RenewsHandle};
+ghost use Rattle.dq_lasting.specs.Handles.{NumberAt, TakesOn, StayFrom, of_another};
+ghost use Rattle.dq_lasting.specs.Handles.{RenewsBelow, RenewalStops};
 
-use crate::errors::HandleError;
+use crate::errors::{HandleError, HandleRenewError};
 use crate::numbered::NumberedCaller;
 use crate::queue::LastingQueue;
 use dq_core::{CallError, Look};
@@ -147,37 +148,52 @@ impl<A: Allocator> LastingHandle<A> {
     }
 
     /// Takes on the caller of each shard that was renewed since, gives the old ones back, and answers how many. It
-    /// takes each shard's lock once or twice.
+    /// takes each shard's lock once or twice, in the order of the places.
     ///
     /// # Errors
     /// OtherQueue exactly where the queue has another name than the one that made the handle, or another number of
-    /// shards. Then, shard by shard, TooManyHandles where 1,024 callers of this generation were issued, and NoMemory;
-    /// the callers from before stay there, and what was taken on stays so.
+    /// shards; then nothing changes. Else it stops at the first place whose shard issues no caller: TooManyHandles
+    /// where 1,024 of this generation were issued, or NoMemory. The error tells that place, and how many new callers
+    /// were taken on below it, which stay; the callers from there on are those from before.
     pub fn renew<R: Wait, T: Drop>(
         &mut self,
         rt: &R,
         queue: &LastingQueue<T, A>,
-    ) -> Result<usize, HandleError>
+    ) -> Result<usize, HandleRenewError>
         // It stays of its queue. By another one it is refused, exactly, and nothing changes.
         ensures size { length self.new.callers ≡ length self.old.callers }
         ensures name { self.new.name ≡ self.old.name }
-        ensures other { IsErrOf result OtherQueue ↔ ¬ IsOfQueue self.old queue.now }
+        ensures other { IsErrOf result of_another ↔ ¬ IsOfQueue self.old queue.now }
         ensures stays { (¬ IsOfQueue self.old queue.now) → self.new ≡ self.old }
 
-        // Each shard's caller is a new one where the shard was renewed, or was seen to be of that shard's number.
-        ensures renewed { RenewsHandle T queue.now self.old result self.new }
+        // Each caller is a new one where its shard was renewed, or was seen to be of that shard's number. It counts
+        // the new ones.
+        ensures renewed { IfOk result (λ count.
+            RenewsBelow T queue.now queue.now.shards count self.old self.new) }
+
+        // Where it stops it tells so of the places below, and the callers from there on stay.
+        ensures taken { IfErr result (λ e.
+            RenewsBelow T queue.now e.place e.taken self.old self.new) }
+        ensures rest { IfErr result (λ e. StayFrom e.place self.old.callers self.new.callers) }
+        ensures why { IfErr result (λ e. RenewalStops T queue.now self.old e) }
     {
         let shards = queue.shards();
         if self.name != queue.name() || self.callers.len() != shards {
-            return Err(HandleError::OtherQueue);
+            return Err(HandleRenewError {
+                why: HandleError::OtherQueue,
+                place: 0,
+                taken: 0,
+            });
         }
-        let mut renewed = 0;
+        let mut taken = 0;
         for place in 0..shards {
-            if self.renew_at(rt, queue, place)? {
-                renewed += 1;
+            match self.renew_at(rt, queue, place) {
+                Ok(true) => taken += 1,
+                Ok(false) => {}
+                Err(why) => return Err(HandleRenewError { why, place, taken }),
             }
         }
-        Ok(renewed)
+        Ok(taken)
     }
 }
 
@@ -238,9 +254,9 @@ impl<T: Drop, A: Allocator + Clone + Drop> LastingQueue<T, A> {
     /// A handle, with a caller of each shard, issued in turn under that shard's lock.
     ///
     /// # Errors
-    /// NoMemory where there is no room for the callers, and then, shard by shard, TooManyHandles where 1,024 callers of
-    /// its generation were issued, given back or not, and NoMemory. The callers that were issued before are given back
-    /// then.
+    /// NoMemory where there is no room for the callers, and then, shard by shard, TooManyHandles where 1,024 callers
+    /// of its generation were issued, given back or not, and NoMemory. The callers that were issued before are given
+    /// back then.
     #[tactic(auto, using(crate::proofs::Locked::issued_more))]
     pub fn handle<R: Wait>(&self, rt: &R) -> Result<LastingHandle<A>, HandleError>
         ensures { LastingQueueHandles T self.now result }

@@ -16,13 +16,14 @@ use std::sync::Wait;
 pub enum Kept {
     /// Nothing is due.
     Fine,
-    /// The shard at this place was worn by half, or by three quarters while another drains, and takes no more entries.
+    /// The shard at this place was worn by half, or by three quarters while another drains, and takes no more
+    /// entries.
     Closed {
         /// Its place.
         place: usize,
     },
-    /// The shard at this place is closed, and so many entries are left. At the next few of its slots what was cancelled
-    /// was reaped.
+    /// The shard at this place is closed, and so many entries are left. At the next few of its slots what was
+    /// cancelled was reaped.
     Drains {
         /// Its place.
         place: usize,
@@ -173,14 +174,14 @@ impl<T: Drop, A: Allocator + Clone + Drop> LastingQueue<T, A> {
     /// moment.
     ///
     /// The first shard where nothing is linked, and which is closed or worn by half, is opened again under its next
-    /// number. Where none is closed the first is closed of which half the slots are worn. While one drains, another is
-    /// closed once three quarters of its slots are worn, so that an entry with a far deadline holds up no shard but its
-    /// own. One that takes entries always stays, where one thread alone calls this. Else the next 256 slots of the first
-    /// closed shard are swept: what was cancelled there is reaped. An entry that is extended for ever keeps its shard closed: `remove` and `insert`
-    /// move it.
+    /// number. Where none is closed the first is closed of which half the slots are worn. While one drains, another
+    /// is closed once three quarters of its slots are worn, so that an entry with a far deadline holds up no shard
+    /// but its own. One that takes entries always stays, where one thread alone calls this. Else the next 256 slots
+    /// of the first closed shard are swept: what was cancelled there is reaped. An entry that is extended for ever
+    /// keeps its shard closed: `remove` and `insert` move it.
     ///
-    /// It holds a lock for a step of constant time, or for 256 slots. Where it opens a shard it takes memory before the lock
-    /// and gives the old one back behind it.
+    /// It holds a lock for a step of constant time, or for 256 slots. Where it opens a shard it takes memory before
+    /// the lock and gives the old one back behind it.
     ///
     /// # Errors
     /// NoMemory and NumbersSpent where a shard isn't opened again, which stays closed then.

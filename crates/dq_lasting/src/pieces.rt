@@ -53,9 +53,9 @@ impl<T: Drop, A: Allocator> LastingShard<T, A> {
 
 impl<T: Drop, A: Allocator> LastingQueue<T, A> {
     /// Does of a [`LastingQueue::poll`] of the shard at a place at most `most` steps, each in constant time but for a
-    /// value's drop. `tick` is of one millisecond. Call again while it answers Working: each such call leaves at least
-    /// so many steps fewer. The shard's lock is held for this piece alone, so other threads may make every other call
-    /// between two pieces.
+    /// value's drop. `tick` is of one millisecond. Call again while it answers Working: each such call leaves at
+    /// least so many steps fewer. The shard's lock is held for this piece alone, so other threads may make every
+    /// other call between two pieces.
     ///
     /// # Errors
     /// Unknown out of range, and TickTooLarge beyond the last tick.

@@ -17,9 +17,9 @@ use std::sync::{Mutex, MutexGuard, Wait};
 ///
 /// It hands out no `&mut` of a shard, so no two shards change places.
 ///
-/// No call drops a value under a lock: what it reaps or clears it drops once the lock is free, so a value's drop may call the
-/// queue. Where a drop panics the shard is whole, and a later poll, sweep, clear or `keep_going` drops the rest. So does it
-/// behind a poll that gave an entry: that one drops nothing, since a panic would lose the entry.
+/// No call drops a value under a lock: what it reaps or clears it drops once the lock is free, so a value's drop may
+/// call the queue. Where a drop panics the shard is whole, and a later poll, sweep, clear or `keep_going` drops the
+/// rest. So does it behind a poll that gave an entry: that one drops nothing, since a panic would lose the entry.
 #[derive(Drop)]
 pub struct LastingQueue<T, A: Allocator = Global> {
     pub(crate) shards: Vec<Mutex<LastingShard<T, A>>, A>,

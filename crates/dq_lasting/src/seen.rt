@@ -30,8 +30,8 @@ impl<T: Drop, A: Allocator> LastingShard<T, A> {
         self.core.noted()
     }
 
-    /// The tick of one millisecond by which an entry is filed, which is not after its deadline in force; none where the
-    /// entry is missing.
+    /// The tick of one millisecond by which an entry is filed, which is not after its deadline in force; none where
+    /// the entry is missing.
     pub fn filed(&self, entry: &EntryId) -> Option<u64>
         ensures { TellsFiled self.now.core entry.now result }
     {

@@ -1,5 +1,7 @@
-//! A lasting queue step by step; polls in pieces; tasks and streams that wait; a pool of handles; refused memory.
+//! A lasting queue step by step; its handles; polls in pieces; tasks and streams that wait; a pool of handles;
+//! refused memory.
 
+mod handles;
 mod memory;
 mod numbers;
 mod parking;

@@ -101,8 +101,8 @@ pub const SMALL: &[(&str, usize, u64)] = &[
 // The words of a command that names no peer.
 const COMMAND: usize = 5;
 
-/// What is timed: a row of one owner, the calls of a row one by one, whole polls beside those in pieces, the callers, a
-/// lasting queue while it is renewed, or a row of the shared queue with its number of shards.
+/// What is timed: a row of one owner, the calls of a row one by one, whole polls beside those in pieces, the callers,
+/// a lasting queue while it is renewed, or a row of the shared queue with its number of shards.
 #[derive(Clone, Copy, Debug, PartialEq, Eq)]
 pub enum Timed {
     Owned(Row),

@@ -43,8 +43,8 @@ impl<R: Clock + Drop> Calling<R> {
 }
 
 impl<Q: Issues> Load<Q> {
-    /// One round of extends by so many callers, each in a thread of its own, beside the keeper, which rests for a tick
-    /// of the real clock after each poll. What is spent is the mean of the callers' own times.
+    /// One round of extends by so many callers, each in a thread of its own, beside the keeper, which rests for a
+    /// tick of the real clock after each poll. What is spent is the mean of the callers' own times.
     pub fn callers<R>(&mut self, rt: &R, threads: u64) -> Result<Sample>
     where
         R: Clock + Threads + Wait + Clone + Drop + Send + 'static,

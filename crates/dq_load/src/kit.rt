@@ -1,5 +1,6 @@
-//! Peers of the toolchain's own crates, built as ours is: the `DelayQueue` of its `tokio_util`, driven by hand, and the
-//! wheel of its `futures` beside a row of values. They have no stamps: a key that has ended isn't told from a later one.
+//! Peers of the toolchain's own crates, built as ours is: the `DelayQueue` of its `tokio_util`, driven by hand, and
+//! the wheel of its `futures` beside a row of values. They have no stamps: a key that has ended isn't told from a
+//! later one.
 
 use crate::queues::{Queue, Refusal};
 use anyhow::Result;

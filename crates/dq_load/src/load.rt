@@ -400,8 +400,8 @@ impl<Q: Queue> Load<Q> {
         self.poll_within(rt, self.now.wrapping_add(HEARTBEATS * BEAT + 2 * IDLE), 0)
     }
 
-    // Requests with a time limit: each ends, in a fresh order, and another begins at once in its place. The limits that are
-    // drawn lie past the next beat, so none expires before it ends.
+    // Requests with a time limit: each ends, in a fresh order, and another begins at once in its place. The limits
+    // that are drawn lie past the next beat, so none expires before it ends.
     fn churn_beat(
         &mut self,
         rt: &impl Clock,

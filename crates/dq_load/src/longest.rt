@@ -1,5 +1,5 @@
-//! The rows of the longest call: each call of a server's run is timed by itself, and the least of it over some runs counts, so
-//! that what the machine does beside it is left out. All arithmetic of the plan is modulo 2^64.
+//! The rows of the longest call: each call of a server's run is timed by itself, and the least of it over some runs
+//! counts, so that what the machine does beside it is left out. All arithmetic of the plan is modulo 2^64.
 
 use crate::load::Load;
 use crate::plan::{BEAT, IDLE, LONG_BEATS, LONG_PASS, RUNS, SEED, SplitMix64, places_at};
@@ -97,8 +97,8 @@ impl Calls {
     }
 }
 
-/// How long the calls of one kind take: how many there are, and the nanoseconds that a half, 99 of 100, 999 of 1,000 and
-/// 9,999 of 10,000 don't exceed, and the most.
+/// How long the calls of one kind take: how many there are, and the nanoseconds that a half, 99 of 100, 999 of 1,000
+/// and 9,999 of 10,000 don't exceed, and the most.
 #[derive(Clone, Copy, Debug)]
 pub struct Spread {
     call: &'static str,
@@ -145,8 +145,8 @@ impl Times {
 pub type Spreads = (Spread, Spread, Spread);
 
 impl<Q: Queue> Load<Q> {
-    /// Some runs on one queue. Each begins at a multiple of `LONG_PASS`, so the calls of one move what those of another do.
-    /// Pieces are as many in each run only where each draws the same order.
+    /// Some runs on one queue. Each begins at a multiple of `LONG_PASS`, so the calls of one move what those of
+    /// another do. Pieces are as many in each run only where each draws the same order.
     pub fn longest(
         &mut self,
         rt: &impl Clock,
@@ -207,8 +207,8 @@ impl<Q: Queue> Load<Q> {
         Ok(())
     }
 
-    // Sessions begin within a beat, each is touched once in each of the beats after it, and then all expire. The queue is
-    // polled at each tick.
+    // Sessions begin within a beat, each is touched once in each of the beats after it, and then all expire. The
+    // queue is polled at each tick.
     fn idle_run(
         &mut self,
         rt: &impl Clock,

@@ -1,6 +1,7 @@
-//! The bench's own load: the queue under the plan of bench/README.md, timed by itself. `dq_load time ROW ENTRIES
-//! THREADS ROUNDS [PEER]` prints a line for each round of each queue, or of the one that is named. Without arguments it
-//! makes each row once, small, and prints the counts, which never change, and the bytes of an entry.
+//! The bench's own load: the queue under the plan of bench/README.md, timed by itself.
+//! `dq_load time ROW ENTRIES THREADS ROUNDS [PEER]` prints a line for each round of each queue, or of the one that is
+//! named. Without arguments it makes each row once, small, and prints the counts, which never change, and the bytes
+//! of an entry.
 #![tactic(auto)]
 
 mod asked;

@@ -33,7 +33,8 @@ pub const LONG_BEATS: u64 = 5;
 /// The runs of the rows of the longest call: the least of each call counts.
 pub const RUNS: usize = 5;
 
-/// The ticks from the start of one of these runs to the start of the next: a power of two, so that all meet the same slots.
+/// The ticks from the start of one of these runs to the start of the next: a power of two, so that all meet the same
+/// slots.
 pub const LONG_PASS: u64 = 1 << 24;
 
 /// The touches that each caller has in its list.

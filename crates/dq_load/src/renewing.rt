@@ -1,5 +1,5 @@
-//! The rows of a lasting queue under a steady load: nothing is renewed, or one shard is at any time. Each call is timed by
-//! itself, and the least of it over some runs counts. All arithmetic of the plan is modulo 2^64.
+//! The rows of a lasting queue under a steady load: nothing is renewed, or one shard is at any time. Each call is
+//! timed by itself, and the least of it over some runs counts. All arithmetic of the plan is modulo 2^64.
 
 use crate::longest::{Calls, Spread};
 use crate::plan::{RUNS, SEED, SplitMix64};
@@ -71,7 +71,8 @@ impl Times {
     }
 }
 
-/// What the runs came to: the counts of the last, how often a shard was opened again in it, and the spreads of its calls.
+/// What the runs came to: the counts of the last, how often a shard was opened again in it, and the spreads of its
+/// calls.
 #[derive(Clone, Copy, Debug)]
 pub struct Renewed {
     pub counts: Counts,
@@ -261,8 +262,8 @@ impl Serving {
         Ok(())
     }
 
-    // One step of what keeps the queue going. Where a shard was opened again the next one is closed, and the handle takes the
-    // new caller on.
+    // One step of what keeps the queue going. Where a shard was opened again the next one is closed, and the handle
+    // takes the new caller on.
     fn keep_going<R: Clock + Wait>(&mut self, rt: &R, times: &mut Times) -> Result<()> {
         let since = Instant::now(rt)?;
         let kept = self.queue.keep_going(rt, self.alloc)?;

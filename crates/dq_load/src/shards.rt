@@ -1,5 +1,5 @@
-//! The rows of the shared queue: calls by name and bursts under one lock, in one thread or several. All arithmetic of the
-//! plan is modulo 2^64.
+//! The rows of the shared queue: calls by name and bursts under one lock, in one thread or several. All arithmetic of
+//! the plan is modulo 2^64.
 
 ghost use Rattle.std.specs.Prelude.{◌<◌};
 
@@ -179,8 +179,8 @@ impl ShardLoad {
         Ok(picks)
     }
 
-    // The entries of a fill, of which so many at a time go to one shard; where each thread has a shard of its own, those in
-    // its places go there.
+    // The entries of a fill, of which so many at a time go to one shard; where each thread has a shard of its own,
+    // those in its places go there.
     fn drawn(&mut self, burst: usize) -> Result<Vec<Begun>>
         requires { 0 < burst }
     {

@@ -8,7 +8,8 @@ pub record IdleHandles (H : Type 0) : Type 0 where
   pub most : ℕ
 
 -- a handle goes in as the last; it comes back, and nothing changes, exactly where there is no room
-abbrev pub PutsHandle : {H : Type 0} → IdleHandles H → H → Result (Unit {0}) H → IdleHandles H → Type 0
+abbrev pub PutsHandle : {H : Type 0} →
+    IdleHandles H → H → Result (Unit {0}) H → IdleHandles H → Type 0
 PutsHandle old handle (Ok done) new =
     (length old.handles < old.most)
     × (new ≡ record { handles = old.handles ++ handle ∷ []; most = old.most })

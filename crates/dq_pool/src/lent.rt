@@ -6,7 +6,8 @@ use std::alloc::{Allocator, Global};
 use std::ops::{Deref, DerefMut};
 use std::sync::Wait;
 
-/// A handle of a pool, which is put back when this is dropped. Where others have filled the pool meanwhile it is dropped.
+/// A handle of a pool, which is put back when this is dropped. Where others have filled the pool meanwhile it is
+/// dropped.
 pub struct Lent<'p, R: Wait, H: Drop, A: Allocator = Global> {
     pool: &'p HandlePool<H, A>,
     rt: &'p R,

@@ -8,8 +8,8 @@ use crate::lent::Lent;
 use std::alloc::{AllocError, Allocator, Global};
 use std::sync::{Mutex, Wait};
 
-/// Handles that nobody uses, behind a lock. `H` is a queue's handle, a caller, or whatever else serves one thread at a
-/// time.
+/// Handles that nobody uses, behind a lock. `H` is a queue's handle, a caller, or whatever else serves one thread at
+/// a time.
 ///
 /// Which handles are in it no contract can say, since the lock forgets: that what is put is there is tested.
 #[derive(Drop)]
@@ -29,8 +29,8 @@ impl<H: Drop, A: Allocator> HandlePool<H, A> {
         })
     }
 
-    /// Takes a handle that nobody uses; none where there is none. Whoever takes one puts it back, or it is lost to the
-    /// pool. Constant time.
+    /// Takes a handle that nobody uses; none where there is none. Whoever takes one puts it back, or it is lost to
+    /// the pool. Constant time.
     pub fn take<R: Wait>(&self, rt: &R) -> Option<H>
         ensures { OnSomeHandles {H = H} TakesHandle result }
     {

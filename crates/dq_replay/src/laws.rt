@@ -3,8 +3,8 @@ ghost use Rattle.std.specs.Prelude.{◌≡◌, ℕ, ◌+◌, List, ◌∷◌, �
 ghost use Rattle.dq_replay.specs.Script.{State, first_state, outcome_from, after_answer};
 ghost use Rattle.dq_replay.specs.Order.{IsOrdered, IsInOrder, after_lines};
 
-/// In each state that a script reaches, the live names are distinct, and in order by deadline and then by name. So the
-/// names that a tick expires come in that order.
+/// In each state that a script reaches, the live names are distinct, and in order by deadline and then by name. So
+/// the names that a tick expires come in that order.
 pub fn live_names_are_in_order()
     ensures reached { (capacity : ℕ) (lines : List (List ℕ))
         → IfSome (after_lines 1 (first_state capacity) lines) (λ after. IsOrdered after.0) }

@@ -166,10 +166,10 @@ fn key_within<A: Allocator + Clone>(
 
 /// The live names of a script: a queue of them, and a key for each.
 ///
-/// Each call takes constant time, but for a sweep of a full queue and a clear, which look at every slot, and for a tick.
-/// Between two sweeps at least half as many names are inserted as there are slots: an entry is cancelled only where at
-/// most half of them have live names, and a sweep comes only where none is free. Nothing is ever worn: a stamp is given
-/// by an insert or a reset alone, and a script has fewer lines than a slot has stamps.
+/// Each call takes constant time, but for a sweep of a full queue and a clear, which look at every slot, and for a
+/// tick. Between two sweeps at least half as many names are inserted as there are slots: an entry is cancelled only
+/// where at most half of them have live names, and a sweep comes only where none is free. Nothing is ever worn: a
+/// stamp is given by an insert or a reset alone, and a script has fewer lines than a slot has stamps.
 #[derive(Drop)]
 pub struct Leases<A: Allocator> {
     queue: Queue<A>,
@@ -289,8 +289,8 @@ impl<A: Allocator + Copy> Leases<A> {
 
     /// Ends a live name as its holder does, and answers its deadline.
     ///
-    /// A cancelled entry keeps its slot until a sweep. Where more than half of the slots have live names it is removed
-    /// instead, or a script that stays near its capacity would pay a sweep for each insert.
+    /// A cancelled entry keeps its slot until a sweep. Where more than half of the slots have live names it is
+    /// removed instead, or a script that stays near its capacity would pay a sweep for each insert.
     pub fn cancel(&mut self, name: &Name) -> Option<u64>
         ensures { EndsLease self.old name.now result self.new }
     {

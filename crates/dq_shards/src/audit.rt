@@ -88,8 +88,8 @@ impl<T: Drop, A: Allocator> SharedDelayQueue<T, A> {
         audited
     }
 
-    /// The totals of all shards, each taken in turn under its own lock, where every caller of every handle is given back.
-    /// Refused with the number that is out by the first shard that has one. It takes no memory.
+    /// The totals of all shards, each taken in turn under its own lock, where every caller of every handle is given
+    /// back. Refused with the number that is out by the first shard that has one. It takes no memory.
     ///
     /// A handle that was dropped and not given back is out for good: then no audit tells totals any more.
     pub fn audit<R: Wait>(&self, rt: &R) -> Result<Totals, HandlesOut>

@@ -1,5 +1,5 @@
-//! The calls of a queue of shards by name: each takes one shard's lock and makes the state's call. Who leaves by it is woken
-//! once the lock is free, and what it lets go is dropped then.
+//! The calls of a queue of shards by name: each takes one shard's lock and makes the state's call. Who leaves by it
+//! is woken once the lock is free, and what it lets go is dropped then.
 ghost use Rattle.std.specs.Prelude.{◌≡◌, ◌%◌, ◌<◌, ◌≤◌, ◌↔◌, option_map, IfOk, IfErr, IsErrOf, IsErrAnd};
 ghost use Rattle.dq_ticks.specs.declared.TheConstants.{LAST_TICK};
 ghost use Rattle.dq_core.specs.declared.errors.CoreError.TheVariants.{TooFar, TickTooLarge};
@@ -32,9 +32,9 @@ fn routed_shard(route: u64, shards: u64) -> u64
 }
 
 impl<T: Drop, A: Allocator> SharedDelayQueue<T, A> {
-    /// Puts an entry into the shard `route` modulo the number of shards, live until `when`, a tick of one millisecond,
-    /// as [`ShardState::insert`] does, and answers its key there. Constant time. Refused as TooFar beyond the last
-    /// tick, and else as Full where that shard has no free slot; the value comes back then.
+    /// Puts an entry into the shard `route` modulo the number of shards, live until `when`, a tick of one
+    /// millisecond, as [`ShardState::insert`] does, and answers its key there. Constant time. Refused as TooFar
+    /// beyond the last tick, and else as Full where that shard has no free slot; the value comes back then.
     pub fn insert<R: Wait>(
         &self,
         rt: &R,
@@ -85,8 +85,8 @@ impl<T: Drop, A: Allocator> SharedDelayQueue<T, A> {
         }
     }
 
-    /// As [`ShardState::reset`], `when` a tick of one millisecond. Refused as Unknown for a shard out of range, before
-    /// all else, and then as TooFar, as Missing, as WasCancelled and as Worn.
+    /// As [`ShardState::reset`], `when` a tick of one millisecond. Refused as Unknown for a shard out of range,
+    /// before all else, and then as TooFar, as Missing, as WasCancelled and as Worn.
     pub fn reset<R: Wait>(&self, rt: &R, entry: &EntryId, when: u64) -> Result<Key, QueueError>
         // As unknown exactly out of range; else as too far exactly beyond the last tick.
         ensures unknown { IsErrOf result Unknown ↔ (self.now ≤ entry.now.shard) }
@@ -102,8 +102,8 @@ impl<T: Drop, A: Allocator> SharedDelayQueue<T, A> {
         Ok(answer?)
     }
 
-    /// As [`ShardState::remove`]. Refused as Unknown for a shard out of range, before all else, and then as Missing and
-    /// as WasCancelled.
+    /// As [`ShardState::remove`]. Refused as Unknown for a shard out of range, before all else, and then as Missing
+    /// and as WasCancelled.
     pub fn remove<R: Wait>(&self, rt: &R, entry: &EntryId) -> Result<Removed<T>, QueueError>
         ensures unknown { IsErrOf result Unknown ↔ (self.now ≤ entry.now.shard) }
         ensures answers { OnShardOr {T = T} self.now entry.now.shard
@@ -114,8 +114,8 @@ impl<T: Drop, A: Allocator> SharedDelayQueue<T, A> {
         Ok(answer?)
     }
 
-    /// As [`ShardState::deadline`], a tick of one millisecond. Refused as Unknown for a shard out of range, before all
-    /// else, and then as Missing and as WasCancelled.
+    /// As [`ShardState::deadline`], a tick of one millisecond. Refused as Unknown for a shard out of range, before
+    /// all else, and then as Missing and as WasCancelled.
     pub fn deadline<R: Wait>(&self, rt: &R, entry: &EntryId) -> Result<u64, QueueError>
         ensures unknown { IsErrOf result Unknown ↔ (self.now ≤ entry.now.shard) }
         ensures answers { OnShardOr {T = T} self.now entry.now.shard
@@ -127,8 +127,8 @@ impl<T: Drop, A: Allocator> SharedDelayQueue<T, A> {
         Ok(answer?)
     }
 
-    /// As [`ShardState::poll`], `tick` of one millisecond. Refused as Unknown for a shard out of range, before all else,
-    /// and then as TickTooLarge beyond the last tick.
+    /// As [`ShardState::poll`], `tick` of one millisecond. Refused as Unknown for a shard out of range, before all
+    /// else, and then as TickTooLarge beyond the last tick.
     ///
     /// Each call takes the shard's lock. Whoever wants many entries out polls in a loop under one lock, by
     /// [`SharedDelayQueue::lend`]:
@@ -162,8 +162,8 @@ impl<T: Drop, A: Allocator> SharedDelayQueue<T, A> {
         Ok(answer?)
     }
 
-    /// As [`ShardState::poll_some`], `tick` of one millisecond. Refused as Unknown for a shard out of range, before all
-    /// else, and then as TickTooLarge beyond the last tick.
+    /// As [`ShardState::poll_some`], `tick` of one millisecond. Refused as Unknown for a shard out of range, before
+    /// all else, and then as TickTooLarge beyond the last tick.
     ///
     /// The shard's lock is held for this piece alone: other threads may take it between two pieces.
     ///
@@ -285,8 +285,8 @@ impl<T: Drop, A: Allocator> SharedDelayQueue<T, A> {
         Ok(shard.tally())
     }
 
-    /// Takes out a poller that is parked at or before `tick`, of one millisecond, and wakes it once the shard's lock is
-    /// free. True where there was one. Refused as Unknown for a shard out of range.
+    /// Takes out a poller that is parked at or before `tick`, of one millisecond, and wakes it once the shard's lock
+    /// is free. True where there was one. Refused as Unknown for a shard out of range.
     pub fn ring<R: Wait>(&self, rt: &R, shard: usize, tick: u64) -> Result<bool, QueueError>
         ensures unknown { IsErrOf result Unknown ↔ (self.now ≤ shard) }
         ensures answers { OnShard {T = T} self.now shard

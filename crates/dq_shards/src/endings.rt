@@ -35,8 +35,8 @@ pub fn inserts_are_given<T>()
     endings::stamps_end_once();
 }
 
-/// The entry of each key that an insert answers, through its resets, ended exactly once, or is live, at every later view of
-/// that keeper.
+/// The entry of each key that an insert answers, through its resets, ended exactly once, or is live, at every later
+/// view of that keeper.
 pub fn inserted_entries_end_once<T>()
     ensures { InsertedEntriesEndOnce T }
 {

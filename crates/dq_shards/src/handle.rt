@@ -38,8 +38,8 @@ impl<A: Allocator> Model for Handle<A> {
 }
 
 impl<A: Allocator> Handle<A> {
-    /// What is known of the caller of each shard: it is out, its accepted cancels are few, and between some two steps the
-    /// rule of the words held with what it knows. The call does nothing, and is for proofs.
+    /// What is known of the caller of each shard: it is out, its accepted cancels are few, and between some two steps
+    /// the rule of the words held with what it knows. The call does nothing, and is for proofs.
     pub fn law(&self, shard: usize)
         requires { shard < length self.now }
         ensures { KeepsCaller self.now shard }
@@ -47,10 +47,10 @@ impl<A: Allocator> Handle<A> {
         self.callers[shard].law();
     }
 
-    /// Raises the deadline of a live entry to `when`, a tick of one millisecond, as [`Caller::extend`] of the key's shard
-    /// does, and answers the deadline that is then in force. Constant time. Refused as TooFar beyond the last tick, as
-    /// Unknown where no slot has the key or its shard is out of range, as Stale where the slot has a later stamp, and
-    /// as Ended where the entry isn't live.
+    /// Raises the deadline of a live entry to `when`, a tick of one millisecond, as [`Caller::extend`] of the key's
+    /// shard does, and answers the deadline that is then in force. Constant time. Refused as TooFar beyond the last
+    /// tick, as Unknown where no slot has the key or its shard is out of range, as Stale where the slot has a later
+    /// stamp, and as Ended where the entry isn't live.
     pub fn extend(&mut self, key: &Key, when: u64) -> Result<u64, CallError>
         ensures { HandleExtends self.old key.now when result self.new }
     {
@@ -64,8 +64,8 @@ impl<A: Allocator> Handle<A> {
         Err(CallError::Unknown)
     }
 
-    /// Cancels a live entry, as [`Caller::cancel`] of the key's shard does, and answers the deadline that it gave up, a
-    /// tick of one millisecond. Constant time. Refused as `extend` is, but never as TooFar.
+    /// Cancels a live entry, as [`Caller::cancel`] of the key's shard does, and answers the deadline that it gave up,
+    /// a tick of one millisecond. Constant time. Refused as `extend` is, but never as TooFar.
     pub fn cancel(&mut self, key: &Key) -> Result<u64, CallError>
         ensures { HandleCancels self.old key.now result self.new }
     {
@@ -76,8 +76,8 @@ impl<A: Allocator> Handle<A> {
         Err(CallError::Unknown)
     }
 
-    /// What the entry of a key is, as [`Caller::look`] of the key's shard tells. Constant time. Refused as Unknown where
-    /// no slot has the key or its shard is out of range, and as Stale where the slot has a later stamp.
+    /// What the entry of a key is, as [`Caller::look`] of the key's shard tells. Constant time. Refused as Unknown
+    /// where no slot has the key or its shard is out of range, and as Stale where the slot has a later stamp.
     pub fn look(&mut self, key: &Key) -> Result<Look, CallError>
         ensures { HandleLooks self.old key.now result self.new }
     {
@@ -99,8 +99,8 @@ impl<A: Allocator> Handle<A> {
         cancels
     }
 
-    /// Gives back each of its callers, and answers the number of their accepted cancels. An audit tells totals only once
-    /// every handle is given back.
+    /// Gives back each of its callers, and answers the number of their accepted cancels. An audit tells totals only
+    /// once every handle is given back.
     pub fn give_back(self) -> u64
         ensures { result ≡ all_cancels self }
     {
@@ -157,9 +157,9 @@ impl<T: Drop, A: Allocator> SharedDelayQueue<T, A> {
 }
 
 impl<T: Drop, A: Allocator + Clone + Drop> SharedDelayQueue<T, A> {
-    /// A handle, with a caller of each shard, issued in turn under that shard's lock. Refused as NoMemory where there is
-    /// no room for the callers, and then, shard by shard, as TooManyHandles where 1,024 callers were issued, given back
-    /// or not, and as NoMemory. The callers that were issued before are given back then, but stay counted.
+    /// A handle, with a caller of each shard, issued in turn under that shard's lock. Refused as NoMemory where there
+    /// is no room for the callers, and then, shard by shard, as TooManyHandles where 1,024 callers were issued, given
+    /// back or not, and as NoMemory. The callers that were issued before are given back then, but stay counted.
     pub fn handle<R: Wait>(&self, rt: &R) -> Result<Handle<A>, QueueError>
         ensures { QueueHandles T self.now result }
     {

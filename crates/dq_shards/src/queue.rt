@@ -18,20 +18,20 @@ use std::alloc::{AllocError, Allocator, Global};
 use std::marker::Model;
 use std::sync::{Mutex, Wait};
 
-/// A delay queue in shards, each behind a lock of its own, so that many threads may fill and poll it. To a contract it
-/// is the number of its shards.
+/// A delay queue in shards, each behind a lock of its own, so that many threads may fill and poll it. To a contract
+/// it is the number of its shards.
 ///
 /// A call takes the lock of one shard, and says what it did as a relation between two states of that shard. The
 /// number of such a state is the shard's; from one lock to the next no contract says more.
 ///
-/// A call by name that wakes a parked poller lets the lock go first: whoever is woken may call the queue at once. Under
-/// the lock wake only the calls that are made on a shard in hand, of [`SharedDelayQueue::enter`] and
+/// A call by name that wakes a parked poller lets the lock go first: whoever is woken may call the queue at once.
+/// Under the lock wake only the calls that are made on a shard in hand, of [`SharedDelayQueue::enter`] and
 /// [`SharedDelayQueue::lend`].
 ///
-/// Nor is a value dropped under the lock: what a call reaps or clears it drops once the lock is free, so a value's drop may
-/// call the queue. Where a drop panics the shard is whole, and a later poll, sweep, reap or clear drops the rest. So does it
-/// behind a poll that gave an entry: that one drops nothing, since a panic would lose the entry. A drop that makes one of
-/// these calls itself drops in it what is left.
+/// Nor is a value dropped under the lock: what a call reaps or clears it drops once the lock is free, so a value's
+/// drop may call the queue. Where a drop panics the shard is whole, and a later poll, sweep, reap or clear drops the
+/// rest. So does it behind a poll that gave an entry: that one drops nothing, since a panic would lose the entry. A
+/// drop that makes one of these calls itself drops in it what is left.
 #[derive(Drop)]
 pub struct SharedDelayQueue<T, A: Allocator = Global> {
     shards: Vec<Mutex<ShardState<T, A>>, A>,
@@ -63,8 +63,9 @@ fn is_config(config: &QueueConfig) -> bool
 }
 
 impl<T: Drop, A: Allocator + Clone + Drop> SharedDelayQueue<T, A> {
-    /// A queue of empty shards at tick 0. Refused as BadConfig where a number of the configuration is out of its range,
-    /// and else as NoMemory. All memory of the queue is taken here: no other call takes any, but `handle` and `issue`.
+    /// A queue of empty shards at tick 0. Refused as BadConfig where a number of the configuration is out of its
+    /// range, and else as NoMemory. All memory of the queue is taken here: no other call takes any, but `handle` and
+    /// `issue`.
     pub fn new(alloc: A, config: QueueConfig) -> Result<SharedDelayQueue<T, A>, QueueError>
         ensures { QueueIsMade config result }
     {
@@ -97,11 +98,11 @@ impl<T, A: Allocator> SharedDelayQueue<T, A> {
 }
 
 impl<T: Drop, A: Allocator> SharedDelayQueue<T, A> {
-    /// Gives way to whoever waits for the shard's lock: it looks for a bounded while until nobody does, and returns at once
-    /// where nobody does. A shard out of range has no lock.
+    /// Gives way to whoever waits for the shard's lock: it looks for a bounded while until nobody does, and returns
+    /// at once where nobody does. A shard out of range has no lock.
     ///
-    /// For loops of one's own over [`SharedDelayQueue::poll_some`]: whoever lets a lock go and takes it again at once gets
-    /// it before a thread that sleeps.
+    /// For loops of one's own over [`SharedDelayQueue::poll_some`]: whoever lets a lock go and takes it again at once
+    /// gets it before a thread that sleeps.
     pub fn give_way(&self, shard: usize) {
         if shard < self.shards.len() {
             let waiting = &self.waiting[shard];
@@ -111,10 +112,10 @@ impl<T: Drop, A: Allocator> SharedDelayQueue<T, A> {
 
     /// The shard, with its lock held until the answer is dropped. Refused as Unknown exactly out of range.
     ///
-    /// A thread that holds a shard and takes its lock once more, by any call that names the shard, waits for ever. So does
-    /// a waker that calls the queue where a call on the shard in hand wakes it: [`LockedShard::take_parked`] takes the
-    /// poller out before. Values of what is reaped or cleared wait in the shard: [`SharedDelayQueue::drop_aside`] drops them
-    /// once it is let go.
+    /// A thread that holds a shard and takes its lock once more, by any call that names the shard, waits for ever. So
+    /// does a waker that calls the queue where a call on the shard in hand wakes it: [`LockedShard::take_parked`]
+    /// takes the poller out before. Values of what is reaped or cleared wait in the shard:
+    /// [`SharedDelayQueue::drop_aside`] drops them once it is let go.
     #[inline(always)]
     pub fn enter<R: Wait>(&self, rt: &R, shard: usize) -> Result<LockedShard<'_, T, A>, QueueError>
         ensures entered { IfOk result (λ state. (shard < self.now) × IsShard state) }
@@ -159,9 +160,10 @@ impl<T, A: Allocator + Clone> SharedDelayQueue<T, A> {
 
 impl<T: Drop> SharedDelayQueue<T> {
     /// Calls `f` once with the shard's state while its lock is held, and gives back its answer. Refused as Unknown
-    /// exactly out of range; `f` isn't called then. What `f` does on the shard it does on the state, and what it wakes it
-    /// wakes under the lock: see [`SharedDelayQueue::enter`] for what waits for ever. What it reaps or clears is dropped
-    /// behind the lock; but of values that wait an insert drops one where it finds no other slot for it.
+    /// exactly out of range; `f` isn't called then. What `f` does on the shard it does on the state, and what it
+    /// wakes it wakes under the lock: see [`SharedDelayQueue::enter`] for what waits for ever. What it reaps or
+    /// clears is dropped behind the lock; but of values that wait an insert drops one where it finds no other slot
+    /// for it.
     pub fn lend<R: Wait, O, F: FnOnce(&mut ShardState<T>) -> O + Drop>(
         &self,
         rt: &R,

@@ -17,7 +17,8 @@ use std::marker::Model;
 use std::ops::Deref;
 use std::sync::Wait;
 
-// A shard whose lock is held, by a call that only tells of it. All that it can change is what the keeper knows of the words.
+// A shard whose lock is held, by a call that only tells of it. All that it can change is what the keeper knows of the
+// words.
 #[derive(Drop)]
 pub(crate) struct ReadShard<'q, T, A: Allocator = Global> {
     locked: LockedShard<'q, T, A>,

@@ -20,7 +20,8 @@ impl<T: Drop, A: Allocator> ShardState<T, A> {
         self.core.shard()
     }
 
-    /// The next wake: the tick of one millisecond at which the queue has something to do, none where nothing is linked.
+    /// The next wake: the tick of one millisecond at which the queue has something to do, none where nothing is
+    /// linked.
     pub fn next_wake(&self) -> Option<u64>
         ensures { TellsWake self.now.core result }
     {
@@ -84,8 +85,8 @@ impl<T: Drop, A: Allocator> ShardState<T, A> {
         self.core.place(entry)
     }
 
-    /// The tick of one millisecond by which an entry is filed, which is not after its deadline in force; none where the
-    /// entry is missing.
+    /// The tick of one millisecond by which an entry is filed, which is not after its deadline in force; none where
+    /// the entry is missing.
     pub fn filed(&self, entry: &EntryId) -> Option<u64>
         ensures { TellsFiled self.now.core entry.now result }
     {

@@ -14,16 +14,16 @@ use std::num::NonZeroU32;
 use std::sync::Wait;
 
 impl<T: Drop, A: Allocator> SharedDelayQueue<T, A> {
-    /// As [`SharedDelayQueue::poll`], in pieces of at most `most` steps, `tick` of one millisecond. The shard's lock is free
-    /// between two pieces, and where another thread waits for it this one gives way for a bounded while: a call by name
-    /// then waits for about one piece, not for the whole poll.
+    /// As [`SharedDelayQueue::poll`], in pieces of at most `most` steps, `tick` of one millisecond. The shard's lock
+    /// is free between two pieces, and where another thread waits for it this one gives way for a bounded while: a
+    /// call by name then waits for about one piece, not for the whole poll.
     ///
-    /// It returns once a piece comes to an answer: each leaves at least so many steps fewer, but other threads may give the
-    /// shard more to do meanwhile.
+    /// It returns once a piece comes to an answer: each leaves at least so many steps fewer, but other threads may
+    /// give the shard more to do meanwhile.
     ///
     /// # Errors
-    /// Unknown for a shard out of range, before all else, and then TickTooLarge beyond the last tick, which is not noted
-    /// then.
+    /// Unknown for a shard out of range, before all else, and then TickTooLarge beyond the last tick, which is not
+    /// noted then.
     ///
     /// ```ignore
     /// let turn = queue.poll_through(&rt, shard, tick, most)?;

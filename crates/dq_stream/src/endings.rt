@@ -4,8 +4,8 @@ ghost use Rattle.dq_stream.specs.PacedGives.{PacedItemsAreInForce};
 
 use dq_shards::endings;
 
-/// Whatever entry a stream gives ended as expired at its deadline in force, at a tick already noted, and no live entry
-/// of its shard has an earlier deadline.
+/// Whatever entry a stream gives ended as expired at its deadline in force, at a tick already noted, and no live
+/// entry of its shard has an earlier deadline.
 pub fn items_are_in_force<T>()
     ensures { ItemsAreInForce T }
 {

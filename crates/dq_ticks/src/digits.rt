@@ -58,9 +58,9 @@ pub fn level_of(now: u64, when: u64) -> Option<usize>
     Some((differing.ilog2() as usize / 6).min(LEVELS - 1))
 }
 
-/// The tick at which a slot of a level starts, seen from the tick `now`. Below the top level it is `now` with its digit
-/// at that level set to `slot` and all lower digits 0. The top level goes round: there it is the least multiple of
-/// `2^30` after `now` with that digit, so that the slot of `now` itself comes last.
+/// The tick at which a slot of a level starts, seen from the tick `now`. Below the top level it is `now` with its
+/// digit at that level set to `slot` and all lower digits 0. The top level goes round: there it is the least multiple
+/// of `2^30` after `now` with that digit, so that the slot of `now` itself comes last.
 #[tactic(auto, unfolding(crate::specs::Digits::start))]
 #[inline]
 pub fn slot_start(now: u64, level: usize, slot: u64) -> u64

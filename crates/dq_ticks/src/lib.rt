@@ -1,8 +1,9 @@
-//! What every crate of the delay queue speaks of: ticks and their digits, the words that entries are kept in, and keys.
+//! What every crate of the delay queue speaks of: ticks and their digits, the words that entries are kept in, and
+//! keys.
 //!
 //! A tick is one millisecond. The levels are those of a hierarchical timing wheel (Varghese and Lauck, SOSP 1987,
-//! Scheme 7): an entry stands at the highest base-64 digit in which its tick differs from the wheel's, in the slot that
-//! this digit names, and goes down level by level as its tick comes near.
+//! Scheme 7): an entry stands at the highest base-64 digit in which its tick differs from the wheel's, in the slot
+//! that this digit names, and goes down level by level as its tick comes near.
 //!
 //! | Level | A slot spans | The level spans |
 //! |---|---|---|

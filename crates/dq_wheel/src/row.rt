@@ -1,7 +1,8 @@
 //! The rows: one for each entry and, behind them, one for the head of each list.
 //!
-//! Each list is a circle through a head of its own, so an entry always has a neighbour on either side, and no call asks
-//! where a list begins or ends. What is kept of an entry lies beside its links, so that a call touches one line for it.
+//! Each list is a circle through a head of its own, so an entry always has a neighbour on either side, and no call
+//! asks where a list begins or ends. What is kept of an entry lies beside its links, so that a call touches one line
+//! for it.
 
 ghost use Rattle.std.specs.Prelude.{◌≡◌, ◌≢◌, ℕ, ◌+◌, ◌<◌, ◌≤◌, length, slice_index, slice_set, IfOk};
 ghost use Rattle.dq_wheel.specs.Rows.{nexts, prevs, homes, filed_numbers, moves_made, AreAlone, AreCircles, AreTakenFrom, HasNeighbours};
@@ -251,7 +252,8 @@ pub fn take_off(rows: &mut [Row], capacity: usize, list: usize) -> usize
     first
 }
 
-/// Puts the first entry of a list that was taken off at the end of another list, and gives the entry that followed it.
+/// Puts the first entry of a list that was taken off at the end of another list, and gives the entry that followed
+/// it.
 pub fn put_last(rows: &mut [Row], capacity: usize, list: usize, index: usize, to: usize) -> usize
     requires taken { AreTakenFrom capacity list index rows.old }
     requires index_in { index < capacity }

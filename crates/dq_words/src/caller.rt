@@ -20,8 +20,8 @@ use std::marker::Model;
 /// Extends and cancels entries, and looks at them, without a lock. To a contract it is the table that it sits at and
 /// what it knows: the words that it saw and its accepted calls.
 ///
-/// Each call takes one load and at most one atomic step, waits for nobody and takes no memory. A caller that is dropped
-/// counts as out for good.
+/// Each call takes one load and at most one atomic step, waits for nobody and takes no memory. A caller that is
+/// dropped counts as out for good.
 #[derive(Drop)]
 pub struct Caller<A: Allocator = Global> {
     seat: Seated<A>,
@@ -68,8 +68,8 @@ impl<A: Allocator> Caller<A> {
         Caller { seat, cancels: 0 }
     }
 
-    /// What is known of every caller: it is out, and its accepted cancels are few; and between some two steps the rule
-    /// of the words held with what it knows.
+    /// What is known of every caller: it is out, and its accepted cancels are few; and between some two steps the
+    /// rule of the words held with what it knows.
     pub fn law(&self)
         ensures caller { IsCaller self.now.view }
         ensures knew { Knew self.now.view }
@@ -93,9 +93,9 @@ impl<A: Allocator> Caller<A> {
         }
     }
 
-    /// Raises the deadline of a live entry to `when`, a tick of one millisecond, and answers the deadline that is then
-    /// in force: `when`, or a later one that it had. Refused as TooFar beyond the last tick, as Unknown where no slot
-    /// has the key, as Stale where the slot has a later stamp, and as Ended where the entry isn't live.
+    /// Raises the deadline of a live entry to `when`, a tick of one millisecond, and answers the deadline that is
+    /// then in force: `when`, or a later one that it had. Refused as TooFar beyond the last tick, as Unknown where no
+    /// slot has the key, as Stale where the slot has a later stamp, and as Ended where the entry isn't live.
     pub fn extend(&mut self, key: &Key, when: u64) -> Result<u64, CallError>
         // Accepted: the word that it left is live at the answer, which keeps what was promised before.
         ensures accepted { IfOk result (λ d. (when ≤ d) × SeesLive self.new key.now d) }

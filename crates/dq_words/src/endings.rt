@@ -2,21 +2,22 @@
 ghost use Rattle.dq_words.specs.Endings.{StampsEndOnce, OthersAreBlank, EndsAreInForce};
 ghost use Rattle.dq_words.specs.Endings.{EntriesEndOnce};
 
-/// Between any two steps of the keeper and its callers, each stamp that a slot was given was given once, and was ended
-/// once by the keeper, or cancelled once by a caller, or its word is live; no other stamp has a call or a write.
+/// Between any two steps of the keeper and its callers, each stamp that a slot was given was given once, and was
+/// ended once by the keeper, or cancelled once by a caller, or its word is live; no other stamp has a call or a
+/// write.
 pub fn stamps_end_once()
     ensures once { StampsEndOnce }
     ensures others { OthersAreBlank }
 {}
 
-/// Each end that the keeper wrote, and each accepted cancel, was at the deadline in force: no extend that was accepted
-/// at its stamp is later.
+/// Each end that the keeper wrote, and each accepted cancel, was at the deadline in force: no extend that was
+/// accepted at its stamp is later.
 pub fn ends_are_in_force()
     ensures { EndsAreInForce }
 {}
 
-/// Each inserted entry, through its resets, was ended exactly once, as expired, as removed or by an accepted cancel, or
-/// is still queued.
+/// Each inserted entry, through its resets, was ended exactly once, as expired, as removed or by an accepted cancel,
+/// or is still queued.
 pub fn entries_end_once()
     ensures { EntriesEndOnce }
 {}

@@ -13,8 +13,8 @@ use dq_core::{CoreConfig, CoreError, DelayCore};
 use dq_ticks::{CAPACITY_LIMIT, LAST_STAMP};
 use std::alloc::Allocator;
 
-/// A queue of one owner for that many entries, at tick 0 with nothing linked, whose entries callers extend and cancel from any
-/// thread: [`DelayCore::issue`] gives a caller. All of its memory is taken here, but for each caller's own.
+/// A queue of one owner for that many entries, at tick 0 with nothing linked, whose entries callers extend and cancel
+/// from any thread: [`DelayCore::issue`] gives a caller. All of its memory is taken here, but for each caller's own.
 ///
 /// # Errors
 /// BadConfig where the capacity isn't 1 to [`CAPACITY_LIMIT`], and else NoMemory.
@@ -32,11 +32,12 @@ pub fn shared_queue<T: Drop, A: Allocator + Clone + Drop>(
     numbered_queue(alloc, CoreConfig::of(capacity))
 }
 
-/// A [`shared_queue`] by all the numbers of a configuration, as one shard of many has it: its keys carry that shard's number,
-/// and a slot is worn after that last stamp.
+/// A [`shared_queue`] by all the numbers of a configuration, as one shard of many has it: its keys carry that shard's
+/// number, and a slot is worn after that last stamp.
 ///
 /// # Errors
-/// BadConfig where the capacity isn't 1 to [`CAPACITY_LIMIT`] or the last stamp isn't 1 to [`LAST_STAMP`], and else NoMemory.
+/// BadConfig where the capacity isn't 1 to [`CAPACITY_LIMIT`] or the last stamp isn't 1 to [`LAST_STAMP`], and else
+/// NoMemory.
 pub fn numbered_queue<T: Drop, A: Allocator + Clone + Drop>(
     alloc: A,
     config: CoreConfig,

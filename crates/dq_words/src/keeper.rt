@@ -41,8 +41,8 @@ pub enum WordsError {
     },
 }
 
-/// Begins and ends the entries of a row of words, and issues the callers that extend and cancel them. To a contract it
-/// is the table that it sits at and what it knows: the words that it saw, its own writes, and how many callers it
+/// Begins and ends the entries of a row of words, and issues the callers that extend and cancel them. To a contract
+/// it is the table that it sits at and what it knows: the words that it saw, its own writes, and how many callers it
 /// issued.
 #[derive(Drop)]
 pub struct Keeper<A: Allocator = Global> {

@@ -30,8 +30,9 @@ fn numbered_shard<T: Drop, S: From<DelayCore<T, Keeper<A>, A>>, A: Allocator + C
     }
 }
 
-/// A row of so many shards, each made of an empty queue and behind a lock of its own. The shard at place n has the number n,
-/// whatever number the configuration has. All memory of the row and of its queues is taken here, but for each caller's own.
+/// A row of so many shards, each made of an empty queue and behind a lock of its own. The shard at place n has the
+/// number n, whatever number the configuration has. All memory of the row and of its queues is taken here, but for
+/// each caller's own.
 ///
 /// # Errors
 /// BadConfig where the capacity isn't 1 to [`dq_ticks::CAPACITY_LIMIT`] or the last stamp isn't 1 to

@@ -1,5 +1,5 @@
-//! What the keeper does to a word that callers may change at any moment: it tries, and what it finds tells it how to go
-//! on.
+//! What the keeper does to a word that callers may change at any moment: it tries, and what it finds tells it how to
+//! go on.
 ghost use Rattle.std.specs.Prelude.{◌≡◌, ◌<◌, ◌≤◌, length, true, slice_index};
 ghost use Rattle.dq_ticks.specs.declared.TheConstants.{LAST_TICK, LAST_STAMP};
 ghost use Rattle.dq_words.specs.KeeperCalls.{KeeperSettles, KeeperRenews, KeeperFinishes};

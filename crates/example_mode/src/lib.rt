@@ -15,8 +15,8 @@ pub enum Mode {
     Live,
 }
 
-/// How the words of the command line ask an example to run: the walk without any, or `live`. At `--help` and at anything else
-/// the usage is told, and the status comes back with which the program is to end.
+/// How the words of the command line ask an example to run: the walk without any, or `live`. At `--help` and at
+/// anything else the usage is told, and the status comes back with which the program is to end.
 pub fn asked<R>(rt: &R, usage: &str) -> Result<Result<Mode, ExitCode>>
 where
     R: Env + Print + Eprint + AllocGlobal,

@@ -42,7 +42,8 @@ where
     Ok(())
 }
 
-// Renews a lease, each time for a term from then on, and answers until when it holds in the end. No call takes a lock.
+// Renews a lease, each time for a term from then on, and answers until when it holds in the end. No call takes a
+// lock.
 fn renew_often<C: Clock>(
     clock: &C,
     start: Instant,

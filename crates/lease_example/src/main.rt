@@ -1,6 +1,8 @@
-//! Leases of a lock server. Many threads may give them and renew them; here one thread renews a lease while another polls.
+//! Leases of a lock server. Many threads may give them and renew them; here one thread renews a lease while another
+//! polls.
 //!
-//! Without arguments the ticks are handed in, so that each run prints the same. `lease_example live` goes by the real clock.
+//! Without arguments the ticks are handed in, so that each run prints the same. `lease_example live` goes by the real
+//! clock.
 #![tactic(auto)]
 
 mod live;

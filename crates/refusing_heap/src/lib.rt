@@ -1,5 +1,5 @@
-//! An allocator for tests, which refuses one allocation of the test's choosing. So each allocation of a call can be refused in
-//! turn, also one that needs no more memory than was free before.
+//! An allocator for tests, which refuses one allocation of the test's choosing. So each allocation of a call can be
+//! refused in turn, also one that needs no more memory than was free before.
 #![tactic(auto)]
 
 use std::alloc::{AllocError, Allocator};

@@ -33,8 +33,8 @@ struct Server {
     rest: Parker,
 }
 
-/// Touches sessions in this thread and polls in another for those that timed out, until the input ends. Then it tells what
-/// became of all.
+/// Touches sessions in this thread and polls in another for those that timed out, until the input ends. Then it tells
+/// what became of all.
 pub fn run<R>(rt: &R) -> Result<()>
 where
     R: Clock + Input + Print + AllocGlobal + Threads + Wait + Sync,
@@ -115,8 +115,8 @@ where
     Ok(())
 }
 
-// Polls until the input has ended, and waits between for the next wake. Who logs in meanwhile can't time out before a wait
-// for the idle time is over.
+// Polls until the input has ended, and waits between for the next wake. Who logs in meanwhile can't time out before a
+// wait for the idle time is over.
 fn poll_all<R: Clock + Print + Wait>(rt: &R, server: &Server) -> Result<()> {
     let mut ticks = MillisecondTicks::since(rt, server.start);
     for _ in rt.forever() {

@@ -1,8 +1,8 @@
-//! Sessions of a server, each of which ends when nobody touched it for a while. One thread touches them by a handle, without a
-//! lock, while another polls for those that ended.
+//! Sessions of a server, each of which ends when nobody touched it for a while. One thread touches them by a handle,
+//! without a lock, while another polls for those that ended.
 //!
-//! Without arguments the ticks are handed in, so that each run prints the same. `sessions_example live` goes by the real clock:
-//! each line of standard input is the name of who was just active.
+//! Without arguments the ticks are handed in, so that each run prints the same. `sessions_example live` goes by the
+//! real clock: each line of standard input is the name of who was just active.
 #![tactic(auto)]
 
 mod live;

@@ -1,6 +1,8 @@
-//! Jobs that failed, and when each is tried again. One thread takes from a stream what is due, and another tells it the time.
+//! Jobs that failed, and when each is tried again. One thread takes from a stream what is due, and another tells it
+//! the time.
 //!
-//! Without arguments the ticks are handed in, so that each run prints the same. `stream_example live` goes by the real clock.
+//! Without arguments the ticks are handed in, so that each run prints the same. `stream_example live` goes by the
+//! real clock.
 #![tactic(auto)]
 
 mod live;

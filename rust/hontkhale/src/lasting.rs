@@ -35,7 +35,7 @@ mod stream;
 pub use config::{BadLastingNumber, LastingConfig, SHARD_LIMIT};
 pub use ended::{Ended, LastingTally, LastingTotals};
 pub use entered::LockedLasting;
-pub use errors::{HandleError, LastingError, ReopenError};
+pub use errors::{HandleError, HandleRenewError, LastingError, ReopenError};
 pub use handle::LastingHandle;
 pub use keeping::Kept;
 pub use numbered::NumberedCaller;

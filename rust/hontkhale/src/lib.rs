@@ -138,9 +138,9 @@ pub use crate::apps::{CountedCache, IdleSessions, MemoAnswer, Name, PutAnswer, S
 pub use crate::clock::Clock;
 #[cfg(feature = "std")]
 pub use crate::lasting::{
-    BadLastingNumber, Ended, HandleError, Kept, LastingConfig, LastingError, LastingFault, LastingHandle,
-    LastingPacedStream, LastingQueue, LastingStream, LastingTally, LastingTotals, LockedLasting, PlaceState, ReopenError,
-    Ticks,
+    BadLastingNumber, Ended, HandleError, HandleRenewError, Kept, LastingConfig, LastingError, LastingFault,
+    LastingHandle, LastingPacedStream, LastingQueue, LastingStream, LastingTally, LastingTotals, LockedLasting, PlaceState,
+    ReopenError, Ticks,
 };
 #[cfg(feature = "std")]
 pub use crate::pool::{HandlePool, Lent};

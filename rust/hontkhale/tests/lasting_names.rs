@@ -1,8 +1,15 @@
 //! A handle of a lasting queue is renewed by that queue alone, however alike another one is.
 
-use hontkhale::{CallError, HandleError, Kept, LastingConfig, LastingQueue, Look};
+use hontkhale::{CallError, HandleError, HandleRenewError, Kept, LastingConfig, LastingQueue, Look};
 
 type Queue = LastingQueue<&'static str>;
+
+/// By another queue nothing is taken on.
+const OF_ANOTHER: HandleRenewError = HandleRenewError {
+    why: HandleError::OtherQueue,
+    place: 0,
+    taken: 0,
+};
 
 /// A queue of two shards, each of one slot with two stamps.
 fn queue() -> Queue {
@@ -28,7 +35,7 @@ fn another_queue_of_as_many_shards_renews_no_handle() {
     assert_eq!(mine, theirs);
 
     let mut handle = first.handle().expect("a handle");
-    assert_eq!(handle.renew(&second), Err(HandleError::OtherQueue));
+    assert_eq!(handle.renew(&second), Err(OF_ANOTHER));
     assert_eq!(handle.extend(&mine, 20), Ok(20));
     assert_eq!(first.deadline(&mine.entry()), Ok(20));
     assert_eq!(second.deadline(&theirs.entry()), Ok(10));
@@ -47,7 +54,7 @@ fn a_renewed_shard_of_another_queue_gives_no_caller() {
     let theirs = second.insert(0, "theirs", 10).expect("a free slot");
     assert_eq!(theirs.entry().shard(), 2);
 
-    assert_eq!(handle.renew(&second), Err(HandleError::OtherQueue));
+    assert_eq!(handle.renew(&second), Err(OF_ANOTHER));
     assert_eq!(handle.cancel(&theirs), Err(CallError::Unknown));
     let mut theirs_handle = second.handle().expect("a handle");
     assert!(matches!(theirs_handle.look(&theirs), Ok(Look::StillLive(10))));

@@ -95,8 +95,8 @@ fn lists_all_along(rt: &impl Abort, alloc: Global, queue: &mut Queue) -> Result<
     lists_what_lives(rt, alloc, queue)
 }
 
-// A worn slot, one whose entry was reset, one whose entry is cancelled and still linked, one whose entry was extended, and
-// one that was never used.
+// A worn slot, one whose entry was reset, one whose entry is cancelled and still linked, one whose entry was
+// extended, and one that was never used.
 #[test]
 fn live_entries_are_listed_once(rt: HostRuntime) -> Result<(), Fail> {
     let mut queue = queue_of_five(rt.alloc())?;

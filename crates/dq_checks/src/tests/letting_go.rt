@@ -1,4 +1,5 @@
-//! What a queue of one owner does with a value that it lets go: it drops it before the call returns, or sets it aside.
+//! What a queue of one owner does with a value that it lets go: it drops it before the call returns, or sets it
+//! aside.
 
 use super::same;
 use dq_core::{DelayCore, VecWords};

@@ -23,7 +23,8 @@ fn least_live(core: &Core) -> Option<Key> {
     Some(key)
 }
 
-// What comes out next: the entry that a peek names, where it is filed at its deadline, and else one that has the least.
+// What comes out next: the entry that a peek names, where it is filed at its deadline, and else one that has the
+// least.
 fn comes_next(core: &Core) -> Option<Key> {
     let named = core.peek()?;
     match core.look(&named) {

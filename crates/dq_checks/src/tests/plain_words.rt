@@ -76,7 +76,8 @@ fn plain_words_limits(rt: HostRuntime) -> Result<(), Fail> {
     Ok(())
 }
 
-// A settle wants the word as it stands. So the comparisons stay in this body, where they tell what the calls before it answered.
+// A settle wants the word as it stands. So the comparisons stay in this body, where they tell what the calls before
+// it answered.
 #[test]
 fn plain_words_end_once(rt: HostRuntime) -> Result<(), Fail> {
     let mut words = VecWords::new(rt.alloc(), 1)?;

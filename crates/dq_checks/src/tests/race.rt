@@ -68,8 +68,8 @@ fn fill(core: &mut Core, keys: &mut Vec<Key>) -> Result<(), Fail> {
     Ok(())
 }
 
-// An entry whose extend was answered came out at the deadline that it was extended to, one whose cancel was answered gave up
-// that deadline and didn't come out.
+// An entry whose extend was answered came out at the deadline that it was extended to, one whose cancel was answered
+// gave up that deadline and didn't come out.
 fn agree(rt: &impl Abort, extended: &Answers, cancelled: &Answers, expired: &Answers) {
     for deadline in 1..=ENTRIES {
         let own = deadline as u64;

@@ -58,7 +58,8 @@ pub enum Step {
 }
 
 impl<W: Words, C: Calls<W>> Queue<W, C> {
-    /// Does a step, and tells whether it answers as it has to. None where no key was given out at the place that it names.
+    /// Does a step, and tells whether it answers as it has to. None where no key was given out at the place that it
+    /// names.
     pub fn takes(&mut self, step: Step) -> Option<bool> {
         Some(match step {
             Step::Insert(value, when) => self.inserts(value, when),

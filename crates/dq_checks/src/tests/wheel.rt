@@ -73,8 +73,8 @@ fn beyond_one_lap(rt: HostRuntime) -> Result<(), Fail> {
     Ok(())
 }
 
-// The place of what is filed so, and the start of its slot. The tests of dq_ticks hold the three calls for each of the
-// pairs below against a table.
+// The place of what is filed so, and the start of its slot. The tests of dq_ticks hold the three calls for each of
+// the pairs below against a table.
 fn slot_of(rt: &impl Abort, tick: u64, filed: u64) -> (Place, u64) {
     assert!(rt; tick <= filed && filed <= LAST_TICK);
     match level_of(tick, filed) {

@@ -2,7 +2,7 @@
 
 use super::same;
 use dq_core::CoreError;
-use dq_lasting::{HandleError, Kept, LastingConfig, LastingQueue, ReopenError};
+use dq_lasting::{HandleError, HandleRenewError, Kept, LastingConfig, LastingQueue, ReopenError};
 use linked_list_allocator::LocalHeap;
 use refusing_heap::RefusingHeap;
 use std::process::Abort;
@@ -32,8 +32,8 @@ fn goes_beside<R: Abort + Wait>(rt: &R, queue: &Letters) {
     same(rt, "insert", shard, Some(1));
 }
 
-// A shard that is closed and empty is opened again, once more where memory was refused first, and tells whether it was. A
-// refusal leaves it as it was.
+// A shard that is closed and empty is opened again, once more where memory was refused first, and tells whether it
+// was. A refusal leaves it as it was.
 fn reopens<'heap, 'all, R: Abort + Wait>(
     rt: &R,
     heap: &'heap Heap<'all>,
@@ -60,14 +60,19 @@ fn reopens<'heap, 'all, R: Abort + Wait>(
 fn refused_in<R: Abort>(
     rt: &R,
     reopened: Result<bool, ReopenError>,
-    took: Result<usize, HandleError>,
+    took: Result<usize, HandleRenewError>,
 ) -> Result<Refused, Fail> {
     if reopened? {
         return Ok(Refused::InReopen);
     }
     match took {
         Ok(took) => same(rt, "renew", took, 1),
-        Err(HandleError::NoMemory) => return Ok(Refused::InHandle),
+        Err(
+            HandleRenewError {
+                why: HandleError::NoMemory,
+                ..
+            },
+        ) => return Ok(Refused::InHandle),
         Err(error) => return Err(error.into()),
     }
     Ok(Refused::Nowhere)
@@ -140,8 +145,9 @@ fn counts_each<R: Abort + Wait>(rt: &R, all: &LocalHeap) -> Result<(), Fail> {
     Ok(())
 }
 
-// A queue of two shards takes a row of them, and eight times for each: four for its words, three for its slots, one for its
-// wheel. A handle takes a row of callers, the states take one, and an opening takes the words and the slots anew.
+// A queue of two shards takes a row of them, and eight times for each: four for its words, three for its slots, one
+// for its wheel. A handle takes a row of callers, the states take one, and an opening takes the words and the slots
+// anew.
 #[test]
 fn each_allocation_refused(rt: HostRuntime) -> Result<(), Fail> {
     let all = LocalHeap::new(rt.alloc(), 1 << 20)?;

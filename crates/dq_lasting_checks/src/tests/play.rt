@@ -4,8 +4,8 @@ use super::same;
 use super::tasks::{Seen, Task};
 use dq_core::{CallError, CoreError, Look};
 use dq_lasting::{
-    HandleError, Kept, LastingConfig, LastingError, LastingHandle, LastingQueue, LastingTotals,
-    PlaceState,
+    HandleError, HandleRenewError, Kept, LastingConfig, LastingError, LastingHandle, LastingQueue,
+    LastingTotals, PlaceState,
 };
 use dq_ticks::Key;
 use std::alloc::{AllocGlobal, Global};
@@ -47,8 +47,8 @@ pub enum HandleCall {
     Extend(usize, u64, Result<u64, CallError>),
     Cancel(usize, Result<u64, CallError>),
     Look(usize, Result<Look, CallError>),
-    /// How many shards' new callers it takes on.
-    Renew(usize),
+    /// How many shards' new callers it takes on, or where it stops.
+    Renew(Result<usize, HandleRenewError>),
 }
 
 /// What is only told.
@@ -133,7 +133,7 @@ impl Player {
                 same(rt, number, self.handle.look(&key), answer)
             }
             HandleCall::Renew(renewed) => {
-                same(rt, number, self.handle.renew(rt, queue), Ok(renewed))
+                same(rt, number, self.handle.renew(rt, queue), renewed)
             }
         }
     }
@@ -259,7 +259,7 @@ fn totals([inserted, removed, cancelled, linked]: [u128; 4]) -> LastingTotals {
 }
 
 // A new handle takes on so many callers, and tells of an entry.
-type LookedAnew = (Result<usize, HandleError>, Result<Look, CallError>);
+type LookedAnew = (Result<usize, HandleRenewError>, Result<Look, CallError>);
 
 fn look_anew<R: Wait>(rt: &R, queue: &Texts, key: &Key) -> Result<LookedAnew, HandleError> {
     let mut handle = queue.handle(rt)?;

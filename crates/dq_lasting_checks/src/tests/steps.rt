@@ -3,13 +3,9 @@
 use super::play::Call::{ByHandle, Clear, Close, Insert, KeepGoing, Remove, Sweep, Tell};
 use super::play::HandleCall::{Cancel, Extend, Look, Renew};
 use super::play::Told::{Audit, Deadline, Tally, Wake};
-use super::play::{Texts, plays, queue_and_player, short_lived};
-use super::same;
+use super::play::{plays, queue_and_player, short_lived};
 use dq_core::{CallError, CoreError};
-use dq_lasting::{HandleError, Kept, LastingConfig, LastingError, LastingQueue};
-use std::alloc::Global;
-use std::process::Abort;
-use std::sync::Wait;
+use dq_lasting::{Kept, LastingConfig, LastingError};
 use std::test::Fail;
 
 // Three slots are linked, or worn.
@@ -38,8 +34,8 @@ fn a_shard_holds_as_many_as_it_has_slots(rt: HostRuntime) -> Result<(), Fail> {
     plays(&rt, short_lived(3), calls)
 }
 
-// The shard at place 0, of which one entry was removed and one is left, is closed, drains and is opened again. The handle reaches
-// a new entry once it is renewed, and then no longer one of the generation before.
+// The shard at place 0, of which one entry was removed and one is left, is closed, drains and is opened again. The
+// handle reaches a new entry once it is renewed, and then no longer one of the generation before.
 #[test]
 fn keep_going_does_what_is_due(rt: HostRuntime) -> Result<(), Fail> {
     let calls = &[
@@ -62,8 +58,8 @@ fn keep_going_does_what_is_due(rt: HostRuntime) -> Result<(), Fail> {
         KeepGoing(Kept::Fine),
         Insert(0, 5, Ok(2)),
         ByHandle(Extend(3, 9, Err(CallError::Unknown))),
-        ByHandle(Renew(1)),
-        ByHandle(Renew(0)),
+        ByHandle(Renew(Ok(1))),
+        ByHandle(Renew(Ok(0))),
         ByHandle(Extend(3, 9, Ok(9))),
         ByHandle(Look(1, Err(CallError::Unknown))),
         Tell(Deadline(1, Err(CoreError::Missing))),
@@ -72,7 +68,8 @@ fn keep_going_does_what_is_due(rt: HostRuntime) -> Result<(), Fail> {
     plays(&rt, short_lived(2), calls)
 }
 
-// Two of the four slots of each shard are worn, so both are to be closed, and one of them takes what is inserted at every moment.
+// Two of the four slots of each shard are worn, so both are to be closed, and one of them takes what is inserted at
+// every moment.
 #[test]
 fn one_shard_is_closed_at_a_time(rt: HostRuntime) -> Result<(), Fail> {
     let calls = &[
@@ -100,7 +97,8 @@ fn one_shard_is_closed_at_a_time(rt: HostRuntime) -> Result<(), Fail> {
     plays(&rt, short_lived(4), calls)
 }
 
-// An entry with a far deadline holds the shard at place 0 closed. The other one is worn out and empty, so it is opened again at once.
+// An entry with a far deadline holds the shard at place 0 closed. The other one is worn out and empty, so it is
+// opened again at once.
 #[test]
 fn an_empty_shard_is_opened_while_another_drains(rt: HostRuntime) -> Result<(), Fail> {
     let calls = &[
@@ -122,8 +120,8 @@ fn an_empty_shard_is_opened_while_another_drains(rt: HostRuntime) -> Result<(), 
     plays(&rt, short_lived(2), calls)
 }
 
-// While the shard at place 0 drains for long, the next is closed once three of its four slots are worn. The last one takes entries
-// though it is as worn.
+// While the shard at place 0 drains for long, the next is closed once three of its four slots are worn. The last one
+// takes entries though it is as worn.
 #[test]
 fn another_shard_is_closed_once_it_is_far_worn(rt: HostRuntime) -> Result<(), Fail> {
     let drains = Kept::Drains {
@@ -168,41 +166,8 @@ fn another_shard_is_closed_once_it_is_far_worn(rt: HostRuntime) -> Result<(), Fa
     plays(&rt, config, calls)
 }
 
-// Takes all handles of a generation.
-fn takes_handles<R: Abort + Wait>(rt: &R, queue: &Texts) -> Result<(), Fail> {
-    for _ in 0..1_024 {
-        queue.handle(rt)?.give_back();
-    }
-    let refused = HandleError::TooManyHandles { limit: 1_024 };
-    same(rt, "handle", queue.handle(rt).err(), Some(refused));
-    Ok(())
-}
-
-fn takes_each_generations_handles<R: Abort + Wait>(
-    rt: &R,
-    alloc: Global,
-    queue: &Texts,
-) -> Result<(), Fail> {
-    for _ in 0..2 {
-        takes_handles(rt, queue)?;
-        for place in 0..2 {
-            queue.close(rt, place)?;
-            let kept = queue.keep_going(rt, alloc);
-            same(rt, "keep_going", kept, Ok(Kept::Reopened { place }));
-        }
-    }
-    Ok(())
-}
-
-// The callers of a generation are counted, given back or not.
-#[test]
-fn each_generation_has_so_many_handles(rt: HostRuntime) -> Result<(), Fail> {
-    let queue = LastingQueue::new(rt.alloc(), short_lived(1))?;
-    takes_each_generations_handles(&rt, rt.alloc(), &queue)
-}
-
-// A shard of 600 slots, all of which are linked, and all but the first cancelled, is swept by 256 slots a step, from where
-// the step before ended, and then from the first one again.
+// A shard of 600 slots, all of which are linked, and all but the first cancelled, is swept by 256 slots a step, from
+// where the step before ended, and then from the first one again.
 #[test]
 fn a_closed_shard_is_swept_in_pieces(rt: HostRuntime) -> Result<(), Fail> {
     let (queue, mut player) = queue_and_player(&rt, short_lived(600))?;

@@ -9,9 +9,9 @@ use std::alloc::Global;
 use std::process::Abort;
 use std::test::Fail;
 
-// Runs a script again and again, each time with the next of its allocations refused, until none is. A refused run ends
-// between two answers; answers how often it ended later than the run before, the first run counted too, and how many
-// allocations the script makes.
+// Runs a script again and again, each time with the next of its allocations refused, until none is. A refused run
+// ends between two answers; answers how often it ended later than the run before, the first run counted too, and how
+// many allocations the script makes.
 fn refuse_each_allocation(
     rt: &impl Abort,
     alloc: Global,
@@ -45,8 +45,8 @@ fn refuse_each_allocation(
     Ok((ends, 0))
 }
 
-// Each command of a table takes memory, so the refused runs end before the first answer and behind each but the last. There are
-// as many of them as the whole script makes allocations.
+// Each command of a table takes memory, so the refused runs end before the first answer and behind each but the last.
+// There are as many of them as the whole script makes allocations.
 fn each_command_takes_memory(
     rt: &impl Abort,
     alloc: Global,

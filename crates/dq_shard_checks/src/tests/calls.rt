@@ -9,8 +9,8 @@ use std::fmt::Debug;
 use std::process::Abort;
 use std::sync::Wait;
 
-/// What a poll answers: the key, the value and the deadline of an entry that came out, or the tick that is waited for. Neither
-/// is told where nothing is linked.
+/// What a poll answers: the key, the value and the deadline of an entry that came out, or the tick that is waited
+/// for. Neither is told where nothing is linked.
 pub type Told<T> = (Option<(Key, T, u64)>, Option<u64>);
 
 pub fn told<T: Copy + Drop>(turn: Turn<T>) -> Told<T> {

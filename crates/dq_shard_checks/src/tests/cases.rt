@@ -1,5 +1,5 @@
-//! The worked cases of a queue and a handle: for each its name, the shards and the capacity of its fresh queue, and its calls
-//! with their answers. A new case is a new entry here.
+//! The worked cases of a queue and a handle: for each its name, the shards and the capacity of its fresh queue, and
+//! its calls with their answers. A new case is a new entry here.
 
 use super::keys::Answer::{
     Count, Given, Gone, Idle, Moved, NotDone, Out, Refused, Seen, Stands, Tallies, Tick, Until,
@@ -285,7 +285,8 @@ pub const BY_HANDLE: &[Case] = &[
             (LookAt(Nth(0)), Seen(StillLive(10))),
         ],
     ),
-    // Refused as a shard that isn't there before all else: the tick 68719476736 is no reason here, nor is one beyond the last.
+    // Refused as a shard that isn't there before all else: the tick 68719476736 is no reason here, nor is one beyond
+    // the last.
     (
         "shards_and_routes",
         3,

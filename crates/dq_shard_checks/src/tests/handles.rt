@@ -57,8 +57,8 @@ fn audits<R: Abort + Wait>(rt: &R, queue: &Letters) -> Result<(), Fail> {
     Ok(())
 }
 
-// Fails where the queue's audit tells the totals of fresh shards (audit_of_fresh_shards), and where a handle's give_back drops
-// its callers (give_back_drops_its_callers).
+// Fails where the queue's audit tells the totals of fresh shards (audit_of_fresh_shards), and where a handle's
+// give_back drops its callers (give_back_drops_its_callers).
 #[test]
 fn audit_after_give_back(rt: HostRuntime) -> Result<(), Fail> {
     let queue = SharedDelayQueue::new(rt.alloc(), QueueConfig::of(1, 4))?;
@@ -176,8 +176,8 @@ fn refuses_handles<R: Abort + Wait>(rt: &R, queue: &Letters) -> Result<(), Fail>
     Ok(())
 }
 
-// Fails where a refused `handle` keeps what it issued (handle_keeps_what_it_issued): what it issued in the shards before stays
-// counted as issued, but isn't out.
+// Fails where a refused `handle` keeps what it issued (handle_keeps_what_it_issued): what it issued in the shards
+// before stays counted as issued, but isn't out.
 #[test]
 fn refused_handle_gives_back(rt: HostRuntime) -> Result<(), Fail> {
     let queue: Letters = SharedDelayQueue::new(rt.alloc(), QueueConfig::of(3, 1))?;

@@ -22,7 +22,8 @@ pub enum Named {
     Forged(usize, Part),
 }
 
-/// A call of a queue of letters, of a handle of it, or of a shard's state alone. A `u64` alone is a tick, a `usize` a shard.
+/// A call of a queue of letters, of a handle of it, or of a shard's state alone. A `u64` alone is a tick, a `usize` a
+/// shard.
 #[derive(Clone, Copy, Debug)]
 pub enum Call {
     /// By a route.

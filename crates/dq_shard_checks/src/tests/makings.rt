@@ -96,8 +96,8 @@ fn told(turn: Turn<char>) -> Answer {
     }
 }
 
-// Calls by the names of a full shard's entries: at the end the first is live until 6000, the second is cancelled, the third
-// removed, and the fourth is due at 10.
+// Calls by the names of a full shard's entries: at the end the first is live until 6000, the second is cancelled, the
+// third removed, and the fourth is due at 10.
 fn calls_by_key<R: Abort + Wait>(
     rt: &R,
     queue: &Letters,
@@ -205,7 +205,8 @@ fn grants_of_the_makings<R: Abort + Wait>(rt: &R, alloc: Global) -> Result<Optio
 // Where the heap refuses whatever comes behind the makings' own allocations, each other call is accepted.
 #[test]
 fn other_calls_take_no_memory(rt: HostRuntime) -> Result<(), Fail> {
-    // The rows of the shards and of their waiters; of each shard its words (4), slots (3) and wheel (1); a handle's row.
+    // The rows of the shards and of their waiters; of each shard its words (4), slots (3) and wheel (1); a handle's
+    // row.
     let grants = 2 + 3 * 8 + 1;
     same(
         &rt,

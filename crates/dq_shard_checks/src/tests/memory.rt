@@ -108,9 +108,9 @@ where
     Err(Fail::new("each run was refused"))
 }
 
-// A queue takes a row of its shards, and one of who waits for their locks. Each shard takes four times for its words (a row of
-// zeros, the table's words, its row of no slots, the table itself), three times for its slots (cells, and two rows of those that
-// are free) and once for its wheel. A handle takes a row of callers.
+// A queue takes a row of its shards, and one of who waits for their locks. Each shard takes four times for its words
+// (a row of zeros, the table's words, its row of no slots, the table itself), three times for its slots (cells, and
+// two rows of those that are free) and once for its wheel. A handle takes a row of callers.
 #[test]
 fn each_allocation_is_refused(rt: HostRuntime) -> Result<(), Fail> {
     same(&rt, "1 shard", refusals(&rt, 1)?, (10, 1));

@@ -95,7 +95,8 @@ fn are_as_configured<R: Abort + Wait>(rt: &R, queue: &Numbers, config: QueueConf
     }
 }
 
-// Fails where the shards have another capacity, or another last stamp, than was asked for (shards_of_another_capacity).
+// Fails where the shards have another capacity, or another last stamp, than was asked for
+// (shards_of_another_capacity).
 #[test]
 fn shards_are_as_configured(rt: HostRuntime) -> Result<(), Fail> {
     for (shards, capacity) in &[(1, 1), (3, 5)] {
@@ -167,7 +168,8 @@ fn adds_up<R: Abort + Wait>(rt: &R, queue: &Letters) -> Result<(), Fail> {
     Ok(())
 }
 
-// Fails where the totals are those of one shard, or that many times those of one (audit_of_one_shard): each shard has its own.
+// Fails where the totals are those of one shard, or that many times those of one (audit_of_one_shard): each shard has
+// its own.
 #[test]
 fn audit_adds_up_all_shards(rt: HostRuntime) -> Result<(), Fail> {
     let queue = SharedDelayQueue::new(rt.alloc(), QueueConfig::of(3, 8))?;

@@ -1,5 +1,5 @@
-//! What happens where a closure of `lend` swaps the states of two shards. It types. A call by name then waits for ever where the
-//! state behind its lock is that of another shard.
+//! What happens where a closure of `lend` swaps the states of two shards. It types. A call by name then waits for
+//! ever where the state behind its lock is that of another shard.
 
 use super::calls::{ends, insert, polls};
 use super::play::Letters;
@@ -68,8 +68,8 @@ fn swaps_with_another<R: Abort + Wait>(rt: &R, one: &Letters, other: &Letters) -
     Ok(())
 }
 
-// A handle goes with the state that issued its callers: it reaches the entries where that state stands now. So one queue's
-// audit tells totals while its handle is out, and the other's counts a handle that it never gave.
+// A handle goes with the state that issued its callers: it reaches the entries where that state stands now. So one
+// queue's audit tells totals while its handle is out, and the other's counts a handle that it never gave.
 #[test]
 fn swapped_with_another_queue(rt: HostRuntime) -> Result<(), Fail> {
     let one: Letters = SharedDelayQueue::new(rt.alloc(), QueueConfig::of(1, 4))?;
@@ -100,8 +100,8 @@ fn swaps_within<R: Abort + Wait>(rt: &R, queue: &Letters) -> Result<(), Fail> {
     Ok(())
 }
 
-// Within one queue calls that name one of the two shards wait for ever from then on, so none answers of another shard. A
-// handle takes no lock: it goes on, and so do the calls that name a third shard.
+// Within one queue calls that name one of the two shards wait for ever from then on, so none answers of another
+// shard. A handle takes no lock: it goes on, and so do the calls that name a third shard.
 #[test]
 fn swapped_within_a_queue(rt: HostRuntime) -> Result<(), Fail> {
     let queue: Letters = SharedDelayQueue::new(rt.alloc(), QueueConfig::of(3, 1))?;

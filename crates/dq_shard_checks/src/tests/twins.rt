@@ -1,5 +1,5 @@
-//! Two queues are given the same 300 calls, drawn by a fixed generator: one by name, the other by `lend` with its states'
-//! calls.
+//! Two queues are given the same 300 calls, drawn by a fixed generator: one by name, the other by `lend` with its
+//! states' calls.
 
 use super::keys::{Call, Named, Part};
 use super::play::{Letters, Play, Way};
@@ -80,7 +80,8 @@ impl Calls {
         }
     }
 
-    // A deadline that no other turn has: mostly soon, at times behind the wheel's tick, beyond a lap or beyond the last tick.
+    // A deadline that no other turn has: mostly soon, at times behind the wheel's tick, beyond a lap or beyond the
+    // last tick.
     fn deadline(&mut self, turn: u64) -> u64 {
         let steps = match self.0.below(24) {
             0 => 0,
@@ -168,8 +169,8 @@ fn end<R: Wait>(rt: &R, play: Play) -> Result<(u64, Totals), Fail> {
     Ok((cancels, queue.audit(rt)?))
 }
 
-// Fails where a call by name answers and leaves the shard as it was (call_by_name_leaves_shard), or makes its call and then
-// clears the shard (call_by_name_then_clears).
+// Fails where a call by name answers and leaves the shard as it was (call_by_name_leaves_shard), or makes its call
+// and then clears the shard (call_by_name_then_clears).
 #[test]
 fn by_name_and_by_lend_agree(rt: HostRuntime) -> Result<(), Fail> {
     let config = QueueConfig {

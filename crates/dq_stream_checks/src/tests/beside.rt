@@ -72,8 +72,8 @@ fn fill_three_shards(rt: &impl Wait, queue: &Letters) -> Result<(), QueueError> 
     fill(rt, queue, 2, &[('c', 10), ('c', 30)])
 }
 
-// Fails where a poll of a stream does something in another shard: gives, loses or reaps an entry, notes a tick, or wakes a
-// poller there.
+// Fails where a poll of a stream does something in another shard: gives, loses or reaps an entry, notes a tick, or
+// wakes a poller there.
 #[test]
 fn a_stream_leaves_the_other_shards(rt: HostRuntime) -> Result<(), Fail> {
     let own = Task::new(&rt)?;

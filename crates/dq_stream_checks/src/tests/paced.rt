@@ -26,7 +26,8 @@ fn seen(polled: Poll<Option<Result<Expired<char>, StreamFault>>>) -> Given {
     }
 }
 
-// Gives out the letters of a paced stream until it gives none, and answers how often it was at work and woken before one.
+// Gives out the letters of a paced stream until it gives none, and answers how often it was at work and woken before
+// one.
 fn given<R: Wait>(
     task: &MockTask,
     stream: &mut PacedStream<'_, char, TickOf<'_>, R>,

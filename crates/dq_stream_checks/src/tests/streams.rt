@@ -1,5 +1,6 @@
-//! Streams over a queue of letters, the ticks that they are told, and the tasks that poll them. A test makes what it owns and
-//! lends it to what it shows: an error on the way then drops nothing, which is much of what there is to prove.
+//! Streams over a queue of letters, the ticks that they are told, and the tasks that poll them. A test makes what it
+//! owns and lends it to what it shows: an error on the way then drops nothing, which is much of what there is to
+//! prove.
 
 use super::same;
 use dq_shards::{QueueConfig, QueueError, SharedDelayQueue};

@@ -21,12 +21,12 @@ use std::collections::HashMap;
 /// assert_eq!(cache.purge(1_500), Ok(1));
 /// ```
 ///
-/// The cache keeps a moment, at first 0; a call at `now` is made at the greater of `now` and the moment. What is due stays
-/// until a put or a purge drops it, but isn't seen.
+/// The cache keeps a moment, at first 0; a call at `now` is made at the greater of `now` and the moment. What is due
+/// stays until a put or a purge drops it, but isn't seen.
 ///
-/// A slot has a stamp for each put and each renewal, and is worn at its last one. [`TtlCache::set`] and [`TtlCache::touch`]
-/// begin the stamps again where they are at their end, so a cache that is only changed by them runs for years. They take
-/// memory then; else only `new` and a put do.
+/// A slot has a stamp for each put and each renewal, and is worn at its last one. [`TtlCache::set`] and
+/// [`TtlCache::touch`] begin the stamps again where they are at their end, so a cache that is only changed by them
+/// runs for years. They take memory then; else only `new` and a put do.
 pub struct TtlCache<K: Eq + Hash, V, S: BuildHasher = RandomState> {
     pub(crate) stock: Stock<K, V, S>,
     pub(crate) timers: Timers<K>,
@@ -34,8 +34,8 @@ pub struct TtlCache<K: Eq + Hash, V, S: BuildHasher = RandomState> {
 }
 
 impl<K: Eq + Hash, V> TtlCache<K, V> {
-    /// A cache for so many keys where nothing is kept, at moment 0. Time and memory as the capacity; the map takes its own
-    /// later, as puts fill it.
+    /// A cache for so many keys where nothing is kept, at moment 0. Time and memory as the capacity; the map takes
+    /// its own later, as puts fill it.
     ///
     /// The map's hasher is std's, which is seeded; [`TtlCache::with_hasher`] takes another.
     ///
@@ -81,8 +81,8 @@ where
 }
 
 impl<K: Eq + Hash, V, S: BuildHasher> TtlCache<K, V, S> {
-    /// The moment, at first 0: the greatest tick of a put, a renewal or a purge. A call at an earlier tick is made at the
-    /// moment.
+    /// The moment, at first 0: the greatest tick of a put, a renewal or a purge. A call at an earlier tick is made at
+    /// the moment.
     pub fn moment(&self) -> u64 {
         self.moment
     }
@@ -122,7 +122,8 @@ impl<K: Eq + Hash, V, S: BuildHasher> TtlCache<K, V, S> {
         self.get(key, now).is_some()
     }
 
-    /// What is seen at `now`: each key with its value, once, in no order that is promised. It goes over all that is kept.
+    /// What is seen at `now`: each key with its value, once, in no order that is promised. It goes over all that is
+    /// kept.
     pub fn seen(&self, now: u64) -> Seen<'_, K, V> {
         Seen {
             entries: self.stock.iter(),
@@ -130,9 +131,9 @@ impl<K: Eq + Hash, V, S: BuildHasher> TtlCache<K, V, S> {
         }
     }
 
-    /// The least deadline of what is kept, seen or due: before it a purge has nothing to drop. None where nothing is kept.
-    /// Time as the keys whose deadlines share the first one's slot of the wheel; as all that is kept, where the first deadline
-    /// is more than two years ahead.
+    /// The least deadline of what is kept, seen or due: before it a purge has nothing to drop. None where nothing is
+    /// kept. Time as the keys whose deadlines share the first one's slot of the wheel; as all that is kept, where the
+    /// first deadline is more than two years ahead.
     pub fn next_deadline(&self) -> Option<u64> {
         match self.timers.first_deadline() {
             Some(deadline) => Some(deadline),
@@ -140,12 +141,13 @@ impl<K: Eq + Hash, V, S: BuildHasher> TtlCache<K, V, S> {
         }
     }
 
-    /// A tick to purge at next: before it nothing that is kept is due. None where nothing is kept. Constant time, however many
-    /// deadlines there are.
+    /// A tick to purge at next: before it nothing that is kept is due. None where nothing is kept. Constant time,
+    /// however many deadlines there are.
     ///
-    /// It isn't after the least deadline, but may lie before it: then a purge there drops nothing, and the next wake after that
-    /// purge is nearer. Whoever purges at each wake purges at most six times for one deadline less than two years ahead. It may
-    /// lie before the moment where the moment was set by a renewal, or where the cache was refreshed.
+    /// It isn't after the least deadline, but may lie before it: then a purge there drops nothing, and the next wake
+    /// after that purge is nearer. Whoever purges at each wake purges at most six times for one deadline less than
+    /// two years ahead. It may lie before the moment where the moment was set by a renewal, or where the cache was
+    /// refreshed.
     pub fn next_wake(&self) -> Option<u64> {
         self.timers.next_wake()
     }

@@ -1,4 +1,5 @@
-//! The timers of a cache's keys, kept by the delay queue of one owner. Nobody cancels one, so each runs until it is due.
+//! The timers of a cache's keys, kept by the delay queue of one owner. Nobody cancels one, so each runs until it is
+//! due.
 
 use crate::core::{CoreConfig, CoreError, DelayCore, Look, Turn, VecWords};
 use crate::ticks::{Key, CAPACITY_LIMIT, LAST_STAMP};
@@ -17,8 +18,8 @@ pub(crate) struct Timers<K> {
 }
 
 impl<K> Timers<K> {
-    // Slots of which none is used. Refused as BadConfig where the capacity isn't 1 to 65536 or the last stamp isn't 1 to
-    // 1048575, and else as NoMemory.
+    // Slots of which none is used. Refused as BadConfig where the capacity isn't 1 to 65536 or the last stamp isn't 1
+    // to 1048575, and else as NoMemory.
     pub(crate) fn new(capacity: usize, last_stamp: u32) -> Result<Timers<K>, CoreError> {
         if !is_setting(capacity, last_stamp) {
             return Err(CoreError::BadConfig);
@@ -35,8 +36,8 @@ impl<K> Timers<K> {
         }
     }
 
-    // As many slots with as many stamps, of which none is used. Refused as NoMemory alone: the numbers were in their ranges
-    // when these timers were made.
+    // As many slots with as many stamps, of which none is used. Refused as NoMemory alone: the numbers were in their
+    // ranges when these timers were made.
     pub(crate) fn anew(&self) -> Result<Timers<K>, CoreError> {
         match Timers::new(self.capacity(), self.last_stamp) {
             Ok(fresh) => Ok(fresh),
@@ -61,9 +62,9 @@ impl<K> Timers<K> {
         self.queue.capacity()
     }
 
-    // The least deadline of a timer, where the queue files its first one by its own deadline: none is then before it. None
-    // where no timer is set, or where all are more than `REACH` ticks ahead, and so filed earlier. Time as the timers that
-    // share the first one's list.
+    // The least deadline of a timer, where the queue files its first one by its own deadline: none is then before it.
+    // None where no timer is set, or where all are more than `REACH` ticks ahead, and so filed earlier. Time as the
+    // timers that share the first one's list.
     pub(crate) fn first_deadline(&self) -> Option<u64> {
         let key = self.queue.peek()?;
         let filed = self.queue.filed(&key.entry())?;
@@ -98,8 +99,8 @@ impl<K> Timers<K> {
         }
     }
 
-    // Gives a timer another deadline, and its slot's next stamp; none where the slot has none left. A reset is refused for
-    // nothing else: the timer is there, and nobody cancels it.
+    // Gives a timer another deadline, and its slot's next stamp; none where the slot has none left. A reset is
+    // refused for nothing else: the timer is there, and nobody cancels it.
     pub(crate) fn restart(&mut self, key: &Key, when: u64) -> Option<Key> {
         match self.queue.reset(&key.entry(), when) {
             Ok(next) => Some(next),

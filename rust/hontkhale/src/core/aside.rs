@@ -1,8 +1,8 @@
 //! Where the values are that were let go and are not dropped yet.
 //!
-//! Such a value stays in its slot. A few of these slots wait in a row, the first that let go before the others, and where it
-//! is full the others lie in a range of slots, which is gone through from its low end. Both are hints: whoever is told a slot
-//! looks whether a value is set aside there.
+//! Such a value stays in its slot. A few of these slots wait in a row, the first that let go before the others, and
+//! where it is full the others lie in a range of slots, which is gone through from its low end. Both are hints:
+//! whoever is told a slot looks whether a value is set aside there.
 
 use crate::index::{nth, nth_mut};
 use crate::ticks::CAPACITY_LIMIT;

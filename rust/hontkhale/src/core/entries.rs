@@ -58,8 +58,8 @@ impl<T> DelayCore<T, VecWords> {
         })
     }
 
-    /// The live entries, one after the other, by their slots: each with its key, its deadline in force and its value. A
-    /// step looks at slots until it finds a live entry, so all of them take as much time as there are slots.
+    /// The live entries, one after the other, by their slots: each with its key, its deadline in force and its value.
+    /// A step looks at slots until it finds a live entry, so all of them take as much time as there are slots.
     pub fn entries(&self) -> Entries<'_, T> {
         Entries { queue: self, slot: 0 }
     }

@@ -1,9 +1,9 @@
 //! The free indexes of a row of slots.
 //!
 //! The indexes that were freed last stand on a small stack and are given first: their rows are still near. All others
-//! are bits of words, with a bit of a summary for each word that isn't 0, and are given in rising order from where the
-//! last was given, so that a fill walks through the memory in its order. The stack also serves a queue that is nearly
-//! full, where the few free bits would lie far apart. Each call takes constant time.
+//! are bits of words, with a bit of a summary for each word that isn't 0, and are given in rising order from where
+//! the last was given, so that a fill walks through the memory in its order. The stack also serves a queue that is
+//! nearly full, where the few free bits would lie far apart. Each call takes constant time.
 
 use crate::index::{nth, nth_mut};
 use crate::memory::{filled, room_for, AllocError};

@@ -16,8 +16,8 @@ impl CoreConfig {
         }
     }
 
-    /// Whether a queue can be made by these numbers. A `BadConfig` tells no number, so ask here first where the numbers
-    /// come from outside.
+    /// Whether a queue can be made by these numbers. A `BadConfig` tells no number, so ask here first where the
+    /// numbers come from outside.
     ///
     /// # Errors
     /// The first number that is out of its range: the capacity, and then the last stamp.
@@ -33,8 +33,8 @@ impl CoreConfig {
 }
 
 impl<T> DelayCore<T, VecWords> {
-    /// A queue of one owner for that many entries, over plain words, at tick 0 with nothing linked. All of its memory is
-    /// taken here.
+    /// A queue of one owner for that many entries, over plain words, at tick 0 with nothing linked. All of its memory
+    /// is taken here.
     ///
     /// # Errors
     /// BadConfig where the capacity isn't 1 to [`CAPACITY_LIMIT`], and else NoMemory.

@@ -1,7 +1,7 @@
 //! The slow twin of the queue: a list that each poll searches.
 //!
-//! It answers as a queue that is polled and filled does, and is simple enough to be read at one sitting: the tests hold
-//! the wheel's answers against it. An insert is of constant time, a poll goes once over the list.
+//! It answers as a queue that is polled and filled does, and is simple enough to be read at one sitting: the tests
+//! hold the wheel's answers against it. An insert is of constant time, a poll goes once over the list.
 
 use crate::core::errors::CoreError;
 use crate::memory::room_for;
@@ -63,8 +63,8 @@ pub struct PlainQueue<T> {
 }
 
 impl<T> PlainQueue<T> {
-    /// An empty queue at tick 0; `BadConfig` for a capacity of 0 or beyond [`CAPACITY_LIMIT`], `NoMemory` where memory is
-    /// refused. No other call takes memory.
+    /// An empty queue at tick 0; `BadConfig` for a capacity of 0 or beyond [`CAPACITY_LIMIT`], `NoMemory` where
+    /// memory is refused. No other call takes memory.
     pub fn new(capacity: usize) -> Result<PlainQueue<T>, CoreError> {
         if capacity == 0 || capacity > CAPACITY_LIMIT {
             return Err(CoreError::BadConfig);
@@ -93,8 +93,8 @@ impl<T> PlainQueue<T> {
         self.entries.is_empty()
     }
 
-    /// The tick up to which the queue has gone: the noted tick after a poll that found nothing due, and the entry's deadline
-    /// after one that took an entry out.
+    /// The tick up to which the queue has gone: the noted tick after a poll that found nothing due, and the entry's
+    /// deadline after one that took an entry out.
     pub fn tick(&self) -> u64 {
         self.tick
     }
@@ -104,9 +104,9 @@ impl<T> PlainQueue<T> {
         self.noted
     }
 
-    /// Puts an entry in and answers its deadline, which is `when`, raised to the tick where it lies before it. It is refused,
-    /// and the value comes back, with `TooFar` for a deadline beyond the last tick, and else with `Full` where no room is
-    /// left.
+    /// Puts an entry in and answers its deadline, which is `when`, raised to the tick where it lies before it. It is
+    /// refused, and the value comes back, with `TooFar` for a deadline beyond the last tick, and else with `Full`
+    /// where no room is left.
     pub fn insert(&mut self, value: T, when: u64) -> Result<u64, (CoreError, T)> {
         if when > LAST_TICK {
             return Err((CoreError::TooFar { limit: LAST_TICK }, value));
@@ -120,8 +120,8 @@ impl<T> PlainQueue<T> {
         Ok(deadline)
     }
 
-    /// Notes a tick, and takes out an entry of least deadline where that deadline isn't after the noted tick. A tick beyond
-    /// the last one is refused with `TickTooLarge`, and isn't noted.
+    /// Notes a tick, and takes out an entry of least deadline where that deadline isn't after the noted tick. A tick
+    /// beyond the last one is refused with `TickTooLarge`, and isn't noted.
     pub fn poll(&mut self, tick: u64) -> Result<PlainTurn<T>, CoreError> {
         if tick > LAST_TICK {
             return Err(CoreError::TickTooLarge { limit: LAST_TICK });

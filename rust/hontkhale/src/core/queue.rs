@@ -1,8 +1,8 @@
 //! The queue of one owner: a wheel of filed indexes, a row of slots and a row of words.
 //!
-//! Each entry has a slot, and its deadline in force stands in the slot's word, where callers may extend it without the
-//! owner. The wheel files the index no later than that deadline; where an entry comes due there and its word has a later
-//! deadline, it is filed again.
+//! Each entry has a slot, and its deadline in force stands in the slot's word, where callers may extend it without
+//! the owner. The wheel files the index no later than that deadline; where an entry comes due there and its word has
+//! a later deadline, it is filed again.
 
 use crate::core::errors::{CoreConfig, CoreError};
 use crate::core::outcomes::{Expired, Pace, Progress, Removed, Turn};
@@ -66,8 +66,8 @@ pub(crate) fn filing_tick(tick: u64, deadline: u64) -> u64 {
     deadline.min(tick + REACH)
 }
 
-// The stamp itself, once the wheel read what it will write where it unlinks the index. The word's step takes this stamp, so
-// where it is a fence it waits for these reads together with its own, and not for each behind it.
+// The stamp itself, once the wheel read what it will write where it unlinks the index. The word's step takes this
+// stamp, so where it is a fence it waits for these reads together with its own, and not for each behind it.
 #[inline(always)]
 fn once_near<W: Words>(wheel: &Wheel, index: usize, stamp: u32) -> u32 {
     if W::FENCED {
@@ -79,8 +79,8 @@ fn once_near<W: Words>(wheel: &Wheel, index: usize, stamp: u32) -> u32 {
 
 impl<T, W: Words> DelayCore<T, W> {
     /// A queue over fresh words, at tick 0, with nothing linked. Refused as BadConfig where the capacity isn't 1 to
-    /// [`CAPACITY_LIMIT`], the last stamp isn't 1 to [`LAST_STAMP`], or the words aren't as many as the slots, and else as
-    /// NoMemory; the words come back.
+    /// [`CAPACITY_LIMIT`], the last stamp isn't 1 to [`LAST_STAMP`], or the words aren't as many as the slots, and
+    /// else as NoMemory; the words come back.
     pub fn new(config: CoreConfig, words: W) -> Result<DelayCore<T, W>, (CoreError, W)> {
         let mut words = words;
         assert!(
@@ -117,9 +117,9 @@ impl<T, W: Words> DelayCore<T, W> {
         self.wheel.tick()
     }
 
-    /// Puts an entry in that is live until `when`, a tick of one millisecond, or until the wheel's tick where `when` lies
-    /// before it, and answers its key. Constant time. Refused as TooFar beyond the last tick, and else as Full where no
-    /// slot is free; the value comes back then.
+    /// Puts an entry in that is live until `when`, a tick of one millisecond, or until the wheel's tick where `when`
+    /// lies before it, and answers its key. Constant time. Refused as TooFar beyond the last tick, and else as Full
+    /// where no slot is free; the value comes back then.
     #[inline(always)]
     pub fn insert(&mut self, value: T, when: u64) -> Result<Key, (CoreError, T)> {
         if when > LAST_TICK {
@@ -146,8 +146,8 @@ impl<T, W: Words> DelayCore<T, W> {
         }
     }
 
-    // Takes an index that is due, if one is, and does with it what its word says: its entry expires, is filed again at a later
-    // tick, or is reaped. Of both kinds of poll this is the same step.
+    // Takes an index that is due, if one is, and does with it what its word says: its entry expires, is filed again
+    // at a later tick, or is reaped. Of both kinds of poll this is the same step.
     #[inline(always)]
     pub(crate) fn settle_due(&mut self) -> Option<Progress<T>> {
         let tick = self.wheel.tick();
@@ -209,9 +209,10 @@ impl<T, W: Words> DelayCore<T, W> {
         self.noted = self.noted.max(tick);
     }
 
-    /// Notes a tick of one millisecond, and takes out one entry whose deadline in force is reached by the greatest tick
-    /// noted: call again until the answer is Waiting (nothing is due; `next` is the next tick at which there is something
-    /// to do) or Idle (nothing is linked). Refused as TickTooLarge beyond the last tick, which is not noted then.
+    /// Notes a tick of one millisecond, and takes out one entry whose deadline in force is reached by the greatest
+    /// tick noted: call again until the answer is Waiting (nothing is due; `next` is the next tick at which there is
+    /// something to do) or Idle (nothing is linked). Refused as TickTooLarge beyond the last tick, which is not noted
+    /// then.
     #[inline(always)]
     pub fn poll(&mut self, tick: u64) -> Result<Turn<T>, CoreError> {
         if tick > LAST_TICK {
@@ -263,8 +264,8 @@ impl<T, W: Words> DelayCore<T, W> {
         Some(index)
     }
 
-    /// The deadline in force of a live entry, a tick of one millisecond. Refused as Missing where no entry is linked with
-    /// that shard, index and birth stamp, and as WasCancelled where it is cancelled.
+    /// The deadline in force of a live entry, a tick of one millisecond. Refused as Missing where no entry is linked
+    /// with that shard, index and birth stamp, and as WasCancelled where it is cancelled.
     pub fn deadline(&mut self, entry: &EntryId) -> Result<u64, CoreError> {
         let Some(index) = self.find(entry) else {
             return Err(CoreError::Missing);
@@ -276,8 +277,8 @@ impl<T, W: Words> DelayCore<T, W> {
         Err(CoreError::WasCancelled)
     }
 
-    /// Takes a live entry out, with its key, its deadline in force and its value. Constant time. Refused as `deadline`
-    /// is.
+    /// Takes a live entry out, with its key, its deadline in force and its value. Constant time. Refused as
+    /// `deadline` is.
     #[inline(always)]
     pub fn remove(&mut self, entry: &EntryId) -> Result<Removed<T>, CoreError> {
         let Some(index) = self.find(entry) else {
@@ -297,9 +298,9 @@ impl<T, W: Words> DelayCore<T, W> {
         })
     }
 
-    /// Gives a live entry another deadline, earlier or later, but not before the wheel's tick, and the slot's next stamp:
-    /// keys from before are stale for callers. Answers the new key. Constant time. Refused as TooFar beyond the last
-    /// tick, then as `deadline` is, then as Worn where the slot has no stamp left.
+    /// Gives a live entry another deadline, earlier or later, but not before the wheel's tick, and the slot's next
+    /// stamp: keys from before are stale for callers. Answers the new key. Constant time. Refused as TooFar beyond
+    /// the last tick, then as `deadline` is, then as Worn where the slot has no stamp left.
     #[inline(always)]
     pub fn reset(&mut self, entry: &EntryId, when: u64) -> Result<Key, CoreError> {
         if when > LAST_TICK {

@@ -1,8 +1,8 @@
 //! How a queue goes on for years: over fresh words, under a higher number.
 //!
-//! A slot has as many stamps as its queue's last one, and holds nothing more once they are used. Where nothing is linked the
-//! queue may be renewed: each slot begins anew, and the queue's keys carry a higher number from then on. So each key from
-//! before is refused for good.
+//! A slot has as many stamps as its queue's last one, and holds nothing more once they are used. Where nothing is
+//! linked the queue may be renewed: each slot begins anew, and the queue's keys carry a higher number from then on.
+//! So each key from before is refused for good.
 
 use crate::core::errors::CoreError;
 use crate::core::queue::DelayCore;
@@ -44,8 +44,8 @@ impl fmt::Display for RenewError {
 #[cfg(feature = "std")]
 impl std::error::Error for RenewError {}
 
-/// Words and slots that were never used, one of each, for [`DelayCore::renew_with`]. Their memory is taken where they are
-/// made: outside of the lock that a queue lies behind, say.
+/// Words and slots that were never used, one of each, for [`DelayCore::renew_with`]. Their memory is taken where they
+/// are made: outside of the lock that a queue lies behind, say.
 pub struct FreshRows<T, W: Words> {
     words: W,
     slots: Slots<T>,
@@ -77,10 +77,10 @@ impl<T, W: Words> FreshRows<T, W> {
 }
 
 impl<T, W: Words> DelayCore<T, W> {
-    /// Goes on over fresh words, under the number `shard`, and answers the words that it had. No slot is worn then, and
-    /// each has all its stamps again. The ticks go on. Every key from before has a lower number, so the queue's calls
-    /// refuse it for good. Callers of the old words stay at those, and reach nothing new. A caller of the new words
-    /// reads no number: it is to be given none of the old keys.
+    /// Goes on over fresh words, under the number `shard`, and answers the words that it had. No slot is worn then,
+    /// and each has all its stamps again. The ticks go on. Every key from before has a lower number, so the queue's
+    /// calls refuse it for good. Callers of the old words stay at those, and reach nothing new. A caller of the new
+    /// words reads no number: it is to be given none of the old keys.
     ///
     /// It takes no memory, and goes over every slot once.
     ///
@@ -134,11 +134,11 @@ impl<T, W: Words> DelayCore<T, W> {
         Ok(mem::replace(&mut self.words, words))
     }
 
-    /// As [`DelayCore::renew`], with slots that were never used in the place of the queue's own, too. It answers the words
-    /// and the slots that it had, which hold nothing.
+    /// As [`DelayCore::renew`], with slots that were never used in the place of the queue's own, too. It answers the
+    /// words and the slots that it had, which hold nothing.
     ///
-    /// It takes no memory and gives none back, and is of constant time. What is set aside goes with the old slots; whether
-    /// the queue sets aside is then as `FreshRows::set_aside` said of the new ones.
+    /// It takes no memory and gives none back, and is of constant time. What is set aside goes with the old slots;
+    /// whether the queue sets aside is then as `FreshRows::set_aside` said of the new ones.
     ///
     /// # Errors
     /// StillLinked where an entry is linked, then UsedNumber where the number isn't higher than the queue's, and then

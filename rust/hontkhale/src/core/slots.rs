@@ -1,11 +1,11 @@
 //! The fixed row of slots, and which of them are free.
 //!
-//! A slot has a stamp, at first 0, which rises by one with each value that is put there and with each reset of what is
-//! held there. A slot that holds nothing at the last stamp is worn: it is never used again. All the memory is taken by
-//! `new`. Every other call is of constant time but `forget`, which goes over every slot.
+//! A slot has a stamp, at first 0, which rises by one with each value that is put there and with each reset of what
+//! is held there. A slot that holds nothing at the last stamp is worn: it is never used again. All the memory is
+//! taken by `new`. Every other call is of constant time but `forget`, which goes over every slot.
 //!
-//! A value that is let go is dropped at once. In a row that sets aside it stays in its slot, which holds nothing from then
-//! on, until somebody takes it out: so whoever keeps the row behind a lock can drop it once the lock is free.
+//! A value that is let go is dropped at once. In a row that sets aside it stays in its slot, which holds nothing from
+//! then on, until somebody takes it out: so whoever keeps the row behind a lock can drop it once the lock is free.
 
 use crate::core::aside::Aside;
 use crate::core::free_slots::FreeSlots;
@@ -227,8 +227,8 @@ impl<T> Slots<T> {
         cell.held()
     }
 
-    /// Puts a value into a free slot, under that slot's next stamp, and answers its index; hands the value back where no
-    /// slot is free.
+    /// Puts a value into a free slot, under that slot's next stamp, and answers its index; hands the value back where
+    /// no slot is free.
     #[inline]
     pub fn fill(&mut self, value: T) -> Result<usize, T> {
         let Some(index) = self.free.take() else {
@@ -255,7 +255,8 @@ impl<T> Slots<T> {
         held
     }
 
-    /// Lets go of what a slot holds. The value is dropped, once all else is done; or it is set aside, where the row does so.
+    /// Lets go of what a slot holds. The value is dropped, once all else is done; or it is set aside, where the row
+    /// does so.
     #[inline]
     pub fn let_go(&mut self, index: usize) {
         if !self.aside.keeps::<T>() {
@@ -282,8 +283,8 @@ impl<T> Slots<T> {
         cell.take_aside()
     }
 
-    /// Takes out a value that is set aside, if there is one. It looks at slots that are told it, and passes each once for a
-    /// value that was let go there.
+    /// Takes out a value that is set aside, if there is one. It looks at slots that are told it, and passes each once
+    /// for a value that was let go there.
     pub fn take_aside(&mut self) -> Option<T> {
         for _turn in 0..self.aside.most(self.cells.len()) {
             let index = self.aside.next()?;
@@ -313,7 +314,8 @@ impl<T> Slots<T> {
         self.take_aside()
     }
 
-    /// Takes out a value that is set aside, where a fill might find no other slot for one that is set aside in its own.
+    /// Takes out a value that is set aside, where a fill might find no other slot for one that is set aside in its
+    /// own.
     #[inline(always)]
     pub fn take_crowded(&mut self) -> Option<T> {
         if self.aside() == 0 {

@@ -1,6 +1,7 @@
 //! Calls that go over all slots: a sweep of the cancelled entries, and a clear of all.
 //!
-//! A cancelled entry stays linked until its keeper finds it so: a poll does where the entry comes due, a sweep at once.
+//! A cancelled entry stays linked until its keeper finds it so: a poll does where the entry comes due, a sweep at
+//! once.
 
 use crate::core::errors::ReapError;
 use crate::core::outcomes::Swept;
@@ -32,8 +33,8 @@ impl<T, W: Words> DelayCore<T, W> {
         true
     }
 
-    /// Reaps each linked entry that is found cancelled, and answers how many: their values are dropped, and their slots
-    /// are free for others, or worn. It looks at every slot.
+    /// Reaps each linked entry that is found cancelled, and answers how many: their values are dropped, and their
+    /// slots are free for others, or worn. It looks at every slot.
     pub fn sweep(&mut self) -> usize {
         let mut reaped = 0;
         for index in 0..self.slots.capacity() {
@@ -44,8 +45,9 @@ impl<T, W: Words> DelayCore<T, W> {
         reaped
     }
 
-    /// Reaps each linked entry that is found cancelled at `count` slots from `from` on, as `sweep` does at all of them, and
-    /// tells the slot to go on from. So many calls go round a queue as it has pieces, and each takes no longer than its piece.
+    /// Reaps each linked entry that is found cancelled at `count` slots from `from` on, as `sweep` does at all of
+    /// them, and tells the slot to go on from. So many calls go round a queue as it has pieces, and each takes no
+    /// longer than its piece.
     pub fn sweep_some(&mut self, from: usize, count: usize) -> Swept {
         let capacity = self.slots.capacity();
         let first = from.min(capacity);
@@ -62,8 +64,8 @@ impl<T, W: Words> DelayCore<T, W> {
         }
     }
 
-    /// Reaps the entry of that name where it is found cancelled: its value is dropped, and its slot is free for another, or
-    /// worn. Constant time.
+    /// Reaps the entry of that name where it is found cancelled: its value is dropped, and its slot is free for
+    /// another, or worn. Constant time.
     ///
     /// # Errors
     /// `Missing` where no entry is linked with that shard, index and birth stamp; `Live` where it is found live.
@@ -100,8 +102,8 @@ impl<T, W: Words> DelayCore<T, W> {
         }
     }
 
-    /// Ends every linked entry, and drops its value: each live one as removed, and those that were cancelled are reaped.
-    /// It answers how many it ended as removed, and goes over every slot.
+    /// Ends every linked entry, and drops its value: each live one as removed, and those that were cancelled are
+    /// reaped. It answers how many it ended as removed, and goes over every slot.
     pub fn clear(&mut self) -> usize {
         let mut removed = 0;
         for index in 0..self.slots.capacity() {

@@ -51,8 +51,8 @@ impl VecWords {
         Ok(word)
     }
 
-    // The deadline of the word that a key names, where it is live at the key's stamp. LLVM calls it where two callers share
-    // it, and the call costs an extend a fifth of its instructions.
+    // The deadline of the word that a key names, where it is live at the key's stamp. LLVM calls it where two callers
+    // share it, and the call costs an extend a fifth of its instructions.
     #[inline(always)]
     fn live_by(&self, key: &Key) -> Option<u64> {
         let index = key.entry().index() as usize;

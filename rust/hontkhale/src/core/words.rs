@@ -89,7 +89,8 @@ impl std::error::Error for CallError {}
 
 /// A row of words, and what the keeper knows of them.
 pub trait Words {
-    /// Whether a step of a word is a fence, behind which every later read waits: so it is where others may change the words.
+    /// Whether a step of a word is a fence, behind which every later read waits: so it is where others may change the
+    /// words.
     const FENCED: bool = true;
 
     /// The number of words.
@@ -101,8 +102,8 @@ pub trait Words {
     /// Looks at a word, by at most one step.
     fn look(&mut self, index: usize) -> Parts;
 
-    /// Ends a word that is live at exactly `at` as expired, or tells the later deadline or the cancellation that it found,
-    /// by at most one step.
+    /// Ends a word that is live at exactly `at` as expired, or tells the later deadline or the cancellation that it
+    /// found, by at most one step.
     fn settle(&mut self, index: usize, stamp: u32, at: u64) -> Settled;
 
     /// Makes a live word live at the next stamp and at a deadline, and answers the deadline that was in force;

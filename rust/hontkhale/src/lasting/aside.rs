@@ -1,16 +1,16 @@
 //! Values that were let go under a shard's lock: they are dropped once it is free.
 //!
-//! A value's drop is a user's code: it may call the queue, and it may panic. What is reaped or cleared is set aside in its
-//! shard, and the call takes it out and drops it behind the lock, one value after the other. Where a drop panics the shard is
-//! whole, and what is still set aside is dropped by a later call.
+//! A value's drop is a user's code: it may call the queue, and it may panic. What is reaped or cleared is set aside
+//! in its shard, and the call takes it out and drops it behind the lock, one value after the other. Where a drop
+//! panics the shard is whole, and what is still set aside is dropped by a later call.
 
 use crate::lasting::errors::LastingError;
 use crate::lasting::queue::LastingQueue;
 use crate::lasting::shard::LastingShard;
 
 impl<T> LastingShard<T> {
-    /// How many values are set aside: those of entries that were reaped or cleared, and that aren't dropped yet. Constant
-    /// time.
+    /// How many values are set aside: those of entries that were reaped or cleared, and that aren't dropped yet.
+    /// Constant time.
     #[inline(always)]
     pub fn aside(&self) -> usize {
         self.core.aside()
@@ -29,8 +29,8 @@ impl<T> LastingShard<T> {
 }
 
 impl<T> LastingQueue<T> {
-    /// How many values are set aside in the shard at a place: those of entries that were reaped or cleared, and that aren't
-    /// dropped yet. There are some only where a drop panicked, or where a poll gave an entry.
+    /// How many values are set aside in the shard at a place: those of entries that were reaped or cleared, and that
+    /// aren't dropped yet. There are some only where a drop panicked, or where a poll gave an entry.
     ///
     /// # Errors
     /// Unknown out of range.
@@ -50,9 +50,9 @@ impl<T> LastingQueue<T> {
         aside.is_some()
     }
 
-    /// Drops up to so many values that are set aside in the shard at a place, each while the shard's lock is free. The calls
-    /// by name do it by themselves; whoever holds a shard by [`LastingQueue::enter`] asks [`LockedLasting::aside`] before it
-    /// lets the shard go. Of a place out of range there is nothing to drop.
+    /// Drops up to so many values that are set aside in the shard at a place, each while the shard's lock is free.
+    /// The calls by name do it by themselves; whoever holds a shard by [`LastingQueue::enter`] asks
+    /// [`LockedLasting::aside`] before it lets the shard go. Of a place out of range there is nothing to drop.
     ///
     /// A lock for each value, and its drop.
     ///

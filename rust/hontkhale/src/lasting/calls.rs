@@ -88,11 +88,10 @@ impl<T> LastingQueue<T> {
         self.insert_in_turn((route % shards as u64) as usize, value, when)
     }
 
-    /// Puts an entry in that is live until `when`, a tick of one millisecond, and answers its key. It goes to the shard
-    /// of `route` modulo the number of shards. Where that one is closed or full it goes on to others, drawn by the
-    /// route, so that the routes of a closed shard are spread over all that take entries. Constant time but for closed
-    /// and full shards.
-    /// A refused insert takes up to two locks a shard and one more.
+    /// Puts an entry in that is live until `when`, a tick of one millisecond, and answers its key. It goes to the
+    /// shard of `route` modulo the number of shards. Where that one is closed or full it goes on to others, drawn by
+    /// the route, so that the routes of a closed shard are spread over all that take entries. Constant time but for
+    /// closed and full shards. A refused insert takes up to two locks a shard and one more.
     ///
     /// # Errors
     /// TooFar beyond the last tick, where the first that takes entries is asked; Closed where no shard takes entries;

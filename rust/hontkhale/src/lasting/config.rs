@@ -51,8 +51,8 @@ impl LastingConfig {
         }
     }
 
-    /// Whether a queue can be made by these numbers. A `BadConfig` tells no number, so ask here first where the numbers
-    /// come from outside.
+    /// Whether a queue can be made by these numbers. A `BadConfig` tells no number, so ask here first where the
+    /// numbers come from outside.
     ///
     /// # Errors
     /// The first number that is out of its range: the shards, the capacity, and then the last stamp.

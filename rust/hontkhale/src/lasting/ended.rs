@@ -24,8 +24,8 @@ pub struct LastingTally {
     pub present: Tally,
 }
 
-/// What became of all entries that were ever inserted, in all shards and all generations: `inserted` is the sum of the
-/// others. The counts of a shard have 64 bits, and so their sums have 128.
+/// What became of all entries that were ever inserted, in all shards and all generations: `inserted` is the sum of
+/// the others. The counts of a shard have 64 bits, and so their sums have 128.
 #[derive(Clone, Copy, Debug, PartialEq, Eq)]
 pub struct LastingTotals {
     /// Inserts.

@@ -54,7 +54,7 @@ impl fmt::Display for ReopenError {
 #[cfg(feature = "std")]
 impl std::error::Error for ReopenError {}
 
-/// Why no handle is made, or why it takes no renewed shard's caller on.
+/// Why no handle is made, or why one takes no new caller on.
 #[derive(Clone, Copy, Debug, PartialEq, Eq)]
 pub enum HandleError {
     /// A shard has issued as many callers of this generation as it may, given back or not.
@@ -62,7 +62,7 @@ pub enum HandleError {
         /// How many it may issue.
         limit: u64,
     },
-    /// The queue has not as many shards as the handle has callers.
+    /// The queue has another name than the one that made the handle, or another number of shards.
     OtherQueue,
     /// Memory was refused.
     NoMemory,
@@ -80,3 +80,31 @@ impl fmt::Display for HandleError {
 
 #[cfg(feature = "std")]
 impl std::error::Error for HandleError {}
+
+/// Why the renewal of a handle stopped, and what it had taken on. `?` makes a [`HandleError`] of it: why alone.
+#[derive(Clone, Copy, Debug, PartialEq, Eq)]
+pub struct HandleRenewError {
+    /// Why: of another queue, or what the shard at `place` refused its caller for.
+    pub why: HandleError,
+    /// The place at which it stopped, 0 where the queue is another one. The handle's callers of the shards below it
+    /// are up to date; those from there on are as before.
+    pub place: usize,
+    /// How many of the callers below it are new ones, which the handle took on and keeps.
+    pub taken: usize,
+}
+
+impl fmt::Display for HandleRenewError {
+    fn fmt(&self, f: &mut fmt::Formatter<'_>) -> fmt::Result {
+        let HandleRenewError { why, taken, .. } = self;
+        write!(f, "{why}, after {taken} new callers were taken on")
+    }
+}
+
+#[cfg(feature = "std")]
+impl std::error::Error for HandleRenewError {}
+
+impl From<HandleRenewError> for HandleError {
+    fn from(stopped: HandleRenewError) -> HandleError {
+        stopped.why
+    }
+}

@@ -2,7 +2,7 @@
 
 use crate::core::{CallError, Look};
 use crate::index::{nth, nth_mut};
-use crate::lasting::errors::HandleError;
+use crate::lasting::errors::{HandleError, HandleRenewError};
 use crate::lasting::numbered::NumberedCaller;
 use crate::lasting::queue::LastingQueue;
 use crate::memory::room_for;
@@ -95,24 +95,31 @@ impl LastingHandle {
     }
 
     /// Takes on the caller of each shard that was renewed since, gives the old ones back, and answers how many. It
-    /// takes each shard's lock once or twice.
+    /// takes each shard's lock once or twice, in the order of the places.
     ///
     /// # Errors
     /// OtherQueue exactly where the queue has another name than the one that made the handle, or another number of
-    /// shards. Then, shard by shard, TooManyHandles where 1,024 callers of this generation were issued, and NoMemory;
-    /// the callers from before stay there, and what was taken on stays so.
-    pub fn renew<T>(&mut self, queue: &LastingQueue<T>) -> Result<usize, HandleError> {
+    /// shards; then nothing changes. Else it stops at the first place whose shard issues no caller: TooManyHandles
+    /// where 1,024 of this generation were issued, or NoMemory. The error tells that place, and how many new callers
+    /// were taken on below it, which stay; the callers from there on are those from before.
+    pub fn renew<T>(&mut self, queue: &LastingQueue<T>) -> Result<usize, HandleRenewError> {
         let shards = queue.shards();
         if self.name != queue.name() || self.callers.len() != shards {
-            return Err(HandleError::OtherQueue);
+            return Err(HandleRenewError {
+                why: HandleError::OtherQueue,
+                place: 0,
+                taken: 0,
+            });
         }
-        let mut renewed = 0;
+        let mut taken = 0;
         for place in 0..shards {
-            if self.renew_at(queue, place)? {
-                renewed += 1;
+            match self.renew_at(queue, place) {
+                Ok(true) => taken += 1,
+                Ok(false) => {}
+                Err(why) => return Err(HandleRenewError { why, place, taken }),
             }
         }
-        Ok(renewed)
+        Ok(taken)
     }
 }
 
@@ -156,9 +163,9 @@ impl<T> LastingQueue<T> {
     /// A handle, with a caller of each shard, issued in turn under that shard's lock.
     ///
     /// # Errors
-    /// NoMemory where there is no room for the callers, and then, shard by shard, TooManyHandles where 1,024 callers of
-    /// its generation were issued, given back or not, and NoMemory. The callers that were issued before are given back
-    /// then.
+    /// NoMemory where there is no room for the callers, and then, shard by shard, TooManyHandles where 1,024 callers
+    /// of its generation were issued, given back or not, and NoMemory. The callers that were issued before are given
+    /// back then.
     pub fn handle(&self) -> Result<LastingHandle, HandleError> {
         let shards = self.shards();
         let Ok(mut callers) = room_for(shards) else {

@@ -28,9 +28,9 @@ use alloc::vec::Vec;
 ///
 /// It hands out no `&mut` of a shard, so no two shards change places.
 ///
-/// No call drops a value under a lock: what it reaps or clears it drops once the lock is free, so a value's drop may call the
-/// queue. Where a drop panics the shard is whole, and a later poll, sweep, clear or `keep_going` drops the rest. So does it
-/// behind a poll that gave an entry: that one drops nothing, since a panic would lose the entry.
+/// No call drops a value under a lock: what it reaps or clears it drops once the lock is free, so a value's drop may
+/// call the queue. Where a drop panics the shard is whole, and a later poll, sweep, clear or `keep_going` drops the
+/// rest. So does it behind a poll that gave an entry: that one drops nothing, since a panic would lose the entry.
 pub struct LastingQueue<T> {
     pub(crate) shards: Vec<Mutex<LastingShard<T>>>,
     pub(crate) name: u64,

@@ -20,8 +20,8 @@ impl<T> LastingShard<T> {
         self.core.noted()
     }
 
-    /// The tick of one millisecond by which an entry is filed, which is not after its deadline in force; none where the
-    /// entry is missing.
+    /// The tick of one millisecond by which an entry is filed, which is not after its deadline in force; none where
+    /// the entry is missing.
     pub fn filed(&self, entry: &EntryId) -> Option<u64> {
         self.core.filed(entry)
     }

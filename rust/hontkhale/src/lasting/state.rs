@@ -20,8 +20,9 @@ pub struct PlaceState {
     pub linked: usize,
     /// The number of worn slots, which hold nothing and have no stamp left. It is closed once they are half.
     pub worn: usize,
-    /// The tick of one millisecond at which it has something to do, none where nothing is linked. No live entry has a
-    /// deadline before it; the least deadline may be later, where its entry is filed further ahead or was extended.
+    /// The next wake: the tick of one millisecond at which it has something to do, none where nothing is linked. No
+    /// live entry has a deadline before it. The least deadline may be later, since an entry that is far ahead moves
+    /// to a lower level first, and one that was extended is found when it comes due.
     pub next_wake: Option<u64>,
     /// How many entries came and went, in the present generation and in those before it.
     pub tally: LastingTally,

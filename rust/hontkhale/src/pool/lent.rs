@@ -3,7 +3,8 @@
 use crate::pool::pool::HandlePool;
 use core::ops::{Deref, DerefMut};
 
-/// A handle of a pool, which is put back when this is dropped. Where others have filled the pool meanwhile it is dropped.
+/// A handle of a pool, which is put back when this is dropped. Where others have filled the pool meanwhile it is
+/// dropped.
 pub struct Lent<'p, H> {
     pool: &'p HandlePool<H>,
     handle: Option<H>,

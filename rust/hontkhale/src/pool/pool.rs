@@ -5,8 +5,8 @@ use crate::memory::AllocError;
 use crate::pool::idle::Idle;
 use crate::pool::lent::Lent;
 
-/// Handles that nobody uses, behind a lock. `H` is a queue's handle, a caller, or whatever else serves one thread at a
-/// time.
+/// Handles that nobody uses, behind a lock. `H` is a queue's handle, a caller, or whatever else serves one thread at
+/// a time.
 ///
 /// ```
 /// use hontkhale::{HandlePool, QueueConfig, SharedDelayQueue};
@@ -37,8 +37,8 @@ impl<H> HandlePool<H> {
         Ok(HandlePool { idle: Mutex::new(idle) })
     }
 
-    /// Takes a handle that nobody uses; none where there is none. Whoever takes one puts it back, or it is lost to the
-    /// pool. Constant time.
+    /// Takes a handle that nobody uses; none where there is none. Whoever takes one puts it back, or it is lost to
+    /// the pool. Constant time.
     pub fn take(&self) -> Option<H> {
         let mut idle = self.idle.lock();
         idle.take()

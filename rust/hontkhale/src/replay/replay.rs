@@ -13,8 +13,9 @@ use std::io::{Read, Write};
 
 /// Reads a script and writes its answers, with at most `capacity` live names, 1 to [`CAPACITY_LIMIT`].
 ///
-/// The reader is asked for one byte at a time, so that no byte is taken behind the one that decides the answer. Neither
-/// a read nor a write is tried again. The writer is flushed once, before the script's end or its fault is answered.
+/// The reader is asked for one byte at a time, so that no byte is taken behind the one that decides the answer.
+/// Neither a read nor a write is tried again. The writer is flushed once, before the script's end or its fault is
+/// answered.
 ///
 /// # Errors
 ///

@@ -55,8 +55,8 @@ impl<T> SharedDelayQueue<T> {
         shard.audit()
     }
 
-    /// The totals of all shards, each taken in turn under its own lock, where every caller of every handle is given back.
-    /// Refused with the number that is out by the first shard that has one. It takes no memory.
+    /// The totals of all shards, each taken in turn under its own lock, where every caller of every handle is given
+    /// back. Refused with the number that is out by the first shard that has one. It takes no memory.
     ///
     /// A handle that was dropped and not given back is out for good: then no audit tells totals any more.
     pub fn audit(&self) -> Result<Totals, HandlesOut> {

@@ -1,5 +1,5 @@
-//! The calls of a queue of shards by name: each takes one shard's lock and makes the state's call. Who leaves by it is woken
-//! once the lock is free, and what it lets go is dropped then.
+//! The calls of a queue of shards by name: each takes one shard's lock and makes the state's call. Who leaves by it
+//! is woken once the lock is free, and what it lets go is dropped then.
 
 use crate::core::{Piece, ReapError, Removed, Swept, Tally, Turn};
 use crate::shards::errors::QueueError;
@@ -17,9 +17,9 @@ fn routed_shard(route: u64, shards: u64) -> u64 {
 }
 
 impl<T> SharedDelayQueue<T> {
-    /// Puts an entry into the shard `route` modulo the number of shards, live until `when`, a tick of one millisecond,
-    /// as [`ShardState::insert`] does, and answers its key there. Constant time. Refused as TooFar beyond the last
-    /// tick, and else as Full where that shard has no free slot; the value comes back then.
+    /// Puts an entry into the shard `route` modulo the number of shards, live until `when`, a tick of one
+    /// millisecond, as [`ShardState::insert`] does, and answers its key there. Constant time. Refused as TooFar
+    /// beyond the last tick, and else as Full where that shard has no free slot; the value comes back then.
     ///
     /// [`ShardState::insert`]: crate::ShardState::insert
     pub fn insert(&self, route: u64, value: T, when: u64) -> Result<Key, (QueueError, T)> {
@@ -43,8 +43,8 @@ impl<T> SharedDelayQueue<T> {
         }
     }
 
-    /// As [`ShardState::reset`], `when` a tick of one millisecond. Refused as Unknown for a shard out of range, before
-    /// all else, and then as TooFar, as Missing, as WasCancelled and as Worn.
+    /// As [`ShardState::reset`], `when` a tick of one millisecond. Refused as Unknown for a shard out of range,
+    /// before all else, and then as TooFar, as Missing, as WasCancelled and as Worn.
     ///
     /// [`ShardState::reset`]: crate::ShardState::reset
     pub fn reset(&self, entry: &EntryId, when: u64) -> Result<Key, QueueError> {
@@ -53,8 +53,8 @@ impl<T> SharedDelayQueue<T> {
         Ok(answer?)
     }
 
-    /// As [`ShardState::remove`]. Refused as Unknown for a shard out of range, before all else, and then as Missing and
-    /// as WasCancelled.
+    /// As [`ShardState::remove`]. Refused as Unknown for a shard out of range, before all else, and then as Missing
+    /// and as WasCancelled.
     ///
     /// [`ShardState::remove`]: crate::ShardState::remove
     pub fn remove(&self, entry: &EntryId) -> Result<Removed<T>, QueueError> {
@@ -63,8 +63,8 @@ impl<T> SharedDelayQueue<T> {
         Ok(answer?)
     }
 
-    /// As [`ShardState::deadline`], a tick of one millisecond. Refused as Unknown for a shard out of range, before all
-    /// else, and then as Missing and as WasCancelled.
+    /// As [`ShardState::deadline`], a tick of one millisecond. Refused as Unknown for a shard out of range, before
+    /// all else, and then as Missing and as WasCancelled.
     ///
     /// [`ShardState::deadline`]: crate::ShardState::deadline
     pub fn deadline(&self, entry: &EntryId) -> Result<u64, QueueError> {
@@ -73,8 +73,8 @@ impl<T> SharedDelayQueue<T> {
         Ok(answer?)
     }
 
-    /// As [`ShardState::poll`], `tick` of one millisecond. Refused as Unknown for a shard out of range, before all else,
-    /// and then as TickTooLarge beyond the last tick.
+    /// As [`ShardState::poll`], `tick` of one millisecond. Refused as Unknown for a shard out of range, before all
+    /// else, and then as TickTooLarge beyond the last tick.
     ///
     /// Each call takes the shard's lock. Whoever wants many entries out polls in a loop under one lock, by
     /// [`SharedDelayQueue::lend`]:
@@ -105,8 +105,8 @@ impl<T> SharedDelayQueue<T> {
         Ok(answer?)
     }
 
-    /// As [`ShardState::poll_some`], `tick` of one millisecond. Refused as Unknown for a shard out of range, before all
-    /// else, and then as TickTooLarge beyond the last tick.
+    /// As [`ShardState::poll_some`], `tick` of one millisecond. Refused as Unknown for a shard out of range, before
+    /// all else, and then as TickTooLarge beyond the last tick.
     ///
     /// The shard's lock is held for this piece alone: other threads may take it between two pieces.
     ///
@@ -193,8 +193,8 @@ impl<T> SharedDelayQueue<T> {
         Ok(shard.tally())
     }
 
-    /// Takes out a poller that is parked at or before `tick`, of one millisecond, and wakes it once the shard's lock is
-    /// free. True where there was one. Refused as Unknown for a shard out of range.
+    /// Takes out a poller that is parked at or before `tick`, of one millisecond, and wakes it once the shard's lock
+    /// is free. True where there was one. Refused as Unknown for a shard out of range.
     pub fn ring(&self, shard: usize, tick: u64) -> Result<bool, QueueError> {
         let shard = self.enter(shard)?;
         let is_rung = shard.ring_and_unlock(tick);

@@ -30,10 +30,10 @@ pub struct Handle {
 }
 
 impl Handle {
-    /// Raises the deadline of a live entry to `when`, a tick of one millisecond, as [`Caller::extend`] of the key's shard
-    /// does, and answers the deadline that is then in force. Constant time. Refused as TooFar beyond the last tick, as
-    /// Unknown where no slot has the key or its shard is out of range, as Stale where the slot has a later stamp, and
-    /// as Ended where the entry isn't live.
+    /// Raises the deadline of a live entry to `when`, a tick of one millisecond, as [`Caller::extend`] of the key's
+    /// shard does, and answers the deadline that is then in force. Constant time. Refused as TooFar beyond the last
+    /// tick, as Unknown where no slot has the key or its shard is out of range, as Stale where the slot has a later
+    /// stamp, and as Ended where the entry isn't live.
     pub fn extend(&mut self, key: &Key, when: u64) -> Result<u64, CallError> {
         let shard = key.entry().shard() as usize;
         if shard < self.callers.len() {
@@ -45,8 +45,8 @@ impl Handle {
         Err(CallError::Unknown)
     }
 
-    /// Cancels a live entry, as [`Caller::cancel`] of the key's shard does, and answers the deadline that it gave up, a
-    /// tick of one millisecond. Constant time. Refused as `extend` is, but never as TooFar.
+    /// Cancels a live entry, as [`Caller::cancel`] of the key's shard does, and answers the deadline that it gave up,
+    /// a tick of one millisecond. Constant time. Refused as `extend` is, but never as TooFar.
     pub fn cancel(&mut self, key: &Key) -> Result<u64, CallError> {
         let shard = key.entry().shard() as usize;
         if shard < self.callers.len() {
@@ -55,8 +55,8 @@ impl Handle {
         Err(CallError::Unknown)
     }
 
-    /// What the entry of a key is, as [`Caller::look`] of the key's shard tells. Constant time. Refused as Unknown where
-    /// no slot has the key or its shard is out of range, and as Stale where the slot has a later stamp.
+    /// What the entry of a key is, as [`Caller::look`] of the key's shard tells. Constant time. Refused as Unknown
+    /// where no slot has the key or its shard is out of range, and as Stale where the slot has a later stamp.
     pub fn look(&mut self, key: &Key) -> Result<Look, CallError> {
         let shard = key.entry().shard() as usize;
         if shard < self.callers.len() {
@@ -74,8 +74,8 @@ impl Handle {
         cancels
     }
 
-    /// Gives back each of its callers, and answers the number of their accepted cancels. An audit tells totals only once
-    /// every handle is given back.
+    /// Gives back each of its callers, and answers the number of their accepted cancels. An audit tells totals only
+    /// once every handle is given back.
     pub fn give_back(self) -> u64 {
         give_back_all(self.callers)
     }
@@ -114,9 +114,9 @@ impl<T> SharedDelayQueue<T> {
 }
 
 impl<T> SharedDelayQueue<T> {
-    /// A handle, with a caller of each shard, issued in turn under that shard's lock. Refused as NoMemory where there is
-    /// no room for the callers, and then, shard by shard, as TooManyHandles where 1,024 callers were issued, given back
-    /// or not, and as NoMemory. The callers that were issued before are given back then, but stay counted.
+    /// A handle, with a caller of each shard, issued in turn under that shard's lock. Refused as NoMemory where there
+    /// is no room for the callers, and then, shard by shard, as TooManyHandles where 1,024 callers were issued, given
+    /// back or not, and as NoMemory. The callers that were issued before are given back then, but stay counted.
     pub fn handle(&self) -> Result<Handle, QueueError> {
         let Ok(mut callers) = self.room_for_callers() else {
             return Err(QueueError::Core(CoreError::NoMemory));

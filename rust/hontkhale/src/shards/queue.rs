@@ -26,14 +26,14 @@ use alloc::vec::Vec;
 /// # Ok::<(), hontkhale::QueueError>(())
 /// ```
 ///
-/// A call by name that wakes a parked poller lets the lock go first: whoever is woken may call the queue at once. Under
-/// the lock wake only the calls that are made on a shard in hand, of [`SharedDelayQueue::enter`] and
+/// A call by name that wakes a parked poller lets the lock go first: whoever is woken may call the queue at once.
+/// Under the lock wake only the calls that are made on a shard in hand, of [`SharedDelayQueue::enter`] and
 /// [`SharedDelayQueue::lend`].
 ///
-/// Nor is a value dropped under the lock: what a call reaps or clears it drops once the lock is free, so a value's drop may
-/// call the queue. Where a drop panics the shard is whole, and a later poll, sweep, reap or clear drops the rest. So does it
-/// behind a poll that gave an entry: that one drops nothing, since a panic would lose the entry. A drop that makes one of
-/// these calls itself drops in it what is left.
+/// Nor is a value dropped under the lock: what a call reaps or clears it drops once the lock is free, so a value's
+/// drop may call the queue. Where a drop panics the shard is whole, and a later poll, sweep, reap or clear drops the
+/// rest. So does it behind a poll that gave an entry: that one drops nothing, since a panic would lose the entry. A
+/// drop that makes one of these calls itself drops in it what is left.
 pub struct SharedDelayQueue<T> {
     shards: Vec<Mutex<ShardState<T>>>,
     // Of each shard, who waits for its lock.
@@ -50,8 +50,9 @@ fn is_config(config: &QueueConfig) -> bool {
 }
 
 impl<T> SharedDelayQueue<T> {
-    /// A queue of empty shards at tick 0. Refused as BadConfig where a number of the configuration is out of its range,
-    /// and else as NoMemory. All memory of the queue is taken here: no other call takes any, but `handle` and `issue`.
+    /// A queue of empty shards at tick 0. Refused as BadConfig where a number of the configuration is out of its
+    /// range, and else as NoMemory. All memory of the queue is taken here: no other call takes any, but `handle` and
+    /// `issue`.
     pub fn new(config: QueueConfig) -> Result<SharedDelayQueue<T>, QueueError> {
         if !is_config(&config) {
             return Err(QueueError::Core(CoreError::BadConfig));
@@ -79,11 +80,11 @@ impl<T> SharedDelayQueue<T> {
 }
 
 impl<T> SharedDelayQueue<T> {
-    /// Gives way to whoever waits for the shard's lock: it looks for a bounded while until nobody does, and returns at once
-    /// where nobody does. A shard out of range has no lock.
+    /// Gives way to whoever waits for the shard's lock: it looks for a bounded while until nobody does, and returns
+    /// at once where nobody does. A shard out of range has no lock.
     ///
-    /// For loops of one's own over [`SharedDelayQueue::poll_some`]: whoever lets a lock go and takes it again at once gets
-    /// it before a thread that sleeps.
+    /// For loops of one's own over [`SharedDelayQueue::poll_some`]: whoever lets a lock go and takes it again at once
+    /// gets it before a thread that sleeps.
     pub fn give_way(&self, shard: usize) {
         if shard < self.shards.len() {
             let waiting = nth(&self.waiting, shard);
@@ -93,10 +94,10 @@ impl<T> SharedDelayQueue<T> {
 
     /// The shard, with its lock held until the answer is dropped. Refused as Unknown exactly out of range.
     ///
-    /// A thread that holds a shard and takes its lock once more, by any call that names the shard, waits for ever. So does
-    /// a waker that calls the queue where a call on the shard in hand wakes it: [`LockedShard::take_parked`] takes the
-    /// poller out before. Values of what is reaped or cleared wait in the shard: [`SharedDelayQueue::drop_aside`] drops them
-    /// once it is let go.
+    /// A thread that holds a shard and takes its lock once more, by any call that names the shard, waits for ever. So
+    /// does a waker that calls the queue where a call on the shard in hand wakes it: [`LockedShard::take_parked`]
+    /// takes the poller out before. Values of what is reaped or cleared wait in the shard:
+    /// [`SharedDelayQueue::drop_aside`] drops them once it is let go.
     #[inline(always)]
     pub fn enter(&self, shard: usize) -> Result<LockedShard<'_, T>, QueueError> {
         if shard >= self.shards.len() {
@@ -128,9 +129,10 @@ impl<T> SharedDelayQueue<T> {
 
 impl<T> SharedDelayQueue<T> {
     /// Calls `f` once with the shard's state while its lock is held, and gives back its answer. Refused as Unknown
-    /// exactly out of range; `f` isn't called then. What `f` does on the shard it does on the state, and what it wakes it
-    /// wakes under the lock: see [`SharedDelayQueue::enter`] for what waits for ever. What it reaps or clears is dropped
-    /// behind the lock; but of values that wait an insert drops one where it finds no other slot for it.
+    /// exactly out of range; `f` isn't called then. What `f` does on the shard it does on the state, and what it
+    /// wakes it wakes under the lock: see [`SharedDelayQueue::enter`] for what waits for ever. What it reaps or
+    /// clears is dropped behind the lock; but of values that wait an insert drops one where it finds no other slot
+    /// for it.
     pub fn lend<O, F: FnOnce(&mut ShardState<T>) -> O>(&self, shard: usize, f: F) -> Result<O, QueueError> {
         let mut locked = self.enter(shard)?;
         let answer = f(&mut locked.state);

@@ -9,7 +9,8 @@ use crate::shards::totals::{HandlesOut, Totals};
 use crate::ticks::EntryId;
 use core::ops::Deref;
 
-// A shard whose lock is held, by a call that only tells of it. All that it can change is what the keeper knows of the words.
+// A shard whose lock is held, by a call that only tells of it. All that it can change is what the keeper knows of the
+// words.
 pub(crate) struct ReadShard<'q, T> {
     locked: LockedShard<'q, T>,
 }

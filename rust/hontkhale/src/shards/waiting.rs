@@ -6,12 +6,12 @@ use alloc::vec::Vec;
 use core::hint::spin_loop;
 use core::sync::atomic::{AtomicU64, Ordering};
 
-// How often who finds a lock held tries it before it waits for it, and how often a poller looks whether someone waits still
-// before it goes on. A thread that waits sleeps, and is woken in far more time than a piece takes.
+// How often who finds a lock held tries it before it waits for it, and how often a poller looks whether someone waits
+// still before it goes on. A thread that waits sleeps, and is woken in far more time than a piece takes.
 const LOOKS: u32 = 1_000;
 
-// How many threads wait for the lock of a shard. No contract speaks of the number: whoever reads a wrong one waits a little longer,
-// or a little less.
+// How many threads wait for the lock of a shard. No contract speaks of the number: whoever reads a wrong one waits a
+// little longer, or a little less.
 //
 // It stands in cache lines of its own, so whoever looks at it takes none from who works under the lock.
 pub(crate) struct Waiting {

@@ -81,8 +81,8 @@ pub fn is_live(word: u64) -> bool {
     word / MARK_UNIT % 4 == 0
 }
 
-/// The deadline of a word that is live at a stamp, and None of every other word. The words that are live at a stamp are
-/// one run of numbers, in the order of their deadlines: so it takes one subtraction and one comparison.
+/// The deadline of a word that is live at a stamp, and None of every other word. The words that are live at a stamp
+/// are one run of numbers, in the order of their deadlines: so it takes one subtraction and one comparison.
 #[inline]
 pub fn live_at(word: u64, stamp: u32) -> Option<u64> {
     let deadline = word.wrapping_sub(u64::from(stamp) * STAMP_UNIT);

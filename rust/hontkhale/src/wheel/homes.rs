@@ -25,8 +25,8 @@ pub fn start_of(tick: u64, list: usize) -> u64 {
     }
 }
 
-/// The list to which an index goes from an opened one. What a list of level 1 spans is level 0 and no more; what one of
-/// level 2 spans is level 1, and level 0 where the second digit is 0.
+/// The list to which an index goes from an opened one. What a list of level 1 spans is level 0 and no more; what one
+/// of level 2 spans is level 1, and level 0 where the second digit is 0.
 pub fn list_from(list: usize, tick: u64, when: u64) -> usize {
     if list < 2 * SLOTS {
         return digit(when, 0) as usize;

@@ -1,7 +1,8 @@
 //! The rows: one for each entry and, behind them, one for the head of each list.
 //!
-//! Each list is a circle through a head of its own, so an entry always has a neighbour on either side, and no call asks
-//! where a list begins or ends. What is kept of an entry lies beside its links, so that a call touches one line for it.
+//! Each list is a circle through a head of its own, so an entry always has a neighbour on either side, and no call
+//! asks where a list begins or ends. What is kept of an entry lies beside its links, so that a call touches one line
+//! for it.
 
 use crate::index::{nth, nth_mut};
 use crate::memory::{room_for, AllocError, TryPush};
@@ -124,7 +125,8 @@ pub fn take_off(rows: &mut [Row], capacity: usize, list: usize) -> usize {
     first
 }
 
-/// Puts the first entry of a list that was taken off at the end of another list, and gives the entry that followed it.
+/// Puts the first entry of a list that was taken off at the end of another list, and gives the entry that followed
+/// it.
 pub fn put_last(rows: &mut [Row], capacity: usize, _list: usize, index: usize, to: usize) -> usize {
     let after = row_at(rows, index).next as usize;
     write_last(rows, capacity + to, index, to);

@@ -25,8 +25,8 @@ use crate::words::seated::Seated;
 /// # Ok::<(), hontkhale::CoreError>(())
 /// ```
 ///
-/// Each call takes one load and at most one atomic step, waits for nobody and takes no memory. A caller that is dropped
-/// counts as out for good.
+/// Each call takes one load and at most one atomic step, waits for nobody and takes no memory. A caller that is
+/// dropped counts as out for good.
 pub struct Caller {
     seat: Seated,
     cancels: u64,
@@ -61,9 +61,9 @@ impl Caller {
         }
     }
 
-    /// Raises the deadline of a live entry to `when`, a tick of one millisecond, and answers the deadline that is then
-    /// in force: `when`, or a later one that it had. Refused as TooFar beyond the last tick, as Unknown where no slot
-    /// has the key, as Stale where the slot has a later stamp, and as Ended where the entry isn't live.
+    /// Raises the deadline of a live entry to `when`, a tick of one millisecond, and answers the deadline that is
+    /// then in force: `when`, or a later one that it had. Refused as TooFar beyond the last tick, as Unknown where no
+    /// slot has the key, as Stale where the slot has a later stamp, and as Ended where the entry isn't live.
     pub fn extend(&mut self, key: &Key, when: u64) -> Result<u64, CallError> {
         if when > LAST_TICK {
             return Err(CallError::TooFar { limit: LAST_TICK });

@@ -19,8 +19,9 @@ pub enum ManyTurn {
     Idle,
 }
 
-/// Polls at a tick of one millisecond until the row is full, or nothing is due. What comes out is put behind what stands in the
-/// row, in order: as many as it has free room for. It takes no memory. A full row takes nothing out, and no tick is noted then.
+/// Polls at a tick of one millisecond until the row is full, or nothing is due. What comes out is put behind what
+/// stands in the row, in order: as many as it has free room for. It takes no memory. A full row takes nothing out,
+/// and no tick is noted then.
 ///
 /// # Errors
 /// TickTooLarge beyond the last tick. Nothing changes then.

@@ -1,5 +1,5 @@
-//! What the keeper does to a word that callers may change at any moment: it tries, and what it finds tells it how to go
-//! on.
+//! What the keeper does to a word that callers may change at any moment: it tries, and what it finds tells it how to
+//! go on.
 
 use crate::core::Settled;
 use crate::ticks::{field, is_live};

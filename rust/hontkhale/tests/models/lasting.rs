@@ -8,8 +8,8 @@ use super::ticks::{deadline, key, tick, ROUND};
 use super::value::{Living, Value};
 use super::wakes::Poller;
 use hontkhale::{
-    CoreError, Ended, EntryId, Expired, HandleError, Kept, Key, LastingConfig, LastingError, LastingHandle,
-    LastingQueue, LastingTally, LastingTotals, Piece, PlaceState, Tally,
+    CoreError, Ended, EntryId, Expired, Kept, Key, LastingConfig, LastingError, LastingHandle, LastingQueue,
+    LastingTally, LastingTotals, Piece, PlaceState, Tally,
 };
 use std::collections::BTreeMap;
 use std::task::{Context, Poll};
@@ -317,7 +317,7 @@ impl Play {
             .zip(&present)
             .filter(|(number, present)| number != present)
             .count();
-        assert_eq!(handle.renew(&self.queue), Ok::<usize, HandleError>(renewed), "renew");
+        assert_eq!(handle.renew(&self.queue), Ok(renewed), "renew");
         *numbers = present;
         let [(_, one), (_, other)] = &self.handles;
         for (at, place) in self.places.iter_mut().enumerate() {

@@ -105,8 +105,8 @@ fn two_stamps_are_enough() -> Result<(), Fail> {
 
 type Texts<'heap> = TtlCache<char, HeapString<'heap>>;
 
-// Whether a call is taken that puts a value that owns memory, and how much memory is taken then. What it answers is dropped, be
-// it the old value or the one that was refused.
+// Whether a call is taken that puts a value that owns memory, and how much memory is taken then. What it answers is
+// dropped, be it the old value or the one that was refused.
 type Taken = Result<(bool, usize), AllocError>;
 
 fn puts<'heap>(cache: &mut Texts<'heap>, heap: &'heap LocalHeap, key: char, ttl: u64) -> Taken {

@@ -279,7 +279,8 @@ fn moves_to_new(
     moves(old, held, &new, &mut handle, &ann)
 }
 
-// Where slots are worn, new sessions take over: who is active moves by a logout and a login, and who is idle ends in the old.
+// Where slots are worn, new sessions take over: who is active moves by a logout and a login, and who is idle ends in
+// the old.
 #[test]
 fn sessions_move_to_new_ones() -> Result<(), Fail> {
     let config = QueueConfig {

@@ -1,5 +1,5 @@
-//! The worked cases: for each its name, the queue's capacity and last stamp, and the calls with their answers. A new case is a
-//! new row here.
+//! The worked cases: for each its name, the queue's capacity and last stamp, and the calls with their answers. A new
+//! case is a new row here.
 
 use super::step::Named::{Given, OfIndex, OfShard, OfStamp};
 use super::step::Step;

@@ -93,8 +93,8 @@ fn lists_all_along(queue: &mut Queue) -> Result<(), Fail> {
     lists_what_lives(queue)
 }
 
-// A worn slot, one whose entry was reset, one whose entry is cancelled and still linked, one whose entry was extended, and
-// one that was never used.
+// A worn slot, one whose entry was reset, one whose entry is cancelled and still linked, one whose entry was
+// extended, and one that was never used.
 #[test]
 fn live_entries_are_listed_once() -> Result<(), Fail> {
     let mut queue = queue_of_five()?;

@@ -1,5 +1,5 @@
-//! The worked cases of the queue over plain words and over shared ones, of its parts and of shared words alone; limits; threads;
-//! refused memory, and calls where no memory is left.
+//! The worked cases of the queue over plain words and over shared ones, of its parts and of shared words alone;
+//! limits; threads; refused memory, and calls where no memory is left.
 
 mod cases;
 mod entries;

@@ -70,7 +70,8 @@ fn plain_words_limits() -> Result<(), Fail> {
     Ok(())
 }
 
-// A settle wants the word as it stands. So the comparisons stay in this body, where they tell what the calls before it answered.
+// A settle wants the word as it stands. So the comparisons stay in this body, where they tell what the calls before
+// it answered.
 #[test]
 fn plain_words_end_once() -> Result<(), Fail> {
     let mut words = VecWords::new(1)?;

@@ -76,7 +76,8 @@ fn waits_for_an_insert() -> Result<(), Fail> {
     plays(LastingConfig::of(2, 4), calls)
 }
 
-// A task waits in a shard that is closed, drains and is opened again. What is inserted while it is closed goes to the other one.
+// A task waits in a shard that is closed, drains and is opened again. What is inserted while it is closed goes to the
+// other one.
 #[test]
 fn woken_where_its_shard_goes_on() -> Result<(), Fail> {
     let calls = &[
@@ -99,9 +100,9 @@ fn woken_where_its_shard_goes_on() -> Result<(), Fail> {
     plays(LastingConfig::of(2, 4), calls)
 }
 
-// At first one of two slots is worn, and the task waits for the entry in the other. Then both are worn, and it waits for an
-// insert, which goes to the other shard. The step that closes the worn shard wakes the task, and no more than once. That the shard is opened
-// again it doesn't learn: it hasn't asked since it was woken.
+// At first one of two slots is worn, and the task waits for the entry in the other. Then both are worn, and it waits
+// for an insert, which goes to the other shard. The step that closes the worn shard wakes the task, and no more than
+// once. That the shard is opened again it doesn't learn: it hasn't asked since it was woken.
 #[test]
 fn woken_where_its_worn_shard_is_closed() -> Result<(), Fail> {
     let calls = &[
@@ -128,8 +129,8 @@ fn woken_where_its_worn_shard_is_closed() -> Result<(), Fail> {
     plays(short_lived(2), calls)
 }
 
-// The task waits for the one entry, and then, where it was removed, for an insert. No call that tells of it wakes the task, nor
-// takes it from its place.
+// The task waits for the one entry, and then, where it was removed, for an insert. No call that tells of it wakes the
+// task, nor takes it from its place.
 #[test]
 fn what_only_tells_leaves_the_task() -> Result<(), Fail> {
     let calls = &[

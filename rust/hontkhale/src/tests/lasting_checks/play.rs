@@ -5,7 +5,8 @@ use super::same;
 use super::tasks::{Seen, Task};
 use crate::core::{CallError, CoreError, Look};
 use crate::lasting::{
-    HandleError, Kept, LastingConfig, LastingError, LastingHandle, LastingQueue, LastingTotals, PlaceState,
+    HandleError, HandleRenewError, Kept, LastingConfig, LastingError, LastingHandle, LastingQueue, LastingTotals,
+    PlaceState,
 };
 use crate::ticks::Key;
 use std::mem;
@@ -42,8 +43,8 @@ pub enum HandleCall {
     Extend(usize, u64, Result<u64, CallError>),
     Cancel(usize, Result<u64, CallError>),
     Look(usize, Result<Look, CallError>),
-    /// How many shards' new callers it takes on.
-    Renew(usize),
+    /// How many shards' new callers it takes on, or where it stops.
+    Renew(Result<usize, HandleRenewError>),
 }
 
 /// What is only told.
@@ -122,7 +123,7 @@ impl Player {
                 same(number, self.handle.look(&key), answer)
             }
             HandleCall::Renew(renewed) => {
-                same(number, self.handle.renew(queue), Ok(renewed))
+                same(number, self.handle.renew(queue), renewed)
             }
         }
     }
@@ -244,7 +245,7 @@ fn totals([inserted, removed, cancelled, linked]: [u128; 4]) -> LastingTotals {
 }
 
 // A new handle takes on so many callers, and tells of an entry.
-type LookedAnew = (Result<usize, HandleError>, Result<Look, CallError>);
+type LookedAnew = (Result<usize, HandleRenewError>, Result<Look, CallError>);
 
 fn look_anew(queue: &Texts, key: &Key) -> Result<LookedAnew, HandleError> {
     let mut handle = queue.handle()?;

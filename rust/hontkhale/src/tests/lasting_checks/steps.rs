@@ -4,10 +4,9 @@ use crate::tests::kit::Fail;
 use super::play::Call::{ByHandle, Clear, Close, Insert, KeepGoing, Remove, Sweep, Tell};
 use super::play::HandleCall::{Cancel, Extend, Look, Renew};
 use super::play::Told::{Audit, Deadline, Tally, Wake};
-use super::play::{Texts, plays, queue_and_player, short_lived};
-use super::same;
+use super::play::{plays, queue_and_player, short_lived};
 use crate::core::{CallError, CoreError};
-use crate::lasting::{HandleError, Kept, LastingConfig, LastingError, LastingQueue};
+use crate::lasting::{Kept, LastingConfig, LastingError};
 
 // Three slots are linked, or worn.
 const FULL: LastingError = LastingError::Core(CoreError::Full { linked: 3, worn: 0 });
@@ -35,8 +34,8 @@ fn a_shard_holds_as_many_as_it_has_slots() -> Result<(), Fail> {
     plays(short_lived(3), calls)
 }
 
-// The shard at place 0, of which one entry was removed and one is left, is closed, drains and is opened again. The handle reaches
-// a new entry once it is renewed, and then no longer one of the generation before.
+// The shard at place 0, of which one entry was removed and one is left, is closed, drains and is opened again. The
+// handle reaches a new entry once it is renewed, and then no longer one of the generation before.
 #[test]
 fn keep_going_does_what_is_due() -> Result<(), Fail> {
     let calls = &[
@@ -59,8 +58,8 @@ fn keep_going_does_what_is_due() -> Result<(), Fail> {
         KeepGoing(Kept::Fine),
         Insert(0, 5, Ok(2)),
         ByHandle(Extend(3, 9, Err(CallError::Unknown))),
-        ByHandle(Renew(1)),
-        ByHandle(Renew(0)),
+        ByHandle(Renew(Ok(1))),
+        ByHandle(Renew(Ok(0))),
         ByHandle(Extend(3, 9, Ok(9))),
         ByHandle(Look(1, Err(CallError::Unknown))),
         Tell(Deadline(1, Err(CoreError::Missing))),
@@ -69,7 +68,8 @@ fn keep_going_does_what_is_due() -> Result<(), Fail> {
     plays(short_lived(2), calls)
 }
 
-// Two of the four slots of each shard are worn, so both are to be closed, and one of them takes what is inserted at every moment.
+// Two of the four slots of each shard are worn, so both are to be closed, and one of them takes what is inserted at
+// every moment.
 #[test]
 fn one_shard_is_closed_at_a_time() -> Result<(), Fail> {
     let calls = &[
@@ -97,7 +97,8 @@ fn one_shard_is_closed_at_a_time() -> Result<(), Fail> {
     plays(short_lived(4), calls)
 }
 
-// An entry with a far deadline holds the shard at place 0 closed. The other one is worn out and empty, so it is opened again at once.
+// An entry with a far deadline holds the shard at place 0 closed. The other one is worn out and empty, so it is
+// opened again at once.
 #[test]
 fn an_empty_shard_is_opened_while_another_drains() -> Result<(), Fail> {
     let calls = &[
@@ -119,8 +120,8 @@ fn an_empty_shard_is_opened_while_another_drains() -> Result<(), Fail> {
     plays(short_lived(2), calls)
 }
 
-// While the shard at place 0 drains for long, the next is closed once three of its four slots are worn. The last one takes entries
-// though it is as worn.
+// While the shard at place 0 drains for long, the next is closed once three of its four slots are worn. The last one
+// takes entries though it is as worn.
 #[test]
 fn another_shard_is_closed_once_it_is_far_worn() -> Result<(), Fail> {
     let drains = Kept::Drains {
@@ -165,39 +166,8 @@ fn another_shard_is_closed_once_it_is_far_worn() -> Result<(), Fail> {
     plays(config, calls)
 }
 
-// Takes all handles of a generation.
-fn takes_handles(queue: &Texts) -> Result<(), Fail> {
-    for _ in 0..1_024 {
-        queue.handle()?.give_back();
-    }
-    let refused = HandleError::TooManyHandles { limit: 1_024 };
-    same("handle", queue.handle().err(), Some(refused));
-    Ok(())
-}
-
-fn takes_each_generations_handles(
-    queue: &Texts,
-) -> Result<(), Fail> {
-    for _ in 0..2 {
-        takes_handles(queue)?;
-        for place in 0..2 {
-            queue.close(place)?;
-            let kept = queue.keep_going();
-            same("keep_going", kept, Ok(Kept::Reopened { place }));
-        }
-    }
-    Ok(())
-}
-
-// The callers of a generation are counted, given back or not.
-#[test]
-fn each_generation_has_so_many_handles() -> Result<(), Fail> {
-    let queue = LastingQueue::new(short_lived(1))?;
-    takes_each_generations_handles(&queue)
-}
-
-// A shard of 600 slots, all of which are linked, and all but the first cancelled, is swept by 256 slots a step, from where
-// the step before ended, and then from the first one again.
+// A shard of 600 slots, all of which are linked, and all but the first cancelled, is swept by 256 slots a step, from
+// where the step before ended, and then from the first one again.
 #[test]
 fn a_closed_shard_is_swept_in_pieces() -> Result<(), Fail> {
     let (queue, mut player) = queue_and_player(short_lived(600))?;

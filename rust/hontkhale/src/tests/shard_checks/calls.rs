@@ -7,8 +7,8 @@ use crate::shards::{Handle, QueueError, SharedDelayQueue, Totals};
 use crate::ticks::Key;
 use std::fmt::Debug;
 
-/// What a poll answers: the key, the value and the deadline of an entry that came out, or the tick that is waited for. Neither
-/// is told where nothing is linked.
+/// What a poll answers: the key, the value and the deadline of an entry that came out, or the tick that is waited
+/// for. Neither is told where nothing is linked.
 pub type Told<T> = (Option<(Key, T, u64)>, Option<u64>);
 
 pub fn told<T: Copy>(turn: Turn<T>) -> Told<T> {

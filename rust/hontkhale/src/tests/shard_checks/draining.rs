@@ -6,8 +6,8 @@ use super::same;
 use crate::core::Turn;
 use crate::shards::{QueueConfig, ShardState, SharedDelayQueue};
 
-// Polls until nothing is due, and answers how many came out and what their values add up to. Each value is its entry's
-// deadline, and no deadline is before the last one.
+// Polls until nothing is due, and answers how many came out and what their values add up to. Each value is its
+// entry's deadline, and no deadline is before the last one.
 fn drain(state: &mut ShardState<u64>, tick: u64) -> Option<(usize, u64)> {
     let (mut out, mut sum, mut last) = (0usize, 0u64, 0);
     for _ in 0..state.len() {
@@ -48,7 +48,8 @@ fn come_out(queue: &Numbers) {
     polls(queue, (1, 200), Ok((None, None)));
 }
 
-// Fails where `lend` lends the state of another shard (lend_of_another_shard), since the entries are inserted by name.
+// Fails where `lend` lends the state of another shard (lend_of_another_shard), since the entries are inserted by
+// name.
 #[test]
 fn many_outs_under_one_lock() -> Result<(), Fail> {
     come_out(

@@ -53,8 +53,8 @@ fn audits(queue: &Letters) -> Result<(), Fail> {
     Ok(())
 }
 
-// Fails where the queue's audit tells the totals of fresh shards (audit_of_fresh_shards), and where a handle's give_back drops
-// its callers (give_back_drops_its_callers).
+// Fails where the queue's audit tells the totals of fresh shards (audit_of_fresh_shards), and where a handle's
+// give_back drops its callers (give_back_drops_its_callers).
 #[test]
 fn audit_after_give_back() -> Result<(), Fail> {
     let queue = SharedDelayQueue::new(QueueConfig::of(1, 4))?;
@@ -172,8 +172,8 @@ fn refuses_handles(queue: &Letters) -> Result<(), Fail> {
     Ok(())
 }
 
-// Fails where a refused `handle` keeps what it issued (handle_keeps_what_it_issued): what it issued in the shards before stays
-// counted as issued, but isn't out.
+// Fails where a refused `handle` keeps what it issued (handle_keeps_what_it_issued): what it issued in the shards
+// before stays counted as issued, but isn't out.
 #[test]
 fn refused_handle_gives_back() -> Result<(), Fail> {
     let queue: Letters = SharedDelayQueue::new(QueueConfig::of(3, 1))?;

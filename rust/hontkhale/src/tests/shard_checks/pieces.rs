@@ -181,7 +181,8 @@ fn leaves_nothing<'heap>(
     Ok(())
 }
 
-// The last entry was cancelled, and a piece that is told as Working reaps it. Whoever waits then has nothing to wait for.
+// The last entry was cancelled, and a piece that is told as Working reaps it. Whoever waits then has nothing to wait
+// for.
 #[test]
 fn a_piece_that_leaves_nothing_wakes() -> Result<(), Fail> {
     let heap = LocalHeap::new();

@@ -1,5 +1,5 @@
-//! Cancelled entries are reaped a piece of a shard at a time, or one by its name: their values are dropped, and their slots are
-//! free at once.
+//! Cancelled entries are reaped a piece of a shard at a time, or one by its name: their values are dropped, and their
+//! slots are free at once.
 
 use crate::tests::kit::{Fail, HeapBox, LocalHeap};
 use super::calls::ends;

@@ -68,8 +68,8 @@ fn fill_three_shards(queue: &Letters) -> Result<(), QueueError> {
     fill(queue, 2, &[('c', 10), ('c', 30)])
 }
 
-// Fails where a poll of a stream does something in another shard: gives, loses or reaps an entry, notes a tick, or wakes a
-// poller there.
+// Fails where a poll of a stream does something in another shard: gives, loses or reaps an entry, notes a tick, or
+// wakes a poller there.
 #[test]
 fn a_stream_leaves_the_other_shards() -> Result<(), Fail> {
     let own = Task::new()?;

@@ -111,7 +111,8 @@ impl Future for Time<'_> {
     }
 }
 
-// The shard, the value and the deadline of each entry. A value is a digit of the sum, which so says how often it came.
+// The shard, the value and the deadline of each entry. A value is a digit of the sum, which so says how often it
+// came.
 const DIGITS: &[(u64, u64, u64)] = &[
     (0, 1, 3),
     (1, 10, 1),

@@ -55,7 +55,8 @@ fn stays_parked(queue: &Letters, task: &Task) -> Result<(), Fail> {
     Ok(())
 }
 
-// Fails where a call that only tells takes the poller out or reaps: `deadline`, `next_wake`, `tally`, `parked` or `audit`.
+// Fails where a call that only tells takes the poller out or reaps: `deadline`, `next_wake`, `tally`, `parked` or
+// `audit`.
 #[test]
 fn what_only_tells_changes_nothing() -> Result<(), Fail> {
     let (queue, task) = letters_and_task(&[])?;
@@ -120,8 +121,8 @@ fn parks_and_makes(
     make(queue, &key, change)
 }
 
-// Makes a change in a shard where a task is parked for an entry at tick 10, while another is linked at 40 or none is. The
-// task is woken, or stays parked until a ring; one that is parked in another shard stays.
+// Makes a change in a shard where a task is parked for an entry at tick 10, while another is linked at 40 or none is.
+// The task is woken, or stays parked until a ring; one that is parked in another shard stays.
 fn wakes_its_own(
     queue: &Letters,
     (task, other): (&Task, &Task),

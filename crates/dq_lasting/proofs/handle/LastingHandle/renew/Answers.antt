@@ -1,21 +1,23 @@
-use Rattle.std.proofs.Common.{arith, length, Ok, ◌∙◌, ◌<◌}
+use Rattle.std.proofs.Common.{arith, length, Ok, true, false, ◌∙◌, ◌<◌}
 use Rattle.dq_lasting.proofs.Locked.{takes_size}
 use Rattle.dq_lasting.proofs.Renewing.{taken_more, kept_more}
 use Rattle.dq_lasting.proofs.handle.LastingHandle.renew.Goals as goal
-use Rattle.dq_lasting.proofs.handle.LastingHandle.renew.Goals.{then-branch, else-branch}
+use Rattle.dq_lasting.proofs.handle.LastingHandle.renew.Goals.{in-Ok-true, in-Ok-false}
 
 pub loop-place-preserved : goal.loop-place-preserved
 loop-place-preserved g c =
     let i = c.loop-place.invariant in
-    let takes = c.in_ok-renew_at.ensures.takes_on in
-    let name = c.in_ok-renew_at.ensures.name ∙ i.1 in
+    let name = c.renew_at.ensures.name ∙ i.1 in
     let below : c.loop-place.place < length c.loop-place.self.callers = omega (arith, c.loop-place-test.true, i.0, i.3) in
-    let size = takes_size g.row.T.Denot c.args.queue.now.shards c.loop-place.place c.loop-place.self.callers c.renew_at.new.self.callers (Ok c.in_ok-renew_at.field-0) takes ∙ i.0 in
-    elim c.if-branch.branch [
-      | then-branch w ↦
-          let more = taken_more g.row.T.Denot c.args.queue.now.shards c.args.self.now.callers c.loop-place.place c.loop-place.renewed c.loop-place.self.callers c.renew_at.new.self.callers below i.6 i.7 (rw w.if-branch.true at takes) in
-          (size, name, i.2, i.3, i.4, omega (arith, w.renewed-is, i.5), rw w.renewed-is more.0, more.1)
-      | else-branch w ↦
-          let more = kept_more g.row.T.Denot c.args.queue.now.shards c.args.self.now.callers c.loop-place.place c.loop-place.renewed c.loop-place.self.callers c.renew_at.new.self.callers i.6 i.7 (rw w.if-branch.false at takes) in
-          (size, name, i.2, i.3, i.4, omega (arith, w.renewed-is, i.5), rw w.renewed-is more.0, more.1)
+    elim c.match-renew_at.branch [
+      | in-Ok-true w ↦
+          let takes = w.in-Ok-true.ensures.takes_on in
+          let size = takes_size g.row.T.Denot c.args.queue.now.shards c.loop-place.place c.loop-place.self.callers c.renew_at.new.self.callers (Ok true) takes ∙ i.0 in
+          let more = taken_more g.row.T.Denot c.args.queue.now.shards c.args.self.now.callers c.loop-place.place c.loop-place.taken c.loop-place.self.callers c.renew_at.new.self.callers below i.6 i.7 takes in
+          (size, name, i.2, i.3, i.4, omega (arith, w.taken-is, i.5), rw w.taken-is more.0, more.1)
+      | in-Ok-false w ↦
+          let takes = w.in-Ok-false.ensures.takes_on in
+          let size = takes_size g.row.T.Denot c.args.queue.now.shards c.loop-place.place c.loop-place.self.callers c.renew_at.new.self.callers (Ok false) takes ∙ i.0 in
+          let more = kept_more g.row.T.Denot c.args.queue.now.shards c.args.self.now.callers c.loop-place.place c.loop-place.taken c.loop-place.self.callers c.renew_at.new.self.callers i.6 i.7 takes in
+          (size, name, i.2, i.3, i.4, omega (arith, w.taken-is, i.5), rw w.taken-is more.0, more.1)
     ]

@@ -9,6 +9,6 @@ invariant-loop-place g l =
     × (l.fn.self.name ≡ l.fn.queue.name)
     × (l.shards ≡ length l.fn.self.callers)
     × (l.shards ≡ l.fn.queue.shards)
-    × (l.renewed ≤ l.place)
-    × AreRenewed g.row.T.Denot l.fn.queue.shards l.fn.self.callers l.self.callers l.place l.renewed
+    × (l.taken ≤ l.place)
+    × AreRenewed g.row.T.Denot l.fn.queue.shards l.fn.self.callers l.self.callers l.place l.taken
     × StayFrom l.place l.fn.self.callers l.self.callers
