@@ -113,10 +113,12 @@ impl LastingHandle {
         }
         let mut taken = 0;
         for place in 0..shards {
-            match self.renew_at(queue, place) {
-                Ok(true) => taken += 1,
-                Ok(false) => {}
+            let is_new = match self.renew_at(queue, place) {
+                Ok(is_new) => is_new,
                 Err(why) => return Err(HandleRenewError { why, place, taken }),
+            };
+            if is_new {
+                taken += 1;
             }
         }
         Ok(taken)
