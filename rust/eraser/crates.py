@@ -20,6 +20,7 @@ MODULES = {
     "dq_wheel": "wheel",
     "dq_core": "core",
     "dq_words": "words",
+    "dq_parking": "parking",
     "dq_shards": "shards",
     "dq_stream": "stream",
     "dq_apps": "apps",

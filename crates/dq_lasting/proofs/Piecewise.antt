@@ -6,10 +6,11 @@ use Rattle.futures.specs.declared.task.context.Context.{Context}
 use Rattle.dq_core.specs.declared.outcomes.Expired.{Expired}
 use Rattle.dq_core.specs.declared.outcomes.Piece.TheVariants.{Answer as Answered, Working}
 use Rattle.dq_core.specs.declared.outcomes.Turn.TheVariants.{Out}
+use Rattle.dq_parking.specs.Wakers.{LacksWaker}
 use Rattle.dq_lasting.specs.declared.errors.LastingError.TheVariants.{Core, Closed, Unknown}
 use Rattle.dq_lasting.specs.Shard.{LastingView}
 use Rattle.dq_lasting.specs.Changes.{LastingPollsSome}
-use Rattle.dq_lasting.specs.Polling.{LastingAnswer, HasNoWaker, ParksTask, no_memory, rest_of, with_none_parked}
+use Rattle.dq_lasting.specs.Polling.{LastingAnswer, ParksTask, no_memory, rest_of, with_none_parked}
 use Rattle.dq_lasting.specs.Paces.{PollsSomeOrParks, PollsSomeOrParksAt, UnparksAndPollsSome, IsLastingPacedItem}
 use Rattle.dq_lasting.proofs.Polled.{unparked, not_refused}
 
@@ -18,7 +19,7 @@ module _ {T : Type 0} (cx cy : Context) where
   pub waited_pieces : (old start left new : LastingView T) (tick most : ℕ) (next : Option ℕ) (r : LastingAnswer T)
       → start ≡ with_none_parked old → LastingPollsSome start tick most (Ok (Answered (rest_of next))) left
       → OnPending r (ParksTask cx cy left next new)
-      → IfReady r (λ a. (a ≡ Err no_memory) × HasNoWaker cy × (new ≡ left))
+      → IfReady r (λ a. (a ≡ Err no_memory) × LacksWaker cy × (new ≡ left))
       → PollsSomeOrParks cx cy old tick most r new
   waited_pieces old start left new tick most next Pending begins polls parks refused =
       inl (next, left, subst (λ (s : LastingView T). LastingPollsSome s tick most (Ok (Answered (rest_of next))) left) begins polls, parks)

@@ -5,10 +5,11 @@ use Rattle.futures.specs.declared.task.Poll.TheVariants.{Ready, Pending}
 use Rattle.futures.specs.declared.task.context.Context.{Context}
 use Rattle.dq_core.specs.declared.outcomes.Expired.{Expired}
 use Rattle.dq_core.specs.declared.outcomes.Turn.TheVariants.{Out}
+use Rattle.dq_parking.specs.Wakers.{LacksWaker}
 use Rattle.dq_lasting.specs.declared.errors.LastingError.TheVariants.{Core, Closed, Unknown}
 use Rattle.dq_lasting.specs.Shard.{LastingView, IsLasting}
 use Rattle.dq_lasting.specs.Changes.{LastingPolls}
-use Rattle.dq_lasting.specs.Polling.{LastingAnswer, HasNoWaker, ParksTask, PollsOrParks, PollsOrParksAt, UnparksAndPolls, no_memory, rest_of, with_none_parked}
+use Rattle.dq_lasting.specs.Polling.{LastingAnswer, ParksTask, PollsOrParks, PollsOrParksAt, UnparksAndPolls, no_memory, rest_of, with_none_parked}
 use Rattle.dq_lasting.specs.Streams.{IsLastingItem}
 
 module _ {T : Type 0} (cx cy : Context) where
@@ -16,7 +17,7 @@ module _ {T : Type 0} (cx cy : Context) where
   pub waited : (old start left new : LastingView T) (tick : ℕ) (next : Option ℕ) (r : LastingAnswer T)
       → start ≡ with_none_parked old → LastingPolls start tick (Ok (rest_of next)) left
       → OnPending r (ParksTask cx cy left next new)
-      → IfReady r (λ a. (a ≡ Err no_memory) × HasNoWaker cy × (new ≡ left))
+      → IfReady r (λ a. (a ≡ Err no_memory) × LacksWaker cy × (new ≡ left))
       → PollsOrParks cx cy old tick r new
   waited old start left new tick next Pending begins polls parks refused =
       (next, left, subst (λ (s : LastingView T). LastingPolls s tick (Ok (rest_of next)) left) begins polls, parks)

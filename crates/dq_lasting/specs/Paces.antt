@@ -9,14 +9,15 @@ use Rattle.dq_core.specs.declared.errors.CoreError.TheVariants.{NoMemory, TickTo
 use Rattle.dq_core.specs.declared.outcomes.Piece.{Piece}
 use Rattle.dq_core.specs.declared.outcomes.Piece.TheVariants.{Answer as Answered, Working}
 use Rattle.dq_core.specs.declared.outcomes.Turn.TheVariants.{Out}
+use Rattle.dq_parking.specs.declared.fault.StreamFault.TheVariants as Fault
+use Rattle.dq_parking.specs.Items.{StreamItem, Answer}
+use Rattle.dq_parking.specs.Wakers.{LacksWaker}
 use Rattle.dq_lasting.specs.declared.errors.LastingError.TheVariants.{Core, Closed, Unknown}
-use Rattle.dq_lasting.specs.declared.stream.LastingFault.TheVariants as Fault
 use Rattle.dq_lasting.specs.Answers.{AtPlace}
 use Rattle.dq_lasting.specs.Changes.{LastingPollsSome}
-use Rattle.dq_lasting.specs.Polling.{HasNoWaker, LastingAnswer, ParksTask}
+use Rattle.dq_lasting.specs.Polling.{LastingAnswer, ParksTask}
 use Rattle.dq_lasting.specs.Polling.{no_memory, rest_of, with_none_parked}
 use Rattle.dq_lasting.specs.Shard.{LastingView}
-use Rattle.dq_lasting.specs.Streams.{LastingItem, LastingNext}
 
 module _ {T : Type 0} where
   -- the poller is taken out, and then the shard is polled by at most so many steps
@@ -38,7 +39,7 @@ module _ {T : Type 0} where
       UnparksAndPollsSome old tick most (Ok (Answered (Out x))) new
   PollsSomeOrParks cx cy old tick most (Ready (Err (Core e))) new =
       UnparksAndPollsSome old tick most (Err e) new
-      ⊎ ((e ≡ NoMemory) × HasNoWaker cy
+      ⊎ ((e ≡ NoMemory) × LacksWaker cy
       × ((next : Option ℕ) × UnparksAndPollsSome old tick most (Ok (Answered (rest_of next))) new))
   PollsSomeOrParks cx cy old tick most (Ready (Err Closed)) new = ⊥
   PollsSomeOrParks cx cy old tick most (Ready (Err Unknown)) new = ⊥
@@ -59,7 +60,7 @@ PollsSomeOrParksAt T shards place cx cy tick most answer =
 -- One poll of a paced stream of a place at a tick: the poll by so many steps that parks. What it
 -- answers is given, and a stream never ends.
 abbrev pub LastingPacedPolls :
-    (T : Type 0) → ℕ → ℕ → Context → Context → ℕ → ℕ → LastingNext T → Type 0
+    (T : Type 0) → ℕ → ℕ → Context → Context → ℕ → ℕ → Answer T → Type 0
 LastingPacedPolls T shards place cx cy tick most (Ready (Some (Ok x))) =
     PollsSomeOrParksAt T shards place cx cy tick most (Ready (Ok x))
 LastingPacedPolls T shards place cx cy tick most (Ready (Some (Err (Fault.TickTooLarge limit)))) =
@@ -72,7 +73,7 @@ LastingPacedPolls T shards place cx cy tick most Pending =
 
 -- An entry that is given is what a poll by so many steps gives at some tick, on some shard of that
 -- place. So it was due, and none was due before it.
-abbrev pub IsLastingPacedItem : {T : Type 0} → ℕ → ℕ → LastingItem T → Type 0
+abbrev pub IsLastingPacedItem : {T : Type 0} → ℕ → ℕ → StreamItem T → Type 0
 IsLastingPacedItem {T} shards place (Ok x) =
     (tick most : ℕ)
     × AtPlace {T = T} shards place (λ old r new. LastingPollsSome old tick most r new)
@@ -82,6 +83,6 @@ IsLastingPacedItem shards place (Err Fault.NoMemory) = ⊤
 
 -- whatever comes before, one more such item comes, and never the end
 abbrev pub LastingPacedGives :
-    (T : Type 0) → ℕ → ℕ → List (LastingItem T) → Option (LastingItem T) → Type 0
+    (T : Type 0) → ℕ → ℕ → List (StreamItem T) → Option (StreamItem T) → Type 0
 LastingPacedGives T shards place xs (Some x) = IsLastingPacedItem shards place x
 LastingPacedGives T shards place xs None = ⊥

@@ -1,7 +1,6 @@
 -- One poll that parks where nothing is due, as a relation between two states of its shard.
-use Rattle.std.specs.Prelude.{◌≡◌, ℕ, ◌<◌, ◌≤◌, ◌⊎◌, Bool, true, Option, Some, None}
+use Rattle.std.specs.Prelude.{◌≡◌, ℕ, ◌<◌, ◌≤◌, ◌⊎◌, Bool, Option, Some, None}
 use Rattle.std.specs.Prelude.{Result, Ok, Err}
-use Rattle.futures.specs.Task.{Wakes}
 use Rattle.futures.specs.declared.task.Poll.{Poll}
 use Rattle.futures.specs.declared.task.Poll.TheVariants.{Ready, Pending}
 use Rattle.futures.specs.declared.task.context.Context.{Context}
@@ -11,20 +10,14 @@ use Rattle.dq_core.specs.declared.errors.CoreError.TheVariants.{NoMemory}
 use Rattle.dq_core.specs.declared.outcomes.Expired.{Expired}
 use Rattle.dq_core.specs.declared.outcomes.Turn.{Turn}
 use Rattle.dq_core.specs.declared.outcomes.Turn.TheVariants.{Out, Waiting, Idle}
+use Rattle.dq_parking.specs.Parking.{poller, is_rung, after_ring}
+use Rattle.dq_parking.specs.Waits.{wait_ends_by}
+use Rattle.dq_parking.specs.Wakers.{LacksWaker, IsOwn}
 use Rattle.dq_lasting.specs.declared.errors.LastingError.{LastingError}
 use Rattle.dq_lasting.specs.declared.errors.LastingError.TheVariants.{Core, Closed, Unknown}
 use Rattle.dq_lasting.specs.Shard.{LastingView}
-use Rattle.dq_lasting.specs.Parking.{waiting, is_rung_at, waiting_after_ring}
 use Rattle.dq_lasting.specs.Changes.{LastingPolls}
 use Rattle.dq_lasting.specs.Answers.{AtPlace}
-
--- no waker could be made for want of memory, and the task has asked for another poll
-abbrev pub HasNoWaker : Context → Type 0
-HasNoWaker cx = cx.lacks_waker ≡ true
-
--- the waker wakes the task that is polled from one context to the other
-abbrev pub IsOwnWaker : Waker → Context → Context → Type 0
-IsOwnWaker waker old new = HasNoWaker new ⊎ Wakes waker old
 
 -- what a poll of a shard gives, or why it gives none
 abbrev pub LastingAnswer : Type 0 → Type 0
@@ -41,17 +34,17 @@ module _ {T : Type 0} where
 
   -- the shard with a poller that waits so
   abbrev pub with_parked : LastingView T → Option ℕ → Waker → LastingView T
-  with_parked s next waker = record s { parked = Some (waiting next waker) }
+  with_parked s next waker = record s { parked = Some (poller next waker) }
 
   -- the task that is polled is parked in a shard, until a tick or for an insert
   abbrev pub ParksTask : Context → Context → LastingView T → Option ℕ → LastingView T → Type 0
-  ParksTask cx cy old next new = (waker : Waker) × IsOwnWaker waker cx cy × (new ≡ with_parked old next waker)
+  ParksTask cx cy old next new = (waker : Waker) × IsOwn waker cx cy × (new ≡ with_parked old next waker)
 
   -- a ring at a tick takes out a poller that is parked at or before it
   abbrev pub RingsParked : LastingView T → ℕ → Bool → LastingView T → Type 0
   RingsParked old tick result new =
-      (result ≡ is_rung_at old.parked tick)
-      × (new ≡ record old { parked = waiting_after_ring old.parked tick })
+      (result ≡ is_rung wait_ends_by old.parked tick)
+      × (new ≡ record old { parked = after_ring wait_ends_by old.parked tick })
 
   -- where nothing is due: the next wake, or nothing is linked
   abbrev pub rest_of : Option ℕ → Turn T
@@ -71,7 +64,7 @@ module _ {T : Type 0} where
   PollsOrParks cx cy old tick (Ready (Ok x)) new = UnparksAndPolls old tick (Ok (Out x)) new
   PollsOrParks cx cy old tick (Ready (Err (Core e))) new =
       UnparksAndPolls old tick (Err e) new
-      ⊎ ((e ≡ NoMemory) × HasNoWaker cy
+      ⊎ ((e ≡ NoMemory) × LacksWaker cy
       × ((next : Option ℕ) × UnparksAndPolls old tick (Ok (rest_of next)) new))
   PollsOrParks cx cy old tick (Ready (Err Closed)) new = ⊥
   PollsOrParks cx cy old tick (Ready (Err Unknown)) new = ⊥

@@ -4,8 +4,8 @@ use Rattle.dq_core.specs.Core.{Core, IsLawfulCore}
 use Rattle.dq_wheel.specs.Lawful.{IsLawfulWheel}
 use Rattle.dq_words.specs.Seats.{Sat}
 use Rattle.dq_words.specs.Keeping.{IsKeeper, Stood}
+use Rattle.dq_parking.specs.declared.parked.Parked.{Parked}
 use Rattle.dq_lasting.specs.declared.ended.Ended.{Ended}
-use Rattle.dq_lasting.specs.declared.parked.Parked.{Parked}
 use Rattle.dq_lasting.specs.Parking.{IsWaitingLawfully}
 
 -- a shard: its queue over the keeper's words, whether it takes entries, what became of those of its
@@ -15,7 +15,7 @@ pub record LastingView (T : Type 0) : Type 0 where
   pub core : Core T Sat
   pub takes : Bool
   pub past : Ended
-  pub parked : Option Parked
+  pub parked : Option (Parked (Option ℕ))
   pub sweep_from : ℕ
 
 -- each entry of an earlier generation ended in one way

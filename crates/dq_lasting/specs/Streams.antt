@@ -1,31 +1,23 @@
 -- What a stream of one place gives.
-use Rattle.std.specs.Prelude.{◌≡◌, ℕ, ⊤, List, Option, Some, None, Result, Ok, Err}
-use Rattle.futures.specs.declared.task.Poll.{Poll}
+use Rattle.std.specs.Prelude.{◌≡◌, ℕ, ⊤, List, Option, Some, None, Ok, Err}
 use Rattle.futures.specs.declared.task.Poll.TheVariants.{Ready, Pending}
 use Rattle.futures.specs.declared.task.context.Context.{Context}
 use Rattle.dq_ticks.specs.declared.TheConstants.{LAST_TICK}
 use Rattle.dq_core.specs.declared.errors.CoreError.TheVariants.{TickTooLarge}
-use Rattle.dq_core.specs.declared.outcomes.Expired.{Expired}
 use Rattle.dq_core.specs.declared.outcomes.Turn.TheVariants.{Out}
+use Rattle.dq_parking.specs.declared.fault.StreamFault.{StreamFault}
+use Rattle.dq_parking.specs.declared.fault.StreamFault.TheVariants as Fault
+use Rattle.dq_parking.specs.Items.{StreamItem, Answer}
+use Rattle.dq_parking.specs.Wakers.{LacksWaker}
 use Rattle.dq_lasting.specs.declared.errors.LastingError.TheVariants.{Core}
-use Rattle.dq_lasting.specs.declared.stream.LastingFault.{LastingFault}
-use Rattle.dq_lasting.specs.declared.stream.LastingFault.TheVariants as Fault
 use Rattle.dq_lasting.specs.Answers.{AtPlace}
 use Rattle.dq_lasting.specs.Changes.{LastingPolls}
-use Rattle.dq_lasting.specs.Polling.{PollsOrParksAt, HasNoWaker, no_memory}
-
--- an item of a stream: an entry that expired, or why there is none
-abbrev pub LastingItem : Type 0 → Type 0
-LastingItem T = Result (Expired T) LastingFault
-
--- what one poll of a stream answers
-abbrev pub LastingNext : Type 0 → Type 0
-LastingNext T = Poll (Option (LastingItem T))
+use Rattle.dq_lasting.specs.Polling.{PollsOrParksAt, no_memory}
 
 -- One poll of a stream of a place at a tick: the poll that parks. What it answers is given, and a
 -- stream never ends.
 abbrev pub LastingStreamPolls :
-    (T : Type 0) → ℕ → ℕ → Context → Context → ℕ → LastingNext T → Type 0
+    (T : Type 0) → ℕ → ℕ → Context → Context → ℕ → Answer T → Type 0
 LastingStreamPolls T shards place cx cy tick (Ready (Some (Ok x))) =
     PollsOrParksAt T shards place cx cy tick (Ready (Ok x))
 LastingStreamPolls T shards place cx cy tick (Ready (Some (Err (Fault.TickTooLarge limit)))) =
@@ -36,27 +28,20 @@ LastingStreamPolls T shards place cx cy tick (Ready None) = ⊥
 LastingStreamPolls T shards place cx cy tick Pending =
     PollsOrParksAt T shards place cx cy tick Pending
 
--- where a fault is given
-abbrev pub IfLastingFault : {T : Type 0} → LastingNext T → (LastingFault → Type 0) → Type 0
-IfLastingFault (Ready (Some (Ok x))) P = ⊤
-IfLastingFault (Ready (Some (Err e))) P = P e
-IfLastingFault (Ready None) P = ⊤
-IfLastingFault Pending P = ⊤
-
 -- why no entry is given: the tick is beyond the last one, or no waker could be made
-abbrev pub IsLastingFault : LastingFault → Context → Type 0
+abbrev pub IsLastingFault : StreamFault → Context → Type 0
 IsLastingFault (Fault.TickTooLarge limit) cx = limit ≡ LAST_TICK
-IsLastingFault Fault.NoMemory cx = HasNoWaker cx
+IsLastingFault Fault.NoMemory cx = LacksWaker cx
 
 -- a poll of a stream is never told that it has ended
-abbrev pub NeverEnds : {T : Type 0} → LastingNext T → Type 0
+abbrev pub NeverEnds : {T : Type 0} → Answer T → Type 0
 NeverEnds (Ready (Some x)) = ⊤
 NeverEnds (Ready None) = ⊥
 NeverEnds Pending = ⊤
 
 -- An entry that is given is what a poll gives at some tick, on some shard of that place. So it was
 -- due, and none was due before it.
-abbrev pub IsLastingItem : {T : Type 0} → ℕ → ℕ → LastingItem T → Type 0
+abbrev pub IsLastingItem : {T : Type 0} → ℕ → ℕ → StreamItem T → Type 0
 IsLastingItem {T} shards place (Ok x) =
     (tick : ℕ)
     × AtPlace {T = T} shards place (λ old r new. LastingPolls old tick r new) (Ok (Out x))
@@ -65,6 +50,6 @@ IsLastingItem shards place (Err Fault.NoMemory) = ⊤
 
 -- whatever comes before, one more such item comes, and never the end
 abbrev pub LastingGives :
-    (T : Type 0) → ℕ → ℕ → List (LastingItem T) → Option (LastingItem T) → Type 0
+    (T : Type 0) → ℕ → ℕ → List (StreamItem T) → Option (StreamItem T) → Type 0
 LastingGives T shards place xs (Some x) = IsLastingItem shards place x
 LastingGives T shards place xs None = ⊥

@@ -2,17 +2,18 @@
 ghost use Rattle.std.specs.Prelude.{◌≡◌, ◌<◌, ◌≤◌, ◌↔◌, vec_capacity, IsErr, IsErrOf, OnErr};
 ghost use Rattle.dq_ticks.specs.declared.TheConstants.{LAST_TICK};
 ghost use Rattle.dq_core.specs.declared.errors.CoreError.TheVariants.{TickTooLarge};
+ghost use Rattle.dq_parking.specs.Parking.{Leaves};
 ghost use Rattle.dq_lasting.specs.declared.errors.LastingError.TheVariants.{Core, Unknown};
 ghost use Rattle.dq_lasting.specs.Answers.{AtPlaceOr};
 ghost use Rattle.dq_lasting.specs.Many.{LastingPollsMany};
-ghost use Rattle.dq_lasting.specs.Parking.{LeavesPlace};
 
 use crate::errors::LastingError;
-use crate::parked::{Leaver, keep_or_leave};
+use crate::parked::keep_or_leave;
 use crate::queue::LastingQueue;
 use crate::quiet::unlock;
 use crate::shard::LastingShard;
 use dq_core::{CoreError, Expired};
+use dq_parking::Leaver;
 use dq_words::{ManyTurn, poll_into};
 use std::alloc::Allocator;
 use std::sync::Wait;
@@ -24,13 +25,13 @@ impl<T: Drop, A: Allocator> LastingShard<T, A> {
         &mut self,
         tick: u64,
         row: &mut Vec<Expired<T>, A>,
-    ) -> (Result<ManyTurn, CoreError>, Leaver)
+    ) -> (Result<ManyTurn, CoreError>, Leaver<Option<u64>>)
         ensures refused { IsErr result.0 ↔ (LAST_TICK < tick) }
         ensures kept { OnErr result.0 (row.new ≡ row.old) }
         ensures room { vec_capacity row.new ≡ vec_capacity row.old }
         ensures polls { LastingPollsMany self.old tick (vec_capacity row.old) row.old.items
             row.new.items result.0 self.new }
-        ensures leaves { LeavesPlace self.old.parked result.1.poller self.new.parked }
+        ensures leaves { Leaves self.old.parked result.1.poller self.new.parked }
     {
         let answer = poll_into(&mut self.core, tick, row);
         (answer, keep_or_leave(&self.core, &mut self.parked))

@@ -5,19 +5,20 @@ ghost use Rattle.std.specs.Prelude.{◌≡◌, ◌+◌, ◌<◌, ◌≤◌, IfSo
 ghost use Rattle.std.specs.List.{count_by};
 ghost use Rattle.std.specs.Sync.Mutex.{mutex_guard_value};
 ghost use Rattle.dq_core.specs.Slots.{is_held};
+ghost use Rattle.dq_parking.specs.Parking.{Leaves};
 ghost use Rattle.dq_lasting.specs.Answers.{AtPlace, IsOfPlace};
 ghost use Rattle.dq_lasting.specs.Changes.{LastingSweepsOn, Reopens, NumbersAreSpent, IsEndedBefore};
 ghost use Rattle.dq_lasting.specs.Keeping.{BeginsAt, DrainsOn, GoesOnAt, IsDrained, IsOfShardSize, AreFreshRows, FitsShard};
-ghost use Rattle.dq_lasting.specs.Parking.{LeavesPlace};
 
 use crate::ended::Ended;
 use crate::errors::ReopenError;
 use crate::keeping::Kept;
-use crate::parked::{Leaver, keep_or_leave, take};
+use crate::parked::keep_or_leave;
 use crate::queue::LastingQueue;
 use crate::quiet::{nobody, unlock};
 use crate::shard::{LastingShard, with_ended};
 use dq_core::{FreshRows, Slots};
+use dq_parking::{Leaver, take};
 use dq_words::Keeper;
 use std::alloc::Allocator;
 use std::sync::{MutexGuard, Wait};
@@ -74,9 +75,9 @@ fn fresh_rows<T: Drop, A: Allocator + Clone + Drop>(alloc: A, size: ShardSize) -
 
 impl<T: Drop, A: Allocator> LastingShard<T, A> {
     // As `sweep`, at the next few slots.
-    fn sweep_on(&mut self) -> (usize, Leaver)
+    fn sweep_on(&mut self) -> (usize, Leaver<Option<u64>>)
         ensures sweeps { LastingSweepsOn self.old result.0 self.new }
-        ensures leaves { LeavesPlace self.old.parked result.1.poller self.new.parked }
+        ensures leaves { Leaves self.old.parked result.1.poller self.new.parked }
     {
         let swept = self.core.sweep_some(self.sweep_from, SWEPT_AT_ONCE);
         self.sweep_from = swept.next.unwrap_or(0);
@@ -84,10 +85,10 @@ impl<T: Drop, A: Allocator> LastingShard<T, A> {
     }
 
     // The step of one that isn't drained.
-    fn drain_on(&mut self, place: usize) -> (Kept, Leaver)
+    fn drain_on(&mut self, place: usize) -> (Kept, Leaver<Option<u64>>)
         requires { ¬ IsDrained self.old }
         ensures drains { DrainsOn place self.old result.0 self.new }
-        ensures leaves { LeavesPlace self.old.parked result.1.poller self.new.parked }
+        ensures leaves { Leaves self.old.parked result.1.poller self.new.parked }
     {
         if self.takes {
             return nobody(Kept::Fine);
@@ -125,9 +126,9 @@ impl<T: Drop, A: Allocator> LastingShard<T, A> {
     }
 
     // Under the first lock: the step of one that isn't drained, and else what is to be made for its opening.
-    fn begin(&mut self, place: usize, by: u32) -> (Begun, Leaver)
+    fn begin(&mut self, place: usize, by: u32) -> (Begun, Leaver<Option<u64>>)
         ensures begins { BeginsAt by place self.old result.0 self.new }
-        ensures leaves { LeavesPlace self.old.parked result.1.poller self.new.parked }
+        ensures leaves { Leaves self.old.parked result.1.poller self.new.parked }
     {
         if !self.is_drained() {
             let (kept, leaver) = self.drain_on(place);
@@ -144,12 +145,12 @@ impl<T: Drop, A: Allocator> LastingShard<T, A> {
         &mut self,
         rows: Rows<T, A>,
         by: u32,
-    ) -> (Result<(), ReopenError>, Leaver, LeftOver<T, A>)
+    ) -> (Result<(), ReopenError>, Leaver<Option<u64>>, LeftOver<T, A>)
         requires by { 0 < by }
         requires empty { count_by is_held self.old.core.slots.rows ≡ 0 }
         requires fits { FitsShard self.old rows }
         ensures reopens { Reopens self.old by result.0 self.new }
-        ensures leaves { LeavesPlace self.old.parked result.1.poller self.new.parked }
+        ensures leaves { Leaves self.old.parked result.1.poller self.new.parked }
     {
         let Some((number, past)) = self.next_generation(by) else {
             let (answer, leaver) = nobody(Err(ReopenError::NumbersSpent));
@@ -172,11 +173,15 @@ impl<T: Drop, A: Allocator> LastingShard<T, A> {
         rows: Rows<T, A>,
         place: usize,
         by: u32,
-    ) -> (Result<Kept, ReopenError>, Leaver, LeftOver<T, A>)
+    ) -> (
+        Result<Kept, ReopenError>,
+        Leaver<Option<u64>>,
+        LeftOver<T, A>,
+    )
         requires by { 0 < by }
         requires fits { FitsShard self.old rows }
         ensures goes { GoesOnAt by place self.old result.0 self.new }
-        ensures leaves { LeavesPlace self.old.parked result.1.poller self.new.parked }
+        ensures leaves { Leaves self.old.parked result.1.poller self.new.parked }
     {
         if !self.is_drained() {
             let (kept, leaver) = self.drain_on(place);

@@ -3,16 +3,17 @@ ghost use Rattle.std.specs.Prelude.{◌≡◌, ℕ, ⊤, [], IfSome, OnSome};
 ghost use Rattle.futures.specs.Task.{Covers, Keeps};
 ghost use Rattle.futures.specs.Poll.{IfReady, OnPending};
 ghost use Rattle.futures.specs.Runs.{After, Within};
+ghost use Rattle.dq_parking.specs.Items.{IfFault};
 ghost use Rattle.dq_lasting.specs.Paces.{PollsSomeOrParks, PollsSomeOrParksAt};
 ghost use Rattle.dq_lasting.specs.Paces.{LastingPacedPolls, LastingPacedGives};
-ghost use Rattle.dq_lasting.specs.Streams.{NeverEnds, IfLastingFault, IsLastingFault};
+ghost use Rattle.dq_lasting.specs.Streams.{NeverEnds, IsLastingFault};
 
 use crate::errors::LastingError;
-use crate::parked::Parked;
 use crate::queue::LastingQueue;
 use crate::shard::LastingShard;
-use crate::stream::{LastingFault, LastingStream, Ticks};
+use crate::stream::LastingStream;
 use dq_core::{CoreError, Expired, Piece, Turn};
+use dq_parking::{StreamFault, TickSource, let_sleep};
 use futures::Stream;
 use futures::task::{Context, Poll, Source};
 use std::alloc::{Allocator, Global};
@@ -39,9 +40,7 @@ impl<T: Drop, A: Allocator> LastingShard<T, A> {
         ensures polls { PollsSomeOrParks cx.old cx.new self.old tick most result self.new }
         ensures kept { Keeps cx.old cx.new }
     {
-        if let Some(before) = self.take_parked() {
-            Parked::forget(before);
-        }
+        let_sleep(self.take_parked());
         match self.poll_some(tick, most) {
             Ok(Piece::Working) => {
                 let _woken: Poll<()> = cx.yield_now();
@@ -88,9 +87,7 @@ impl<T: Drop, A: Allocator> LastingQueue<T, A> {
         shard.law();
         let aside = shard.aside();
         drop(shard);
-        if let Some(before) = before {
-            Parked::forget(before);
-        }
+        let_sleep(before);
         self.drop_aside_at_rest(rt, place, aside, answer.is_pending());
         answer
     }
@@ -102,15 +99,15 @@ impl<T: Drop, A: Allocator> LastingQueue<T, A> {
 /// its stream would give, and parks as that does. What is under way stands in the shard: whether this is dropped, or
 /// turned back into its stream, the next poll of the place goes on there.
 #[derive(Drop)]
-pub struct LastingPacedStream<'q, T, K, R: Wait, A: Allocator = Global> {
-    stream: LastingStream<'q, T, K, R, A>,
+pub struct LastingPacedStream<'q, T, S, R: Wait, A: Allocator = Global> {
+    stream: LastingStream<'q, T, S, R, A>,
     steps: NonZeroU32,
 }
 
-impl<'q, T, K, R: Wait, A: Allocator> LastingStream<'q, T, K, R, A> {
+impl<'q, T, S, R: Wait, A: Allocator> LastingStream<'q, T, S, R, A> {
     /// This stream with at most so many steps a poll. A step is an entry that is settled, reaped or filed anew, or an
     /// arrival of the wheel, and takes constant time but for a value's drop.
-    pub fn paced(self, steps: NonZeroU32) -> LastingPacedStream<'q, T, K, R, A>
+    pub fn paced(self, steps: NonZeroU32) -> LastingPacedStream<'q, T, S, R, A>
         ensures { (result.stream ≡ self.entry) × (result.steps ≡ steps) }
     {
         LastingPacedStream {
@@ -120,17 +117,18 @@ impl<'q, T, K, R: Wait, A: Allocator> LastingStream<'q, T, K, R, A> {
     }
 }
 
-impl<'q, T, K, R: Wait, A: Allocator> LastingPacedStream<'q, T, K, R, A> {
+impl<'q, T, S, R: Wait, A: Allocator> LastingPacedStream<'q, T, S, R, A> {
     /// Its stream, which makes whole polls.
-    pub fn into_inner(self) -> LastingStream<'q, T, K, R, A>
+    pub fn into_inner(self) -> LastingStream<'q, T, S, R, A>
         ensures { result ≡ self.entry.stream }
     {
         self.stream
     }
 }
 
-impl<'q, T: Drop, K: Ticks, R: Wait, A: Allocator> Stream for LastingPacedStream<'q, T, K, R, A> {
-    type Item = Result<Expired<T>, LastingFault>;
+impl<'q, T: Drop, S: TickSource, R: Wait, A: Allocator> Stream
+    for LastingPacedStream<'q, T, S, R, A> {
+    type Item = Result<Expired<T>, StreamFault>;
 
     ghost needs = { λ paced s. s ≡ paced.stream.name.id };
 
@@ -138,10 +136,10 @@ impl<'q, T: Drop, K: Ticks, R: Wait, A: Allocator> Stream for LastingPacedStream
 
     /// An entry that is due, one of least deadline, or Pending: parked at the next wake or for an insert, or woken,
     /// with more to do. Faults are those of its stream. Its cost is that of its steps.
-    fn poll_next(&mut self, cx: &mut Context<'_>) -> Poll<Option<Result<Expired<T>, LastingFault>>>
+    fn poll_next(&mut self, cx: &mut Context<'_>) -> Poll<Option<Result<Expired<T>, StreamFault>>>
         // It never ends, and a fault tells why no entry is given.
         ensures lasts { NeverEnds result }
-        ensures fault { IfLastingFault result (λ e. IsLastingFault e cx.new) }
+        ensures fault { IfFault result (λ e. IsLastingFault e cx.new) }
 
         // It waits registered with its context, or with its task woken.
         ensures registered { OnPending result (Covers cx.new (λ s. s ≡ self.new.stream.name.id)) }
@@ -154,7 +152,7 @@ impl<'q, T: Drop, K: Ticks, R: Wait, A: Allocator> Stream for LastingPacedStream
         ensures steps { self.new.steps ≡ self.old.steps }
 
         // All that it does: so many steps of its place, at a tick that it was told.
-        ensures polls { (tick : ℕ) × K.tells self.old.stream.ticks tick self.new.stream.ticks
+        ensures polls { (tick : ℕ) × S.tells self.old.stream.source tick self.new.stream.source
             × LastingPacedPolls T self.old.stream.queue.now.shards self.old.stream.place
             cx.old cx.new tick self.old.steps.value result }
 
@@ -172,7 +170,7 @@ impl<'q, T: Drop, K: Ticks, R: Wait, A: Allocator> Stream for LastingPacedStream
         ensures kept { Keeps cx.old cx.new }
     {
         let stream = &mut self.stream;
-        let tick = stream.ticks.now();
+        let tick = stream.source.now();
         match self.stream.queue.poll_some_or_park(
             self.stream.rt,
             self.stream.place,
@@ -184,10 +182,10 @@ impl<'q, T: Drop, K: Ticks, R: Wait, A: Allocator> Stream for LastingPacedStream
             Poll::Pending => Poll::Pending,
             Poll::Ready(Ok(expired)) => Poll::Ready(Some(Ok(expired))),
             Poll::Ready(Err(LastingError::Core(CoreError::TickTooLarge { limit }))) => {
-                Poll::Ready(Some(Err(LastingFault::TickTooLarge { limit })))
+                Poll::Ready(Some(Err(StreamFault::TickTooLarge { limit })))
             }
             Poll::Ready(Err(LastingError::Core(CoreError::NoMemory))) => {
-                Poll::Ready(Some(Err(LastingFault::NoMemory)))
+                Poll::Ready(Some(Err(StreamFault::NoMemory)))
             }
             Poll::Ready(Err(_)) => unreachable!(),
         }

@@ -3,24 +3,25 @@ ghost use Rattle.std.specs.Prelude.{◌≡◌, None, Err};
 ghost use Rattle.futures.specs.Task.{Covers, Keeps};
 ghost use Rattle.futures.specs.Poll.{IfReady, OnPending};
 ghost use Rattle.dq_core.specs.Calls.{TellsWake};
+ghost use Rattle.dq_parking.specs.Wakers.{LacksWaker};
 ghost use Rattle.dq_lasting.specs.Answers.{AtPlaceAll};
 ghost use Rattle.dq_lasting.specs.Changes.{LastingUnparks};
-ghost use Rattle.dq_lasting.specs.Polling.{HasNoWaker, ParksTask, RingsParked, PollsOrParks, PollsOrParksAt};
+ghost use Rattle.dq_lasting.specs.Polling.{ParksTask, RingsParked, PollsOrParks, PollsOrParksAt};
 ghost use Rattle.dq_lasting.specs.Polling.{no_memory, with_parked, with_none_parked};
 
 use crate::errors::LastingError;
-use crate::parked::Parked;
 use crate::queue::LastingQueue;
 use crate::quiet::unlock;
 use crate::shard::LastingShard;
 use dq_core::{CoreError, Expired, Turn};
+use dq_parking::{Parked, let_sleep, register};
 use futures::task::{Context, Poll, Source, Waker};
 use std::alloc::Allocator;
 use std::sync::Wait;
 
 impl<T: Drop, A: Allocator> LastingShard<T, A> {
     // Takes the parked poller out, unwoken.
-    pub(crate) fn take_parked(&mut self) -> Option<Parked>
+    pub(crate) fn take_parked(&mut self) -> Option<Parked<Option<u64>>>
         ensures taken { result ≡ self.old.parked }
         ensures left { self.new ≡ with_none_parked self.old }
     {
@@ -32,9 +33,7 @@ impl<T: Drop, A: Allocator> LastingShard<T, A> {
         requires { TellsWake self.old.core next }
         ensures { self.new ≡ with_parked self.old next waker }
     {
-        if let Some(before) = self.take_parked() {
-            Parked::forget(before);
-        }
+        let_sleep(self.take_parked());
         self.parked = Some(Parked { next, waker });
     }
 
@@ -49,13 +48,11 @@ impl<T: Drop, A: Allocator> LastingShard<T, A> {
         requires wake { TellsWake self.old.core next }
         ensures parks { OnPending result (ParksTask cx.old cx.new self.old next self.new) }
         ensures refused { IfReady result (λ r. (r ≡ Err no_memory)
-            × HasNoWaker cx.new × (self.new ≡ self.old)) }
+            × LacksWaker cx.new × (self.new ≡ self.old)) }
         ensures registered { OnPending result (Covers cx.new (λ s. s ≡ name.now.id)) }
         ensures kept { Keeps cx.old cx.new }
     {
-        let mut slot = None;
-        let _pending: Poll<()> = cx.register(name, &mut slot);
-        let Some(waker) = slot else {
+        let Some(waker) = register(name, cx) else {
             return Poll::Ready(Err(LastingError::Core(CoreError::NoMemory)));
         };
         self.park(next, waker);
@@ -80,9 +77,7 @@ impl<T: Drop, A: Allocator> LastingShard<T, A> {
         ensures polls { PollsOrParks cx.old cx.new self.old tick result self.new }
         ensures kept { Keeps cx.old cx.new }
     {
-        if let Some(before) = self.take_parked() {
-            Parked::forget(before);
-        }
+        let_sleep(self.take_parked());
         match self.poll(tick) {
             Ok(Turn::Out(expired)) => Poll::Ready(Ok(expired)),
             Ok(Turn::Waiting { next }) => self.wait(Some(next), name, cx),
@@ -151,9 +146,7 @@ impl<T: Drop, A: Allocator> LastingQueue<T, A> {
         shard.law();
         let aside = shard.aside();
         drop(shard);
-        if let Some(before) = before {
-            Parked::forget(before);
-        }
+        let_sleep(before);
         self.drop_aside_at_rest(rt, place, aside, answer.is_pending());
         answer
     }

@@ -6,7 +6,7 @@ ghost use Rattle.dq_core.specs.Core.{machine};
 ghost use Rattle.dq_core.specs.Machine.{NoneLiveBefore};
 ghost use Rattle.dq_core.specs.Pieces.{IfAnswer};
 ghost use Rattle.std.specs.Sync.Mutex.{mutex_guard_value};
-ghost use Rattle.dq_lasting.specs.Parking.{LeavesPlace};
+ghost use Rattle.dq_parking.specs.Parking.{Leaves};
 ghost use Rattle.dq_lasting.specs.Shard.{IsLasting};
 ghost use Rattle.dq_lasting.specs.Changes.{LastingInserts, LastingResets, LastingRemoves};
 ghost use Rattle.dq_lasting.specs.Changes.{LastingDeadline, LastingPolls, LastingPollsSome};
@@ -14,9 +14,10 @@ ghost use Rattle.dq_lasting.specs.Changes.{LastingSweeps, LastingClears, Closes,
 ghost use Rattle.dq_lasting.specs.Polling.{RingsParked};
 
 use crate::errors::{LastingError, ReopenError};
-use crate::parked::{Leaver, keep_or_leave, ring, take};
+use crate::parked::keep_or_leave;
 use crate::shard::{LastingShard, with_ended};
 use dq_core::{CoreError, Piece, Removed, Turn};
+use dq_parking::{Leaver, ring, take};
 use dq_ticks::{EntryId, Key};
 use dq_words::Keeper;
 use std::alloc::Allocator;
@@ -27,7 +28,7 @@ use std::sync::MutexGuard;
 #[inline]
 pub(crate) fn unlock<T: Drop, A: Allocator>(
     shard: MutexGuard<'_, LastingShard<T, A>>,
-    leaver: Leaver,
+    leaver: Leaver<Option<u64>>,
 ) -> usize
     ensures { IsLasting (mutex_guard_value shard.entry) }
 {
@@ -39,7 +40,7 @@ pub(crate) fn unlock<T: Drop, A: Allocator>(
 }
 
 // An answer by which nobody leaves.
-pub(crate) fn nobody<R>(answer: R) -> (R, Leaver)
+pub(crate) fn nobody<R>(answer: R) -> (R, Leaver<Option<u64>>)
     ensures answer { result.0 ≡ answer }
     ensures nobody { result.1.poller ≡ None }
 {
@@ -53,9 +54,9 @@ impl<T: Drop, A: Allocator> LastingShard<T, A> {
         &mut self,
         value: T,
         when: u64,
-    ) -> (Result<Key, (LastingError, T)>, Leaver)
+    ) -> (Result<Key, (LastingError, T)>, Leaver<Option<u64>>)
         ensures inserts { LastingInserts self.old value when result.0 self.new }
-        ensures leaves { LeavesPlace self.old.parked result.1.poller self.new.parked }
+        ensures leaves { Leaves self.old.parked result.1.poller self.new.parked }
     {
         if !self.takes {
             return nobody(Err((LastingError::Closed, value)));
@@ -72,9 +73,9 @@ impl<T: Drop, A: Allocator> LastingShard<T, A> {
         &mut self,
         entry: &EntryId,
         when: u64,
-    ) -> (Result<Key, CoreError>, Leaver)
+    ) -> (Result<Key, CoreError>, Leaver<Option<u64>>)
         ensures resets { LastingResets self.old entry.now when result.0 self.new }
-        ensures leaves { LeavesPlace self.old.parked result.1.poller self.new.parked }
+        ensures leaves { Leaves self.old.parked result.1.poller self.new.parked }
     {
         let answer = self.core.reset(entry, when);
         (answer, keep_or_leave(&self.core, &mut self.parked))
@@ -85,9 +86,9 @@ impl<T: Drop, A: Allocator> LastingShard<T, A> {
     pub(crate) fn remove_quietly(
         &mut self,
         entry: &EntryId,
-    ) -> (Result<Removed<T>, CoreError>, Leaver)
+    ) -> (Result<Removed<T>, CoreError>, Leaver<Option<u64>>)
         ensures removes { LastingRemoves self.old entry.now result.0 self.new }
-        ensures leaves { LeavesPlace self.old.parked result.1.poller self.new.parked }
+        ensures leaves { Leaves self.old.parked result.1.poller self.new.parked }
     {
         let answer = self.core.remove(entry);
         (answer, keep_or_leave(&self.core, &mut self.parked))
@@ -95,9 +96,12 @@ impl<T: Drop, A: Allocator> LastingShard<T, A> {
 
     // As `deadline`.
     #[inline]
-    pub(crate) fn deadline_quietly(&mut self, entry: &EntryId) -> (Result<u64, CoreError>, Leaver)
+    pub(crate) fn deadline_quietly(
+        &mut self,
+        entry: &EntryId,
+    ) -> (Result<u64, CoreError>, Leaver<Option<u64>>)
         ensures tells { LastingDeadline self.old entry.now result.0 self.new }
-        ensures leaves { LeavesPlace self.old.parked result.1.poller self.new.parked }
+        ensures leaves { Leaves self.old.parked result.1.poller self.new.parked }
     {
         let answer = self.core.deadline(entry);
         (answer, keep_or_leave(&self.core, &mut self.parked))
@@ -105,9 +109,12 @@ impl<T: Drop, A: Allocator> LastingShard<T, A> {
 
     // As `poll`.
     #[inline]
-    pub(crate) fn poll_quietly(&mut self, tick: u64) -> (Result<Turn<T>, CoreError>, Leaver)
+    pub(crate) fn poll_quietly(
+        &mut self,
+        tick: u64,
+    ) -> (Result<Turn<T>, CoreError>, Leaver<Option<u64>>)
         ensures polls { LastingPolls self.old tick result.0 self.new }
-        ensures leaves { LeavesPlace self.old.parked result.1.poller self.new.parked }
+        ensures leaves { Leaves self.old.parked result.1.poller self.new.parked }
     {
         let answer = self.core.poll(tick);
         (answer, keep_or_leave(&self.core, &mut self.parked))
@@ -119,49 +126,49 @@ impl<T: Drop, A: Allocator> LastingShard<T, A> {
         &mut self,
         tick: u64,
         most: u32,
-    ) -> (Result<Piece<T>, CoreError>, Leaver)
+    ) -> (Result<Piece<T>, CoreError>, Leaver<Option<u64>>)
         ensures out { IfAnswer result.0 (λ turn. IfOut turn (λ x. (x.deadline ≤ self.new.core.noted)
             × NoneLiveBefore (machine self.new.core) x.deadline)) }
         ensures waiting { IfAnswer result.0 (λ turn. IfRests turn
             (λ next. NoneLiveBefore (machine self.new.core) (self.new.core.noted + 1))) }
         ensures polls { LastingPollsSome self.old tick most result.0 self.new }
-        ensures leaves { LeavesPlace self.old.parked result.1.poller self.new.parked }
+        ensures leaves { Leaves self.old.parked result.1.poller self.new.parked }
     {
         let answer = self.core.poll_some(tick, most);
         (answer, keep_or_leave(&self.core, &mut self.parked))
     }
 
     // As `sweep`.
-    pub(crate) fn sweep_quietly(&mut self) -> (usize, Leaver)
+    pub(crate) fn sweep_quietly(&mut self) -> (usize, Leaver<Option<u64>>)
         ensures sweeps { LastingSweeps self.old result.0 self.new }
-        ensures leaves { LeavesPlace self.old.parked result.1.poller self.new.parked }
+        ensures leaves { Leaves self.old.parked result.1.poller self.new.parked }
     {
         let reaped = self.core.sweep();
         (reaped, keep_or_leave(&self.core, &mut self.parked))
     }
 
     // As `clear`.
-    pub(crate) fn clear_quietly(&mut self) -> (usize, Leaver)
+    pub(crate) fn clear_quietly(&mut self) -> (usize, Leaver<Option<u64>>)
         ensures clears { LastingClears self.old result.0 self.new }
-        ensures leaves { LeavesPlace self.old.parked result.1.poller self.new.parked }
+        ensures leaves { Leaves self.old.parked result.1.poller self.new.parked }
     {
         let removed = self.core.clear();
         (removed, keep_or_leave(&self.core, &mut self.parked))
     }
 
     // As `close`.
-    pub(crate) fn close_quietly(&mut self) -> Leaver
+    pub(crate) fn close_quietly(&mut self) -> Leaver<Option<u64>>
         ensures closes { Closes self.old self.new }
-        ensures leaves { LeavesPlace self.old.parked result.poller self.new.parked }
+        ensures leaves { Leaves self.old.parked result.poller self.new.parked }
     {
         self.takes = false;
         take(&mut self.parked)
     }
 
     // As `ring`.
-    pub(crate) fn ring_quietly(&mut self, tick: u64) -> (bool, Leaver)
+    pub(crate) fn ring_quietly(&mut self, tick: u64) -> (bool, Leaver<Option<u64>>)
         ensures rings { RingsParked self.old tick result.0 self.new }
-        ensures leaves { LeavesPlace self.old.parked result.1.poller self.new.parked }
+        ensures leaves { Leaves self.old.parked result.1.poller self.new.parked }
     {
         let rung = ring(&mut self.parked, tick);
         (rung.is_some(), rung)
@@ -170,10 +177,14 @@ impl<T: Drop, A: Allocator> LastingShard<T, A> {
 
 impl<T: Drop, A: Allocator + Clone + Drop> LastingShard<T, A> {
     // As `reopen`.
-    pub(crate) fn reopen_quietly(&mut self, alloc: A, by: u32) -> (Result<(), ReopenError>, Leaver)
+    pub(crate) fn reopen_quietly(
+        &mut self,
+        alloc: A,
+        by: u32,
+    ) -> (Result<(), ReopenError>, Leaver<Option<u64>>)
         requires { 0 < by }
         ensures reopens { Reopens self.old by result.0 self.new }
-        ensures leaves { LeavesPlace self.old.parked result.1.poller self.new.parked }
+        ensures leaves { Leaves self.old.parked result.1.poller self.new.parked }
     {
         let linked = self.core.len();
         if linked > 0 {

@@ -2,35 +2,36 @@
 ghost use Rattle.std.specs.Prelude.{◌≡◌, ◌↔◌, ◌+◌, ◌%◌, ◌<◌, ◌≤◌, length, OnOk, IsErrOf};
 ghost use Rattle.dq_core.specs.AtTheCall.{linked_in};
 ghost use Rattle.dq_core.specs.Calls.{IsMissing};
+ghost use Rattle.dq_parking.specs.Parking.{Leaves};
 ghost use Rattle.dq_lasting.specs.Answers.{AtPlace, AtPlaceAll};
 ghost use Rattle.dq_lasting.specs.Changes.{LastingReaps, LastingSweepsSome, slot_to_go_on};
-ghost use Rattle.dq_lasting.specs.Parking.{LeavesPlace};
 
 use crate::errors::LastingError;
-use crate::parked::{Leaver, keep_or_leave};
+use crate::parked::keep_or_leave;
 use crate::queue::LastingQueue;
 use crate::quiet::unlock;
 use crate::shard::LastingShard;
 use dq_core::{ReapError, Swept};
+use dq_parking::Leaver;
 use dq_ticks::EntryId;
 use std::alloc::Allocator;
 use std::sync::Wait;
 
 impl<T: Drop, A: Allocator> LastingShard<T, A> {
     // As `sweep_some`.
-    fn sweep_some_quietly(&mut self, from: usize, count: usize) -> (Swept, Leaver)
+    fn sweep_some_quietly(&mut self, from: usize, count: usize) -> (Swept, Leaver<Option<u64>>)
         ensures sweeps { LastingSweepsSome self.old from count result.0 self.new }
-        ensures leaves { LeavesPlace self.old.parked result.1.poller self.new.parked }
+        ensures leaves { Leaves self.old.parked result.1.poller self.new.parked }
     {
         let swept = self.core.sweep_some(from, count);
         (swept, keep_or_leave(&self.core, &mut self.parked))
     }
 
     // As `reap`.
-    fn reap_quietly(&mut self, entry: &EntryId) -> (Result<(), ReapError>, Leaver)
+    fn reap_quietly(&mut self, entry: &EntryId) -> (Result<(), ReapError>, Leaver<Option<u64>>)
         ensures missing { IsErrOf result.0 ReapError.Missing ↔ IsMissing self.old.core entry.now }
         ensures reaps { LastingReaps self.old entry.now result.0 self.new }
-        ensures leaves { LeavesPlace self.old.parked result.1.poller self.new.parked }
+        ensures leaves { Leaves self.old.parked result.1.poller self.new.parked }
     {
         let answer = self.core.reap(entry);
         (answer, keep_or_leave(&self.core, &mut self.parked))

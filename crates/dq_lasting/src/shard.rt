@@ -4,6 +4,7 @@ ghost use Rattle.std.specs.List.{count_by};
 ghost use Rattle.dq_core.specs.Calls.{TellsWake};
 ghost use Rattle.dq_core.specs.Renewals.{OldAreMissing};
 ghost use Rattle.dq_core.specs.Slots.{is_held, is_worn};
+ghost use Rattle.dq_parking.specs.Parking.{Leaves};
 ghost use Rattle.dq_lasting.specs.declared.errors.LastingError.TheVariants.{Closed};
 ghost use Rattle.dq_lasting.specs.Shard.{IsLasting, AddsUp};
 ghost use Rattle.dq_lasting.specs.Changes.{LastingInserts, LastingResets, LastingRemoves, Reopens};
@@ -11,13 +12,12 @@ ghost use Rattle.dq_lasting.specs.Changes.{LastingDeadline, LastingPolls, Lastin
 ghost use Rattle.dq_lasting.specs.Changes.{LastingClears, LastingTells, LastingIssues, IsWith};
 ghost use Rattle.dq_lasting.specs.Changes.{count_end};
 ghost use Rattle.dq_lasting.specs.Keeping.{ClosesWorn, ClosesFarWorn, TellsDrained};
-ghost use Rattle.dq_lasting.specs.Parking.{LeavesPlace};
 
 use crate::ended::{Ended, LastingTally};
 use crate::errors::{LastingError, ReopenError};
 use crate::numbered::NumberedCaller;
-use crate::parked::{Leaver, Parked};
 use dq_core::{CoreError, DelayCore, Removed, Tally, Turn};
+use dq_parking::{Leaver, Parked};
 use dq_ticks::{EntryId, Key};
 use dq_words::{Keeper, WordsError};
 use std::alloc::{Allocator, Global};
@@ -33,7 +33,7 @@ pub struct LastingShard<T, A: Allocator = Global> {
     pub(crate) core: DelayCore<T, Keeper<A>, A>,
     pub(crate) takes: bool,
     pub(crate) past: Ended,
-    pub(crate) parked: Option<Parked>,
+    pub(crate) parked: Option<Parked<Option<u64>>>,
     // The slot from which the next sweep of a few slots goes on.
     pub(crate) sweep_from: usize,
 }
@@ -253,9 +253,9 @@ impl<T: Drop, A: Allocator> LastingShard<T, A> {
     }
 
     // Closes it where it takes entries and half of its slots at the least are worn, and tells whether it did.
-    pub(crate) fn close_worn(&mut self) -> (bool, Leaver)
+    pub(crate) fn close_worn(&mut self) -> (bool, Leaver<Option<u64>>)
         ensures closes { ClosesWorn self.old result.0 self.new }
-        ensures leaves { LeavesPlace self.old.parked result.1.poller self.new.parked }
+        ensures leaves { Leaves self.old.parked result.1.poller self.new.parked }
     {
         let worn = self.core.worn();
         let capacity = self.core.capacity();
@@ -269,9 +269,9 @@ impl<T: Drop, A: Allocator> LastingShard<T, A> {
     }
 
     // Closes it where it takes entries and three quarters of its slots at the least are worn, and tells whether it did.
-    pub(crate) fn close_far_worn(&mut self) -> (bool, Leaver)
+    pub(crate) fn close_far_worn(&mut self) -> (bool, Leaver<Option<u64>>)
         ensures closes { ClosesFarWorn self.old result.0 self.new }
-        ensures leaves { LeavesPlace self.old.parked result.1.poller self.new.parked }
+        ensures leaves { Leaves self.old.parked result.1.poller self.new.parked }
     {
         let worn = self.core.worn();
         let capacity = self.core.capacity();

@@ -7,89 +7,66 @@ ghost use Rattle.std.specs.Prelude.{◌≡◌, ◌<◌, ◌≤◌, ℕ, ⊤, [],
 ghost use Rattle.futures.specs.Task.{Covers, Keeps};
 ghost use Rattle.futures.specs.Poll.{IfReady, OnPending};
 ghost use Rattle.futures.specs.Runs.{After, Within};
+ghost use Rattle.dq_parking.specs.Items.{IfFault};
 ghost use Rattle.dq_lasting.specs.declared.errors.LastingError.TheVariants.{Unknown};
 ghost use Rattle.dq_lasting.specs.Streams.{LastingStreamPolls, LastingGives, NeverEnds};
-ghost use Rattle.dq_lasting.specs.Streams.{IfLastingFault, IsLastingFault};
+ghost use Rattle.dq_lasting.specs.Streams.{IsLastingFault};
 
 use crate::errors::LastingError;
 use crate::queue::LastingQueue;
 use dq_core::{CoreError, Expired};
+use dq_parking::{StreamFault, TickSource};
 use futures::Stream;
 use futures::task::{Context, Poll, Source};
 use std::alloc::{Allocator, Global};
 use std::sync::Wait;
-use thiserror::Error;
 
-/// Says which tick it is.
-pub trait Ticks: Drop {
-    /// What it may answer, and what it is after that.
-    ghost tells: { Self → ℕ → Self → Type 0 } = { λ _ _ _. ⊤ };
-
-    /// The tick of this moment, of one millisecond. A stream asks it while it holds no lock.
-    fn now(&mut self) -> u64
-        ensures { tells self.old result self.new };
-}
-
-/// Why a stream gives no entry. It may be polled again.
-#[derive(Clone, Copy, Debug, PartialEq, Eq, Error)]
-pub enum LastingFault {
-    /// The tick that it was told is beyond the last tick. The shard has noted nothing.
-    #[error("the tick is beyond the last tick, {limit}")]
-    TickTooLarge {
-        /// The last tick.
-        limit: u64,
-    },
-    /// Memory for the waker was refused. Nothing is parked.
-    #[error("out of memory")]
-    NoMemory,
-}
-
-/// What expires at one place of a lasting queue, at the ticks that it is told, through every renewal of the shard
-/// there.
+/// What expires at one place of a lasting queue, at the ticks of a source, through every renewal of the shard there.
+/// It asks the source while it holds no lock.
 ///
 /// Each poll takes the shard's lock once. It gives one entry that is due, and else parks in the shard, one poller a
 /// place: until the next wake, or where nothing is linked until an insert. It never ends. It holds no entry, so none is
 /// lost where it is dropped; its poller stays parked until it is woken or another takes its place.
 #[derive(Drop)]
-pub struct LastingStream<'q, T, K, R: Wait, A: Allocator = Global> {
+pub struct LastingStream<'q, T, S, R: Wait, A: Allocator = Global> {
     pub(crate) rt: &'q R,
     pub(crate) queue: &'q LastingQueue<T, A>,
     pub(crate) place: usize,
-    pub(crate) ticks: K,
+    pub(crate) source: S,
     pub(crate) name: Source,
     ghost in_range: { place < queue.now.shards },
 }
 
-impl<'q, T, K, R: Wait, A: Allocator> LastingStream<'q, T, K, R, A> {
-    /// A stream of a place, at these ticks.
+impl<'q, T, S, R: Wait, A: Allocator> LastingStream<'q, T, S, R, A> {
+    /// A stream of a place, at the ticks of a source.
     ///
     /// # Errors
-    /// Unknown out of range. The ticks come back.
+    /// Unknown out of range. The source comes back.
     pub fn new(
         rt: &'q R,
         queue: &'q LastingQueue<T, A>,
         place: usize,
-        ticks: K,
-    ) -> Result<LastingStream<'q, T, K, R, A>, (LastingError, K)>
+        source: S,
+    ) -> Result<LastingStream<'q, T, S, R, A>, (LastingError, S)>
         ensures opened { IfOk result (λ s. (place < queue.now.shards) × (s.queue ≡ queue.entry)
-            × (s.place ≡ place) × (s.ticks ≡ ticks)) }
-        ensures refused { IfErr result (λ e. (queue.now.shards ≤ place) × (e ≡ (Unknown, ticks))) }
+            × (s.place ≡ place) × (s.source ≡ source)) }
+        ensures refused { IfErr result (λ e. (queue.now.shards ≤ place) × (e ≡ (Unknown, source))) }
     {
         if place >= queue.shards() {
-            return Err((LastingError::Unknown, ticks));
+            return Err((LastingError::Unknown, source));
         }
         Ok(LastingStream {
             rt,
             queue,
             place,
-            ticks,
+            source,
             name: Source::new(),
         })
     }
 }
 
-impl<'q, T: Drop, K: Ticks, R: Wait, A: Allocator> Stream for LastingStream<'q, T, K, R, A> {
-    type Item = Result<Expired<T>, LastingFault>;
+impl<'q, T: Drop, S: TickSource, R: Wait, A: Allocator> Stream for LastingStream<'q, T, S, R, A> {
+    type Item = Result<Expired<T>, StreamFault>;
 
     ghost needs = { λ stream s. s ≡ stream.name.id };
 
@@ -100,10 +77,10 @@ impl<'q, T: Drop, K: Ticks, R: Wait, A: Allocator> Stream for LastingStream<'q, 
     ///
     /// A tick beyond the last one gives TickTooLarge, and where no waker can be made it gives NoMemory. It goes on
     /// after both.
-    fn poll_next(&mut self, cx: &mut Context<'_>) -> Poll<Option<Result<Expired<T>, LastingFault>>>
+    fn poll_next(&mut self, cx: &mut Context<'_>) -> Poll<Option<Result<Expired<T>, StreamFault>>>
         // It never ends, and a fault tells why no entry is given.
         ensures lasts { NeverEnds result }
-        ensures fault { IfLastingFault result (λ e. IsLastingFault e cx.new) }
+        ensures fault { IfFault result (λ e. IsLastingFault e cx.new) }
 
         // It waits registered with its context.
         ensures registered { OnPending result (Covers cx.new (λ s. s ≡ self.new.name.id)) }
@@ -113,7 +90,7 @@ impl<'q, T: Drop, K: Ticks, R: Wait, A: Allocator> Stream for LastingStream<'q, 
             × (self.new.name ≡ self.old.name) × (self.new.rt ≡ self.old.rt) }
 
         // All that it does: the poll of its place that parks, at a tick that it was told.
-        ensures polls { (tick : ℕ) × K.tells self.old.ticks tick self.new.ticks
+        ensures polls { (tick : ℕ) × S.tells self.old.source tick self.new.source
             × LastingStreamPolls T self.old.queue.now.shards self.old.place cx.old cx.new tick result }
 
         // What every stream owes. It may be polled at any time: two of these bind nothing here.
@@ -129,7 +106,7 @@ impl<'q, T: Drop, K: Ticks, R: Wait, A: Allocator> Stream for LastingStream<'q, 
             (LastingGives T self.new.queue.now.shards self.new.place)) }
         ensures kept { Keeps cx.old cx.new }
     {
-        let tick = self.ticks.now();
+        let tick = self.source.now();
         match self
             .queue
             .poll_or_park(self.rt, self.place, tick, &self.name, cx)
@@ -137,10 +114,10 @@ impl<'q, T: Drop, K: Ticks, R: Wait, A: Allocator> Stream for LastingStream<'q, 
             Poll::Pending => Poll::Pending,
             Poll::Ready(Ok(expired)) => Poll::Ready(Some(Ok(expired))),
             Poll::Ready(Err(LastingError::Core(CoreError::TickTooLarge { limit }))) => {
-                Poll::Ready(Some(Err(LastingFault::TickTooLarge { limit })))
+                Poll::Ready(Some(Err(StreamFault::TickTooLarge { limit })))
             }
             Poll::Ready(Err(LastingError::Core(CoreError::NoMemory))) => {
-                Poll::Ready(Some(Err(LastingFault::NoMemory)))
+                Poll::Ready(Some(Err(StreamFault::NoMemory)))
             }
             Poll::Ready(Err(_)) => unreachable!(),
         }

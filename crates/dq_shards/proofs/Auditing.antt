@@ -12,7 +12,7 @@ use Rattle.dq_words.specs.Files.{keeper_writes}
 use Rattle.dq_words.specs.KeeperCalls.{Accounts, AccountsFor, Returns}
 use Rattle.dq_words.specs.Keeping.{Stood, counts_of}
 use Rattle.dq_words.specs.Seats.{Sat}
-use Rattle.dq_shards.specs.declared.parked.Parked.{Parked}
+use Rattle.dq_parking.specs.declared.parked.Parked.{Parked}
 use Rattle.dq_shards.specs.declared.totals.Totals.{Totals}
 use Rattle.dq_shards.specs.declared.totals.HandlesOut.{HandlesOut}
 use Rattle.dq_shards.specs.Shard.{ShardView}
@@ -50,7 +50,7 @@ totals w t accounts inserted expired removed sum = record {
 }
 
 -- a shard's queue before and after its callers were heard of, and the poller
-module _ {T : Type 0} (b n : Core T Sat) (p : Option Parked) where
+module _ {T : Type 0} (b n : Core T Sat) (p : Option (Parked ℕ)) where
   abbrev pub over : Core T Sat → ShardView T
   over k = record { core = k; parked = p }
 

@@ -19,8 +19,9 @@ use Rattle.dq_words.specs.Seats.{Sat}
 use Rattle.dq_words.specs.declared.keeper.WordsError.{WordsError}
 use Rattle.dq_words.specs.Endings.{WritesStay}
 use Rattle.dq_words.specs.KeeperCalls.{HasBegun, Issues, Tells}
-use Rattle.dq_shards.specs.declared.parked.Parked.{Parked}
-use Rattle.dq_shards.specs.Parking.{is_rung, after_ring}
+use Rattle.dq_parking.specs.declared.parked.Parked.{Parked}
+use Rattle.dq_parking.specs.Parking.{is_rung, after_ring}
+use Rattle.dq_parking.specs.Waits.{ends_by_tick}
 use Rattle.dq_shards.specs.Shard.{ShardView, IsShard, KeepsOrWakes, keeper_of}
 
 -- the slot to go on from behind a piece that ends at one, none behind the last slot
@@ -96,14 +97,14 @@ module _ {T : Type 0} where
       (result ≡ is_some old.parked) × (new ≡ record old { parked = None })
 
   -- the poller that was parked is taken out, and none is left
-  abbrev pub TakesParked : ShardView T → Option Parked → ShardView T → Type 0
+  abbrev pub TakesParked : ShardView T → Option (Parked ℕ) → ShardView T → Type 0
   TakesParked old taken new = (taken ≡ old.parked) × (new ≡ record old { parked = None })
 
   -- a ring at a tick takes out a poller that is parked at or before it
   abbrev pub Rings : ShardView T → ℕ → Bool → ShardView T → Type 0
   Rings old tick result new =
-      (result ≡ is_rung old.parked tick)
-      × (new ≡ record old { parked = after_ring old.parked tick })
+      (result ≡ is_rung ends_by_tick old.parked tick)
+      × (new ≡ record old { parked = after_ring ends_by_tick old.parked tick })
 
   -- the shard with other words that are known alike
   abbrev pub with_keeper : ShardView T → Sat → ShardView T

@@ -5,7 +5,6 @@ pub mod Endings
 pub mod Handles
 pub mod Issuing
 pub mod Many
-pub mod Parking
 pub mod Refusals
 pub mod Shard
 pub mod Sums

@@ -7,20 +7,21 @@ use Rattle.dq_words.specs.declared.views.View.{View}
 use Rattle.dq_words.specs.Word.{parts_row}
 use Rattle.dq_words.specs.Seats.{Sat}
 use Rattle.dq_words.specs.Keeping.{IsKeeper, Stood, counts_of}
-use Rattle.dq_shards.specs.declared.parked.Parked.{Parked}
-use Rattle.dq_shards.specs.Parking.{still_parked}
+use Rattle.dq_parking.specs.declared.parked.Parked.{Parked}
+use Rattle.dq_parking.specs.Parking.{still_parked}
+use Rattle.dq_parking.specs.Waits.{lasts_until}
 
 -- a shard: its queue over the keeper's words, and the poller that is parked
 pub record ShardView (T : Type 0) : Type 0 where
   pub core : Core T Sat
-  pub parked : Option Parked
+  pub parked : Option (Parked ℕ)
 
 -- what the shard's keeper knows
 abbrev pub keeper_of : {T : Type 0} → ShardView T → View
 keeper_of s = s.core.words.view
 
 -- the parked law: where a poller is parked there is a next wake, and the parked tick isn't after it
-abbrev pub IsParked : {T : Type 0} → Core T Sat → Option Parked → Type 0
+abbrev pub IsParked : {T : Type 0} → Core T Sat → Option (Parked ℕ) → Type 0
 IsParked c None = Unit {0}
 IsParked c (Some p) = (wake : ℕ) × TellsWake c (Some wake) × (p.next ≤ wake)
 
@@ -38,7 +39,7 @@ pub record IsShard {T : Type 0} (s : ShardView T) : Type 0 where
   pub parked : IsParked s.core s.parked
 
 -- the poller stays parked exactly where the parked law holds with the queue as it is now
-abbrev pub KeepsOrWakes : {T : Type 0} → Core T Sat → Option Parked → Option Parked → Type 0
+abbrev pub KeepsOrWakes : {T : Type 0} → Core T Sat → Option (Parked ℕ) → Option (Parked ℕ) → Type 0
 KeepsOrWakes c None new = new ≡ None
 KeepsOrWakes c (Some p) new =
-    (wake : Option ℕ) × TellsWake c wake × (new ≡ still_parked (Some p) wake)
+    (wake : Option ℕ) × TellsWake c wake × (new ≡ still_parked lasts_until (Some p) wake)

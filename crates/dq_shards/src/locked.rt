@@ -1,16 +1,16 @@
 //! A shard's state while its lock is held.
 ghost use Rattle.std.specs.Prelude.{◌≡◌, Some};
-ghost use Rattle.dq_shards.specs.Parking.{poller};
+ghost use Rattle.dq_parking.specs.Parking.{poller};
 ghost use Rattle.dq_shards.specs.Shard.{IsParked, IsShard};
 ghost use Rattle.dq_shards.specs.Audits.{ShardAudits};
 ghost use Rattle.dq_shards.specs.Changes.{ShardInserts, ShardResets, ShardRemoves, ShardDeadline};
 ghost use Rattle.dq_shards.specs.Changes.{ShardPolls, ShardPollsSome, ShardSweeps, ShardSweepsSome, ShardReaps};
 ghost use Rattle.dq_shards.specs.Changes.{ShardClears, Unparks, TakesParked, Rings, ShardIssues, ShardTells};
 
-use crate::parked::Parked;
 use crate::state::ShardState;
 use crate::totals::{HandlesOut, Totals};
 use dq_core::{CoreError, Piece, ReapError, Removed, Swept, Turn};
+use dq_parking::Parked;
 use dq_ticks::{EntryId, Key};
 use dq_words::{Caller, WordsError};
 use futures::task::Waker;

@@ -2,19 +2,19 @@
 ghost use Rattle.std.specs.Prelude.{◌≡◌, ◌<◌, ◌≤◌, ◌↔◌, vec_capacity, IsErr, IsErrOf, OnErr};
 ghost use Rattle.dq_ticks.specs.declared.TheConstants.{LAST_TICK};
 ghost use Rattle.dq_core.specs.declared.errors.CoreError.TheVariants.{TickTooLarge};
+ghost use Rattle.dq_parking.specs.Parking.{Leaves};
 ghost use Rattle.dq_shards.specs.declared.errors.QueueError.TheVariants.{Core, Unknown};
 ghost use Rattle.dq_shards.specs.Answers.{OnShardOr};
 ghost use Rattle.dq_shards.specs.Changes.{LeavesShard};
 ghost use Rattle.dq_shards.specs.Many.{ShardPollsMany};
-ghost use Rattle.dq_shards.specs.Parking.{Leaves};
 ghost use Rattle.dq_shards.specs.Shard.{KeepsOrWakes};
 
 use crate::errors::QueueError;
 use crate::locked::LockedShard;
-use crate::parked::Leaver;
 use crate::queue::SharedDelayQueue;
 use crate::state::{ShardState, keep_or_leave};
 use dq_core::{CoreError, Expired};
+use dq_parking::Leaver;
 use dq_words::{ManyTurn, poll_into};
 use std::alloc::Allocator;
 use std::sync::Wait;

@@ -1,11 +1,11 @@
 //! The poller that waits for a shard: one at a time.
 ghost use Rattle.std.specs.Prelude.{◌≡◌, Some, option_map};
-ghost use Rattle.dq_shards.specs.Parking.{poller};
+ghost use Rattle.dq_parking.specs.Parking.{poller};
 ghost use Rattle.dq_shards.specs.Shard.{IsParked};
 ghost use Rattle.dq_shards.specs.Changes.{Unparks, TakesParked, Rings};
 
-use crate::parked::{Parked, ring};
 use crate::state::ShardState;
+use dq_parking::{Parked, ring};
 use futures::task::Waker;
 use std::alloc::Allocator;
 

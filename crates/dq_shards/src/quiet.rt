@@ -1,15 +1,15 @@
 //! The calls of a shard that wake nobody while its lock is held: who leaves is handed over, and woken once the lock is free.
 //! So are the values that they let go: they are set aside, and dropped once the lock is free.
-ghost use Rattle.dq_shards.specs.Parking.{Leaves};
+ghost use Rattle.dq_parking.specs.Parking.{Leaves};
 ghost use Rattle.dq_shards.specs.Changes.{ShardInserts, ShardResets, ShardRemoves};
 ghost use Rattle.dq_shards.specs.Changes.{ShardPolls, ShardPollsSome, ShardSweeps, ShardSweepsSome, ShardReaps};
 ghost use Rattle.dq_shards.specs.Changes.{ShardClears, Rings, LeavesShard};
 ghost use Rattle.dq_shards.specs.Shard.{IsShard};
 
 use crate::locked::LockedShard;
-use crate::parked::{Leaver, ring};
 use crate::state::{ShardState, keep_or_leave};
 use dq_core::{CoreError, Piece, ReapError, Removed, Swept, Turn};
+use dq_parking::{Leaver, ring};
 use dq_ticks::{EntryId, Key};
 use std::alloc::Allocator;
 

@@ -9,14 +9,14 @@ ghost use Rattle.dq_core.specs.Calls.{base_for, noting, IsMissing, IsLiveEntry, 
 ghost use Rattle.dq_core.specs.Pieces.{IfAnswer, steps_left};
 ghost use Rattle.dq_core.specs.Sweeps.{NoneCancelled, NotCancelled};
 ghost use Rattle.dq_core.specs.AtTheCall.{IfOut, IfRests, linked_in, IsLinkedAs, HoldsValue, OthersStay, KeepsSlots};
-ghost use Rattle.dq_shards.specs.Parking.{Leaves};
+ghost use Rattle.dq_parking.specs.Parking.{Leaves};
 ghost use Rattle.dq_shards.specs.Shard.{IsShard, IsParked, KeepsOrWakes};
 ghost use Rattle.dq_shards.specs.Changes.{ShardInserts, ShardResets, ShardRemoves, ShardDeadline};
 ghost use Rattle.dq_shards.specs.Changes.{ShardPolls, ShardPollsSome, IfWorking};
 ghost use Rattle.dq_shards.specs.Changes.{ShardSweeps, ShardSweepsSome, ShardReaps, ShardClears, going_on};
 
-use crate::parked::{Leaver, Parked, keep_until};
 use dq_core::{CoreError, DelayCore, Piece, ReapError, Removed, Swept, Turn};
+use dq_parking::{Leaver, Parked, keep_until};
 use dq_ticks::{EntryId, Key};
 use dq_words::Keeper;
 use std::alloc::{Allocator, Global};

@@ -6,11 +6,13 @@ use Rattle.futures.specs.declared.task.Poll.TheVariants.{Ready, Pending}
 use Rattle.futures.specs.declared.task.context.Context.{Context}
 use Rattle.dq_core.specs.Core.{machine}
 use Rattle.dq_core.specs.Machine.{NoneLinked}
+use Rattle.dq_parking.specs.declared.fault.StreamFault.TheVariants.{TickTooLarge, NoMemory}
+use Rattle.dq_parking.specs.Items.{StreamItem, Answer}
+use Rattle.dq_parking.specs.Items.{IfGiven, OnEnd}
 use Rattle.dq_shards.specs.Shard.{ShardView, IsShard}
-use Rattle.dq_stream.specs.declared.fault.StreamFault.TheVariants.{TickTooLarge, NoMemory}
-use Rattle.dq_stream.specs.Items.{StreamItem, Answer, is_over}
+use Rattle.dq_stream.specs.Over.{is_over}
 use Rattle.dq_stream.specs.Polls.{unparked, StreamPolls}
-use Rattle.dq_stream.specs.Answers.{IfGiven, OnEnd, IsLeastDue}
+use Rattle.dq_stream.specs.Answers.{IsLeastDue}
 use Rattle.dq_stream.proofs.Least.{none_earlier, noted_at}
 use Rattle.dq_stream.specs.Gives.{IsGiven, Gives}
 

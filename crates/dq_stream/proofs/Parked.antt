@@ -1,6 +1,5 @@
 -- Who is parked after a registration, and until when.
-use Rattle.std.proofs.Common.{◌≡◌, ℕ, ◌<◌, [], true, sym, ap, subst, Option, Some, None, Result, OnOk, IsSomeAnd, ◌⊎◌}
-use Rattle.futures.specs.Task.{Wakes}
+use Rattle.std.proofs.Common.{◌≡◌, ℕ, ◌<◌, [], sym, ap, subst, Option, Some, None, Result, OnOk}
 use Rattle.futures.specs.Poll.{OnPending}
 use Rattle.futures.specs.declared.task.Poll.TheVariants.{Ready, Pending}
 use Rattle.futures.specs.declared.task.context.Context.{Context}
@@ -8,9 +7,10 @@ use Rattle.futures.specs.declared.task.waker.Waker.{Waker}
 use Rattle.dq_core.specs.Calls.{TellsWake}
 use Rattle.dq_core.specs.Core.{machine}
 use Rattle.dq_core.specs.Machine.{due}
+use Rattle.dq_parking.specs.declared.fault.StreamFault.{StreamFault}
+use Rattle.dq_parking.specs.Wakers.{LeavesWaker}
+use Rattle.dq_parking.specs.Items.{Answer}
 use Rattle.dq_shards.specs.Shard.{ShardView}
-use Rattle.dq_stream.specs.declared.fault.StreamFault.{StreamFault}
-use Rattle.dq_stream.specs.Items.{Answer}
 use Rattle.dq_stream.specs.Wakers.{Parks, ParksWith}
 use Rattle.dq_stream.specs.Polls.{StreamPolls}
 use Rattle.dq_stream.specs.Answers.{IsParkedAtWake}
@@ -19,7 +19,7 @@ module _ {T : Type 0} (cx cy : Context) where
   -- the poller that is parked has the waker that the registration left
   pub parks_own : (slot : Option Waker) (r : Result (Unit {0}) StreamFault) (old new : ShardView T) (next : ℕ)
       → ParksWith old next slot r new
-      → (cy.lacks_waker ≡ true) ⊎ IsSomeAnd slot (λ waker. Wakes waker cx)
+      → LeavesWaker cx cy slot
       → OnOk r (Parks cx cy old next new)
   parks_own None r old new next with left = rw (with.0) tt
   parks_own (Some waker) r old new next with left = rw (with.0) (waker, left, with.1)

@@ -12,15 +12,17 @@ use Rattle.dq_core.specs.Calls.{TellsWake, noting}
 use Rattle.dq_core.specs.Pieces.{steps_left}
 use Rattle.dq_core.specs.Core.{machine}
 use Rattle.dq_core.specs.Machine.{Machine, table_at, due, NoneLinked, NoneLiveBefore}
+use Rattle.dq_parking.specs.declared.fault.StreamFault.TheVariants.{TickTooLarge, NoMemory}
+use Rattle.dq_parking.specs.Items.{StreamItem, Answer}
+use Rattle.dq_parking.specs.Items.{IfGiven, OnEnd}
 use Rattle.dq_shards.specs.Shard.{ShardView, IsShard}
 use Rattle.dq_shards.specs.Changes.{ShardPollsSome}
 use Rattle.dq_shards.specs.Endings.{PieceOutsAreInForce}
-use Rattle.dq_stream.specs.declared.fault.StreamFault.TheVariants.{TickTooLarge, NoMemory}
-use Rattle.dq_stream.specs.Items.{StreamItem, Answer, is_over}
+use Rattle.dq_stream.specs.Over.{is_over}
 use Rattle.dq_stream.specs.Polls.{unparked}
 use Rattle.dq_stream.specs.Paces.{PacedPolls, IsAtWork}
 use Rattle.dq_stream.specs.PacedGives.{IsPacedItem, PacedGives, PacedItemsAreInForce}
-use Rattle.dq_stream.specs.Answers.{IfGiven, OnEnd, IsLeastDue, IsParkedAtWake}
+use Rattle.dq_stream.specs.Answers.{IsLeastDue, IsParkedAtWake}
 use Rattle.dq_stream.proofs.Giving.{lawful}
 use Rattle.dq_stream.proofs.Least.{none_live_left}
 

@@ -1,6 +1,5 @@
 -- What a reader wants to know of one answer of a stream.
-use Rattle.std.specs.Prelude.{◌≡◌, ℕ, ◌≤◌, ◌<◌, ⊤, Bool, true, false, [], Some, None, Ok, Err}
-use Rattle.futures.specs.declared.task.Poll.TheVariants.{Ready, Pending}
+use Rattle.std.specs.Prelude.{◌≡◌, ℕ, ◌≤◌, ◌<◌, Bool, true, false, [], Some}
 use Rattle.futures.specs.declared.task.context.Context.{Context}
 use Rattle.futures.specs.declared.task.waker.Waker.{Waker}
 use Rattle.dq_ticks.specs.declared.TheConstants.{LAST_TICK}
@@ -8,32 +7,11 @@ use Rattle.dq_core.specs.declared.outcomes.Expired.{Expired}
 use Rattle.dq_core.specs.Calls.{TellsWake}
 use Rattle.dq_core.specs.Core.{machine}
 use Rattle.dq_core.specs.Machine.{NoneLiveBefore, due}
-use Rattle.dq_shards.specs.Parking.{poller}
+use Rattle.dq_parking.specs.declared.fault.StreamFault.{StreamFault}
+use Rattle.dq_parking.specs.declared.fault.StreamFault.TheVariants.{TickTooLarge, NoMemory}
+use Rattle.dq_parking.specs.Parking.{poller}
+use Rattle.dq_parking.specs.Wakers.{LacksWaker, IsOwn}
 use Rattle.dq_shards.specs.Shard.{ShardView}
-use Rattle.dq_stream.specs.declared.fault.StreamFault.{StreamFault}
-use Rattle.dq_stream.specs.declared.fault.StreamFault.TheVariants.{TickTooLarge, NoMemory}
-use Rattle.dq_stream.specs.Items.{Answer}
-use Rattle.dq_stream.specs.Wakers.{LacksWaker, IsOwn}
-
--- where an entry is given
-abbrev pub IfGiven : {T : Type 0} → Answer T → (Expired T → Type 0) → Type 0
-IfGiven (Ready (Some (Ok x))) P = P x
-IfGiven (Ready (Some (Err e))) P = ⊤
-IfGiven (Ready None) P = ⊤
-IfGiven Pending P = ⊤
-
--- where a fault is given
-abbrev pub IfFault : {T : Type 0} → Answer T → (StreamFault → Type 0) → Type 0
-IfFault (Ready (Some (Ok x))) P = ⊤
-IfFault (Ready (Some (Err e))) P = P e
-IfFault (Ready None) P = ⊤
-IfFault Pending P = ⊤
-
--- where nothing is given, now or for good
-abbrev pub OnEnd : {T : Type 0} → Answer T → Type 0 → Type 0
-OnEnd (Ready (Some x)) P = ⊤
-OnEnd (Ready None) P = P
-OnEnd Pending P = ⊤
 
 -- An entry that a shard gave: its deadline in force is not after the tick that the shard has noted
 -- then, and no live entry of the shard has an earlier one.

@@ -4,10 +4,11 @@ use Rattle.futures.specs.declared.task.Poll.TheVariants.{Ready}
 use Rattle.futures.specs.declared.task.context.Context.{Context}
 use Rattle.dq_core.specs.Core.{machine}
 use Rattle.dq_core.specs.Machine.{NoneLinked}
+use Rattle.dq_parking.specs.Items.{Answer, IfFault, OnEnd}
 use Rattle.dq_shards.specs.Shard.{ShardView}
 use Rattle.dq_stream.specs.declared.stream.ExpiredStream.{ExpiredStream}
-use Rattle.dq_stream.specs.Answers.{IfFault, OnEnd, IsFault}
-use Rattle.dq_stream.specs.Items.{Answer, is_over}
+use Rattle.dq_stream.specs.Answers.{IsFault}
+use Rattle.dq_stream.specs.Over.{is_over}
 
 module _ {T S R A : Type 0} where
   -- it gives nothing where nothing is linked, or where it had ended for good

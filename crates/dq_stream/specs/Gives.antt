@@ -3,9 +3,10 @@ use Rattle.std.specs.Prelude.{◌≡◌, ℕ, ⊤, Bool, true, false, List, [], 
 use Rattle.std.specs.Prelude.{Option, Some, None, Ok, Err}
 use Rattle.dq_ticks.specs.declared.TheConstants.{LAST_TICK}
 use Rattle.dq_core.specs.declared.outcomes.Turn.TheVariants.{Out}
+use Rattle.dq_parking.specs.declared.fault.StreamFault.TheVariants.{TickTooLarge, NoMemory}
+use Rattle.dq_parking.specs.Items.{StreamItem}
 use Rattle.dq_shards.specs.Changes.{ShardPolls, OnNumbered}
-use Rattle.dq_stream.specs.declared.fault.StreamFault.TheVariants.{TickTooLarge, NoMemory}
-use Rattle.dq_stream.specs.Items.{StreamItem, ends_with}
+use Rattle.dq_stream.specs.Over.{ends_with}
 
 -- An entry that is given is what a poll gives at some tick, on a state of the shard of that number.
 -- So it was due, none was due before it, and its deadline was in force.

@@ -2,7 +2,7 @@ pub mod Answers
 pub mod EachPoll
 pub mod Endings
 pub mod Gives
-pub mod Items
+pub mod Over
 pub mod PacedGives
 pub mod Paces
 pub mod Polls

@@ -5,11 +5,12 @@ use Rattle.dq_ticks.specs.declared.TheConstants.{LAST_TICK}
 use Rattle.dq_core.specs.declared.outcomes.Expired.{Expired}
 use Rattle.dq_core.specs.declared.outcomes.Piece.TheVariants.{Answer}
 use Rattle.dq_core.specs.declared.outcomes.Turn.TheVariants.{Out}
+use Rattle.dq_parking.specs.declared.fault.StreamFault.TheVariants.{TickTooLarge, NoMemory}
+use Rattle.dq_parking.specs.Items.{StreamItem}
 use Rattle.dq_shards.specs.Shard.{ShardView}
 use Rattle.dq_shards.specs.Changes.{ShardPollsSome, OnNumbered}
-use Rattle.dq_stream.specs.declared.fault.StreamFault.TheVariants.{TickTooLarge, NoMemory}
 use Rattle.dq_stream.specs.Endings.{IsLeastInForce}
-use Rattle.dq_stream.specs.Items.{StreamItem, ends_with}
+use Rattle.dq_stream.specs.Over.{ends_with}
 
 -- An entry that is given is what a poll in pieces gives at some tick, on a state of the shard of
 -- that number. So it was due, none was due before it, and its deadline was in force.

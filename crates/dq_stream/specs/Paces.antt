@@ -8,13 +8,14 @@ use Rattle.dq_core.specs.declared.outcomes.Piece.TheVariants.{Answer as Answered
 use Rattle.dq_core.specs.declared.outcomes.Turn.TheVariants.{Out, Waiting, Idle}
 use Rattle.dq_core.specs.Calls.{noting}
 use Rattle.dq_core.specs.Pieces.{steps_left}
+use Rattle.dq_parking.specs.declared.fault.StreamFault.TheVariants.{TickTooLarge, NoMemory}
+use Rattle.dq_parking.specs.Items.{Answer}
+use Rattle.dq_parking.specs.Wakers.{LacksWaker}
 use Rattle.dq_shards.specs.Shard.{ShardView}
 use Rattle.dq_shards.specs.Changes.{ShardPollsSome, OnNumbered}
-use Rattle.dq_stream.specs.declared.fault.StreamFault.TheVariants.{TickTooLarge, NoMemory}
-use Rattle.dq_stream.specs.Items.{Answer}
 use Rattle.dq_stream.specs.Polls.{unparked}
 use Rattle.dq_stream.specs.Refusals.{too_large}
-use Rattle.dq_stream.specs.Wakers.{LacksWaker, Parks}
+use Rattle.dq_stream.specs.Wakers.{Parks}
 
 module _ {T : Type 0} where
   -- the poller is taken out, and then the shard is polled by at most so many steps

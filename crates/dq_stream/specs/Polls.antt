@@ -5,12 +5,13 @@ use Rattle.futures.specs.declared.task.context.Context.{Context}
 use Rattle.dq_core.specs.declared.errors.CoreError.{CoreError}
 use Rattle.dq_core.specs.declared.outcomes.Turn.{Turn}
 use Rattle.dq_core.specs.declared.outcomes.Turn.TheVariants.{Out, Waiting, Idle}
+use Rattle.dq_parking.specs.declared.fault.StreamFault.TheVariants.{TickTooLarge, NoMemory}
+use Rattle.dq_parking.specs.Items.{Answer}
+use Rattle.dq_parking.specs.Wakers.{LacksWaker}
 use Rattle.dq_shards.specs.Shard.{ShardView}
 use Rattle.dq_shards.specs.Changes.{ShardPolls, OnNumbered}
-use Rattle.dq_stream.specs.declared.fault.StreamFault.TheVariants.{TickTooLarge, NoMemory}
-use Rattle.dq_stream.specs.Items.{Answer}
 use Rattle.dq_stream.specs.Refusals.{too_large}
-use Rattle.dq_stream.specs.Wakers.{LacksWaker, Parks}
+use Rattle.dq_stream.specs.Wakers.{Parks}
 
 module _ {T : Type 0} where
   -- the shard with no poller parked

@@ -1,20 +1,12 @@
 -- Whose waker is parked in a shard.
-use Rattle.std.specs.Prelude.{◌≡◌, ℕ, true, Option, Some, None, Result, Ok, Err, ◌⊎◌}
-use Rattle.futures.specs.Task.{Wakes}
+use Rattle.std.specs.Prelude.{◌≡◌, ℕ, Option, Some, None, Result, Ok, Err}
 use Rattle.futures.specs.declared.task.context.Context.{Context}
 use Rattle.futures.specs.declared.task.waker.Waker.{Waker}
-use Rattle.dq_shards.specs.Parking.{poller}
+use Rattle.dq_parking.specs.declared.fault.StreamFault.{StreamFault}
+use Rattle.dq_parking.specs.declared.fault.StreamFault.TheVariants.{NoMemory}
+use Rattle.dq_parking.specs.Parking.{poller}
+use Rattle.dq_parking.specs.Wakers.{IsOwn}
 use Rattle.dq_shards.specs.Shard.{ShardView}
-use Rattle.dq_stream.specs.declared.fault.StreamFault.{StreamFault}
-use Rattle.dq_stream.specs.declared.fault.StreamFault.TheVariants.{NoMemory}
-
--- no waker could be made for want of memory, and the task has asked for another poll
-abbrev pub LacksWaker : Context → Type 0
-LacksWaker cx = cx.lacks_waker ≡ true
-
--- the waker wakes the task that is polled from one context to the other
-abbrev pub IsOwn : Waker → Context → Context → Type 0
-IsOwn waker old new = LacksWaker new ⊎ Wakes waker old
 
 -- a shard with a poller that is parked at a tick
 abbrev pub parked_at : {T : Type 0} → ShardView T → ℕ → Waker → ShardView T

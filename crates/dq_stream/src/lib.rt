@@ -29,13 +29,10 @@
 #![tactic(auto)]
 
 pub mod endings;
-mod fault;
 mod paced;
 pub mod parking;
-mod source;
 mod stream;
 
-pub use fault::StreamFault;
+pub use dq_parking::{MillisecondTicks, StreamFault, TickSource};
 pub use paced::PacedStream;
-pub use source::{MillisecondTicks, TickSource};
 pub use stream::ExpiredStream;

@@ -3,16 +3,16 @@ ghost use Rattle.std.specs.Prelude.{◌≡◌, ℕ, ⊤, true, [], IfSome, OnSom
 ghost use Rattle.futures.specs.Task.{Covers, Keeps};
 ghost use Rattle.futures.specs.Poll.{IfReady, OnPending};
 ghost use Rattle.futures.specs.Runs.{After, Within};
+ghost use Rattle.dq_parking.specs.Items.{IfGiven};
 ghost use Rattle.dq_stream.specs.EachPoll.{EndsWhereEmpty, StaysOver, EndsByFault, StaysOfShard, AtToldTick};
 ghost use Rattle.dq_stream.specs.Paces.{PacedPolls, PacedAnswersAt, IsAtWork};
 ghost use Rattle.dq_stream.specs.PacedGives.{PacedGives};
-ghost use Rattle.dq_stream.specs.Answers.{IfGiven, IsLeastDue, IsParkedAtWake};
+ghost use Rattle.dq_stream.specs.Answers.{IsLeastDue, IsParkedAtWake};
 
-use crate::fault::StreamFault;
-use crate::parking::{let_sleep, wait};
-use crate::source::TickSource;
+use crate::parking::wait;
 use crate::stream::{ExpiredStream, drop_at_rest, ends};
 use dq_core::{CoreError, Expired, Piece, Turn};
+use dq_parking::{StreamFault, TickSource, let_sleep};
 use dq_shards::LockedShard;
 use futures::Stream;
 use futures::task::{Context, Poll, Source};

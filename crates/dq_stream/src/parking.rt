@@ -2,19 +2,13 @@
 ghost use Rattle.std.specs.Prelude.{◌≡◌, Some, OnOk, IfErr};
 ghost use Rattle.futures.specs.Task.{Covers, Keeps};
 ghost use Rattle.dq_core.specs.Calls.{TellsWake};
-ghost use Rattle.dq_stream.specs.Wakers.{LacksWaker, Parks, ParksWith};
+ghost use Rattle.dq_parking.specs.Wakers.{LacksWaker};
+ghost use Rattle.dq_stream.specs.Wakers.{Parks, ParksWith};
 
-use crate::fault::StreamFault;
-use dq_shards::{LockedShard, Parked};
-use futures::task::{Context, Poll, Source, Waker};
+use dq_parking::{StreamFault, register};
+use dq_shards::LockedShard;
+use futures::task::{Context, Source, Waker};
 use std::alloc::Allocator;
-
-// Lets a poller go that a stream took out, and doesn't wake it. Its waker is the user's: so the shard's lock is to be free.
-pub(crate) fn let_sleep(before: Option<Parked>) {
-    if let Some(poller) = before {
-        Parked::forget(poller);
-    }
-}
 
 // Registers with the context, and parks its task at the next wake. The name stands for the shard, as a source that
 // fires where it wakes its poller.
@@ -31,8 +25,7 @@ pub(crate) fn wait<T: Drop, A: Allocator>(
     ensures registered { Covers cx.new (λ s. s ≡ name.now.id) }
     ensures kept { Keeps cx.old cx.new }
 {
-    let mut slot = None;
-    let _pending: Poll<()> = cx.register(name, &mut slot);
+    let slot = register(name, cx);
     park_with(shard, next, slot)
 }
 

@@ -3,15 +3,15 @@ ghost use Rattle.std.specs.Prelude.{◌≡◌, ◌<◌, ◌≤◌, ℕ, ⊤, tru
 ghost use Rattle.futures.specs.Task.{Covers, Keeps};
 ghost use Rattle.futures.specs.Poll.{IfReady, OnPending};
 ghost use Rattle.futures.specs.Runs.{After, Within};
+ghost use Rattle.dq_parking.specs.Items.{IfGiven};
 ghost use Rattle.dq_shards.specs.declared.errors.QueueError.TheVariants.{Unknown};
-ghost use Rattle.dq_stream.specs.Items.{is_over};
+ghost use Rattle.dq_stream.specs.Over.{is_over};
 ghost use Rattle.dq_stream.specs.Polls.{StreamPolls, AnswersAt};
-ghost use Rattle.dq_stream.specs.Answers.{IfGiven, IsLeastDue, IsParkedAtWake};
+ghost use Rattle.dq_stream.specs.Answers.{IsLeastDue, IsParkedAtWake};
 
-use crate::fault::StreamFault;
-use crate::parking::{let_sleep, wait};
-use crate::source::TickSource;
+use crate::parking::wait;
 use dq_core::{CoreError, Expired, Turn};
+use dq_parking::{StreamFault, TickSource, let_sleep};
 use dq_shards::{LockedShard, QueueError, SharedDelayQueue};
 use futures::Stream;
 use futures::task::{Context, Poll, Source};

@@ -36,8 +36,7 @@
 
 use futures_core::Stream;
 use hontkhale::{
-    Expired, ExpiredStream, LastingFault, LastingPacedStream, LastingStream, PacedStream, StreamFault, TickSource,
-    Ticks,
+    Expired, ExpiredStream, LastingPacedStream, LastingStream, PacedStream, StreamFault, TickSource,
 };
 use std::pin::Pin;
 use std::task::{Context, Poll};
@@ -71,16 +70,16 @@ impl<T, S: TickSource> PollNext for PacedStream<'_, T, S> {
     }
 }
 
-impl<T, K: Ticks> PollNext for LastingStream<'_, T, K> {
-    type Item = Result<Expired<T>, LastingFault>;
+impl<T, S: TickSource> PollNext for LastingStream<'_, T, S> {
+    type Item = Result<Expired<T>, StreamFault>;
 
     fn poll_next_item(&mut self, cx: &mut Context<'_>) -> Poll<Option<Self::Item>> {
         self.poll_next(cx)
     }
 }
 
-impl<T, K: Ticks> PollNext for LastingPacedStream<'_, T, K> {
-    type Item = Result<Expired<T>, LastingFault>;
+impl<T, S: TickSource> PollNext for LastingPacedStream<'_, T, S> {
+    type Item = Result<Expired<T>, StreamFault>;
 
     fn poll_next_item(&mut self, cx: &mut Context<'_>) -> Poll<Option<Self::Item>> {
         self.poll_next(cx)

@@ -3,8 +3,8 @@
 use futures_core::Stream;
 use futures_util::StreamExt;
 use hontkhale::{
-    Expired, ExpiredStream, LastingConfig, LastingFault, LastingQueue, LastingStream, QueueConfig, SharedDelayQueue,
-    StreamFault, TickSource, Ticks, LAST_TICK,
+    Expired, ExpiredStream, LastingConfig, LastingQueue, LastingStream, QueueConfig, SharedDelayQueue, StreamFault,
+    TickSource, LAST_TICK,
 };
 use hontkhale_streams::IntoStream;
 use std::cell::Cell;
@@ -20,12 +20,6 @@ use std::task::{Context, Poll, Wake, Waker};
 struct Told(Rc<Cell<u64>>, PhantomPinned);
 
 impl TickSource for Told {
-    fn now(&mut self) -> u64 {
-        self.0.get()
-    }
-}
-
-impl Ticks for Told {
     fn now(&mut self) -> u64 {
         self.0.get()
     }
@@ -155,7 +149,7 @@ fn a_lasting_stream_never_ends() {
     let fault = task.poll(&mut stream);
     assert!(matches!(
         fault,
-        Poll::Ready(Some(Err(LastingFault::TickTooLarge { limit: LAST_TICK })))
+        Poll::Ready(Some(Err(StreamFault::TickTooLarge { limit: LAST_TICK })))
     ));
     tick.set(11);
     assert!(task.poll(&mut stream).is_pending());
@@ -198,7 +192,7 @@ fn a_paced_lasting_stream_wakes_for_the_rest() {
     tick.set(LAST_TICK + 1);
     assert!(matches!(
         task.poll(&mut stream),
-        Poll::Ready(Some(Err(LastingFault::TickTooLarge { limit: LAST_TICK })))
+        Poll::Ready(Some(Err(StreamFault::TickTooLarge { limit: LAST_TICK })))
     ));
     drop(stream.into_inner().into_inner());
 }

@@ -1,7 +1,6 @@
 //! Instants and durations as ticks.
 
-use crate::lasting::Ticks;
-use crate::stream::TickSource;
+use crate::parking::TickSource;
 use crate::LAST_TICK;
 use std::time::{Duration, Instant};
 
@@ -66,12 +65,6 @@ fn rounded_up(length: Duration) -> u64 {
 }
 
 impl TickSource for Clock {
-    fn now(&mut self) -> u64 {
-        self.tick()
-    }
-}
-
-impl Ticks for Clock {
     fn now(&mut self) -> u64 {
         self.tick()
     }

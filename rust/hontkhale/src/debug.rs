@@ -99,9 +99,10 @@ mod with_std {
     use super::{Debug, Formatter, Result};
     use crate::apps::{CountedCache, IdleSessions, Name, Seen, TtlCache};
     use crate::lasting::{LastingHandle, LastingPacedStream, LastingQueue, LastingStream, LockedLasting};
+    use crate::parking::{MillisecondTicks, Parked};
     use crate::pool::{HandlePool, Lent};
-    use crate::shards::{Handle, LockedShard, Parked, ShardState, SharedDelayQueue};
-    use crate::stream::{ExpiredStream, MillisecondTicks, PacedStream};
+    use crate::shards::{Handle, LockedShard, ShardState, SharedDelayQueue};
+    use crate::stream::{ExpiredStream, PacedStream};
     use std::hash::{BuildHasher, Hash};
 
     impl<T> Debug for SharedDelayQueue<T> {
@@ -131,7 +132,7 @@ mod with_std {
         }
     }
 
-    impl Debug for Parked {
+    impl<N: Debug> Debug for Parked<N> {
         fn fmt(&self, f: &mut Formatter<'_>) -> Result {
             f.debug_struct("Parked")
                 .field("next", &self.next)

@@ -32,6 +32,7 @@ mod shard;
 mod state;
 mod stream;
 
+pub use crate::parking::{MillisecondTicks, StreamFault, TickSource};
 pub use config::{BadLastingNumber, LastingConfig, SHARD_LIMIT};
 pub use ended::{Ended, LastingTally, LastingTotals};
 pub use entered::LockedLasting;
@@ -40,8 +41,7 @@ pub use handle::LastingHandle;
 pub use keeping::Kept;
 pub use numbered::NumberedCaller;
 pub use paced::LastingPacedStream;
-pub use parked::Parked;
 pub use queue::LastingQueue;
 pub use shard::LastingShard;
 pub use state::PlaceState;
-pub use stream::{LastingFault, LastingStream, Ticks};
+pub use stream::LastingStream;

@@ -110,6 +110,9 @@ mod apps;
 #[allow(dead_code, unused_imports)]
 mod lasting;
 #[cfg(feature = "std")]
+#[allow(dead_code, unused_imports)]
+mod parking;
+#[cfg(feature = "std")]
 mod pool;
 #[cfg(feature = "std")]
 pub mod replay;
@@ -138,9 +141,8 @@ pub use crate::apps::{CountedCache, IdleSessions, MemoAnswer, Name, PutAnswer, S
 pub use crate::clock::Clock;
 #[cfg(feature = "std")]
 pub use crate::lasting::{
-    BadLastingNumber, Ended, HandleError, HandleRenewError, Kept, LastingConfig, LastingError, LastingFault,
-    LastingHandle, LastingPacedStream, LastingQueue, LastingStream, LastingTally, LastingTotals, LockedLasting, PlaceState,
-    ReopenError, Ticks,
+    BadLastingNumber, Ended, HandleError, HandleRenewError, Kept, LastingConfig, LastingError, LastingHandle,
+    LastingPacedStream, LastingQueue, LastingStream, LastingTally, LastingTotals, LockedLasting, PlaceState, ReopenError,
 };
 #[cfg(feature = "std")]
 pub use crate::pool::{HandlePool, Lent};

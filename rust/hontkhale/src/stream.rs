@@ -4,13 +4,10 @@
 //! gone. Whoever keeps the time rings the shard, at each tick or at the ticks that matter: a stream that nobody rings
 //! sleeps until the next wake changes. A shard parks one poller, so a second stream on it puts the first to sleep.
 //!
-mod fault;
 mod paced;
 pub mod parking;
-mod source;
 mod stream;
 
-pub use fault::StreamFault;
+pub use crate::parking::{MillisecondTicks, StreamFault, TickSource};
 pub use paced::PacedStream;
-pub use source::{MillisecondTicks, TickSource};
 pub use stream::ExpiredStream;

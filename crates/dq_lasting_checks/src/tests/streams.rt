@@ -4,7 +4,7 @@ use self::Step::{Beside, Gives};
 use super::play::Call::{Close, Insert, KeepGoing, Ring, Woken};
 use super::play::{Call, Player, Texts, queue_and_player};
 use super::same;
-use dq_lasting::{Kept, LastingConfig, LastingError, LastingFault, LastingStream, Ticks};
+use dq_lasting::{Kept, LastingConfig, LastingError, LastingStream, StreamFault, TickSource};
 use dq_ticks::LAST_TICK;
 use futures::StreamExt;
 use futures::task::Poll;
@@ -18,7 +18,7 @@ use std::test::Fail;
 #[derive(Drop)]
 struct SetTick<'t>(&'t Cell<u64>);
 
-impl Ticks for SetTick<'_> {
+impl TickSource for SetTick<'_> {
     fn now(&mut self) -> u64 {
         self.0.get()
     }
@@ -31,11 +31,11 @@ type Stream<'q, 't, R> = LastingStream<'q, String, SetTick<'t>, R>;
 enum Seen {
     Waits,
     Out(u64),
-    Fault(LastingFault),
+    Fault(StreamFault),
     Ends,
 }
 
-const LATE: Seen = Seen::Fault(LastingFault::TickTooLarge { limit: LAST_TICK });
+const LATE: Seen = Seen::Fault(StreamFault::TickTooLarge { limit: LAST_TICK });
 
 // Polls a stream once.
 fn polled<R: Wait>(task: &MockTask, stream: &mut Stream<'_, '_, R>) -> Seen {

@@ -2,10 +2,11 @@
 
 use crate::core::{CoreError, Expired};
 use crate::lasting::errors::LastingError;
-use crate::lasting::parked::{keep_or_leave, Leaver};
+use crate::lasting::parked::keep_or_leave;
 use crate::lasting::queue::LastingQueue;
 use crate::lasting::quiet::unlock;
 use crate::lasting::shard::LastingShard;
+use crate::parking::Leaver;
 use crate::words::{poll_into, ManyTurn};
 use alloc::vec::Vec;
 
@@ -16,7 +17,7 @@ impl<T> LastingShard<T> {
         &mut self,
         tick: u64,
         row: &mut Vec<Expired<T>>,
-    ) -> (Result<ManyTurn, CoreError>, Leaver) {
+    ) -> (Result<ManyTurn, CoreError>, Leaver<Option<u64>>) {
         let answer = poll_into(&mut self.core, tick, row);
         (answer, keep_or_leave(&self.core, &mut self.parked))
     }

@@ -6,11 +6,12 @@ use crate::core::{FreshRows, Slots};
 use crate::lasting::ended::Ended;
 use crate::lasting::errors::ReopenError;
 use crate::lasting::keeping::Kept;
-use crate::lasting::parked::{keep_or_leave, take, Leaver};
+use crate::lasting::parked::keep_or_leave;
 use crate::lasting::queue::LastingQueue;
 use crate::lasting::quiet::{nobody, unlock};
 use crate::lasting::shard::{with_ended, LastingShard};
 use crate::locks::MutexGuard;
+use crate::parking::{take, Leaver};
 use crate::words::Keeper;
 
 /// So many slots of a closed shard are swept under one lock.
@@ -58,14 +59,14 @@ fn fresh_rows<T>(size: ShardSize) -> Option<Rows<T>> {
 
 impl<T> LastingShard<T> {
     // As `sweep`, at the next few slots.
-    fn sweep_on(&mut self) -> (usize, Leaver) {
+    fn sweep_on(&mut self) -> (usize, Leaver<Option<u64>>) {
         let swept = self.core.sweep_some(self.sweep_from, SWEPT_AT_ONCE);
         self.sweep_from = swept.next.unwrap_or(0);
         (swept.reaped, keep_or_leave(&self.core, &mut self.parked))
     }
 
     // The step of one that isn't drained.
-    fn drain_on(&mut self, place: usize) -> (Kept, Leaver) {
+    fn drain_on(&mut self, place: usize) -> (Kept, Leaver<Option<u64>>) {
         if self.takes {
             return nobody(Kept::Fine);
         }
@@ -93,7 +94,7 @@ impl<T> LastingShard<T> {
     }
 
     // Under the first lock: the step of one that isn't drained, and else what is to be made for its opening.
-    fn begin(&mut self, place: usize, by: u32) -> (Begun, Leaver) {
+    fn begin(&mut self, place: usize, by: u32) -> (Begun, Leaver<Option<u64>>) {
         if !self.is_drained() {
             let (kept, leaver) = self.drain_on(place);
             return (Begun::Answered(Ok(kept)), leaver);
@@ -105,7 +106,7 @@ impl<T> LastingShard<T> {
     }
 
     // Goes on over other rows under the number that is higher by so much.
-    fn open_over(&mut self, rows: Rows<T>, by: u32) -> (Result<(), ReopenError>, Leaver, LeftOver<T>) {
+    fn open_over(&mut self, rows: Rows<T>, by: u32) -> (Result<(), ReopenError>, Leaver<Option<u64>>, LeftOver<T>) {
         let Some((number, past)) = self.next_generation(by) else {
             let (answer, leaver) = nobody(Err(ReopenError::NumbersSpent));
             return (answer, leaver, LeftOver::Unwanted(rows));
@@ -122,7 +123,12 @@ impl<T> LastingShard<T> {
     }
 
     // Under the second lock: one that is still drained goes on over the rows. Any other makes its step, and wants none.
-    fn end(&mut self, rows: Rows<T>, place: usize, by: u32) -> (Result<Kept, ReopenError>, Leaver, LeftOver<T>) {
+    fn end(
+        &mut self,
+        rows: Rows<T>,
+        place: usize,
+        by: u32,
+    ) -> (Result<Kept, ReopenError>, Leaver<Option<u64>>, LeftOver<T>) {
         if !self.is_drained() {
             let (kept, leaver) = self.drain_on(place);
             return (Ok(kept), leaver, LeftOver::Unwanted(rows));

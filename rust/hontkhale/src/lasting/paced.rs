@@ -2,10 +2,10 @@
 
 use crate::core::{CoreError, Expired, Piece, Turn};
 use crate::lasting::errors::LastingError;
-use crate::lasting::parked::Parked;
 use crate::lasting::queue::LastingQueue;
 use crate::lasting::shard::LastingShard;
-use crate::lasting::stream::{LastingFault, LastingStream, Ticks};
+use crate::lasting::stream::LastingStream;
+use crate::parking::{let_sleep, StreamFault, TickSource};
 use core::num::NonZeroU32;
 use core::task::{Context, Poll};
 
@@ -21,9 +21,7 @@ impl<T> LastingShard<T> {
         most: u32,
         cx: &mut Context<'_>,
     ) -> Poll<Result<Expired<T>, LastingError>> {
-        if let Some(before) = self.take_parked() {
-            Parked::forget(before);
-        }
+        let_sleep(self.take_parked());
         match self.poll_some(tick, most) {
             Ok(Piece::Working) => {
                 cx.waker().wake_by_ref();
@@ -59,9 +57,7 @@ impl<T> LastingQueue<T> {
         let answer = shard.poll_some_or_park(tick, most, cx);
         let aside = shard.aside();
         drop(shard);
-        if let Some(before) = before {
-            Parked::forget(before);
-        }
+        let_sleep(before);
         self.drop_aside_at_rest(place, aside, answer.is_pending());
         answer
     }
@@ -72,32 +68,32 @@ impl<T> LastingQueue<T> {
 /// A poll that has made them all and has more to do wakes its own task, lets the lock go and is Pending. It gives what
 /// its stream would give, and parks as that does. What is under way stands in the shard: whether this is dropped, or
 /// turned back into its stream, the next poll of the place goes on there.
-pub struct LastingPacedStream<'q, T, K> {
-    stream: LastingStream<'q, T, K>,
+pub struct LastingPacedStream<'q, T, S> {
+    stream: LastingStream<'q, T, S>,
     steps: NonZeroU32,
 }
 
-impl<'q, T, K> LastingStream<'q, T, K> {
+impl<'q, T, S> LastingStream<'q, T, S> {
     /// This stream with at most so many steps a poll. A step is an entry that is settled, reaped or filed anew, or an
     /// arrival of the wheel, and takes constant time but for a value's drop.
-    pub fn paced(self, steps: NonZeroU32) -> LastingPacedStream<'q, T, K> {
+    pub fn paced(self, steps: NonZeroU32) -> LastingPacedStream<'q, T, S> {
         LastingPacedStream { stream: self, steps }
     }
 }
 
-impl<'q, T, K> LastingPacedStream<'q, T, K> {
+impl<'q, T, S> LastingPacedStream<'q, T, S> {
     /// Its stream, which makes whole polls.
-    pub fn into_inner(self) -> LastingStream<'q, T, K> {
+    pub fn into_inner(self) -> LastingStream<'q, T, S> {
         self.stream
     }
 }
 
-impl<'q, T, K: Ticks> LastingPacedStream<'q, T, K> {
+impl<'q, T, S: TickSource> LastingPacedStream<'q, T, S> {
     /// An entry that is due, one of least deadline, or Pending: parked at the next wake or for an insert, or woken,
     /// with more to do. Faults are those of its stream. Its cost is that of its steps.
-    pub fn poll_next(&mut self, cx: &mut Context<'_>) -> Poll<Option<Result<Expired<T>, LastingFault>>> {
+    pub fn poll_next(&mut self, cx: &mut Context<'_>) -> Poll<Option<Result<Expired<T>, StreamFault>>> {
         let stream = &mut self.stream;
-        let tick = stream.ticks.now();
+        let tick = stream.source.now();
         match self
             .stream
             .queue
@@ -106,9 +102,9 @@ impl<'q, T, K: Ticks> LastingPacedStream<'q, T, K> {
             Poll::Pending => Poll::Pending,
             Poll::Ready(Ok(expired)) => Poll::Ready(Some(Ok(expired))),
             Poll::Ready(Err(LastingError::Core(CoreError::TickTooLarge { limit }))) => {
-                Poll::Ready(Some(Err(LastingFault::TickTooLarge { limit })))
+                Poll::Ready(Some(Err(StreamFault::TickTooLarge { limit })))
             }
-            Poll::Ready(Err(LastingError::Core(CoreError::NoMemory))) => Poll::Ready(Some(Err(LastingFault::NoMemory))),
+            Poll::Ready(Err(LastingError::Core(CoreError::NoMemory))) => Poll::Ready(Some(Err(StreamFault::NoMemory))),
             Poll::Ready(Err(_)) => unreachable!(),
         }
     }

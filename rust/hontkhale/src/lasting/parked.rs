@@ -1,98 +1,19 @@
-//! A poller that waits for a shard's next wake, or for its next insert.
+//! Who waits for a shard: until its next wake, or, where nothing is linked, for its next insert.
 
 use crate::core::DelayCore;
+use crate::parking::{keep_until, Leaver, Parked};
 use crate::words::Keeper;
-use core::task::Waker;
-
-/// A poller that waits for a shard.
-pub struct Parked {
-    /// The tick that it waits for, of one millisecond; none where nothing is linked, so that it waits for an insert.
-    pub next: Option<u64>,
-    /// Wakes its task.
-    pub waker: Waker,
-}
-
-impl Parked {
-    // Lets the poller go and doesn't wake its task.
-    pub(crate) fn forget(poller: Parked) {
-        drop(poller.waker);
-    }
-}
-
-// A poller that has left its shard, if one has. It isn't `Drop`: whoever has it has to wake it, once the shard's lock
-// is free.
-pub(crate) struct Leaver {
-    pub(crate) poller: Option<Parked>,
-}
-
-impl Leaver {
-    // Wakes its task.
-    #[inline]
-    pub(crate) fn wake(self) {
-        let Leaver { poller } = self;
-        if let Some(poller) = poller {
-            poller.waker.wake();
-        }
-    }
-
-    // Whether there is one.
-    pub(crate) fn is_some(&self) -> bool {
-        self.poller.is_some()
-    }
-}
-
-// Takes the poller out, if there is one.
-pub(crate) fn take(parked: &mut Option<Parked>) -> Leaver {
-    Leaver { poller: parked.take() }
-}
-
-// Whether one that waits until `next` may go on waiting at a next wake.
-fn may_wait(next: Option<u64>, next_wake: Option<u64>) -> bool {
-    match next {
-        Some(next) => match next_wake {
-            Some(wake) => next <= wake,
-            None => false,
-        },
-        None => match next_wake {
-            Some(_wake) => false,
-            None => true,
-        },
-    }
-}
-
-// Takes the poller out unless it may go on waiting at this next wake.
-fn keep_until(parked: &mut Option<Parked>, next_wake: Option<u64>) -> Leaver {
-    let Some(poller) = parked else {
-        return Leaver { poller: None };
-    };
-    if may_wait(poller.next, next_wake) {
-        Leaver { poller: None }
-    } else {
-        take(parked)
-    }
-}
 
 // Takes the poller out where it stands parked against the parked law with the queue as it is now. Where none is parked
 // the next wake isn't asked for.
 #[inline]
-pub(crate) fn keep_or_leave<T>(core: &DelayCore<T, Keeper>, parked: &mut Option<Parked>) -> Leaver {
+pub(crate) fn keep_or_leave<T>(
+    core: &DelayCore<T, Keeper>,
+    parked: &mut Option<Parked<Option<u64>>>,
+) -> Leaver<Option<u64>> {
     if parked.is_some() {
         keep_until(parked, core.next_wake())
     } else {
         Leaver { poller: None }
     }
-}
-
-// Takes the poller out where it is parked until a tick or an earlier one.
-pub(crate) fn ring(parked: &mut Option<Parked>, tick: u64) -> Leaver {
-    let Some(poller) = parked else {
-        return Leaver { poller: None };
-    };
-    let Some(next) = poller.next else {
-        return Leaver { poller: None };
-    };
-    if next > tick {
-        return Leaver { poller: None };
-    }
-    take(parked)
 }

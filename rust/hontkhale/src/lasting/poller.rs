@@ -2,31 +2,28 @@
 
 use crate::core::{CoreError, Expired, Turn};
 use crate::lasting::errors::LastingError;
-use crate::lasting::parked::Parked;
 use crate::lasting::queue::LastingQueue;
 use crate::lasting::quiet::unlock;
 use crate::lasting::shard::LastingShard;
+use crate::parking::{let_sleep, register, Parked};
 use core::task::{Context, Poll, Waker};
 
 impl<T> LastingShard<T> {
     // Takes the parked poller out, unwoken.
-    pub(crate) fn take_parked(&mut self) -> Option<Parked> {
+    pub(crate) fn take_parked(&mut self) -> Option<Parked<Option<u64>>> {
         self.parked.take()
     }
 
     // Parks a poller, in the place of one that was parked before, which isn't woken.
     fn park(&mut self, next: Option<u64>, waker: Waker) {
-        if let Some(before) = self.take_parked() {
-            Parked::forget(before);
-        }
+        let_sleep(self.take_parked());
         self.parked = Some(Parked { next, waker });
     }
 
     // Registers with the context and parks its task. The name stands for the shard, as a source that fires where it
     // wakes its poller.
     pub(crate) fn wait(&mut self, next: Option<u64>, cx: &mut Context<'_>) -> Poll<Result<Expired<T>, LastingError>> {
-        let slot = Some(cx.waker().clone());
-        let Some(waker) = slot else {
+        let Some(waker) = register(cx) else {
             return Poll::Ready(Err(LastingError::Core(CoreError::NoMemory)));
         };
         self.park(next, waker);
@@ -39,9 +36,7 @@ impl<T> LastingShard<T> {
     /// # Errors
     /// TickTooLarge beyond the last tick, and NoMemory where no waker can be made; nothing is parked then.
     pub fn poll_or_park(&mut self, tick: u64, cx: &mut Context<'_>) -> Poll<Result<Expired<T>, LastingError>> {
-        if let Some(before) = self.take_parked() {
-            Parked::forget(before);
-        }
+        let_sleep(self.take_parked());
         match self.poll(tick) {
             Ok(Turn::Out(expired)) => Poll::Ready(Ok(expired)),
             Ok(Turn::Waiting { next }) => self.wait(Some(next), cx),
@@ -95,9 +90,7 @@ impl<T> LastingQueue<T> {
         let answer = shard.poll_or_park(tick, cx);
         let aside = shard.aside();
         drop(shard);
-        if let Some(before) = before {
-            Parked::forget(before);
-        }
+        let_sleep(before);
         self.drop_aside_at_rest(place, aside, answer.is_pending());
         answer
     }

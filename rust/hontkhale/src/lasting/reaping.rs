@@ -2,21 +2,22 @@
 
 use crate::core::{ReapError, Swept};
 use crate::lasting::errors::LastingError;
-use crate::lasting::parked::{keep_or_leave, Leaver};
+use crate::lasting::parked::keep_or_leave;
 use crate::lasting::queue::LastingQueue;
 use crate::lasting::quiet::unlock;
 use crate::lasting::shard::LastingShard;
+use crate::parking::Leaver;
 use crate::ticks::EntryId;
 
 impl<T> LastingShard<T> {
     // As `sweep_some`.
-    fn sweep_some_quietly(&mut self, from: usize, count: usize) -> (Swept, Leaver) {
+    fn sweep_some_quietly(&mut self, from: usize, count: usize) -> (Swept, Leaver<Option<u64>>) {
         let swept = self.core.sweep_some(from, count);
         (swept, keep_or_leave(&self.core, &mut self.parked))
     }
 
     // As `reap`.
-    fn reap_quietly(&mut self, entry: &EntryId) -> (Result<(), ReapError>, Leaver) {
+    fn reap_quietly(&mut self, entry: &EntryId) -> (Result<(), ReapError>, Leaver<Option<u64>>) {
         let answer = self.core.reap(entry);
         (answer, keep_or_leave(&self.core, &mut self.parked))
     }

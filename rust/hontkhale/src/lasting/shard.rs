@@ -4,7 +4,7 @@ use crate::core::{CoreError, DelayCore, Removed, Tally, Turn};
 use crate::lasting::ended::{Ended, LastingTally};
 use crate::lasting::errors::{LastingError, ReopenError};
 use crate::lasting::numbered::NumberedCaller;
-use crate::lasting::parked::{Leaver, Parked};
+use crate::parking::{Leaver, Parked};
 use crate::ticks::{EntryId, Key};
 use crate::words::{Keeper, WordsError};
 
@@ -17,7 +17,7 @@ pub struct LastingShard<T> {
     pub(crate) core: DelayCore<T, Keeper>,
     pub(crate) takes: bool,
     pub(crate) past: Ended,
-    pub(crate) parked: Option<Parked>,
+    pub(crate) parked: Option<Parked<Option<u64>>>,
     // The slot from which the next sweep of a few slots goes on.
     pub(crate) sweep_from: usize,
 }
@@ -161,7 +161,7 @@ impl<T> LastingShard<T> {
     }
 
     // Closes it where it takes entries and half of its slots at the least are worn, and tells whether it did.
-    pub(crate) fn close_worn(&mut self) -> (bool, Leaver) {
+    pub(crate) fn close_worn(&mut self) -> (bool, Leaver<Option<u64>>) {
         let worn = self.core.worn();
         let capacity = self.core.capacity();
         if !self.takes {
@@ -174,7 +174,7 @@ impl<T> LastingShard<T> {
     }
 
     // Closes it where it takes entries and three quarters of its slots at the least are worn, and tells whether it did.
-    pub(crate) fn close_far_worn(&mut self) -> (bool, Leaver) {
+    pub(crate) fn close_far_worn(&mut self) -> (bool, Leaver<Option<u64>>) {
         let worn = self.core.worn();
         let capacity = self.core.capacity();
         if !self.takes {

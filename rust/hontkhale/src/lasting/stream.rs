@@ -7,83 +7,53 @@
 use crate::core::{CoreError, Expired};
 use crate::lasting::errors::LastingError;
 use crate::lasting::queue::LastingQueue;
-use core::fmt;
+use crate::parking::{StreamFault, TickSource};
 use core::task::{Context, Poll};
 
-/// Says which tick it is.
-pub trait Ticks {
-    /// The tick of this moment, of one millisecond. A stream asks it while it holds no lock.
-    fn now(&mut self) -> u64;
-}
-
-/// Why a stream gives no entry. It may be polled again.
-#[derive(Clone, Copy, Debug, PartialEq, Eq)]
-pub enum LastingFault {
-    /// The tick that it was told is beyond the last tick. The shard has noted nothing.
-    TickTooLarge {
-        /// The last tick.
-        limit: u64,
-    },
-    /// Memory for the waker was refused. Nothing is parked.
-    NoMemory,
-}
-
-impl fmt::Display for LastingFault {
-    fn fmt(&self, f: &mut fmt::Formatter<'_>) -> fmt::Result {
-        match self {
-            LastingFault::TickTooLarge { limit } => write!(f, "the tick is beyond the last tick, {limit}"),
-            LastingFault::NoMemory => f.write_str("out of memory"),
-        }
-    }
-}
-
-#[cfg(feature = "std")]
-impl std::error::Error for LastingFault {}
-
-/// What expires at one place of a lasting queue, at the ticks that it is told, through every renewal of the shard
-/// there.
+/// What expires at one place of a lasting queue, at the ticks of a source, through every renewal of the shard there.
+/// It asks the source while it holds no lock.
 ///
 /// Each poll takes the shard's lock once. It gives one entry that is due, and else parks in the shard, one poller a
 /// place: until the next wake, or where nothing is linked until an insert. It never ends. It holds no entry, so none is
 /// lost where it is dropped; its poller stays parked until it is woken or another takes its place.
-pub struct LastingStream<'q, T, K> {
+pub struct LastingStream<'q, T, S> {
     pub(crate) queue: &'q LastingQueue<T>,
     pub(crate) place: usize,
-    pub(crate) ticks: K,
+    pub(crate) source: S,
 }
 
-impl<'q, T, K> LastingStream<'q, T, K> {
-    /// A stream of a place, at these ticks.
+impl<'q, T, S> LastingStream<'q, T, S> {
+    /// A stream of a place, at the ticks of a source.
     ///
     /// # Errors
-    /// Unknown out of range. The ticks come back.
+    /// Unknown out of range. The source comes back.
     pub fn new(
         queue: &'q LastingQueue<T>,
         place: usize,
-        ticks: K,
-    ) -> Result<LastingStream<'q, T, K>, (LastingError, K)> {
+        source: S,
+    ) -> Result<LastingStream<'q, T, S>, (LastingError, S)> {
         if place >= queue.shards() {
-            return Err((LastingError::Unknown, ticks));
+            return Err((LastingError::Unknown, source));
         }
-        Ok(LastingStream { queue, place, ticks })
+        Ok(LastingStream { queue, place, source })
     }
 }
 
-impl<'q, T, K: Ticks> LastingStream<'q, T, K> {
+impl<'q, T, S: TickSource> LastingStream<'q, T, S> {
     /// An entry that is due, one of least deadline, or Pending, parked at the next wake or for an insert. Its cost is
     /// that of one poll of the shard.
     ///
     /// A tick beyond the last one gives TickTooLarge, and where no waker can be made it gives NoMemory. It goes on
     /// after both.
-    pub fn poll_next(&mut self, cx: &mut Context<'_>) -> Poll<Option<Result<Expired<T>, LastingFault>>> {
-        let tick = self.ticks.now();
+    pub fn poll_next(&mut self, cx: &mut Context<'_>) -> Poll<Option<Result<Expired<T>, StreamFault>>> {
+        let tick = self.source.now();
         match self.queue.poll_or_park(self.place, tick, cx) {
             Poll::Pending => Poll::Pending,
             Poll::Ready(Ok(expired)) => Poll::Ready(Some(Ok(expired))),
             Poll::Ready(Err(LastingError::Core(CoreError::TickTooLarge { limit }))) => {
-                Poll::Ready(Some(Err(LastingFault::TickTooLarge { limit })))
+                Poll::Ready(Some(Err(StreamFault::TickTooLarge { limit })))
             }
-            Poll::Ready(Err(LastingError::Core(CoreError::NoMemory))) => Poll::Ready(Some(Err(LastingFault::NoMemory))),
+            Poll::Ready(Err(LastingError::Core(CoreError::NoMemory))) => Poll::Ready(Some(Err(StreamFault::NoMemory))),
             Poll::Ready(Err(_)) => unreachable!(),
         }
     }

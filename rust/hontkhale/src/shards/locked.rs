@@ -2,7 +2,7 @@
 
 use crate::core::{CoreError, Piece, ReapError, Removed, Swept, Turn};
 use crate::locks::MutexGuard;
-use crate::shards::parked::Parked;
+use crate::parking::Parked;
 use crate::shards::state::ShardState;
 use crate::shards::totals::{HandlesOut, Totals};
 use crate::ticks::{EntryId, Key};

@@ -1,9 +1,9 @@
 //! A poll that takes out many entries under one lock.
 
 use crate::core::{CoreError, Expired};
+use crate::parking::Leaver;
 use crate::shards::errors::QueueError;
 use crate::shards::locked::LockedShard;
-use crate::shards::parked::Leaver;
 use crate::shards::queue::SharedDelayQueue;
 use crate::shards::state::{keep_or_leave, ShardState};
 use crate::words::{poll_into, ManyTurn};

@@ -1,6 +1,6 @@
 //! The poller that waits for a shard: one at a time.
 
-use crate::shards::parked::{ring, Parked};
+use crate::parking::{ring, Parked};
 use crate::shards::state::ShardState;
 use core::task::Waker;
 

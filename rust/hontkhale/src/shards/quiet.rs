@@ -2,8 +2,8 @@
 //! So are the values that they let go: they are set aside, and dropped once the lock is free.
 
 use crate::core::{CoreError, Piece, ReapError, Removed, Swept, Turn};
+use crate::parking::{ring, Leaver};
 use crate::shards::locked::LockedShard;
-use crate::shards::parked::{ring, Leaver};
 use crate::shards::state::{keep_or_leave, ShardState};
 use crate::ticks::{EntryId, Key};
 

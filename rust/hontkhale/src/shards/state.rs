@@ -1,7 +1,7 @@
 //! The value behind a shard's lock: a queue over shared words, and the poller that waits for it.
 
 use crate::core::{CoreError, DelayCore, Piece, ReapError, Removed, Swept, Turn};
-use crate::shards::parked::{keep_until, Leaver, Parked};
+use crate::parking::{keep_until, Leaver, Parked};
 use crate::ticks::{EntryId, Key};
 use crate::words::Keeper;
 

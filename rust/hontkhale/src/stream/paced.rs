@@ -1,10 +1,9 @@
 //! The stream of a shard's expired entries that makes at most so many steps a poll.
 
 use crate::core::{CoreError, Expired, Piece, Turn};
+use crate::parking::{let_sleep, StreamFault, TickSource};
 use crate::shards::LockedShard;
-use crate::stream::fault::StreamFault;
-use crate::stream::parking::{let_sleep, wait};
-use crate::stream::source::TickSource;
+use crate::stream::parking::wait;
 use crate::stream::stream::{drop_at_rest, ends, ExpiredStream};
 use core::num::NonZeroU32;
 use core::task::{Context, Poll};

@@ -1,20 +1,13 @@
 //! How a task that is polled is parked in a shard.
 
-use crate::shards::{LockedShard, Parked};
-use crate::stream::fault::StreamFault;
+use crate::parking::{register, StreamFault};
+use crate::shards::LockedShard;
 use core::task::{Context, Waker};
-
-// Lets a poller go that a stream took out, and doesn't wake it. Its waker is the user's: so the shard's lock is to be free.
-pub(crate) fn let_sleep(before: Option<Parked>) {
-    if let Some(poller) = before {
-        Parked::forget(poller);
-    }
-}
 
 // Registers with the context, and parks its task at the next wake. The name stands for the shard, as a source that
 // fires where it wakes its poller.
 pub(crate) fn wait<T>(shard: &mut LockedShard<'_, T>, next: u64, cx: &mut Context<'_>) -> Result<(), StreamFault> {
-    let slot = Some(cx.waker().clone());
+    let slot = register(cx);
     park_with(shard, next, slot)
 }
 

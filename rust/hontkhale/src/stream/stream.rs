@@ -1,10 +1,9 @@
 //! The stream of a shard's expired entries.
 
 use crate::core::{CoreError, Expired, Turn};
+use crate::parking::{let_sleep, StreamFault, TickSource};
 use crate::shards::{LockedShard, QueueError, SharedDelayQueue};
-use crate::stream::fault::StreamFault;
-use crate::stream::parking::{let_sleep, wait};
-use crate::stream::source::TickSource;
+use crate::stream::parking::wait;
 use core::task::{Context, Poll};
 
 /// What expires in one shard, at the ticks of a source.

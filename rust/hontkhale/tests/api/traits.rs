@@ -20,12 +20,6 @@ impl TickSource for At {
     }
 }
 
-impl Ticks for At {
-    fn now(&mut self) -> u64 {
-        self.0
-    }
-}
-
 #[test]
 fn what_is_sent() {
     sends::<DelayCore<Sent, VecWords>>();

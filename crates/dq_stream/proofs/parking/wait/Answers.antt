@@ -3,4 +3,4 @@ use Rattle.dq_stream.proofs.parking.wait.Goals as goal
 
 pub returns-clause-parks : goal.returns-clause-parks
 returns-clause-parks g c =
-    parks_own c.args.cx.now c.register-pending.new.self c.register-pending.new.slot _ _ _ _ c.park_with.ensures c.register-pending.ensures.left
+    parks_own c.args.cx.now c.register-slot.new.cx c.register-slot.result _ _ _ _ c.park_with.ensures c.register-slot.ensures.left

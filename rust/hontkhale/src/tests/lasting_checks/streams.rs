@@ -5,7 +5,7 @@ use self::Step::{Beside, Gives};
 use super::play::Call::{Close, Insert, KeepGoing, Ring, Woken};
 use super::play::{Call, Player, Texts, queue_and_player};
 use super::same;
-use crate::lasting::{Kept, LastingConfig, LastingError, LastingFault, LastingStream, Ticks};
+use crate::lasting::{Kept, LastingConfig, LastingError, LastingStream, StreamFault, TickSource};
 use crate::ticks::LAST_TICK;
 use std::task::Poll;
 use std::cell::Cell;
@@ -13,7 +13,7 @@ use std::cell::Cell;
 // Tells the tick that is set.
 struct SetTick<'t>(&'t Cell<u64>);
 
-impl Ticks for SetTick<'_> {
+impl TickSource for SetTick<'_> {
     fn now(&mut self) -> u64 {
         self.0.get()
     }
@@ -26,11 +26,11 @@ type Stream<'q, 't> = LastingStream<'q, String, SetTick<'t>>;
 enum Seen {
     Waits,
     Out(u64),
-    Fault(LastingFault),
+    Fault(StreamFault),
     Ends,
 }
 
-const LATE: Seen = Seen::Fault(LastingFault::TickTooLarge { limit: LAST_TICK });
+const LATE: Seen = Seen::Fault(StreamFault::TickTooLarge { limit: LAST_TICK });
 
 // Polls a stream once.
 fn polled(task: &MockTask, stream: &mut Stream<'_, '_>) -> Seen {

@@ -5,7 +5,8 @@ use core::fmt;
 /// Why a stream gives no entry.
 #[derive(Clone, Copy, Debug, PartialEq, Eq)]
 pub enum StreamFault {
-    /// The tick of its source is beyond the last tick. The stream has ended for good.
+    /// The tick of its source is beyond the last tick. A stream of a `SharedDelayQueue` has ended for good, and one of a
+    /// `LastingQueue` goes on.
     TickTooLarge {
         /// The last tick.
         limit: u64,

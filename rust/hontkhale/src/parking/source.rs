@@ -16,8 +16,8 @@ use std::time::{Duration, Instant};
 /// }
 /// ```
 pub trait TickSource {
-    /// The tick of this moment, of one millisecond. A stream asks it while its shard's lock is held, so it must not
-    /// take that lock itself.
+    /// The tick of this moment, of one millisecond. A stream of a `SharedDelayQueue` asks it while its shard's lock is
+    /// held, so it must not take that lock itself; one of a `LastingQueue` asks it while it holds none.
     fn now(&mut self) -> u64;
 }
 

@@ -1,0 +1,4 @@
+pub mod Items
+pub mod Parking
+pub mod Waits
+pub mod Wakers

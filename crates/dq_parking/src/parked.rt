@@ -1,0 +1,154 @@
+//! A poller that waits for a shard.
+ghost use Rattle.std.specs.Prelude.{◌≡◌, ℕ, Option, None, Bool, is_some};
+ghost use Rattle.dq_parking.specs.Parking.{still_parked, after_ring, is_rung, Leaves};
+ghost use Rattle.dq_parking.specs.Waits.{lasts_until, lasts_or_idles, wait_ends_by, ends_by_tick};
+
+use futures::task::Waker;
+use std::mem;
+
+/// What a poller waits for. Ticks are of one millisecond.
+pub trait Until: Drop {
+    /// Whether one that waits so may go on waiting at a next wake.
+    ghost lasts: { Self → Option ℕ → Bool };
+
+    /// Whether its wait is over at a tick.
+    ghost ends: { Self → ℕ → Bool };
+
+    /// Whether one that waits so may go on waiting at a next wake, none where nothing is linked.
+    fn lasts_until(&self, next_wake: Option<u64>) -> bool
+        ensures { result ≡ lasts self.now next_wake };
+
+    /// Whether its wait is over at a tick.
+    fn ends_by(&self, tick: u64) -> bool
+        ensures { result ≡ ends self.now tick };
+}
+
+/// It waits for a tick, which isn't after the next wake.
+impl Until for u64 {
+    ghost lasts = { λ next wake. lasts_until next wake };
+
+    ghost ends = { λ next tick. ends_by_tick next tick };
+
+    fn lasts_until(&self, next_wake: Option<u64>) -> bool {
+        match next_wake {
+            Some(wake) => *self <= wake,
+            None => false,
+        }
+    }
+
+    fn ends_by(&self, tick: u64) -> bool {
+        *self <= tick
+    }
+}
+
+/// It waits for a tick, or without one for an insert, while nothing is linked.
+impl Until for Option<u64> {
+    ghost lasts = { λ next wake. lasts_or_idles next wake };
+
+    ghost ends = { λ next tick. wait_ends_by next tick };
+
+    fn lasts_until(&self, next_wake: Option<u64>) -> bool {
+        match self {
+            Some(next) => next.lasts_until(next_wake),
+            None => next_wake.is_none(),
+        }
+    }
+
+    fn ends_by(&self, tick: u64) -> bool {
+        match self {
+            Some(next) => *next <= tick,
+            None => false,
+        }
+    }
+}
+
+/// A poller that waits for a tick, or for what `N` says.
+#[derive(Drop)]
+pub struct Parked<N = u64> {
+    /// What it waits for: a tick of one millisecond, or an option of one, where none is a wait for an insert.
+    pub next: N,
+    /// Wakes its task.
+    pub waker: Waker,
+}
+
+impl<N: Drop> Parked<N> {
+    /// Lets the poller go and doesn't wake its task.
+    pub fn forget(poller: Parked<N>) {
+        // A waker that is dropped wakes.
+        mem::forget(poller.waker);
+    }
+}
+
+/// Lets a poller go that was taken out, if there is one, and doesn't wake its task. Its waker is the user's: where letting
+/// it go may call the queue, the shard's lock is to be free.
+pub fn let_sleep<N: Drop>(taken: Option<Parked<N>>) {
+    if let Some(poller) = taken {
+        Parked::forget(poller);
+    }
+}
+
+/// A poller that has left its shard, if one has. It isn't `Drop`: whoever has it has to wake it, once the shard's lock is
+/// free.
+pub struct Leaver<N = u64> {
+    /// The poller; none where none has left.
+    pub poller: Option<Parked<N>>,
+}
+
+impl<N: Drop> Leaver<N> {
+    /// Wakes its task.
+    #[inline]
+    pub fn wake(self) {
+        let Leaver { poller } = self;
+        if let Some(poller) = poller {
+            poller.waker.wake();
+        }
+    }
+
+    /// Whether there is one.
+    pub fn is_some(&self) -> bool
+        ensures { result ≡ is_some self.now.poller }
+    {
+        self.poller.is_some()
+    }
+}
+
+/// Takes the poller out, if there is one.
+pub fn take<N: Drop>(parked: &mut Option<Parked<N>>) -> Leaver<N>
+    ensures stays { parked.new ≡ None }
+    ensures leaves { Leaves parked.old result.poller parked.new }
+{
+    Leaver {
+        poller: parked.take(),
+    }
+}
+
+/// Takes the poller out unless it may go on waiting at this next wake.
+pub fn keep_until<N: Until>(parked: &mut Option<Parked<N>>, next_wake: Option<u64>) -> Leaver<N>
+    ensures stays { parked.new ≡ still_parked N.lasts parked.old next_wake }
+    ensures leaves { Leaves parked.old result.poller parked.new }
+{
+    let Some(poller) = parked else {
+        return Leaver { poller: None };
+    };
+    if poller.next.lasts_until(next_wake) {
+        Leaver { poller: None }
+    } else {
+        take(parked)
+    }
+}
+
+/// Takes the poller out where its wait is over at a tick.
+pub fn ring<N: Until>(parked: &mut Option<Parked<N>>, tick: u64) -> Leaver<N>
+    ensures is_rung { is_some result.poller ≡ is_rung N.ends parked.old tick }
+    ensures stays { parked.new ≡ after_ring N.ends parked.old tick }
+    ensures leaves { Leaves parked.old result.poller parked.new }
+{
+    let Some(poller) = parked else {
+        return Leaver { poller: None };
+    };
+    if poller.next.ends_by(tick) {
+        take(parked)
+    } else {
+        Leaver { poller: None }
+    }
+}

@@ -1,0 +1,12 @@
+//! What waits for a shard, of either queue: where a stream's ticks come from, why it gives no entry, the poller that is
+//! parked in a shard, and its registration with the context of its task.
+
+mod fault;
+mod parked;
+mod registering;
+mod source;
+
+pub use fault::StreamFault;
+pub use parked::{keep_until, let_sleep, ring, take, Leaver, Parked, Until};
+pub use registering::register;
+pub use source::{MillisecondTicks, TickSource};
