@@ -35,9 +35,7 @@
 #![warn(missing_docs, missing_debug_implementations)]
 
 use futures_core::Stream;
-use hontkhale::{
-    Expired, ExpiredStream, LastingPacedStream, LastingStream, PacedStream, StreamFault, TickSource,
-};
+use hontkhale::{Expired, ExpiredStream, LastingPacedStream, LastingStream, PacedStream, StreamFault, TickSource};
 use std::pin::Pin;
 use std::task::{Context, Poll};
 

@@ -2,7 +2,7 @@
 //! joined, values whose memory is counted, and numbers from a fixed generator.
 
 pub use crate::AllocError;
-use crate::{Expired, ExpiredStream, LastingFault, LastingStream, PacedStream, StreamFault, TickSource, Ticks};
+use crate::{Expired, ExpiredStream, LastingStream, PacedStream, StreamFault, TickSource};
 use std::cell::Cell;
 use std::error::Error;
 use std::fmt;
@@ -184,9 +184,9 @@ impl<S: Stream> Future for Collect<S> {
 }
 
 macro_rules! streams {
-    ($($stream:ident by $source:ident with $fault:ident,)*) => {$(
-        impl<T, S: $source> Stream for $stream<'_, T, S> {
-            type Item = Result<Expired<T>, $fault>;
+    ($($stream:ident,)*) => {$(
+        impl<T, S: TickSource> Stream for $stream<'_, T, S> {
+            type Item = Result<Expired<T>, StreamFault>;
 
             fn poll_next(&mut self, cx: &mut Context<'_>) -> Poll<Option<Self::Item>> {
                 $stream::poll_next(self, cx)
@@ -196,9 +196,9 @@ macro_rules! streams {
 }
 
 streams! {
-    ExpiredStream by TickSource with StreamFault,
-    PacedStream by TickSource with StreamFault,
-    LastingStream by Ticks with LastingFault,
+    ExpiredStream,
+    PacedStream,
+    LastingStream,
 }
 
 /// Either of two futures of one output.
