@@ -257,6 +257,22 @@ def gate():
     return "\n".join([*lines, *(row(*it) for it in told)])
 
 
+PARTS = {"rt-ci": "`rt ci`", "test-edits": "`./test-edits`", "rust-test": "`rust/test`, behind the others", "whole": "the whole gate"}
+SUMS = {"queue": "proofs and tests of what a user runs", "tests": "the tests' crates", "example": "the examples", "bench": "the bench's load",
+        "plain_rust": "cargo's tests", "all-again": "second proofs, for the edits", "all-edits": "checks with edits in them"}
+
+
+def gate_parts():
+    """What the parts of a whole run of the gate took, and what each kind of work in it."""
+    noted = runs.noted("gate")
+    if ("whole", "clock") not in noted:
+        return "Not measured yet."
+    lines = [row("Part", "Clock", "Processor"), "|---|--:|--:|"]
+    lines += [row(words, *(f"{float(noted[part, it]):.1f}" for it in ("clock", "processor"))) for part, words in PARTS.items() if (part, "clock") in noted]
+    lines += [row(f"of it {words}", "", f"{float(noted[name, 'minutes']):.1f}") for name, words in SUMS.items() if (name, "minutes") in noted]
+    return "\n".join(lines)
+
+
 def edit_times():
     """What the edits take where many stand in one check, of all crates that were run."""
     noted = runs.noted("edits")
@@ -331,9 +347,8 @@ def edit(name):
             lines.append((" " if stays else "-") + "   " + before)
             added = text[len(before) :].strip() if stays else text
             lines.append("+   " + added)
-    first, colon, rest = runs.told("refused", name, "printed").partition("as it must be: ")
-    told = [first + colon.strip(), *textwrap.wrap(rest, 110, break_on_hyphens=False)]
-    return "\n".join([*lines, "```", "", "```text", f"$ rt must-fail {crate}", *told, "```"])
+    told = textwrap.wrap(runs.told("refused", name, "printed"), 110, break_on_hyphens=False)
+    return "\n".join([*lines, "```", "", "```text", f"$ ./test-edits {name}", *told, "```"])
 
 
 PIECE_WAYS = ("whole", "pieces-16", "pieces-64", "pieces-256")
@@ -419,6 +434,7 @@ TABLES = {
     "standing": standing,
     "shard-standing": shard_standing,
     "gate": gate,
+    "gate-parts": gate_parts,
     "edit-times": edit_times,
     "sizes": sizes,
     "instructions": instructions,
