@@ -36,8 +36,7 @@
 
 use futures_core::Stream;
 use hontkhale::{
-    Expired, ExpiredStream, LastingFault, LastingPacedStream, LastingStream, PacedStream, StreamFault, TickSource,
-    Ticks,
+    Expired, ExpiredStream, LastingFault, LastingPacedStream, LastingStream, PacedStream, StreamFault, TickSource, Ticks,
 };
 use std::pin::Pin;
 use std::task::{Context, Poll};
