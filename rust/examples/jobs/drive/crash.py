@@ -27,7 +27,7 @@ def crash(seed, count, kills, workers=3):
         for at, moment in enumerate(moments):
             time.sleep(max(0, begun + moment - time.monotonic()))
             if at == stop_database:
-                assert enqueue.wait(60) == 0, it.logged("enqueue")
+                assert enqueue.wait(300) == 0, it.logged("enqueue")
             victim = draws.randrange(workers)
             running[victim].kill()
             running[victim].wait()
