@@ -95,8 +95,7 @@ fn begins<R: Abort + Wait>(rt: &R, queue: &Texts, player: &mut Player) {
     }
 }
 
-// Of the entries of the first generation, and of new ones, the handle knows these below a place and those from there
-// on.
+// The handle knows the new entries below a place, and from there on those of the first generation.
 fn knows_below<R: Abort + Wait>(
     rt: &R,
     queue: &Texts,
@@ -126,7 +125,7 @@ fn goes_on_from<R: Abort + Wait>(rt: &R, queue: &Texts, player: &mut Player, pla
         player.plays(rt, queue, &[Clear(at, Ok(1))]);
         reopens(rt, queue, player, at);
     }
-    let left = SHARDS - place;
+    let left = SHARDS.saturating_sub(place);
     player.plays(rt, queue, &[ByHandle(Renew(Ok(left)))]);
 }
 
@@ -139,11 +138,10 @@ fn stops_at<R: Abort + Wait>(
 ) -> Result<(), Fail> {
     begins(rt, queue, player);
     takes_handles(rt, queue)?;
-    for at in 0..place {
-        reopens(rt, queue, player, at);
-    }
-    for at in place + 1..SHARDS {
-        reopens(rt, queue, player, at);
+    for at in 0..SHARDS {
+        if at != place {
+            reopens(rt, queue, player, at);
+        }
     }
     stops(rt, queue, player, place, place);
     stops(rt, queue, player, place, 0);

@@ -90,8 +90,7 @@ fn begins(queue: &Texts, player: &mut Player) {
     }
 }
 
-// Of the entries of the first generation, and of new ones, the handle knows these below a place and those from there
-// on.
+// The handle knows the new entries below a place, and from there on those of the first generation.
 fn knows_below(
     queue: &Texts,
     player: &mut Player,
@@ -120,7 +119,7 @@ fn goes_on_from(queue: &Texts, player: &mut Player, place: usize) {
         player.plays(queue, &[Clear(at, Ok(1))]);
         reopens(queue, player, at);
     }
-    let left = SHARDS - place;
+    let left = SHARDS.saturating_sub(place);
     player.plays(queue, &[ByHandle(Renew(Ok(left)))]);
 }
 
@@ -132,11 +131,10 @@ fn stops_at(
 ) -> Result<(), Fail> {
     begins(queue, player);
     takes_handles(queue)?;
-    for at in 0..place {
-        reopens(queue, player, at);
-    }
-    for at in place + 1..SHARDS {
-        reopens(queue, player, at);
+    for at in 0..SHARDS {
+        if at != place {
+            reopens(queue, player, at);
+        }
     }
     stops(queue, player, place, place);
     stops(queue, player, place, 0);
