@@ -81,7 +81,7 @@ class Cluster:
             str(self.data),
             "-w",
             "-t",
-            "60",
+            "300",
             "-l",
             str(log),
             "-o",
