@@ -302,7 +302,7 @@ impl<T: Drop, W: Words, A: Allocator> DelayCore<T, W, A> {
         if tick < self.noted {
             return match pace {
                 Pace::Whole => {
-                    self.wheel.advance(self.noted);
+                    self.wheel.advance_reading(self.noted, &self.slots);
                     Progress::Went
                 }
                 Pace::InPieces => {

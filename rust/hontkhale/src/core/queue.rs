@@ -186,7 +186,7 @@ impl<T, W: Words> DelayCore<T, W> {
         if tick < self.noted {
             return match pace {
                 Pace::Whole => {
-                    self.wheel.advance(self.noted);
+                    self.wheel.advance_reading(self.noted, &self.slots);
                     Progress::Went
                 }
                 Pace::InPieces => {
