@@ -24,6 +24,7 @@ mod maps;
 mod row;
 mod wheel;
 
+pub use cascade::Near;
 pub use wheel::{Place, Wheel, WheelError};
 
 /// The lists of a wheel, one for each slot of each level: list `64 * level + slot`.

@@ -23,6 +23,11 @@ impl PackedRow {
         self.words.len()
     }
 
+    #[inline(always)]
+    pub fn raw(&self, index: usize) -> u64 {
+        *nth(&self.words, index)
+    }
+
     /// The parts of a word.
     #[inline]
     pub fn get(&self, index: usize) -> Parts {

@@ -186,7 +186,7 @@ impl<T, W: Words> DelayCore<T, W> {
         if tick < self.noted {
             return match pace {
                 Pace::Whole => {
-                    self.wheel.advance(self.noted);
+                    self.wheel.advance_near(self.noted, &Both(&self.slots, &self.words));
                     Progress::Went
                 }
                 Pace::InPieces => {
@@ -322,5 +322,15 @@ impl<T, W: Words> DelayCore<T, W> {
         self.wheel.link(index, filing_tick(tick, base));
         self.slots.raise(index);
         Ok(Key::new(*entry, stamp + 1))
+    }
+}
+
+struct Both<'a, T, W>(&'a Slots<T>, &'a W);
+
+impl<'a, T, W: Words> crate::wheel::Near for Both<'a, T, W> {
+    #[inline(always)]
+    fn once_near(&self, index: usize, number: u64) -> u64 {
+        if W::FENCED { self.1.peek_word(index); }
+        crate::wheel::Near::once_near(self.0, index, number)
     }
 }

@@ -370,3 +370,12 @@ impl<T> Slots<T> {
         }
     }
 }
+
+impl<T> crate::wheel::Near for Slots<T> {
+    #[inline(always)]
+    fn once_near(&self, index: usize, number: u64) -> u64 {
+        if index >= self.cells.len() { return number; }
+        let cell = nth(&self.cells, index);
+        number + (cell.stamp() >> 20) as u64
+    }
+}

@@ -125,6 +125,11 @@ impl Words for VecWords {
         self.row.len()
     }
 
+    #[inline(always)]
+    fn peek_word(&self, index: usize) -> u64 {
+        self.row.raw(index)
+    }
+
     #[inline]
     fn begin(&mut self, index: usize, stamp: u32, when: u64) {
         self.row.set(

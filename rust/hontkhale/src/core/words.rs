@@ -95,6 +95,8 @@ pub trait Words {
     /// The number of words.
     fn rows(&self) -> usize;
 
+    fn peek_word(&self, index: usize) -> u64;
+
     /// Makes a word live at the next stamp, which is one more than its own, and at a deadline.
     fn begin(&mut self, index: usize, stamp: u32, when: u64);
 

@@ -1,7 +1,7 @@
 //! Lists of indexes, linked both ways, in a fixed row, with what is kept of each index.
 
 use crate::memory::AllocError;
-use crate::wheel::cascade::scatter;
+use crate::wheel::cascade::{near_first, scatter, Near};
 use crate::wheel::maps::Maps;
 use crate::wheel::row::{append, detach, detach_first, hang, lone_rows, once_near, row_at, Row};
 use alloc::vec::Vec;
@@ -128,7 +128,8 @@ impl Circles {
     }
 
     /// Opens a list: each of its indexes is placed by the new tick. Gives how many of them aren't due yet.
-    pub fn open(&mut self, maps: &mut Maps, list: usize, tick: u64) -> u64 {
+    pub fn open<N: Near>(&mut self, maps: &mut Maps, list: usize, tick: u64, near: &N) -> u64 {
+        let tick = near_first(&self.rows, self.capacity, list, tick, near);
         scatter(&mut self.rows, self.capacity, maps, list, tick)
     }
 

@@ -3,6 +3,7 @@
 use crate::index::nth;
 use crate::memory::AllocError;
 use crate::ticks::LEVELS;
+use crate::wheel::cascade::Near;
 use crate::wheel::circles::Circles;
 use crate::wheel::maps::{clear_bit, first_list, set_bit, Maps};
 
@@ -106,9 +107,9 @@ impl Lists {
     }
 
     /// Opens a list: each of its indexes is placed again by the new tick. Gives how many of them aren't due yet.
-    pub fn open(&mut self, list: usize, tick: u64) -> u64 {
+    pub fn open<N: Near>(&mut self, list: usize, tick: u64, near: &N) -> u64 {
         self.circles.close();
-        self.circles.open(&mut self.maps, list, tick)
+        self.circles.open(&mut self.maps, list, tick, near)
     }
 
     /// Opens a list as it is: its circle hangs on the head of list 0, where none stands. From now on its indexes are seen

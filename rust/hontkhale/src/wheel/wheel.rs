@@ -3,6 +3,7 @@
 use crate::memory::AllocError;
 use crate::ticks::{digit, CAPACITY_LIMIT, LEVELS, SLOTS};
 use crate::wheel::homes::{due_list, list_of, start_of};
+use crate::wheel::cascade::Near;
 use crate::wheel::lists::Lists;
 use crate::wheel::row::NOT_FILED;
 use core::fmt;
@@ -47,6 +48,14 @@ impl std::error::Error for WheelError {}
 impl From<AllocError> for WheelError {
     fn from(_error: AllocError) -> WheelError {
         WheelError::NoMemory
+    }
+}
+
+pub struct Nothing;
+
+impl Near for Nothing {
+    fn once_near(&self, _index: usize, number: u64) -> u64 {
+        number
     }
 }
 
@@ -182,6 +191,10 @@ impl Wheel {
     /// Goes on to the next wake, but not past the limit, once nothing is due. True where the wake was reached: its list
     /// is opened, and each of its indexes goes down to a lower level or is due. A way to a lower level is a move.
     pub fn advance(&mut self, limit: u64) -> bool {
+        self.advance_near(limit, &Nothing)
+    }
+
+    pub fn advance_near<N: Near>(&mut self, limit: u64, near: &N) -> bool {
         let own = digit(self.tick, LEVELS - 1) as usize;
         let Some(list) = self.lists.first_filled(own) else {
             self.tick = limit;
@@ -200,7 +213,7 @@ impl Wheel {
             self.lists.close();
             return true;
         }
-        let made = self.lists.open(list, start);
+        let made = self.lists.open(list, start, near);
         self.moved = self.moved.saturating_add(made);
         true
     }

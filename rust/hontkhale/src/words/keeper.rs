@@ -98,6 +98,11 @@ impl Words for Keeper {
         self.seat.rows()
     }
 
+    #[inline(always)]
+    fn peek_word(&self, index: usize) -> u64 {
+        self.seat.peek_word(index)
+    }
+
     fn begin(&mut self, index: usize, stamp: u32, when: u64) {
         self.seat.begin(index, live_word(stamp, when));
     }

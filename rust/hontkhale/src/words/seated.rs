@@ -26,6 +26,11 @@ impl Seated {
         self.rows
     }
 
+    #[inline(always)]
+    pub(crate) fn peek_word(&self, index: usize) -> u64 {
+        self.table.load(index)
+    }
+
     pub(crate) fn keeper_load(&mut self, index: usize) -> u64 {
         self.table.load(index)
     }
