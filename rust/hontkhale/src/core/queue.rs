@@ -308,18 +308,23 @@ impl<T, W: Words> DelayCore<T, W> {
         let Some(index) = self.find(entry) else {
             return Err(CoreError::Missing);
         };
-        let stamp = once_near::<W>(&self.wheel, index, self.slots.stamp(index));
+        let tick = self.wheel.tick();
+        let base = when.max(tick);
+        let filed = match self.wheel.filed(index) { Some(filed) => filed, None => unreachable!() };
+        let stays = filed <= base && base - filed <= filed - tick;
+        let stamp = self.slots.stamp(index);
+        let stamp = if stays { stamp } else { once_near::<W>(&self.wheel, index, stamp) };
         if stamp == self.slots.last() {
             self.deadline(entry)?;
             return Err(CoreError::Worn);
         }
-        let tick = self.wheel.tick();
-        let base = when.max(tick);
         let Some(_) = self.words.renew(index, stamp, base) else {
             return Err(CoreError::WasCancelled);
         };
-        self.wheel.unlink(index);
-        self.wheel.link(index, filing_tick(tick, base));
+        if !stays {
+            self.wheel.unlink(index);
+            self.wheel.link(index, filing_tick(tick, base));
+        }
         self.slots.raise(index);
         Ok(Key::new(*entry, stamp + 1))
     }
