@@ -286,9 +286,12 @@ def tails(tokens):
 
 
 def sharing(tokens):
-    """A step on the table of shared words names its kind and its seat, which are for proofs."""
+    """A step on the table of shared words names its kind and its seat, which are for proofs. A peek is a load."""
     at = 0
     while at < len(tokens) - 12:
+        if words_at(tokens, at, ".", "shared", ".", "peek", "("):
+            tokens[at + 3].text = "load"
+            del tokens[at:at + 2]
         if words_at(tokens, at, ".", "shared", ".") and tokens[at + 4].text == "::":
             angle = at + 5
             if not words_at(tokens, angle + 2, ">", "(", "&", "mut", "self", ".", "seat", ","):

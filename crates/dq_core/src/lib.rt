@@ -9,6 +9,7 @@
 //! [`PlainQueue`] is the slow twin: a plain list, which is short enough to be read and has the same answers.
 #![tactic(auto)]
 
+mod ahead;
 mod aside;
 mod callers;
 mod entries;

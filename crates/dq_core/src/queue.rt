@@ -12,6 +12,7 @@ ghost use Rattle.dq_core.specs.Words.{AreFresh, StillBegun};
 ghost use Rattle.dq_core.specs.Calls.{IsConfig};
 ghost use Rattle.dq_wheel.specs.State.{filed_at, fresh_filing};
 
+use crate::ahead::Ahead;
 use crate::errors::{CoreConfig, CoreError};
 use crate::outcomes::{Expired, Pace, Progress, Removed, Tally, Turn};
 use crate::slots::Slots;
@@ -302,7 +303,11 @@ impl<T: Drop, W: Words, A: Allocator> DelayCore<T, W, A> {
         if tick < self.noted {
             return match pace {
                 Pace::Whole => {
-                    self.wheel.advance(self.noted);
+                    let ahead = Ahead {
+                        slots: &self.slots,
+                        words: &self.words,
+                    };
+                    self.wheel.advance_reading(self.noted, &ahead);
                     Progress::Went
                 }
                 Pace::InPieces => {

@@ -11,6 +11,8 @@ ghost use Rattle.std.specs.List.{count_by};
 
 use crate::aside::Aside;
 use crate::free_slots::FreeSlots;
+use dq_ticks::LAST_STAMP;
+use dq_wheel::Beside;
 use std::alloc::{AllocError, Allocator, Global};
 use std::marker::Model;
 use std::mem;
@@ -63,6 +65,16 @@ impl<T: Drop> Cell<T> {
         ensures { result ≡ self.now.stamp }
     {
         self.stamp
+    }
+
+    // The number, once the stamp was read. None is above the last one, so what is added is 0, which the compiler can't
+    // know: it keeps the read.
+    #[inline(always)]
+    fn once_read(&self, number: u64) -> u64
+        requires { self.now.stamp ≤ LAST_STAMP }
+        ensures { result ≡ number }
+    {
+        number + (self.stamp / (LAST_STAMP + 1)) as u64
     }
 
     #[inline]
@@ -220,6 +232,18 @@ impl<T: Drop, A: Allocator + Clone> Slots<T, A> {
             free,
             aside: Aside::new(),
         })
+    }
+}
+
+// A poll reads a slot whose index is due. So its wheel reads these rows ahead.
+impl<T: Drop, A: Allocator> Beside for Slots<T, A> {
+    #[inline(always)]
+    fn once_read(&self, index: usize, number: u64) -> u64 {
+        if index >= self.cells.len() {
+            return number;
+        }
+        let cell = &self.cells[index];
+        cell.once_read(number)
     }
 }
 

@@ -189,6 +189,12 @@ impl<A: Allocator> Words for VecWords<A> {
         self.row.len()
     }
 
+    // No step of a plain word is a fence, so the processor itself goes on to the next read.
+    #[inline(always)]
+    fn once_read(&self, _index: usize, number: u64) -> u64 {
+        number
+    }
+
     #[inline]
     fn begin(&mut self, index: usize, stamp: u32, when: u64) {
         self.row.set(

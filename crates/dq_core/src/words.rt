@@ -117,6 +117,11 @@ pub trait Words {
     fn rows(&self) -> usize
         ensures { result ≡ length (known self.now) };
 
+    /// The number itself, once the word was read, where its own step would wait for that behind a fence. Nothing is
+    /// learned of the word. An index beyond the rows has none.
+    fn once_read(&self, index: usize, number: u64) -> u64
+        ensures { result ≡ number };
+
     /// Makes a word live at the next stamp, which is one more than its own, and at a deadline.
     fn begin(&mut self, index: usize, stamp: u32, when: u64)
         requires in_range { index < length (known self.old) }

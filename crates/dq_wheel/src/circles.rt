@@ -9,6 +9,7 @@ ghost use Rattle.dq_wheel.specs.Rows.{homes, filed_numbers, shown_numbers};
 ghost use Rattle.dq_wheel.specs.declared.row.TheConstants.{NOT_FILED};
 
 use crate::LISTS;
+use crate::beside::Beside;
 use crate::cascade::scatter;
 use crate::maps::Maps;
 use crate::row::{Row, append, detach, detach_first, hang, lone_rows, once_near, row_at};
@@ -203,6 +204,23 @@ impl<A: Allocator> Circles<A> {
         ensures { result ≡ number }
     {
         once_near(&self.rows, index, number)
+    }
+
+    /// The number, once what lies beside each index of a list was read.
+    pub fn once_all_read<B: Beside>(&self, list: usize, beside: &B, number: u64) -> u64
+        requires { list < LISTS }
+        ensures { result ≡ number }
+    {
+        let mut same = number;
+        let mut at = row_at(&self.rows, self.capacity + list).next as usize;
+        for _turn in 0..self.capacity {
+            if at >= self.capacity {
+                break;
+            }
+            same = beside.once_read(at, same);
+            at = row_at(&self.rows, at).next as usize;
+        }
+        same
     }
 
     /// Takes an index out of its list.

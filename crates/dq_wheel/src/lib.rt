@@ -15,8 +15,13 @@
 //! The lists are linked by indexes in one row that is made with the wheel, so no other call takes memory. To link, to
 //! unlink and to take a due index off needs no search, and no test of where a list ends. The next list is found in at
 //! most six occupancy maps of 64 bits. `advance` opens a list by one step for each of its indexes.
+//!
+//! What comes to level 0 is due within 64 ticks, and whoever takes it reads other rows for it. In a large wheel each
+//! such read waits for memory. So `advance_reading` reads what lies beside an index while its list is opened: these
+//! reads wait together.
 #![tactic(auto)]
 
+mod beside;
 mod cascade;
 mod circles;
 mod homes;
@@ -25,6 +30,7 @@ mod maps;
 mod row;
 mod wheel;
 
+pub use beside::{Beside, Nothing};
 pub use wheel::{Place, Wheel, WheelError, wakes_are_ahead};
 
 /// The lists of a wheel, one for each slot of each level: list `64 * level + slot`.

@@ -10,11 +10,16 @@ ghost use Rattle.dq_wheel.specs.Homes.{CanGo, IsOpened};
 ghost use Rattle.dq_wheel.specs.declared.row.TheConstants.{NOT_FILED};
 
 use crate::LISTS;
+use crate::beside::Beside;
 use crate::circles::Circles;
 use crate::maps::{Maps, clear_bit, first_list, set_bit};
-use dq_ticks::{CAPACITY_LIMIT, LEVELS};
+use dq_ticks::{CAPACITY_LIMIT, LEVELS, SLOTS};
 use std::alloc::{AllocError, Allocator, Global};
 use std::marker::Model;
+
+// The rows of so many indexes, and what lies beside them, mostly are in a processor's own cache: to read them ahead
+// would cost more than it saves.
+const CACHED: usize = 16_384;
 
 /// Which list each index stands in, if any, with a bit for each list that isn't empty.
 #[derive(Drop)]
@@ -214,6 +219,17 @@ impl<A: Allocator> Lists<A> {
         self.circles.unlink_first(list, first);
         clear_if_empty(&self.circles, &mut self.maps, list);
         Some(first)
+    }
+
+    /// The number, once what lies beside the indexes of a list was read, where they are many, and due next: of level 1.
+    pub fn once_read<B: Beside>(&self, list: usize, beside: &B, number: u64) -> u64
+        requires { list < LISTS }
+        ensures { result ≡ number }
+    {
+        if list >= 2 * SLOTS || self.circles.capacity() <= CACHED {
+            return number;
+        }
+        self.circles.once_all_read(list, beside, number)
     }
 
     /// Opens a list: each of its indexes is placed again by the new tick. Gives how many of them aren't due yet.

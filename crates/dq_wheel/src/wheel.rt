@@ -12,6 +12,7 @@ ghost use Rattle.dq_wheel.specs.Homes.{place_of_home};
 ghost use Rattle.dq_wheel.specs.Lawful.{IsLawfulWheel};
 
 use crate::LISTS;
+use crate::beside::{Beside, Nothing};
 use crate::homes::{due_list, list_of, start_of};
 use crate::lists::Lists;
 use crate::row::NOT_FILED;
@@ -328,6 +329,26 @@ impl<A: Allocator> Wheel<A> {
             (ReachesWake self.old.filing limit self.new.filing)
             (ReachesLimit self.old.filing limit self.new.filing) }
     {
+        self.advance_reading(limit, &Nothing)
+    }
+
+    /// Goes on as [`Self::advance`] does. Where it opens a list of level 1 in a large wheel it reads what lies beside its
+    /// indexes, so that whoever takes them off soon doesn't wait for memory.
+    pub fn advance_reading<B: Beside>(&mut self, limit: u64, beside: &B) -> bool
+        requires none_due { NoneFiledAt self.old.filing.filed self.old.filing.tick }
+        requires not_before { self.old.filing.tick ≤ limit }
+        requires in_range { limit ≤ LAST_TICK }
+        // The tick goes on, to the limit at the most, and past no filed tick.
+        ensures onward { self.old.filing.tick < limit →
+            self.old.filing.tick < self.new.filing.tick }
+        ensures within { self.new.filing.tick ≤ limit }
+        ensures none_before { NoneFiledBefore self.new.filing.filed self.new.filing.tick }
+        // Each index stays filed at its tick.
+        ensures filed { self.new.filing.filed ≡ self.old.filing.filed }
+        ensures way { MatchBool result
+            (ReachesWake self.old.filing limit self.new.filing)
+            (ReachesLimit self.old.filing limit self.new.filing) }
+    {
         let own = digit(self.tick, LEVELS - 1) as usize;
         let Some(list) = self.lists.first_filled(own) else {
             self.tick = limit;
@@ -346,7 +367,8 @@ impl<A: Allocator> Wheel<A> {
             self.lists.close();
             return true;
         }
-        let made = self.lists.open(list, start);
+        let tick = self.lists.once_read(list, beside, start);
+        let made = self.lists.open(list, tick);
         self.moved = self.moved.saturating_add(made);
         true
     }

@@ -196,6 +196,11 @@ impl<A: Allocator> Words for Keeper<A> {
         self.seat.rows()
     }
 
+    #[inline(always)]
+    fn once_read(&self, index: usize, number: u64) -> u64 {
+        self.seat.once_read(index, number)
+    }
+
     fn begin(&mut self, index: usize, stamp: u32, when: u64)
         requires in_range { index < length (known_of self.old) }
         requires over { IsOver (known_word self.old index) }

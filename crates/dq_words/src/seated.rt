@@ -2,8 +2,8 @@
 //!
 //! This module alone can name the table, and it has one function for each kind of step, which makes that step's
 //! atomic operation once. So the keeper and its callers reach the words by these steps and by nothing else, and the
-//! steps that a seat records are all that were made through it. No function here calls the table's `peek`, a load
-//! that no seat records.
+//! steps that a seat records are all that were made through it, but for the loads of `once_read`. It alone calls the
+//! table's `peek`, a load that no seat records: what it finds decides nothing, as its contract says.
 ghost use Rattle.std.specs.Prelude.{◌≡◌, ◌+◌, ◌*◌, ◌<◌, ◌≤◌, length, true, false, slice_index};
 ghost use Rattle.std.specs.Prelude.{IfOk, IfErr};
 ghost use Rattle.dq_ticks.specs.declared.TheConstants.{CAPACITY_LIMIT};
@@ -80,6 +80,18 @@ impl<A: Allocator> Seated<A> {
         ensures { result ≡ length self.now.view.seen }
     {
         self.rows
+    }
+
+    // The number itself, once a word was read, for the step that will be made at that word soon. The load has an
+    // ordering, so it stays where nobody uses what it finds.
+    #[inline(always)]
+    pub(crate) fn once_read(&self, index: usize, number: u64) -> u64
+        ensures { result ≡ number }
+    {
+        if index < self.rows {
+            let _found = self.table.shared.peek(index);
+        }
+        number
     }
 
     pub(crate) fn keeper_load(&mut self, index: usize) -> u64

@@ -4,6 +4,7 @@
 //! the owner. The wheel files the index no later than that deadline; where an entry comes due there and its word has
 //! a later deadline, it is filed again.
 
+use crate::core::ahead::Ahead;
 use crate::core::errors::{CoreConfig, CoreError};
 use crate::core::outcomes::{Expired, Pace, Progress, Removed, Turn};
 use crate::core::slots::Slots;
@@ -186,7 +187,11 @@ impl<T, W: Words> DelayCore<T, W> {
         if tick < self.noted {
             return match pace {
                 Pace::Whole => {
-                    self.wheel.advance(self.noted);
+                    let ahead = Ahead {
+                        slots: &self.slots,
+                        words: &self.words,
+                    };
+                    self.wheel.advance_reading(self.noted, &ahead);
                     Progress::Went
                 }
                 Pace::InPieces => {

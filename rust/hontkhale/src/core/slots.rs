@@ -11,6 +11,8 @@ use crate::core::aside::Aside;
 use crate::core::free_slots::FreeSlots;
 use crate::index::{nth, nth_mut};
 use crate::memory::{room_for, AllocError};
+use crate::ticks::LAST_STAMP;
+use crate::wheel::Beside;
 use alloc::vec::Vec;
 use core::mem;
 
@@ -43,6 +45,13 @@ impl<T> Cell<T> {
     #[inline]
     fn stamp(&self) -> u32 {
         self.stamp
+    }
+
+    // The number, once the stamp was read. None is above the last one, so what is added is 0, which the compiler can't
+    // know: it keeps the read.
+    #[inline(always)]
+    fn once_read(&self, number: u64) -> u64 {
+        number + (self.stamp / (LAST_STAMP + 1)) as u64
     }
 
     #[inline]
@@ -158,6 +167,18 @@ impl<T> Slots<T> {
             free,
             aside: Aside::new(),
         })
+    }
+}
+
+// A poll reads a slot whose index is due. So its wheel reads these rows ahead.
+impl<T> Beside for Slots<T> {
+    #[inline(always)]
+    fn once_read(&self, index: usize, number: u64) -> u64 {
+        if index >= self.cells.len() {
+            return number;
+        }
+        let cell = nth(&self.cells, index);
+        cell.once_read(number)
     }
 }
 

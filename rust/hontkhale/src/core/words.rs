@@ -96,6 +96,10 @@ pub trait Words {
     /// The number of words.
     fn rows(&self) -> usize;
 
+    /// The number itself, once the word was read, where its own step would wait for that behind a fence. Nothing is
+    /// learned of the word. An index beyond the rows has none.
+    fn once_read(&self, index: usize, number: u64) -> u64;
+
     /// Makes a word live at the next stamp, which is one more than its own, and at a deadline.
     fn begin(&mut self, index: usize, stamp: u32, when: u64);
 

@@ -1,6 +1,7 @@
 //! Lists of indexes, linked both ways, in a fixed row, with what is kept of each index.
 
 use crate::memory::AllocError;
+use crate::wheel::beside::Beside;
 use crate::wheel::cascade::scatter;
 use crate::wheel::maps::Maps;
 use crate::wheel::row::{append, detach, detach_first, hang, lone_rows, once_near, row_at, Row};
@@ -115,6 +116,20 @@ impl Circles {
     #[inline]
     pub fn once_near(&self, index: usize, number: u32) -> u32 {
         once_near(&self.rows, index, number)
+    }
+
+    /// The number, once what lies beside each index of a list was read.
+    pub fn once_all_read<B: Beside>(&self, list: usize, beside: &B, number: u64) -> u64 {
+        let mut same = number;
+        let mut at = row_at(&self.rows, self.capacity + list).next as usize;
+        for _turn in 0..self.capacity {
+            if at >= self.capacity {
+                break;
+            }
+            same = beside.once_read(at, same);
+            at = row_at(&self.rows, at).next as usize;
+        }
+        same
     }
 
     /// Takes an index out of its list.

@@ -2,9 +2,14 @@
 
 use crate::index::nth;
 use crate::memory::AllocError;
-use crate::ticks::LEVELS;
+use crate::ticks::{LEVELS, SLOTS};
+use crate::wheel::beside::Beside;
 use crate::wheel::circles::Circles;
 use crate::wheel::maps::{clear_bit, first_list, set_bit, Maps};
+
+// The rows of so many indexes, and what lies beside them, mostly are in a processor's own cache: to read them ahead
+// would cost more than it saves.
+const CACHED: usize = 16_384;
 
 /// Which list each index stands in, if any, with a bit for each list that isn't empty.
 pub struct Lists {
@@ -103,6 +108,14 @@ impl Lists {
         self.circles.unlink_first(list, first);
         clear_if_empty(&self.circles, &mut self.maps, list);
         Some(first)
+    }
+
+    /// The number, once what lies beside the indexes of a list was read, where they are many, and due next: of level 1.
+    pub fn once_read<B: Beside>(&self, list: usize, beside: &B, number: u64) -> u64 {
+        if list >= 2 * SLOTS || self.circles.capacity() <= CACHED {
+            return number;
+        }
+        self.circles.once_all_read(list, beside, number)
     }
 
     /// Opens a list: each of its indexes is placed again by the new tick. Gives how many of them aren't due yet.

@@ -2,6 +2,7 @@
 
 use crate::memory::AllocError;
 use crate::ticks::{digit, CAPACITY_LIMIT, LEVELS, SLOTS};
+use crate::wheel::beside::{Beside, Nothing};
 use crate::wheel::homes::{due_list, list_of, start_of};
 use crate::wheel::lists::Lists;
 use crate::wheel::row::NOT_FILED;
@@ -182,6 +183,12 @@ impl Wheel {
     /// Goes on to the next wake, but not past the limit, once nothing is due. True where the wake was reached: its list
     /// is opened, and each of its indexes goes down to a lower level or is due. A way to a lower level is a move.
     pub fn advance(&mut self, limit: u64) -> bool {
+        self.advance_reading(limit, &Nothing)
+    }
+
+    /// Goes on as [`Self::advance`] does. Where it opens a list of level 1 in a large wheel it reads what lies beside its
+    /// indexes, so that whoever takes them off soon doesn't wait for memory.
+    pub fn advance_reading<B: Beside>(&mut self, limit: u64, beside: &B) -> bool {
         let own = digit(self.tick, LEVELS - 1) as usize;
         let Some(list) = self.lists.first_filled(own) else {
             self.tick = limit;
@@ -200,7 +207,8 @@ impl Wheel {
             self.lists.close();
             return true;
         }
-        let made = self.lists.open(list, start);
+        let tick = self.lists.once_read(list, beside, start);
+        let made = self.lists.open(list, tick);
         self.moved = self.moved.saturating_add(made);
         true
     }

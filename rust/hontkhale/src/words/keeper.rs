@@ -98,6 +98,11 @@ impl Words for Keeper {
         self.seat.rows()
     }
 
+    #[inline(always)]
+    fn once_read(&self, index: usize, number: u64) -> u64 {
+        self.seat.once_read(index, number)
+    }
+
     fn begin(&mut self, index: usize, stamp: u32, when: u64) {
         self.seat.begin(index, live_word(stamp, when));
     }

@@ -26,6 +26,16 @@ impl Seated {
         self.rows
     }
 
+    // The number itself, once a word was read, for the step that will be made at that word soon. The load has an
+    // ordering, so it stays where nobody uses what it finds.
+    #[inline(always)]
+    pub(crate) fn once_read(&self, index: usize, number: u64) -> u64 {
+        if index < self.rows {
+            let _found = self.table.load(index);
+        }
+        number
+    }
+
     pub(crate) fn keeper_load(&mut self, index: usize) -> u64 {
         self.table.load(index)
     }

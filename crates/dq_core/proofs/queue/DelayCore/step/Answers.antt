@@ -9,9 +9,9 @@ returns-in-Whole-clause-progress g c =
     let same = c.self.view_is ∙ c.in_default.ensures.settles.0 in
     let none = rw (← same) at c.in_default.ensures.settles.1 in
     let tick = c.tick-tick.ensures.value in
-    let goes = goes_on _ _ c.self.inside.wheel.filing _ _ refl (omega (arith, tick, c.if-tick-self.true)) none c.advance.ensures.way in
+    let goes = goes_on _ _ c.self.inside.wheel.filing _ _ refl (omega (arith, tick, c.if-tick-self.true)) none c.advance_reading.ensures.way in
     rw (c.in-Whole.is, ← same)
-    (step_advanced g.W.Words.shared _ _ c.self.invariant.0 goes c.advance.ensures.filed c.advance.ensures.within (advanced_on _ _ c.self.inside.wheel.filing.tick _ c.tick-tick.ensures.value refl c.if-tick-self.true c.advance.ensures.onward) c.advance.ensures.none_before refl refl refl refl)
+    (step_advanced g.W.Words.shared _ _ c.self.invariant.0 goes c.advance_reading.ensures.filed c.advance_reading.ensures.within (advanced_on _ _ c.self.inside.wheel.filing.tick _ c.tick-tick.ensures.value refl c.if-tick-self.true c.advance_reading.ensures.onward) c.advance_reading.ensures.none_before refl refl refl refl)
 
 pub returns-in-InPieces-clause-progress : goal.returns-in-InPieces-clause-progress
 returns-in-InPieces-clause-progress g c =

@@ -1,7 +1,7 @@
 use Rattle.std.proofs.Common.{ap, arith}
 use Rattle.dq_wheel.proofs.Arriving.{no_due_list}
 use Rattle.dq_wheel.proofs.Going.{begins_after, lawful_at_limit, lawful_open, low_opened, low_reaches, may_open, none_before_limit, none_before_open, open_reaches, reaches_limit, starts_later, starts_never}
-use Rattle.dq_wheel.proofs.wheel.Wheel.advance.Goals as goal
+use Rattle.dq_wheel.proofs.wheel.Wheel.advance_reading.Goals as goal
 
 pub invariant_of-self : goal.invariant_of-self
 invariant_of-self g c =
@@ -77,14 +77,14 @@ returns-then-list-lt-SLOTS-clause-onward g c below =
 
 pub open-made-requires-clause-can_go : goal.open-made-requires-clause-can_go
 open-made-requires-clause-can_go g c =
-    (may_open _ _ _ _ c.self.invariant.0 _ _ (ap (λ w. w.filing) c.self.view_is) c.requires.none_due _ c.requires.not_before c.requires.in_range (omega arith)
+    rw c.once_read-tick.ensures (may_open _ _ _ _ c.self.invariant.0 _ _ (ap (λ w. w.filing) c.self.view_is) c.requires.none_due _ c.requires.not_before c.requires.in_range (omega arith)
     _ _ _ c.digit-own.ensures c.in-Some.ensures c.start_of-start.ensures (omega (arith, c.if-list-lt-SLOTS.false)))
 
 pub invariant_of-self-2 : goal.invariant_of-self-2
 invariant_of-self-2 g c =
     rw (c.open-made.ensures.filed, c.open-made.ensures.shut) (
       (lawful_open _ _ _ _ c.self.invariant.0 _ _ (ap (λ w. w.filing) c.self.view_is) c.requires.none_due _ c.requires.not_before c.requires.in_range (omega arith)
-          _ _ _ c.digit-own.ensures c.in-Some.ensures c.start_of-start.ensures _ _ _ c.open-made.ensures.opened),
+          _ _ _ c.digit-own.ensures c.in-Some.ensures c.start_of-start.ensures _ _ _ (rw c.once_read-tick.ensures at c.open-made.ensures.opened)),
       tt,
     )
 
@@ -92,13 +92,13 @@ pub returns-clause-way : goal.returns-clause-way
 returns-clause-way g c =
     rw (c.open-made.ensures.filed, c.saturating_add-self-inside.ensures)
     (open_reaches _ _ _ _ c.self.invariant.0 _ _ (ap (λ w. w.filing) c.self.view_is) c.requires.none_due _ c.requires.not_before c.requires.in_range (omega arith)
-    _ _ _ c.digit-own.ensures c.in-Some.ensures c.start_of-start.ensures _ _ _ c.open-made.ensures.opened c.if-limit-start.false)
+    _ _ _ c.digit-own.ensures c.in-Some.ensures c.start_of-start.ensures _ _ _ (rw c.once_read-tick.ensures at c.open-made.ensures.opened) c.if-limit-start.false)
 
 pub returns-clause-none_before : goal.returns-clause-none_before
 returns-clause-none_before g c =
     rw c.open-made.ensures.filed
     (none_before_open _ _ _ _ c.self.invariant.0 _ _ (ap (λ w. w.filing) c.self.view_is) c.requires.none_due _ c.requires.not_before c.requires.in_range (omega arith)
-    _ _ _ c.digit-own.ensures c.in-Some.ensures c.start_of-start.ensures _ _ _ c.open-made.ensures.opened)
+    _ _ _ c.digit-own.ensures c.in-Some.ensures c.start_of-start.ensures _ _ _ (rw c.once_read-tick.ensures at c.open-made.ensures.opened))
 
 pub returns-clause-onward : goal.returns-clause-onward
 returns-clause-onward g c below =
