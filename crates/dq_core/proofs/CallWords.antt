@@ -1,5 +1,5 @@
 -- What each call's exact relation says in the short words of its other clauses.
-use Rattle.std.proofs.Common.{◌≡◌, ◌≢◌, ℕ, ◌+◌, ◌<◌, ◌≤◌, max, zero, suc, Bool, List, [], ◌∷◌, length, get_or, set, replicate, Option, Some, None, Result, IsErrOf, ◌↔◌, refl, sym, ap, ◌∙◌, arith}
+use Rattle.std.proofs.Common.{◌≡◌, ◌≢◌, ℕ, ◌+◌, ◌<◌, ◌≤◌, max, zero, suc, Bool, true, false, if◌then◌else◌, List, [], ◌∷◌, length, get_or, set, replicate, Option, Some, None, Result, IsErrOf, ◌↔◌, refl, sym, ap, ◌∙◌, arith}
 use Rattle.std.proofs.lemmas.List.{length-set, get_or-set_same, get_or-set_other, set-get_or}
 use Rattle.dq_ticks.specs.declared.keys.Key.{Key}
 use Rattle.dq_ticks.specs.declared.keys.EntryId.{EntryId}
@@ -11,12 +11,12 @@ use Rattle.dq_core.specs.declared.outcomes.Removed.{Removed}
 use Rattle.dq_core.specs.Words.{live, removed}
 use Rattle.dq_core.specs.Slots.{Row, unused, row_at, vacated_row, raised_row}
 use Rattle.dq_core.specs.Machine.{Entry, TableRow, Machine, table_at, put}
-use Rattle.dq_core.specs.Core.{Core, machine, entry_of, table_of, IsLawfulCore}
-use Rattle.dq_core.specs.Calls.{IsInserted, IsLookedAt, IsFound, IsMissing, IsRemoved, IsReset, FindRefused, ResetRefused, IsLiveEntry, base_for}
+use Rattle.dq_core.specs.Core.{Core, machine, entry_of, table_of, filing_for, IsLawfulCore}
+use Rattle.dq_core.specs.Calls.{IsInserted, IsLookedAt, IsFound, IsMissing, IsRemoved, IsReset, FindRefused, ResetRefused, IsLiveEntry, base_for, stays_filed, refiled}
 use Rattle.dq_core.proofs.Ways.{table_set}
 use Rattle.dq_core.proofs.Finds.{not_missing}
 use Rattle.dq_core.specs.Sweeps.{AreOut, Clears, all_unlinked}
-use Rattle.dq_wheel.specs.State.{Filing, unlinked}
+use Rattle.dq_wheel.specs.State.{Filing, linked, unlinked}
 use Rattle.dq_core.specs.AtTheCall.{IsLinkedAs, OthersStay, linked_in}
 
 -- the row that was put, and the others
@@ -77,13 +77,21 @@ pub reset_others : {T W : Type 0} {shared : Bool} {b c : Core T W} {id : EntryId
 reset_others {T} {W} {shared} {b} {c} {id} {when} {k} r =
     others_set b c id.index (raised_row (row_at b.slots.rows id.index)) (live k.stamp (base_for b when)) (ap (λ s. s.rows) r.slots) r.known
 
+-- a reset leaves the wheel's tick
+refiled_by : (stays : Bool) (w w' : Filing) (i g : ℕ) → w' ≡ (if stays then w else linked w i g) → w'.tick ≡ w.tick
+refiled_by true w w' i g e = ap (λ x. x.tick) e
+refiled_by false w w' i g e = ap (λ x. x.tick) e
+
+refiled_tick : (shared : Bool) (w : Filing) (i base : ℕ) (w' : Filing) → w' ≡ refiled shared w i base → w'.tick ≡ w.tick
+refiled_tick shared w i base w' e = refiled_by (stays_filed shared w i base) w w' i (filing_for w.tick base) e
+
 pub reset_live : {T W : Type 0} {shared : Bool} {b c : Core T W} {id : EntryId} {when : ℕ} {k : Key} → IsReset shared b id when k c → IsLiveEntry (machine c) id (base_for b when)
 reset_live {T} {W} {shared} {b} {c} {id} {when} {k} r =
     let m = r.run.0 in
     let step = r.run.2 in
     let e = step.0 in
     let s = (table_at m id.index).stamp + 1 in
-    let tick : m.tick ≡ b.wheel.filing.tick = sym (ap (λ n. n.tick) step.6) ∙ ap (λ w. w.tick) r.filed in
+    let tick : m.tick ≡ b.wheel.filing.tick = sym (ap (λ n. n.tick) step.6) ∙ refiled_tick shared b.wheel.filing id.index (base_for b when) c.wheel.filing r.filed in
     let due : max when m.tick ≡ base_for b when = ap (max when) tick in
     let n : Entry T = record { born = e.born; value = e.value; due = Some (max when m.tick) } in
     (n, (put_inside m (machine c) id.index s (Some n) step.2.0 step.6, ap (λ x. x.entry) (put_here m (machine c) id.index s (Some n) step.2.0 step.6)), step.3, ap Some due)

@@ -1,6 +1,7 @@
 -- Entries that are looked for: found live, found cancelled, removed, reset, or missing.
-use Rattle.std.proofs.Common.{◌≡◌, ◌≢◌, ℕ, ◌+◌, ◌<◌, ◌≤◌, max, Bool, List, length, set, Option, Some, None, refl, sym, ap, ◌∙◌, subst, inl, inr, arith}
-use Rattle.std.proofs.lemmas.List.{get_or-set_same, set-set}
+use Rattle.std.proofs.Common.{◌≡◌, ◌≢◌, ℕ, ◌+◌, ◌-◌, ◌<◌, ◌≤◌, max, Bool, true, false, nat_le, if◌then◌else◌, List, length, set, Option, Some, None, refl, sym, ap, ◌∙◌, subst, inl, inr, arith}
+use Rattle.std.proofs.lemmas.List.{get_or-set_same, set-get_or, set-set}
+use Rattle.std.proofs.lemmas.Bool.{and_parts, leb-true, false≢true}
 use Rattle.dq_ticks.specs.declared.words.Parts.{Parts}
 use Rattle.dq_ticks.specs.declared.words.Mark.TheVariants.{LiveMark, CancelledMark, RemovedMark}
 use Rattle.dq_ticks.specs.declared.keys.Key.{Key}
@@ -15,7 +16,7 @@ use Rattle.dq_core.specs.Slots.{SlotRows, row_at, vacated, vacated_row, raised, 
 use Rattle.dq_core.specs.Machine.{Entry, Machine, Callers, Has, table_at, put}
 use Rattle.dq_core.specs.Core.{Core, machine, IsLawful, IsLawfulCore, filing_for, due_by, entry_of}
 use Rattle.dq_core.specs.TableRows.{machine_of}
-use Rattle.dq_core.specs.Calls.{IsLookedAt, IsFound, IsMissing, IsFoundCancelled, IsFoundLive, IsRemoved, IsReset, file_for}
+use Rattle.dq_core.specs.Calls.{IsLookedAt, IsFound, IsMissing, IsFoundCancelled, IsFoundLive, IsRemoved, IsReset, suits, stays_filed, refiled}
 use Rattle.dq_core.proofs.Slotwise.{held_inside}
 use Rattle.dq_core.proofs.Law.{Filed, held_filed, law_kept, law_vacated, force_learned, force_low}
 use Rattle.dq_core.proofs.Ways.{Learning, learning, machine_is, vacated_of, raised_of, table_row_is}
@@ -93,6 +94,15 @@ seen_cancelled s f v (pos, inr is) e = is
 pub seen_live : (s f : ℕ) (v : Parts) → IsInForce s f v → v.mark ≢ CancelledMark → v ≡ live s v.field
 seen_live s f v (pos, inl (is, after, small)) ne = is
 seen_live s f v (pos, inr is) ne = absurd (ne (ap (λ p. p.mark) is))
+
+-- an index that stays is filed where that suits
+stays_where : (shared : Bool) (w : Filing) (i base : ℕ) → stays_filed shared w i base ≡ true → suits w.tick base (filed_at w.filed i) ≡ true
+stays_where true w i base is = is
+stays_where false w i base is = absurd (false≢true is)
+
+-- and that is no later than the base
+suits_low : (tick base f : ℕ) → suits tick base (Some f) ≡ true → f ≤ base
+suits_low tick base f is = leb-true f base (and_parts (nat_le f base) (nat_le (base - f) (f - tick)) is).0
 
 module _ {T W : Type 0} (shared : Bool) (b : Core T W) (l : IsLawfulCore b) (id : EntryId) (i : ℕ) (found : IsFound b id i) where
   ei : id.index ≡ i
@@ -202,24 +212,36 @@ module _ {T W : Type 0} (shared : Bool) (b : Core T W) (l : IsLawfulCore b) (id 
   pub below_last : (stamp last : ℕ) → stamp ≡ (row_at b.slots.rows i).stamp → last ≡ b.slots.last_stamp → (stamp ≡ last → ⊥) → stamp < b.slots.last_stamp
   below_last stamp last es el ne = let bound = at.bound in omega (arith, es, el, bound, ne)
 
+  -- how a found entry is filed after a reset: no later than its new base
+  refiled_as : (wheel : WheelState) (stays : Bool) (tick base g when : ℕ) → tick ≡ b.wheel.filing.tick → base ≡ max when tick → g ≡ filing_for tick base → stays ≡ stays_filed shared b.wheel.filing i base → wheel.filing ≡ (if stays then b.wheel.filing else linked b.wheel.filing i g) → (n : ℕ) × (wheel.filing.tick ≡ b.wheel.filing.tick) × (wheel.filing.filed ≡ set b.wheel.filing.filed i (Some n)) × (b.wheel.filing.tick ≤ n) × (n < b.wheel.filing.tick + lap) × (n ≤ base)
+  refiled_as wheel true tick base g when et eb eg es ew =
+      let n = (found_filed b l id i found).0 in
+      let S : Option ℕ → Type 0 = λ o. suits b.wheel.filing.tick base o ≡ true in
+      let here : suits b.wheel.filing.tick base (Some n) ≡ true = subst S at.is_filed (stays_where shared b.wheel.filing i base (sym es)) in
+      let same : set b.wheel.filing.filed i (Some n) ≡ b.wheel.filing.filed = ap (set b.wheel.filing.filed i) (sym at.is_filed) ∙ set-get_or b.wheel.filing.filed i None in
+      (n, ap (λ x. x.tick) ew, ap (λ x. x.filed) ew ∙ sym same, at.ahead, at.near, suits_low b.wheel.filing.tick base n here)
+  refiled_as wheel false tick base g when et eb eg es ew =
+      (g, ap (λ x. x.tick) ew, ap (λ x. x.filed) ew, omega arith, omega arith, omega arith)
+
   -- the law where a found entry gets the next stamp and another base
-  pub law_reset : (wheel : WheelState) (slots : SlotRows T) (known : List Parts) (counts : Counts) (stamp tick base g when : ℕ) → stamp ≡ (row_at b.slots.rows i).stamp → stamp < b.slots.last_stamp → when ≤ LAST_TICK → tick ≡ b.wheel.filing.tick → base ≡ max when tick → g ≡ filing_for tick base → word_at known i ≡ live (stamp + 1) base → wheel.filing ≡ linked b.wheel.filing i g → slots ≡ raised b.slots i → known ≡ set b.known i (word_at known i) → counts ≡ b.counts → IsLawful b.noted wheel.filing slots known counts
-  law_reset wheel slots known counts stamp tick base g when es below small et eb eg is ew eslots ek ec =
+  pub law_reset : (wheel : WheelState) (slots : SlotRows T) (known : List Parts) (counts : Counts) (stays : Bool) (stamp tick base g when : ℕ) → stamp ≡ (row_at b.slots.rows i).stamp → stamp < b.slots.last_stamp → when ≤ LAST_TICK → tick ≡ b.wheel.filing.tick → base ≡ max when tick → g ≡ filing_for tick base → stays ≡ stays_filed shared b.wheel.filing i base → word_at known i ≡ live (stamp + 1) base → wheel.filing ≡ (if stays then b.wheel.filing else linked b.wheel.filing i g) → slots ≡ raised b.slots i → known ≡ set b.known i (word_at known i) → counts ≡ b.counts → IsLawful b.noted wheel.filing slots known counts
+  law_reset wheel slots known counts stays stamp tick base g when es below small et eb eg stay is ew eslots ek ec =
       let v = word_at known i in
       let s = (row_at b.slots.rows i).stamp in
       let noted = l.tick in
       let bound = l.noted_bound in
       let vs : v.stamp ≡ s + 1 = ap (λ p. p.stamp) is ∙ ap (λ n. n + 1) es in
-      let fits : (b.wheel.filing.tick ≤ g) × (g < b.wheel.filing.tick + lap) × (g ≤ base) × (base ≤ LAST_TICK) = (omega arith, omega arith, omega arith, omega arith) in
+      let fl = refiled_as wheel stays tick base g when et eb eg stay ew in
+      let low : base ≤ LAST_TICK = omega arith in
       let written : v ≡ live (s + 1) base = is ∙ ap (λ n. live (n + 1) base) es in
-      let F : Parts → Type 0 = λ p. IsInForce (s + 1) g p in
-      let force : IsInForce (s + 1) g v = subst F (sym written) (omega arith, inl (refl, fits.2, fits.3)) in
+      let F : Parts → Type 0 = λ p. IsInForce (s + 1) fl.0 p in
+      let force : IsInForce (s + 1) fl.0 v = subst F (sym written) (omega arith, inl (refl, fl.5, low)) in
       let C : Counts → Type 0 = λ n. IsLawful b.noted wheel.filing slots known n in
-      subst C (sym ec) (law_kept l i (found_filed b l id i found).0 g found.3.0 (raised_row (row_at b.slots.rows i)) v at (ap (λ x. x.tick) ew) (ap (λ x. x.filed) ew) (ap (λ x. x.last_stamp) eslots) (ap (λ x. x.rows) eslots) ek refl (omega arith) (omega (arith, es, below)) vs force fits.0 fits.1)
+      subst C (sym ec) (law_kept l i (found_filed b l id i found).0 fl.0 found.3.0 (raised_row (row_at b.slots.rows i)) v at fl.1 fl.2 (ap (λ x. x.last_stamp) eslots) (ap (λ x. x.rows) eslots) ek refl (omega arith) (omega (arith, es, below)) vs force fl.3 fl.4)
 
   -- a found entry that is live is reset
-  pub resets : (c : Core T W) (stamp tick base g when d : ℕ) (k : Key) → stamp ≡ (row_at b.slots.rows i).stamp → stamp < b.slots.last_stamp → when ≤ LAST_TICK → tick ≡ b.wheel.filing.tick → base ≡ max when tick → g ≡ filing_for tick base → IsChanged shared stamp (λ e. live (stamp + 1) base) (word_at b.known i) (Some d) (word_at c.known i) → c.wheel.filing ≡ linked b.wheel.filing i g → c.slots ≡ raised b.slots i → c.known ≡ set b.known i (word_at c.known i) → c.counts ≡ b.counts → k ≡ record { entry = id; stamp = stamp + 1 } → c.shard ≡ b.shard → c.noted ≡ b.noted → IsReset shared b id when k c
-  resets c stamp tick base g when d k es below small et eb eg changed ew eslots ek ec ekey esh en =
+  pub resets : (c : Core T W) (stays : Bool) (stamp tick base g when d : ℕ) (k : Key) → stamp ≡ (row_at b.slots.rows i).stamp → stamp < b.slots.last_stamp → when ≤ LAST_TICK → tick ≡ b.wheel.filing.tick → base ≡ max when tick → g ≡ filing_for tick base → stays ≡ stays_filed shared b.wheel.filing i base → IsChanged shared stamp (λ e. live (stamp + 1) base) (word_at b.known i) (Some d) (word_at c.known i) → c.wheel.filing ≡ (if stays then b.wheel.filing else linked b.wheel.filing i g) → c.slots ≡ raised b.slots i → c.known ≡ set b.known i (word_at c.known i) → c.counts ≡ b.counts → k ≡ record { entry = id; stamp = stamp + 1 } → c.shard ≡ b.shard → c.noted ≡ b.noted → IsReset shared b id when k c
+  resets c stays stamp tick base g when d k es below small et eb eg stay changed ew eslots ek ec ekey esh en =
       let s = (row_at b.slots.rows i).stamp in
       let t = b.wheel.filing.tick in
       let w = live s d in
@@ -234,14 +256,15 @@ module _ {T W : Type 0} (shared : Bool) (b : Core T W) (l : IsLawfulCore b) (id 
       let known : c.known ≡ set b.known i (live (s + 1) (max when t)) = ek ∙ ap (λ p. set b.known i p) written in
       let twice : c.known ≡ set (set b.known i w) i (live (s + 1) (max when t)) = known ∙ sym (set-set b.known i w (live (s + 1) (max when t))) in
       let mc : machine c ≡ put m1 i ((table_at m1 i).stamp + 1) (Some (record { born = found.3.0.born; value = found.3.0.value; due = Some (max when t) })) =
-      machine_is c t b.noted (set b.slots.rows i (raised_row (row_at b.slots.rows i))) (set (set b.known i w) i (live (s + 1) (max when t))) (ap (λ y. y.tick) ew) en (ap (λ y. y.rows) eslots) twice
+      machine_is c t b.noted (set b.slots.rows i (raised_row (row_at b.slots.rows i))) (set (set b.known i w) i (live (s + 1) (max when t))) (refiled_as c.wheel stays tick base g when et eb eg stay ew).1 en (ap (λ y. y.rows) eslots) twice
       ∙ raised_of t b.noted b.slots.rows (set b.known i w) i (max when t) found.3.0 le.sizes found.3.1 in
       let ks : k.stamp ≡ s + 1 = ap (λ x. x.stamp) ekey ∙ ap (λ n. n + 1) es in
       let e : Entry T = record { born = found.3.0.born; value = found.3.0.value; due = Some d } in
       let within : i < length m1.table = le.has.0 in
       let slot : (table_at (machine c) i).stamp ≡ s + 1 =
       ap (λ m. (table_at m i).stamp) mc ∙ ap (λ x. x.stamp) (get_or-set_same m1.table i (record { stamp = (table_at m1 i).stamp + 1; entry = Some (record { born = found.3.0.born; value = found.3.0.value; due = Some (max when t) }) }) (record { stamp = 0; entry = None }) within) ∙ ap (λ n. n + 1) le.stamp in
-      let files : g ≡ file_for b when = eg ∙ ap (λ n. filing_for n base) et ∙ ap (λ n. filing_for t n) bases in
+      let files : g ≡ filing_for t base = eg ∙ ap (λ n. filing_for n base) et in
+      let R : ℕ → Type 0 = λ n. c.wheel.filing ≡ refiled shared b.wheel.filing i n in
       let low : (table_at m1 i).stamp < b.slots.last_stamp = let q = le.stamp in omega (arith, es, below) in
       let born : id.born ≡ found.3.0.born = sym found.3.2 in
       record {
@@ -253,7 +276,7 @@ module _ {T W : Type 0} (shared : Bool) (b : Core T W) (l : IsLawfulCore b) (id 
         learned = rw ei (d, learned);
         known = rw (ei, ks) known;
         counts = ec;
-        filed = rw ei (ew ∙ ap (λ n. linked b.wheel.filing i n) files);
+        filed = rw ei (subst R bases (ew ∙ (λ j. if stay j then b.wheel.filing else linked b.wheel.filing i (files j))));
         slots = rw ei eslots;
         same_shard = esh;
         noted = en;

@@ -1,6 +1,7 @@
 -- What each call of a queue does, and why it is refused.
 use Rattle.std.specs.Prelude.{max, ◌≡◌, ◌≢◌, ℕ, ◌+◌, ◌-◌, ◌<◌, ◌≤◌, ◌⊎◌, Bool, List, [], Option}
 use Rattle.std.specs.Prelude.{Some, None, Result, Ok, Err, length, replicate, slice_set, IfSome}
+use Rattle.std.specs.Prelude.{false, ◌&&◌, if◌then◌else◌, nat_le}
 use Rattle.std.specs.List.{count_by, sum_by}
 use Rattle.dq_wheel.specs.State.{Filing, WheelState, filed_at, linked, unlinked, fresh_filing}
 use Rattle.dq_wheel.specs.Wakes.{IsNextWake}
@@ -212,6 +213,21 @@ Removes shared b id (Err e) c = FindRefused shared b id e c
 
 -- reset
 
+-- a filing suits a base: it is no later than the base, and at least half of the way to it from the
+-- wheel's tick
+abbrev pub suits : ℕ → ℕ → Option ℕ → Bool
+suits tick base None = false
+suits tick base (Some f) = nat_le f base && nat_le (base - f) (f - tick)
+
+-- a reset leaves the index where it is filed: over shared words, where that suits the new base
+abbrev pub stays_filed : Bool → Filing → ℕ → ℕ → Bool
+stays_filed shared w i base = shared && suits w.tick base (filed_at w.filed i)
+
+-- how the wheel files after a reset: the index as before where it stays, and else by its new base
+abbrev pub refiled : Bool → Filing → ℕ → ℕ → Filing
+refiled shared w i base =
+    if stays_filed shared w i base then w else linked w i (filing_for w.tick base)
+
 -- a live entry gets the slot's next stamp and another base
 pub record IsReset {T W : Type 0} (shared : Bool) (b : Core T W) (id : EntryId) (when : ℕ) (k : Key)
     (c : Core T W) : Type 0 where
@@ -227,7 +243,7 @@ pub record IsReset {T W : Type 0} (shared : Bool) (b : Core T W) (id : EntryId) 
       × Learned shared (word_at b.known id.index) (live (row_at b.slots.rows id.index).stamp d)
   pub known : c.known ≡ slice_set b.known id.index (live k.stamp (base_for b when))
   pub counts : c.counts ≡ b.counts
-  pub filed : c.wheel.filing ≡ linked b.wheel.filing id.index (file_for b when)
+  pub filed : c.wheel.filing ≡ refiled shared b.wheel.filing id.index (base_for b when)
   pub slots : c.slots ≡ raised b.slots id.index
   pub same_shard : c.shard ≡ b.shard
   pub noted : c.noted ≡ b.noted

@@ -4,13 +4,13 @@
 //! the owner. The wheel files the index no later than that deadline; where an entry comes due there and its word has
 //! a later deadline, it is filed again.
 
-ghost use Rattle.std.specs.Prelude.{◌≡◌, ◌≢◌, ℕ, ◌+◌, ◌<◌, ◌≤◌, max, length, ◌↔◌, IfOk, IfErr, IfSome, IfNone, OnOk, OnErr, IsErr, IsErrAnd, IsErrOf, IsNone, MatchOption, Some, None, List, [], ◌∷◌, Ok, Err, IsTrue, replicate};
+ghost use Rattle.std.specs.Prelude.{◌≡◌, ◌≢◌, ℕ, ◌+◌, ◌<◌, ◌≤◌, max, length, ◌↔◌, IfOk, IfErr, IfSome, IfNone, OnOk, OnErr, IsErr, IsErrAnd, IsErrOf, IsNone, MatchOption, Some, None, List, [], ◌∷◌, Ok, Err, IsTrue, replicate, if◌then◌else◌};
 ghost use Rattle.std.specs.List.{count_by};
 ghost use Rattle.dq_core.specs.Core.{filing_for};
 ghost use Rattle.dq_core.specs.Slots.{unused, is_held, is_worn, row_at};
 ghost use Rattle.dq_core.specs.Words.{AreFresh, StillBegun};
-ghost use Rattle.dq_core.specs.Calls.{IsConfig};
-ghost use Rattle.dq_wheel.specs.State.{filed_at, fresh_filing};
+ghost use Rattle.dq_core.specs.Calls.{IsConfig, stays_filed};
+ghost use Rattle.dq_wheel.specs.State.{filed_at, fresh_filing, linked};
 
 use crate::errors::{CoreConfig, CoreError};
 use crate::outcomes::{Expired, Pace, Progress, Removed, Tally, Turn};
@@ -100,6 +100,40 @@ pub(crate) fn filing_tick(tick: u64, deadline: u64) -> u64
     deadline.min(tick + REACH)
 }
 
+// Whether a reset leaves the index where it is filed: so it does over shared words, where that is no later than the new
+// base, and at least half of the way to it. The poll that comes there files the index anew, as after a caller's extend.
+// Over plain words each wake is exact.
+#[inline]
+fn stays_filed<A: Allocator>(shared: bool, wheel: &Wheel<A>, index: usize, base: u64) -> bool
+    requires { index < length wheel.now.filing.filed }
+    ensures { result ≡ stays_filed shared wheel.now.filing index base }
+{
+    if !shared {
+        return false;
+    }
+    match wheel.filed(index) {
+        Some(filed) => filed <= base && base - filed <= filed - wheel.tick(),
+        None => false,
+    }
+}
+
+// Files an index anew at a tick, but where it stays.
+#[inline]
+fn refile<A: Allocator>(wheel: &mut Wheel<A>, stays: bool, index: usize, filed: u64)
+    requires index_in { index < length wheel.old.filing.filed }
+    requires linked { filed_at wheel.old.filing.filed index ≢ None }
+    requires not_before { wheel.old.filing.tick ≤ filed }
+    requires in_range { filed ≤ LAST_TICK }
+    requires near { filed ≤ wheel.old.filing.tick + REACH }
+    ensures { wheel.new.filing
+        ≡ (if stays then wheel.old.filing else linked wheel.old.filing index filed) }
+{
+    if !stays {
+        wheel.unlink(index);
+        wheel.link(index, filed);
+    }
+}
+
 // The stamp itself, once the wheel read what it will write where it unlinks the index. The word's step takes this
 // stamp, so where it is a fence it waits for these reads together with its own, and not for each behind it.
 #[inline(always)]
@@ -112,6 +146,25 @@ fn once_near<W: Words, A: Allocator>(wheel: &Wheel<A>, index: usize, stamp: u32)
         wheel.once_near(index, stamp)
     } else {
         stamp
+    }
+}
+
+// The same, but nothing is read of an index that stays where it is filed.
+#[inline(always)]
+fn once_near_unless<W: Words, A: Allocator>(
+    stays: bool,
+    wheel: &Wheel<A>,
+    index: usize,
+    stamp: u32,
+) -> u32
+    requires index_in { index < length wheel.now.filing.filed }
+    requires linked { filed_at wheel.now.filing.filed index ≢ None }
+    ensures { result ≡ stamp }
+{
+    if stays {
+        stamp
+    } else {
+        once_near::<W, A>(wheel, index, stamp)
     }
 }
 
@@ -490,8 +543,10 @@ impl<T: Drop, W: Words, A: Allocator> DelayCore<T, W, A> {
     }
 
     /// Gives a live entry another deadline, earlier or later, but not before the wheel's tick, and the slot's next
-    /// stamp: keys from before are stale for callers. Answers the new key. Constant time. Refused as TooFar beyond
-    /// the last tick, then as `deadline` is, then as Worn where the slot has no stamp left.
+    /// stamp: keys from before are stale for callers. Answers the new key. Constant time. Over shared words a later
+    /// deadline may leave the entry filed where it was: as after an extend, the next wake may then come before any
+    /// deadline, and the poll that comes there files it again. Refused as TooFar beyond the last tick, then as
+    /// `deadline` is, then as Worn where the slot has no stamp left.
     #[inline(always)]
     pub fn reset(&mut self, entry: &EntryId, when: u64) -> Result<Key, CoreError>
         // The same entry is live at its new base, under the slot's next stamp, and no other changes.
@@ -517,18 +572,19 @@ impl<T: Drop, W: Words, A: Allocator> DelayCore<T, W, A> {
         let Some(index) = self.find(entry) else {
             return Err(CoreError::Missing);
         };
-        let stamp = once_near::<W, A>(&self.wheel, index, self.slots.stamp(index));
+        let tick = self.wheel.tick();
+        let base = when.max(tick);
+        let stays = stays_filed(self.words.is_shared(), &self.wheel, index, base);
+        let own = self.slots.stamp(index);
+        let stamp = once_near_unless::<W, A>(stays, &self.wheel, index, own);
         if stamp == self.slots.last() {
             self.deadline(entry)?;
             return Err(CoreError::Worn);
         }
-        let tick = self.wheel.tick();
-        let base = when.max(tick);
         let Some(_) = self.words.renew(index, stamp, base) else {
             return Err(CoreError::WasCancelled);
         };
-        self.wheel.unlink(index);
-        self.wheel.link(index, filing_tick(tick, base));
+        refile(&mut self.wheel, stays, index, filing_tick(tick, base));
         self.slots.raise(index);
         Ok(Key::new(*entry, stamp + 1))
     }

@@ -185,6 +185,11 @@ impl<A: Allocator> Words for VecWords<A> {
         let _ = &self.row;
     }
 
+    #[inline(always)]
+    fn is_shared(&self) -> bool {
+        false
+    }
+
     fn rows(&self) -> usize {
         self.row.len()
     }

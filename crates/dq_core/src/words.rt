@@ -113,6 +113,10 @@ pub trait Words {
     fn law(&self)
         ensures { keeps self.now };
 
+    /// Whether others may change the words.
+    fn is_shared(&self) -> bool
+        ensures { result ≡ shared };
+
     /// The number of words.
     fn rows(&self) -> usize
         ensures { result ≡ length (known self.now) };

@@ -192,6 +192,11 @@ impl<A: Allocator> Words for Keeper<A> {
         Keeper::law(self);
     }
 
+    #[inline(always)]
+    fn is_shared(&self) -> bool {
+        true
+    }
+
     fn rows(&self) -> usize {
         self.seat.rows()
     }

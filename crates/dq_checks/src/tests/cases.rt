@@ -322,15 +322,125 @@ pub const OVER_BOTH_WORDS: &[Case] = &[
     ),
 ];
 
-/// Over plain words alone: the queue looks at a key's shard. Shared words don't: what does is above them.
-pub const OVER_PLAIN_WORDS: &[Case] = &[(
-    "a_key_of_another_shard_is_unknown",
-    4,
-    LAST_STAMP,
-    &[
-        Insert('a', 10),
-        Extend(OfShard(0, 5), 50, Err(CallError::Unknown)),
-        Cancel(OfShard(0, 5), Err(CallError::Unknown)),
-        Look(OfShard(0, 5), Err(CallError::Unknown)),
-    ],
-)];
+/// Over plain words alone: the queue looks at a key's shard, where what is above shared words does; and a reset files an
+/// entry anew.
+pub const OVER_PLAIN_WORDS: &[Case] = &[
+    (
+        "a_key_of_another_shard_is_unknown",
+        4,
+        LAST_STAMP,
+        &[
+            Insert('a', 10),
+            Extend(OfShard(0, 5), 50, Err(CallError::Unknown)),
+            Cancel(OfShard(0, 5), Err(CallError::Unknown)),
+            Look(OfShard(0, 5), Err(CallError::Unknown)),
+        ],
+    ),
+    (
+        "a_reset_files_anew",
+        4,
+        LAST_STAMP,
+        &[
+            Insert('v', 40),
+            Reset(0, 63),
+            Filed(1, 63),
+            NextWake(63),
+            Wait(62, 63),
+            Out(63, 1, 'v', 63),
+        ],
+    ),
+];
+
+/// Over shared words alone: an entry stays filed by its old deadline where that is at least half of the way from the
+/// wheel's tick to the new one.
+pub const OVER_SHARED_WORDS: &[Case] = &[
+    (
+        "a_later_reset_stays_filed",
+        4,
+        LAST_STAMP,
+        &[
+            Insert('v', 40),
+            Reset(0, 63),
+            Stamps(1, 2, 1),
+            Filed(1, 40),
+            NextWake(40),
+            Extend(Given(0), 90, Err(STALE)),
+            Deadline(1, Ok(63)),
+            Wait(40, 63),
+            Filed(1, 63),
+            Wait(62, 63),
+            Out(63, 1, 'v', 63),
+            Idle(63),
+        ],
+    ),
+    (
+        "it_stays_at_half_of_the_way",
+        4,
+        LAST_STAMP,
+        &[
+            Insert('v', 30),
+            Reset(0, 60),
+            Filed(1, 30),
+            Wait(59, 60),
+            Out(60, 1, 'v', 60),
+        ],
+    ),
+    (
+        "past_that_it_is_filed_anew",
+        4,
+        LAST_STAMP,
+        &[
+            Insert('v', 30),
+            Reset(0, 61),
+            Filed(1, 61),
+            NextWake(61),
+            Wait(60, 61),
+            Out(61, 1, 'v', 61),
+        ],
+    ),
+    (
+        "the_way_begins_at_the_wheels_tick",
+        4,
+        LAST_STAMP,
+        &[
+            Insert('v', 100),
+            Wait(90, 100),
+            Reset(0, 110),
+            Filed(1, 100),
+            Reset(1, 111),
+            Filed(2, 111),
+            Wait(110, 111),
+            Out(111, 2, 'v', 111),
+        ],
+    ),
+    (
+        "an_earlier_reset_files_anew",
+        4,
+        LAST_STAMP,
+        &[
+            Insert('v', 40),
+            Reset(0, 39),
+            Filed(1, 39),
+            NextWake(39),
+            Wait(38, 39),
+            Out(39, 1, 'v', 39),
+        ],
+    ),
+    (
+        "what_stays_filed_is_extended_and_cancelled",
+        4,
+        LAST_STAMP,
+        &[
+            Insert('v', 40),
+            Insert('w', 40),
+            Reset(0, 50),
+            Reset(1, 50),
+            Cancel(Given(2), Ok(50)),
+            Extend(Given(3), 60, Ok(60)),
+            Wait(59, 60),
+            Counts(1, 0),
+            Out(60, 3, 'w', 60),
+            Idle(60),
+        ],
+    ),
+];

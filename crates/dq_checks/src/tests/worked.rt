@@ -1,6 +1,6 @@
 //! Each worked case, over a fresh queue.
 
-use super::cases::{Case, OVER_BOTH_WORDS, OVER_PLAIN_WORDS};
+use super::cases::{Case, OVER_BOTH_WORDS, OVER_PLAIN_WORDS, OVER_SHARED_WORDS};
 use super::queues::{Calls, Queue, plain, shared};
 use super::same;
 use super::step::Step;
@@ -69,5 +69,6 @@ fn plays_over_shared<R: Abort + AllocGlobal>(rt: &R, cases: &[Case]) -> Result<(
 
 #[test]
 fn cases_over_shared_words(rt: HostRuntime) -> Result<(), Fail> {
-    plays_over_shared(&rt, OVER_BOTH_WORDS)
+    plays_over_shared(&rt, OVER_BOTH_WORDS)?;
+    plays_over_shared(&rt, OVER_SHARED_WORDS)
 }

@@ -66,6 +66,29 @@ pub(crate) fn filing_tick(tick: u64, deadline: u64) -> u64 {
     deadline.min(tick + REACH)
 }
 
+// Whether a reset leaves the index where it is filed: so it does over shared words, where that is no later than the new
+// base, and at least half of the way to it. The poll that comes there files the index anew, as after a caller's extend.
+// Over plain words each wake is exact.
+#[inline]
+fn stays_filed(shared: bool, wheel: &Wheel, index: usize, base: u64) -> bool {
+    if !shared {
+        return false;
+    }
+    match wheel.filed(index) {
+        Some(filed) => filed <= base && base - filed <= filed - wheel.tick(),
+        None => false,
+    }
+}
+
+// Files an index anew at a tick, but where it stays.
+#[inline]
+fn refile(wheel: &mut Wheel, stays: bool, index: usize, filed: u64) {
+    if !stays {
+        wheel.unlink(index);
+        wheel.link(index, filed);
+    }
+}
+
 // The stamp itself, once the wheel read what it will write where it unlinks the index. The word's step takes this
 // stamp, so where it is a fence it waits for these reads together with its own, and not for each behind it.
 #[inline(always)]
@@ -74,6 +97,16 @@ fn once_near<W: Words>(wheel: &Wheel, index: usize, stamp: u32) -> u32 {
         wheel.once_near(index, stamp)
     } else {
         stamp
+    }
+}
+
+// The same, but nothing is read of an index that stays where it is filed.
+#[inline(always)]
+fn once_near_unless<W: Words>(stays: bool, wheel: &Wheel, index: usize, stamp: u32) -> u32 {
+    if stays {
+        stamp
+    } else {
+        once_near::<W>(wheel, index, stamp)
     }
 }
 
@@ -299,8 +332,10 @@ impl<T, W: Words> DelayCore<T, W> {
     }
 
     /// Gives a live entry another deadline, earlier or later, but not before the wheel's tick, and the slot's next
-    /// stamp: keys from before are stale for callers. Answers the new key. Constant time. Refused as TooFar beyond
-    /// the last tick, then as `deadline` is, then as Worn where the slot has no stamp left.
+    /// stamp: keys from before are stale for callers. Answers the new key. Constant time. Over shared words a later
+    /// deadline may leave the entry filed where it was: as after an extend, the next wake may then come before any
+    /// deadline, and the poll that comes there files it again. Refused as TooFar beyond the last tick, then as
+    /// `deadline` is, then as Worn where the slot has no stamp left.
     #[inline(always)]
     pub fn reset(&mut self, entry: &EntryId, when: u64) -> Result<Key, CoreError> {
         if when > LAST_TICK {
@@ -309,18 +344,19 @@ impl<T, W: Words> DelayCore<T, W> {
         let Some(index) = self.find(entry) else {
             return Err(CoreError::Missing);
         };
-        let stamp = once_near::<W>(&self.wheel, index, self.slots.stamp(index));
+        let tick = self.wheel.tick();
+        let base = when.max(tick);
+        let stays = stays_filed(self.words.is_shared(), &self.wheel, index, base);
+        let own = self.slots.stamp(index);
+        let stamp = once_near_unless::<W>(stays, &self.wheel, index, own);
         if stamp == self.slots.last() {
             self.deadline(entry)?;
             return Err(CoreError::Worn);
         }
-        let tick = self.wheel.tick();
-        let base = when.max(tick);
         let Some(_) = self.words.renew(index, stamp, base) else {
             return Err(CoreError::WasCancelled);
         };
-        self.wheel.unlink(index);
-        self.wheel.link(index, filing_tick(tick, base));
+        refile(&mut self.wheel, stays, index, filing_tick(tick, base));
         self.slots.raise(index);
         Ok(Key::new(*entry, stamp + 1))
     }

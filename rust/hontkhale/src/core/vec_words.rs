@@ -121,6 +121,11 @@ impl VecWords {
 impl Words for VecWords {
     const FENCED: bool = false;
 
+    #[inline(always)]
+    fn is_shared(&self) -> bool {
+        false
+    }
+
     fn rows(&self) -> usize {
         self.row.len()
     }

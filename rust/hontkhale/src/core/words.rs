@@ -93,6 +93,9 @@ pub trait Words {
     /// words.
     const FENCED: bool = true;
 
+    /// Whether others may change the words.
+    fn is_shared(&self) -> bool;
+
     /// The number of words.
     fn rows(&self) -> usize;
 

@@ -94,6 +94,11 @@ impl Keeper {
 }
 
 impl Words for Keeper {
+    #[inline(always)]
+    fn is_shared(&self) -> bool {
+        true
+    }
+
     fn rows(&self) -> usize {
         self.seat.rows()
     }

@@ -1,7 +1,7 @@
 //! Each worked case, over a fresh queue.
 
 use crate::tests::kit::Fail;
-use super::cases::{Case, OVER_BOTH_WORDS, OVER_PLAIN_WORDS};
+use super::cases::{Case, OVER_BOTH_WORDS, OVER_PLAIN_WORDS, OVER_SHARED_WORDS};
 use super::queues::{Calls, Queue, plain, shared};
 use super::same;
 use super::step::Step;
@@ -67,5 +67,6 @@ fn plays_over_shared(cases: &[Case]) -> Result<(), Fail> {
 
 #[test]
 fn cases_over_shared_words() -> Result<(), Fail> {
-    plays_over_shared(OVER_BOTH_WORDS)
+    plays_over_shared(OVER_BOTH_WORDS)?;
+    plays_over_shared(OVER_SHARED_WORDS)
 }

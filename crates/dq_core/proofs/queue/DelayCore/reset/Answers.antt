@@ -1,7 +1,8 @@
 use Rattle.std.proofs.lemmas.Result.{err_from_is_err_and}
-use Rattle.std.proofs.Common.{◌∙◌, refl}
+use Rattle.std.proofs.Common.{◌∙◌, ap, refl}
+use Rattle.dq_core.specs.Calls.{stays_filed}
 use Rattle.dq_core.proofs.Ways.{core_of}
-use Rattle.dq_core.proofs.Finds.{found_linked, found_cancelled, law_reset, resets, learned_at, below_last, linked_anew}
+use Rattle.dq_core.proofs.Finds.{found_linked, found_cancelled, law_reset, resets, learned_at, below_last}
 use Rattle.dq_core.proofs.CallWords.{looked_others, reset_others, reset_live, find_refuses}
 use Rattle.dq_core.proofs.queue.DelayCore.reset.Goals as goal
 
@@ -10,7 +11,7 @@ returns-in_default-renew-clause-resets g c =
     let s = c.self.inside in
     let b = core_of s.shard s.noted s.wheel s.slots (g.W.Words.known s.words) (g.W.Words.counts s.words) s.words in
     let found = rw (← c.self.view_is) at c.in-Some.ensures in
-    let changed = rw (c.once_near-stamp.ensures ∙ c.stamp.ensures) at c.in_default-renew.ensures.changed in
+    let changed = rw (c.once_near_unless-stamp.ensures ∙ c.stamp-own.ensures) at c.in_default-renew.ensures.changed in
     rw (← c.self.view_is)
     (c.if-when-gt-LAST_TICK.false, found_cancelled g.W.Words.shared b c.self.invariant.0 c.args.entry.now c.in-Some.index found _ _ changed.1 (learned_at _ _ _ _ changed) c.in_default-renew.ensures.known refl refl c.in_default-renew.ensures.counts refl refl)
 
@@ -19,17 +20,17 @@ invariant_of-self-2 g c =
     let s = c.self.inside in
     let b = core_of s.shard s.noted s.wheel s.slots (g.W.Words.known s.words) (g.W.Words.counts s.words) s.words in
     let found = rw (← c.self.view_is) at c.in-Some.ensures in
-    let below = below_last g.W.Words.shared b c.self.invariant.0 c.args.entry.now c.in-Some.index found c.once_near-stamp.result c.last.result (c.once_near-stamp.ensures ∙ c.stamp.ensures) c.last.ensures c.if-stamp-last.false in
-    (law_reset g.W.Words.shared b c.self.invariant.0 c.args.entry.now c.in-Some.index found c.link.new.self c.raise.new.self (g.W.Words.known c.renew.new.self) (g.W.Words.counts c.renew.new.self) c.once_near-stamp.result c.tick-tick.result c.max-base.result c.filing_tick.result c.args.when (c.once_near-stamp.ensures ∙ c.stamp.ensures) below c.if-when-gt-LAST_TICK.false c.tick-tick.ensures.value c.max-base.ensures c.filing_tick.ensures c.in-Some-renew.ensures.changed.1 (linked_anew s.wheel.filing c.unlink.new.self.filing _ _ _ c.unlink.ensures.exact c.link.ensures.exact) c.raise.ensures c.in-Some-renew.ensures.known c.in-Some-renew.ensures.counts, c.in-Some-renew.ensures.counts ∙ c.self.invariant.1)
+    let below = below_last g.W.Words.shared b c.self.invariant.0 c.args.entry.now c.in-Some.index found c.once_near_unless-stamp.result c.last.result (c.once_near_unless-stamp.ensures ∙ c.stamp-own.ensures) c.last.ensures c.if-stamp-last.false in
+    (law_reset g.W.Words.shared b c.self.invariant.0 c.args.entry.now c.in-Some.index found c.refile.new.wheel c.raise.new.self (g.W.Words.known c.renew.new.self) (g.W.Words.counts c.renew.new.self) c.stays_filed-stays.result c.once_near_unless-stamp.result c.tick-tick.result c.max-base.result c.filing_tick.result c.args.when (c.once_near_unless-stamp.ensures ∙ c.stamp-own.ensures) below c.if-when-gt-LAST_TICK.false c.tick-tick.ensures.value c.max-base.ensures c.filing_tick.ensures (c.stays_filed-stays.ensures ∙ ap (λ h. stays_filed h s.wheel.filing c.in-Some.index c.max-base.result) c.is_shared.ensures) c.in-Some-renew.ensures.changed.1 c.refile.ensures c.raise.ensures c.in-Some-renew.ensures.known c.in-Some-renew.ensures.counts, c.in-Some-renew.ensures.counts ∙ c.self.invariant.1)
 
 pub returns-clause-resets : goal.returns-clause-resets
 returns-clause-resets g c =
     let s = c.self.inside in
     let b = core_of s.shard s.noted s.wheel s.slots (g.W.Words.known s.words) (g.W.Words.counts s.words) s.words in
     let found = rw (← c.self.view_is) at c.in-Some.ensures in
-    let below = below_last g.W.Words.shared b c.self.invariant.0 c.args.entry.now c.in-Some.index found c.once_near-stamp.result c.last.result (c.once_near-stamp.ensures ∙ c.stamp.ensures) c.last.ensures c.if-stamp-last.false in
+    let below = below_last g.W.Words.shared b c.self.invariant.0 c.args.entry.now c.in-Some.index found c.once_near_unless-stamp.result c.last.result (c.once_near_unless-stamp.ensures ∙ c.stamp-own.ensures) c.last.ensures c.if-stamp-last.false in
     rw (← c.self.view_is)
-    (resets g.W.Words.shared b c.self.invariant.0 c.args.entry.now c.in-Some.index found _ c.once_near-stamp.result c.tick-tick.result c.max-base.result c.filing_tick.result c.args.when c.in-Some-renew.field-0 c.new.result (c.once_near-stamp.ensures ∙ c.stamp.ensures) below c.if-when-gt-LAST_TICK.false c.tick-tick.ensures.value c.max-base.ensures c.filing_tick.ensures c.in-Some-renew.ensures.changed (linked_anew s.wheel.filing c.unlink.new.self.filing _ _ _ c.unlink.ensures.exact c.link.ensures.exact) c.raise.ensures c.in-Some-renew.ensures.known c.in-Some-renew.ensures.counts c.new.ensures refl refl)
+    (resets g.W.Words.shared b c.self.invariant.0 c.args.entry.now c.in-Some.index found _ c.stays_filed-stays.result c.once_near_unless-stamp.result c.tick-tick.result c.max-base.result c.filing_tick.result c.args.when c.in-Some-renew.field-0 c.new.result (c.once_near_unless-stamp.ensures ∙ c.stamp-own.ensures) below c.if-when-gt-LAST_TICK.false c.tick-tick.ensures.value c.max-base.ensures c.filing_tick.ensures (c.stays_filed-stays.ensures ∙ ap (λ h. stays_filed h s.wheel.filing c.in-Some.index c.max-base.result) c.is_shared.ensures) c.in-Some-renew.ensures.changed c.refile.ensures c.raise.ensures c.in-Some-renew.ensures.known c.in-Some-renew.ensures.counts c.new.ensures refl refl)
 
 pub returns-in_default-renew-clause-others : goal.returns-in_default-renew-clause-others
 returns-in_default-renew-clause-others g c = looked_others (returns-in_default-renew-clause-resets g c).1.looked
@@ -46,8 +47,8 @@ returns-in_err-deadline-clause-resets g c =
     rw (p.1, p.2)
     (find_refuses g.W.Words.shared c.args.self.now c.args.entry.now c.args.when _ c.deadline.new.self c.if-when-gt-LAST_TICK.false c.in_err-deadline.ensures.tells)
 
-pub once_near-stamp-requires-clause-linked : goal.once_near-stamp-requires-clause-linked
-once_near-stamp-requires-clause-linked g c =
+pub once_near_unless-stamp-requires-clause-linked : goal.once_near_unless-stamp-requires-clause-linked
+once_near_unless-stamp-requires-clause-linked g c =
     let s = c.self.inside in
     let b = core_of s.shard s.noted s.wheel s.slots (g.W.Words.known s.words) (g.W.Words.counts s.words) s.words in
     let found = rw (← c.self.view_is) at c.in-Some.ensures in
