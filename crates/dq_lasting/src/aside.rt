@@ -3,7 +3,7 @@
 //! A value's drop is a user's code: it may call the queue, and it may panic. What is reaped or cleared is set aside
 //! in its shard, and the call takes it out and drops it behind the lock, one value after the other. Where a drop
 //! panics the shard is whole, and what is still set aside is dropped by a later call.
-ghost use Rattle.std.specs.Prelude.{◌≡◌, ◌↔◌, ◌<◌, ◌≤◌, IsErrOf};
+ghost use Rattle.std.specs.Prelude.{◌↔◌, ◌<◌, ◌≤◌, IsErrOf};
 ghost use Rattle.dq_lasting.specs.declared.errors.LastingError.TheVariants.{Unknown};
 
 use crate::errors::LastingError;

@@ -1,16 +1,10 @@
 //! The calls of a shard that wake nobody while its lock is held: who leaves is handed over, and woken once the lock is
 //! free.
-ghost use Rattle.std.specs.Prelude.{◌≡◌, ◌+◌, ◌<◌, ◌≤◌, None};
-ghost use Rattle.dq_core.specs.AtTheCall.{IfOut, IfRests};
-ghost use Rattle.dq_core.specs.Core.{machine};
-ghost use Rattle.dq_core.specs.Machine.{NoneLiveBefore};
-ghost use Rattle.dq_core.specs.Pieces.{IfAnswer};
+ghost use Rattle.std.specs.Prelude.{◌≡◌, ◌<◌, None};
 ghost use Rattle.std.specs.Sync.Mutex.{mutex_guard_value};
 ghost use Rattle.dq_parking.specs.Parking.{Leaves};
 ghost use Rattle.dq_lasting.specs.Shard.{IsLasting};
-ghost use Rattle.dq_lasting.specs.Changes.{LastingInserts, LastingResets, LastingRemoves};
-ghost use Rattle.dq_lasting.specs.Changes.{LastingDeadline, LastingPolls, LastingPollsSome};
-ghost use Rattle.dq_lasting.specs.Changes.{LastingSweeps, LastingClears, Closes, Reopens};
+ghost use Rattle.dq_lasting.specs.Changes.{LastingInserts, LastingDeadline, Closes, Reopens};
 ghost use Rattle.dq_lasting.specs.Polling.{RingsParked};
 
 use crate::errors::{LastingError, ReopenError};
