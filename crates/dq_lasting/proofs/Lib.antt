@@ -1,6 +1,5 @@
 pub mod Auditing
 pub mod Locked
-pub mod Parking
 pub mod Piecewise
 pub mod Polled
 pub mod Renewing

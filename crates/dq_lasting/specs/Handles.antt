@@ -1,6 +1,6 @@
 -- How a handle comes by its callers.
 use Rattle.std.specs.Prelude.{◌≡◌, ◌≢◌, ℕ, zero, suc, ◌+◌, ◌<◌, ◌≤◌, ◌⊎◌, Bool, true, false, Some}
-use Rattle.std.specs.Prelude.{Result, Ok, Err, List, [], ◌∷◌, length, slice_get, slice_set}
+use Rattle.std.specs.Prelude.{Result, Ok, Err, List, [], ◌∷◌, slice_get, slice_set}
 use Rattle.dq_words.specs.declared.keeper.WordsError.{WordsError}
 use Rattle.dq_words.specs.declared.keeper.WordsError.TheVariants as Words
 use Rattle.dq_lasting.specs.declared.errors.HandleError.{HandleError}

@@ -3,7 +3,7 @@
 //! A value's drop is a user's code: it may call the queue, and it may panic. What is reaped or cleared is set aside
 //! in its shard, and the call takes it out and drops it behind the lock, one value after the other. Where a drop
 //! panics the shard is whole, and what is still set aside is dropped by a later call.
-ghost use Rattle.std.specs.Prelude.{◌≡◌, ◌↔◌, ◌<◌, ◌≤◌, IsErrOf};
+ghost use Rattle.std.specs.Prelude.{◌↔◌, ◌<◌, ◌≤◌, IsErrOf};
 ghost use Rattle.dq_lasting.specs.declared.errors.LastingError.TheVariants.{Unknown};
 
 use crate::errors::LastingError;
@@ -17,22 +17,7 @@ impl<T: Drop, A: Allocator> LastingShard<T, A> {
     /// Constant time.
     #[inline(always)]
     pub fn aside(&self) -> usize {
-        self.core.aside()
-    }
-
-    // Takes out a value that is set aside, if there is one.
-    fn take_aside(&mut self) -> Option<T>
-        ensures { self.new ≡ self.old }
-    {
-        self.core.take_aside()
-    }
-
-    // Takes out a value that is set aside, where the next insert might find no place for one.
-    #[inline(always)]
-    pub(crate) fn take_crowded(&mut self) -> Option<T>
-        ensures { self.new ≡ self.old }
-    {
-        self.core.take_crowded()
+        self.attended.core.aside()
     }
 }
 
@@ -57,7 +42,7 @@ impl<T: Drop, A: Allocator> LastingQueue<T, A> {
         requires { place < self.now.shards }
     {
         let mut shard = self.lock(rt, place);
-        let aside = shard.take_aside();
+        let aside = shard.attended.core.take_aside();
         drop(shard);
         aside.is_some()
     }
@@ -86,19 +71,6 @@ impl<T: Drop, A: Allocator> LastingQueue<T, A> {
             if !self.drop_one_aside(rt, place) {
                 return;
             }
-        }
-    }
-
-    // The same behind a poll that gave no entry. A drop that panics would lose the entry that one gave.
-    pub(crate) fn drop_aside_at_rest<R: Wait>(
-        &self,
-        rt: &R,
-        place: usize,
-        most: usize,
-        rests: bool,
-    ) {
-        if rests {
-            self.drop_aside(rt, place, most);
         }
     }
 }

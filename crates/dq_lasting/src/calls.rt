@@ -76,7 +76,7 @@ impl<T: Drop, A: Allocator> LastingQueue<T, A> {
     {
         let mut shard = self.lock(rt, place);
         // It is dropped behind the lock, where this ends.
-        let _crowded = shard.take_crowded();
+        let _crowded = shard.attended.core.take_crowded();
         let (answer, leaver) = shard.insert_quietly(value, when);
         unlock(shard, leaver);
         answer
@@ -198,7 +198,7 @@ impl<T: Drop, A: Allocator> LastingQueue<T, A> {
             (λ old r new. LastingResets old entry.now when r new) result }
     {
         let mut shard = self.lock(rt, self.place_of(entry.shard()));
-        let (answer, leaver) = shard.reset_quietly(entry, when);
+        let (answer, leaver) = shard.attended.reset(entry, when);
         unlock(shard, leaver);
         answer
     }
@@ -212,7 +212,7 @@ impl<T: Drop, A: Allocator> LastingQueue<T, A> {
             (λ old r new. LastingRemoves old entry.now r new) result }
     {
         let mut shard = self.lock(rt, self.place_of(entry.shard()));
-        let (answer, leaver) = shard.remove_quietly(entry);
+        let (answer, leaver) = shard.attended.remove(entry);
         unlock(shard, leaver);
         answer
     }
@@ -245,7 +245,7 @@ impl<T: Drop, A: Allocator> LastingQueue<T, A> {
             return Err(LastingError::Unknown);
         }
         let mut shard = self.lock(rt, place);
-        let (answer, leaver) = shard.poll_quietly(tick);
+        let (answer, leaver) = shard.attended.poll(tick);
         let aside = unlock(shard, leaver);
         match answer {
             // A drop that panics would lose what came out.
@@ -286,7 +286,7 @@ impl<T: Drop, A: Allocator> LastingQueue<T, A> {
             return Err(LastingError::Unknown);
         }
         let mut shard = self.lock(rt, place);
-        let (reaped, leaver) = shard.sweep_quietly();
+        let (reaped, leaver) = shard.attended.sweep();
         let aside = unlock(shard, leaver);
         self.drop_aside(rt, place, aside);
         Ok(reaped)
@@ -304,7 +304,7 @@ impl<T: Drop, A: Allocator> LastingQueue<T, A> {
             return Err(LastingError::Unknown);
         }
         let mut shard = self.lock(rt, place);
-        let (removed, leaver) = shard.clear_quietly();
+        let (removed, leaver) = shard.attended.clear();
         let aside = unlock(shard, leaver);
         self.drop_aside(rt, place, aside);
         Ok(removed)

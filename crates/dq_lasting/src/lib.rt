@@ -21,7 +21,6 @@ mod many;
 mod numbered;
 mod opening;
 mod paced;
-mod parked;
 mod pieces;
 mod poller;
 mod queue;

@@ -2,41 +2,20 @@
 ghost use Rattle.std.specs.Prelude.{◌≡◌, ◌<◌, ◌≤◌, ◌↔◌, vec_capacity, IsErr, IsErrOf, OnErr};
 ghost use Rattle.dq_ticks.specs.declared.TheConstants.{LAST_TICK};
 ghost use Rattle.dq_core.specs.declared.errors.CoreError.TheVariants.{TickTooLarge};
-ghost use Rattle.dq_parking.specs.Parking.{Leaves};
 ghost use Rattle.dq_lasting.specs.declared.errors.LastingError.TheVariants.{Core, Unknown};
 ghost use Rattle.dq_lasting.specs.Answers.{AtPlaceOr};
 ghost use Rattle.dq_lasting.specs.Many.{LastingPollsMany};
 
 use crate::errors::LastingError;
-use crate::parked::keep_or_leave;
 use crate::queue::LastingQueue;
 use crate::quiet::unlock;
 use crate::shard::LastingShard;
 use dq_core::{CoreError, Expired};
-use dq_parking::Leaver;
-use dq_words::{ManyTurn, poll_into};
+use dq_words::ManyTurn;
 use std::alloc::Allocator;
 use std::sync::Wait;
 
 impl<T: Drop, A: Allocator> LastingShard<T, A> {
-    // As `poll_many`, but who leaves is handed over.
-    #[inline]
-    pub(crate) fn poll_many_quietly(
-        &mut self,
-        tick: u64,
-        row: &mut Vec<Expired<T>, A>,
-    ) -> (Result<ManyTurn, CoreError>, Leaver<Option<u64>>)
-        ensures refused { IsErr result.0 ↔ (LAST_TICK < tick) }
-        ensures kept { OnErr result.0 (row.new ≡ row.old) }
-        ensures room { vec_capacity row.new ≡ vec_capacity row.old }
-        ensures polls { LastingPollsMany self.old tick (vec_capacity row.old) row.old.items
-            row.new.items result.0 self.new }
-        ensures leaves { Leaves self.old.parked result.1.poller self.new.parked }
-    {
-        let answer = poll_into(&mut self.core, tick, row);
-        (answer, keep_or_leave(&self.core, &mut self.parked))
-    }
-
     /// As [`LastingQueue::poll_many`], of a shard in hand.
     ///
     /// # Errors
@@ -57,7 +36,7 @@ impl<T: Drop, A: Allocator> LastingShard<T, A> {
         ensures polls { LastingPollsMany self.old tick (vec_capacity row.old) row.old.items
             row.new.items result self.new }
     {
-        let (answer, leaver) = self.poll_many_quietly(tick, row);
+        let (answer, leaver) = self.attended.poll_many(tick, row);
         leaver.wake();
         answer
     }
@@ -107,7 +86,7 @@ impl<T: Drop, A: Allocator> LastingQueue<T, A> {
             return Err(LastingError::Unknown);
         }
         let mut shard = self.lock(rt, place);
-        let (answer, leaver) = shard.poll_many_quietly(tick, row);
+        let (answer, leaver) = shard.attended.poll_many(tick, row);
         let aside = unlock(shard, leaver);
         self.drop_aside(rt, place, aside);
         match answer {

@@ -13,7 +13,6 @@ ghost use Rattle.dq_lasting.specs.Keeping.{BeginsAt, DrainsOn, GoesOnAt, IsDrain
 use crate::ended::Ended;
 use crate::errors::ReopenError;
 use crate::keeping::Kept;
-use crate::parked::keep_or_leave;
 use crate::queue::LastingQueue;
 use crate::quiet::{nobody, unlock};
 use crate::shard::{LastingShard, with_ended};
@@ -79,9 +78,9 @@ impl<T: Drop, A: Allocator> LastingShard<T, A> {
         ensures sweeps { LastingSweepsOn self.old result.0 self.new }
         ensures leaves { Leaves self.old.parked result.1.poller self.new.parked }
     {
-        let swept = self.core.sweep_some(self.sweep_from, SWEPT_AT_ONCE);
+        let (swept, leaver) = self.attended.sweep_some(self.sweep_from, SWEPT_AT_ONCE);
         self.sweep_from = swept.next.unwrap_or(0);
-        (swept.reaped, keep_or_leave(&self.core, &mut self.parked))
+        (swept.reaped, leaver)
     }
 
     // The step of one that isn't drained.
@@ -94,7 +93,7 @@ impl<T: Drop, A: Allocator> LastingShard<T, A> {
             return nobody(Kept::Fine);
         }
         let (_reaped, leaver) = self.sweep_on();
-        let linked = self.core.len();
+        let linked = self.attended.core.len();
         (Kept::Drains { place, linked }, leaver)
     }
 
@@ -103,8 +102,8 @@ impl<T: Drop, A: Allocator> LastingShard<T, A> {
         ensures { IsOfShardSize self.now result }
     {
         ShardSize {
-            capacity: self.core.capacity(),
-            last_stamp: self.core.last_stamp(),
+            capacity: self.attended.core.capacity(),
+            last_stamp: self.attended.core.last_stamp(),
         }
     }
 
@@ -115,10 +114,10 @@ impl<T: Drop, A: Allocator> LastingShard<T, A> {
             × IsEndedBefore self.now g.1) }
         ensures spent { (result ≡ None) → NumbersAreSpent self.now by }
     {
-        let Some(number) = self.core.shard().checked_add(by) else {
+        let Some(number) = self.attended.core.shard().checked_add(by) else {
             return None;
         };
-        let tally = self.core.tally();
+        let tally = self.attended.core.tally();
         match with_ended(&self.past, &tally) {
             Some(past) => Some((number, past)),
             None => None,
@@ -156,12 +155,13 @@ impl<T: Drop, A: Allocator> LastingShard<T, A> {
             let (answer, leaver) = nobody(Err(ReopenError::NumbersSpent));
             return (answer, leaver, LeftOver::Unwanted(rows));
         };
-        match self.core.renew_with(number, rows) {
+        match self.attended.core.renew_with(number, rows) {
             Ok((words, slots)) => {
                 self.takes = true;
                 self.past = past;
                 self.sweep_from = 0;
-                (Ok(()), take(&mut self.parked), LeftOver::Old(words, slots))
+                let leaver = take(&mut self.attended.parked);
+                (Ok(()), leaver, LeftOver::Old(words, slots))
             }
             Err(_refused) => unreachable!(),
         }

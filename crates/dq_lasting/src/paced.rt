@@ -84,11 +84,7 @@ impl<T: Drop, A: Allocator> LastingQueue<T, A> {
         let mut shard = self.lock(rt, place);
         let before = shard.take_parked();
         let answer = shard.poll_some_or_park(tick, most, name, cx);
-        shard.law();
-        let aside = shard.aside();
-        drop(shard);
-        let_sleep(before);
-        self.drop_aside_at_rest(rt, place, aside, answer.is_pending());
+        self.let_go(rt, place, shard, before, answer.is_pending());
         answer
     }
 }

@@ -45,7 +45,7 @@ impl<T: Drop, A: Allocator> LastingShard<T, A> {
         // All that it does.
         ensures polls { LastingPollsSome self.old tick most result self.new }
     {
-        let (answer, leaver) = self.poll_some_quietly(tick, most);
+        let (answer, leaver) = self.attended.poll_some(tick, most);
         leaver.wake();
         answer
     }
@@ -79,15 +79,15 @@ impl<T: Drop, A: Allocator> LastingQueue<T, A> {
             return Err(LastingError::Unknown);
         }
         let mut shard = self.lock(rt, place);
-        let (answer, leaver) = shard.poll_some_quietly(tick, most);
+        let (answer, leaver) = shard.attended.poll_some(tick, most);
         let aside = unlock(shard, leaver);
+        // A drop that panics would lose what came out.
+        let gives = matches!(answer, Ok(Piece::Answer(Turn::Out(_))));
+        if !gives {
+            self.drop_aside(rt, place, aside);
+        }
         match answer {
-            // A drop that panics would lose what came out.
-            Ok(Piece::Answer(Turn::Out(expired))) => Ok(Piece::Answer(Turn::Out(expired))),
-            Ok(piece) => {
-                self.drop_aside(rt, place, aside);
-                Ok(piece)
-            }
+            Ok(piece) => Ok(piece),
             Err(error) => Err(LastingError::Core(error)),
         }
     }

@@ -1,11 +1,13 @@
 //! The poller that waits for a shard: one at a time.
 ghost use Rattle.std.specs.Prelude.{◌≡◌, None, Err};
+ghost use Rattle.std.specs.Sync.Mutex.{mutex_guard_value};
 ghost use Rattle.futures.specs.Task.{Covers, Keeps};
 ghost use Rattle.futures.specs.Poll.{IfReady, OnPending};
 ghost use Rattle.dq_core.specs.Calls.{TellsWake};
 ghost use Rattle.dq_parking.specs.Wakers.{LacksWaker};
 ghost use Rattle.dq_lasting.specs.Answers.{AtPlaceAll};
 ghost use Rattle.dq_lasting.specs.Changes.{LastingUnparks};
+ghost use Rattle.dq_lasting.specs.Shard.{IsLasting};
 ghost use Rattle.dq_lasting.specs.Polling.{ParksTask, RingsParked, PollsOrParks, PollsOrParksAt};
 ghost use Rattle.dq_lasting.specs.Polling.{no_memory, with_parked, with_none_parked};
 
@@ -17,7 +19,7 @@ use dq_core::{CoreError, Expired, Turn};
 use dq_parking::{Parked, let_sleep, register};
 use futures::task::{Context, Poll, Source, Waker};
 use std::alloc::Allocator;
-use std::sync::Wait;
+use std::sync::{MutexGuard, Wait};
 
 impl<T: Drop, A: Allocator> LastingShard<T, A> {
     // Takes the parked poller out, unwoken.
@@ -25,7 +27,7 @@ impl<T: Drop, A: Allocator> LastingShard<T, A> {
         ensures taken { result ≡ self.old.parked }
         ensures left { self.new ≡ with_none_parked self.old }
     {
-        self.parked.take()
+        self.attended.parked.take()
     }
 
     // Parks a poller, in the place of one that was parked before, which isn't woken.
@@ -34,7 +36,7 @@ impl<T: Drop, A: Allocator> LastingShard<T, A> {
         ensures { self.new ≡ with_parked self.old next waker }
     {
         let_sleep(self.take_parked());
-        self.parked = Some(Parked { next, waker });
+        self.attended.parked = Some(Parked { next, waker });
     }
 
     // Registers with the context and parks its task. The name stands for the shard, as a source that fires where it
@@ -90,13 +92,7 @@ impl<T: Drop, A: Allocator> LastingShard<T, A> {
     pub fn unpark(&mut self) -> bool
         ensures { LastingUnparks self.old result self.new }
     {
-        match self.take_parked() {
-            Some(poller) => {
-                Parked::forget(poller);
-                true
-            }
-            None => false,
-        }
+        let_sleep(self.take_parked())
     }
 
     /// Takes out and wakes a poller that is parked at or before `tick`, of one millisecond. True where there was one.
@@ -110,6 +106,27 @@ impl<T: Drop, A: Allocator> LastingShard<T, A> {
 }
 
 impl<T: Drop, A: Allocator> LastingQueue<T, A> {
+    // Lets the lock go behind a poll at a place, and who was parked there before it. What is set aside is dropped where no
+    // entry was given: a drop that panics would lose it.
+    pub(crate) fn let_go<R: Wait>(
+        &self,
+        rt: &R,
+        place: usize,
+        shard: MutexGuard<'_, LastingShard<T, A>>,
+        before: Option<Parked<Option<u64>>>,
+        rests: bool,
+    )
+        ensures { IsLasting (mutex_guard_value shard.entry) }
+    {
+        shard.law();
+        let aside = shard.aside();
+        drop(shard);
+        let_sleep(before);
+        if rests {
+            self.drop_aside(rt, place, aside);
+        }
+    }
+
     /// Polls the shard at a place at `tick`, of one millisecond, for a task: it gives an entry that is due. Where none
     /// is it is Pending, and its task is parked in the shard, one task a shard.
     ///
@@ -143,11 +160,7 @@ impl<T: Drop, A: Allocator> LastingQueue<T, A> {
         let mut shard = self.lock(rt, place);
         let before = shard.take_parked();
         let answer = shard.poll_or_park(tick, name, cx);
-        shard.law();
-        let aside = shard.aside();
-        drop(shard);
-        let_sleep(before);
-        self.drop_aside_at_rest(rt, place, aside, answer.is_pending());
+        self.let_go(rt, place, shard, before, answer.is_pending());
         answer
     }
 
@@ -167,13 +180,7 @@ impl<T: Drop, A: Allocator> LastingQueue<T, A> {
         let taken = shard.take_parked();
         shard.law();
         drop(shard);
-        match taken {
-            Some(poller) => {
-                Parked::forget(poller);
-                Ok(true)
-            }
-            None => Ok(false),
-        }
+        Ok(let_sleep(taken))
     }
 
     /// Wakes the poller of the shard at a place, where it is parked at or before `tick`, of one millisecond, and tells

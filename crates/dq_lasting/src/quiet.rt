@@ -1,23 +1,16 @@
 //! The calls of a shard that wake nobody while its lock is held: who leaves is handed over, and woken once the lock is
 //! free.
-ghost use Rattle.std.specs.Prelude.{◌≡◌, ◌+◌, ◌<◌, ◌≤◌, None};
-ghost use Rattle.dq_core.specs.AtTheCall.{IfOut, IfRests};
-ghost use Rattle.dq_core.specs.Core.{machine};
-ghost use Rattle.dq_core.specs.Machine.{NoneLiveBefore};
-ghost use Rattle.dq_core.specs.Pieces.{IfAnswer};
+ghost use Rattle.std.specs.Prelude.{◌≡◌, ◌<◌, None};
 ghost use Rattle.std.specs.Sync.Mutex.{mutex_guard_value};
 ghost use Rattle.dq_parking.specs.Parking.{Leaves};
 ghost use Rattle.dq_lasting.specs.Shard.{IsLasting};
-ghost use Rattle.dq_lasting.specs.Changes.{LastingInserts, LastingResets, LastingRemoves};
-ghost use Rattle.dq_lasting.specs.Changes.{LastingDeadline, LastingPolls, LastingPollsSome};
-ghost use Rattle.dq_lasting.specs.Changes.{LastingSweeps, LastingClears, Closes, Reopens};
+ghost use Rattle.dq_lasting.specs.Changes.{LastingInserts, LastingDeadline, Closes, Reopens};
 ghost use Rattle.dq_lasting.specs.Polling.{RingsParked};
 
 use crate::errors::{LastingError, ReopenError};
-use crate::parked::keep_or_leave;
 use crate::shard::{LastingShard, with_ended};
-use dq_core::{CoreError, Piece, Removed, Turn};
-use dq_parking::{Leaver, ring, take};
+use dq_core::CoreError;
+use dq_parking::{Leaver, keep_or_leave, ring, take};
 use dq_ticks::{EntryId, Key};
 use dq_words::Keeper;
 use std::alloc::Allocator;
@@ -61,37 +54,11 @@ impl<T: Drop, A: Allocator> LastingShard<T, A> {
         if !self.takes {
             return nobody(Err((LastingError::Closed, value)));
         }
-        match self.core.insert(value, when) {
-            Ok(key) => (Ok(key), keep_or_leave(&self.core, &mut self.parked)),
-            Err((error, value)) => nobody(Err((LastingError::Core(error), value))),
+        let (answer, leaver) = self.attended.insert(value, when);
+        match answer {
+            Ok(key) => (Ok(key), leaver),
+            Err((error, value)) => (Err((LastingError::Core(error), value)), leaver),
         }
-    }
-
-    // As `reset`.
-    #[inline]
-    pub(crate) fn reset_quietly(
-        &mut self,
-        entry: &EntryId,
-        when: u64,
-    ) -> (Result<Key, CoreError>, Leaver<Option<u64>>)
-        ensures resets { LastingResets self.old entry.now when result.0 self.new }
-        ensures leaves { Leaves self.old.parked result.1.poller self.new.parked }
-    {
-        let answer = self.core.reset(entry, when);
-        (answer, keep_or_leave(&self.core, &mut self.parked))
-    }
-
-    // As `remove`.
-    #[inline]
-    pub(crate) fn remove_quietly(
-        &mut self,
-        entry: &EntryId,
-    ) -> (Result<Removed<T>, CoreError>, Leaver<Option<u64>>)
-        ensures removes { LastingRemoves self.old entry.now result.0 self.new }
-        ensures leaves { Leaves self.old.parked result.1.poller self.new.parked }
-    {
-        let answer = self.core.remove(entry);
-        (answer, keep_or_leave(&self.core, &mut self.parked))
     }
 
     // As `deadline`.
@@ -103,57 +70,11 @@ impl<T: Drop, A: Allocator> LastingShard<T, A> {
         ensures tells { LastingDeadline self.old entry.now result.0 self.new }
         ensures leaves { Leaves self.old.parked result.1.poller self.new.parked }
     {
-        let answer = self.core.deadline(entry);
-        (answer, keep_or_leave(&self.core, &mut self.parked))
-    }
-
-    // As `poll`.
-    #[inline]
-    pub(crate) fn poll_quietly(
-        &mut self,
-        tick: u64,
-    ) -> (Result<Turn<T>, CoreError>, Leaver<Option<u64>>)
-        ensures polls { LastingPolls self.old tick result.0 self.new }
-        ensures leaves { Leaves self.old.parked result.1.poller self.new.parked }
-    {
-        let answer = self.core.poll(tick);
-        (answer, keep_or_leave(&self.core, &mut self.parked))
-    }
-
-    // As `poll_some`.
-    #[inline]
-    pub(crate) fn poll_some_quietly(
-        &mut self,
-        tick: u64,
-        most: u32,
-    ) -> (Result<Piece<T>, CoreError>, Leaver<Option<u64>>)
-        ensures out { IfAnswer result.0 (λ turn. IfOut turn (λ x. (x.deadline ≤ self.new.core.noted)
-            × NoneLiveBefore (machine self.new.core) x.deadline)) }
-        ensures waiting { IfAnswer result.0 (λ turn. IfRests turn
-            (λ next. NoneLiveBefore (machine self.new.core) (self.new.core.noted + 1))) }
-        ensures polls { LastingPollsSome self.old tick most result.0 self.new }
-        ensures leaves { Leaves self.old.parked result.1.poller self.new.parked }
-    {
-        let answer = self.core.poll_some(tick, most);
-        (answer, keep_or_leave(&self.core, &mut self.parked))
-    }
-
-    // As `sweep`.
-    pub(crate) fn sweep_quietly(&mut self) -> (usize, Leaver<Option<u64>>)
-        ensures sweeps { LastingSweeps self.old result.0 self.new }
-        ensures leaves { Leaves self.old.parked result.1.poller self.new.parked }
-    {
-        let reaped = self.core.sweep();
-        (reaped, keep_or_leave(&self.core, &mut self.parked))
-    }
-
-    // As `clear`.
-    pub(crate) fn clear_quietly(&mut self) -> (usize, Leaver<Option<u64>>)
-        ensures clears { LastingClears self.old result.0 self.new }
-        ensures leaves { Leaves self.old.parked result.1.poller self.new.parked }
-    {
-        let removed = self.core.clear();
-        (removed, keep_or_leave(&self.core, &mut self.parked))
+        let answer = self.attended.core.deadline(entry);
+        (
+            answer,
+            keep_or_leave(&self.attended.core, &mut self.attended.parked),
+        )
     }
 
     // As `close`.
@@ -162,7 +83,7 @@ impl<T: Drop, A: Allocator> LastingShard<T, A> {
         ensures leaves { Leaves self.old.parked result.poller self.new.parked }
     {
         self.takes = false;
-        take(&mut self.parked)
+        take(&mut self.attended.parked)
     }
 
     // As `ring`.
@@ -170,7 +91,7 @@ impl<T: Drop, A: Allocator> LastingShard<T, A> {
         ensures rings { RingsParked self.old tick result.0 self.new }
         ensures leaves { Leaves self.old.parked result.1.poller self.new.parked }
     {
-        let rung = ring(&mut self.parked, tick);
+        let rung = ring(&mut self.attended.parked, tick);
         (rung.is_some(), rung)
     }
 }
@@ -186,25 +107,25 @@ impl<T: Drop, A: Allocator + Clone + Drop> LastingShard<T, A> {
         ensures reopens { Reopens self.old by result.0 self.new }
         ensures leaves { Leaves self.old.parked result.1.poller self.new.parked }
     {
-        let linked = self.core.len();
+        let linked = self.attended.core.len();
         if linked > 0 {
             return nobody(Err(ReopenError::StillLinked { linked }));
         }
-        let Some(number) = self.core.shard().checked_add(by) else {
+        let Some(number) = self.attended.core.shard().checked_add(by) else {
             return nobody(Err(ReopenError::NumbersSpent));
         };
-        let tally = self.core.tally();
+        let tally = self.attended.core.tally();
         let Some(past) = with_ended(&self.past, &tally) else {
             return nobody(Err(ReopenError::NumbersSpent));
         };
-        let Ok(keeper) = Keeper::new(alloc, self.core.capacity()) else {
+        let Ok(keeper) = Keeper::new(alloc, self.attended.core.capacity()) else {
             return nobody(Err(ReopenError::NoMemory));
         };
-        match self.core.renew(number, keeper) {
+        match self.attended.core.renew(number, keeper) {
             Ok(_old) => {
                 self.takes = true;
                 self.past = past;
-                (Ok(()), take(&mut self.parked))
+                (Ok(()), take(&mut self.attended.parked))
             }
             Err(_refused) => unreachable!(),
         }

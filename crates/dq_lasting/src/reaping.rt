@@ -2,41 +2,19 @@
 ghost use Rattle.std.specs.Prelude.{◌≡◌, ◌↔◌, ◌+◌, ◌%◌, ◌<◌, ◌≤◌, length, OnOk, IsErrOf};
 ghost use Rattle.dq_core.specs.AtTheCall.{linked_in};
 ghost use Rattle.dq_core.specs.Calls.{IsMissing};
-ghost use Rattle.dq_parking.specs.Parking.{Leaves};
 ghost use Rattle.dq_lasting.specs.Answers.{AtPlace, AtPlaceAll};
 ghost use Rattle.dq_lasting.specs.Changes.{LastingReaps, LastingSweepsSome, slot_to_go_on};
 
 use crate::errors::LastingError;
-use crate::parked::keep_or_leave;
 use crate::queue::LastingQueue;
 use crate::quiet::unlock;
 use crate::shard::LastingShard;
 use dq_core::{ReapError, Swept};
-use dq_parking::Leaver;
 use dq_ticks::EntryId;
 use std::alloc::Allocator;
 use std::sync::Wait;
 
 impl<T: Drop, A: Allocator> LastingShard<T, A> {
-    // As `sweep_some`.
-    fn sweep_some_quietly(&mut self, from: usize, count: usize) -> (Swept, Leaver<Option<u64>>)
-        ensures sweeps { LastingSweepsSome self.old from count result.0 self.new }
-        ensures leaves { Leaves self.old.parked result.1.poller self.new.parked }
-    {
-        let swept = self.core.sweep_some(from, count);
-        (swept, keep_or_leave(&self.core, &mut self.parked))
-    }
-
-    // As `reap`.
-    fn reap_quietly(&mut self, entry: &EntryId) -> (Result<(), ReapError>, Leaver<Option<u64>>)
-        ensures missing { IsErrOf result.0 ReapError.Missing ↔ IsMissing self.old.core entry.now }
-        ensures reaps { LastingReaps self.old entry.now result.0 self.new }
-        ensures leaves { Leaves self.old.parked result.1.poller self.new.parked }
-    {
-        let answer = self.core.reap(entry);
-        (answer, keep_or_leave(&self.core, &mut self.parked))
-    }
-
     /// As [`DelayCore::sweep_some`].
     pub fn sweep_some(&mut self, from: usize, count: usize) -> Swept
         ensures fewer { linked_in self.new.core + result.reaped ≡ linked_in self.old.core }
@@ -44,7 +22,7 @@ impl<T: Drop, A: Allocator> LastingShard<T, A> {
             ≡ slot_to_go_on (from + count) (length self.old.core.slots.rows) }
         ensures sweeps { LastingSweepsSome self.old from count result self.new }
     {
-        let (swept, leaver) = self.sweep_some_quietly(from, count);
+        let (swept, leaver) = self.attended.sweep_some(from, count);
         leaver.wake();
         swept
     }
@@ -58,7 +36,7 @@ impl<T: Drop, A: Allocator> LastingShard<T, A> {
         ensures missing { IsErrOf result ReapError.Missing ↔ IsMissing self.old.core entry.now }
         ensures reaps { LastingReaps self.old entry.now result self.new }
     {
-        let (answer, leaver) = self.reap_quietly(entry);
+        let (answer, leaver) = self.attended.reap(entry);
         leaver.wake();
         answer
     }
@@ -77,7 +55,7 @@ impl<T: Drop, A: Allocator> LastingQueue<T, A> {
     {
         let place = self.place_of(entry.shard());
         let mut shard = self.lock(rt, place);
-        let (answer, leaver) = shard.reap_quietly(entry);
+        let (answer, leaver) = shard.attended.reap(entry);
         let aside = unlock(shard, leaver);
         self.drop_aside(rt, place, aside);
         answer
@@ -109,7 +87,7 @@ impl<T: Drop, A: Allocator> LastingQueue<T, A> {
             return Err(LastingError::Unknown);
         }
         let mut shard = self.lock(rt, place);
-        let (swept, leaver) = shard.sweep_some_quietly(from, count);
+        let (swept, leaver) = shard.attended.sweep_some(from, count);
         let aside = unlock(shard, leaver);
         self.drop_aside(rt, place, aside);
         Ok(swept)

@@ -17,7 +17,7 @@ impl<T: Drop, A: Allocator> LastingShard<T, A> {
     pub fn parked(&self) -> Option<Option<u64>>
         ensures { TellsParked self.now.parked result }
     {
-        match &self.parked {
+        match &self.attended.parked {
             Some(poller) => Some(poller.next),
             None => None,
         }
@@ -27,7 +27,7 @@ impl<T: Drop, A: Allocator> LastingShard<T, A> {
     pub fn noted(&self) -> u64
         ensures { result ≡ self.now.core.noted }
     {
-        self.core.noted()
+        self.attended.core.noted()
     }
 
     /// The tick of one millisecond by which an entry is filed, which is not after its deadline in force; none where
@@ -35,7 +35,7 @@ impl<T: Drop, A: Allocator> LastingShard<T, A> {
     pub fn filed(&self, entry: &EntryId) -> Option<u64>
         ensures { TellsFiled self.now.core entry.now result }
     {
-        self.core.filed(entry)
+        self.attended.core.filed(entry)
     }
 
     /// As [`DelayCore::peek`]: a linked entry that is filed least, possibly a cancelled one. No live entry has a
@@ -43,7 +43,7 @@ impl<T: Drop, A: Allocator> LastingShard<T, A> {
     pub fn peek(&self) -> Option<Key>
         ensures { TellsLeast self.now.core result }
     {
-        self.core.peek()
+        self.attended.core.peek()
     }
 }
 

@@ -17,7 +17,7 @@ use crate::ended::{Ended, LastingTally};
 use crate::errors::{LastingError, ReopenError};
 use crate::numbered::NumberedCaller;
 use dq_core::{CoreError, DelayCore, Removed, Tally, Turn};
-use dq_parking::{Leaver, Parked};
+use dq_parking::{Attended, Leaver};
 use dq_ticks::{EntryId, Key};
 use dq_words::{Keeper, WordsError};
 use std::alloc::{Allocator, Global};
@@ -30,10 +30,9 @@ use std::marker::Model;
 /// insert where nothing is linked. A call that would break the law takes the poller out and wakes it.
 #[derive(Drop)]
 pub struct LastingShard<T, A: Allocator = Global> {
-    pub(crate) core: DelayCore<T, Keeper<A>, A>,
+    pub(crate) attended: Attended<T, Option<u64>, A>,
     pub(crate) takes: bool,
     pub(crate) past: Ended,
-    pub(crate) parked: Option<Parked<Option<u64>>>,
     // The slot from which the next sweep of a few slots goes on.
     pub(crate) sweep_from: usize,
 }
@@ -45,14 +44,14 @@ impl<T, A: Allocator> Model for LastingShard<T, A> {
     ghost Value = { LastingView T };
 
     ghost view = { λ s. record {
-      core = s.core;
+      core = s.attended.core;
       takes = s.takes;
       past = s.past;
-      parked = s.parked;
+      parked = s.attended.parked;
       sweep_from = s.sweep_from;
     } };
 
-    ghost invariant = { λ s. AddsUp s.past × IsWaitingLawfully s.core s.parked };
+    ghost invariant = { λ s. AddsUp s.past × IsWaitingLawfully s.attended.core s.attended.parked };
 }
 
 // The entries of earlier generations with those of one of which none is linked; none where they are too many to count.
@@ -92,10 +91,9 @@ impl<T, A: Allocator> From<DelayCore<T, Keeper<A>, A>> for LastingShard<T, A> {
         let mut core = core;
         core.set_aside();
         LastingShard {
-            core,
+            attended: Attended { core, parked: None },
             takes: true,
             past,
-            parked: None,
             sweep_from: 0,
         }
     }
@@ -106,9 +104,9 @@ impl<T: Drop, A: Allocator> LastingShard<T, A> {
     pub fn law(&self)
         ensures { IsLasting self.now }
     {
-        self.core.law();
+        self.attended.core.law();
         let _ = &self.past;
-        let _ = &self.parked;
+        let _ = &self.attended;
     }
 
     /// The number of this generation, which its keys carry.
@@ -116,7 +114,7 @@ impl<T: Drop, A: Allocator> LastingShard<T, A> {
     pub fn number(&self) -> u32
         ensures { result ≡ self.now.core.shard }
     {
-        self.core.shard()
+        self.attended.core.shard()
     }
 
     /// Whether it takes entries.
@@ -130,14 +128,14 @@ impl<T: Drop, A: Allocator> LastingShard<T, A> {
     pub fn len(&self) -> usize
         ensures { result ≡ count_by is_held self.now.core.slots.rows }
     {
-        self.core.len()
+        self.attended.core.len()
     }
 
     /// The number of slots.
     pub fn capacity(&self) -> usize
         ensures { result ≡ length self.now.core.slots.rows }
     {
-        self.core.capacity()
+        self.attended.core.capacity()
     }
 
     /// The number of worn slots, which hold nothing and have no stamp left.
@@ -145,14 +143,14 @@ impl<T: Drop, A: Allocator> LastingShard<T, A> {
         ensures { result
             ≡ count_by (is_worn self.now.core.slots.last_stamp) self.now.core.slots.rows }
     {
-        self.core.worn()
+        self.attended.core.worn()
     }
 
     /// The next wake: the tick of one millisecond at which the queue has something to do, none where nothing is linked.
     pub fn next_wake(&self) -> Option<u64>
         ensures { TellsWake self.now.core result }
     {
-        self.core.next_wake()
+        self.attended.core.next_wake()
     }
 
     /// How many entries came and went, in this generation and in those before it.
@@ -161,7 +159,7 @@ impl<T: Drop, A: Allocator> LastingShard<T, A> {
     {
         LastingTally {
             past: self.past,
-            present: self.core.tally(),
+            present: self.attended.core.tally(),
         }
     }
 
@@ -180,7 +178,7 @@ impl<T: Drop, A: Allocator> LastingShard<T, A> {
         ensures inserts { LastingInserts self.old value when result self.new }
     {
         // It is dropped where this ends: all else is done by then.
-        let _crowded = self.take_crowded();
+        let _crowded = self.attended.core.take_crowded();
         let (answer, leaver) = self.insert_quietly(value, when);
         leaver.wake();
         answer
@@ -191,7 +189,7 @@ impl<T: Drop, A: Allocator> LastingShard<T, A> {
     pub fn reset(&mut self, entry: &EntryId, when: u64) -> Result<Key, CoreError>
         ensures { LastingResets self.old entry.now when result self.new }
     {
-        let (answer, leaver) = self.reset_quietly(entry, when);
+        let (answer, leaver) = self.attended.reset(entry, when);
         leaver.wake();
         answer
     }
@@ -201,7 +199,7 @@ impl<T: Drop, A: Allocator> LastingShard<T, A> {
     pub fn remove(&mut self, entry: &EntryId) -> Result<Removed<T>, CoreError>
         ensures { LastingRemoves self.old entry.now result self.new }
     {
-        let (answer, leaver) = self.remove_quietly(entry);
+        let (answer, leaver) = self.attended.remove(entry);
         leaver.wake();
         answer
     }
@@ -221,7 +219,7 @@ impl<T: Drop, A: Allocator> LastingShard<T, A> {
     pub fn poll(&mut self, tick: u64) -> Result<Turn<T>, CoreError>
         ensures { LastingPolls self.old tick result self.new }
     {
-        let (answer, leaver) = self.poll_quietly(tick);
+        let (answer, leaver) = self.attended.poll(tick);
         leaver.wake();
         answer
     }
@@ -230,7 +228,7 @@ impl<T: Drop, A: Allocator> LastingShard<T, A> {
     pub fn sweep(&mut self) -> usize
         ensures { LastingSweeps self.old result self.new }
     {
-        let (reaped, leaver) = self.sweep_quietly();
+        let (reaped, leaver) = self.attended.sweep();
         leaver.wake();
         reaped
     }
@@ -239,7 +237,7 @@ impl<T: Drop, A: Allocator> LastingShard<T, A> {
     pub fn clear(&mut self) -> usize
         ensures { LastingClears self.old result self.new }
     {
-        let (removed, leaver) = self.clear_quietly();
+        let (removed, leaver) = self.attended.clear();
         leaver.wake();
         removed
     }
@@ -257,8 +255,8 @@ impl<T: Drop, A: Allocator> LastingShard<T, A> {
         ensures closes { ClosesWorn self.old result.0 self.new }
         ensures leaves { Leaves self.old.parked result.1.poller self.new.parked }
     {
-        let worn = self.core.worn();
-        let capacity = self.core.capacity();
+        let worn = self.attended.core.worn();
+        let capacity = self.attended.core.capacity();
         if !self.takes {
             return (false, Leaver { poller: None });
         }
@@ -273,8 +271,8 @@ impl<T: Drop, A: Allocator> LastingShard<T, A> {
         ensures closes { ClosesFarWorn self.old result.0 self.new }
         ensures leaves { Leaves self.old.parked result.1.poller self.new.parked }
     {
-        let worn = self.core.worn();
-        let capacity = self.core.capacity();
+        let worn = self.attended.core.worn();
+        let capacity = self.attended.core.capacity();
         if !self.takes {
             return (false, Leaver { poller: None });
         }
@@ -288,15 +286,15 @@ impl<T: Drop, A: Allocator> LastingShard<T, A> {
     pub(crate) fn is_drained(&self) -> bool
         ensures { TellsDrained self.now result self.now }
     {
-        let worn = self.core.worn();
-        let half = self.core.capacity() / 2;
-        if self.core.len() > 0 {
+        let worn = self.attended.core.worn();
+        let half = self.attended.core.capacity() / 2;
+        if self.attended.core.len() > 0 {
             return false;
         }
         if !self.takes {
             return true;
         }
-        if worn < self.core.capacity() - half {
+        if worn < self.attended.core.capacity() - half {
             return false;
         }
         true
@@ -309,8 +307,8 @@ impl<T: Drop, A: Allocator> LastingShard<T, A> {
     pub fn issue(&mut self) -> Result<NumberedCaller<A>, WordsError>
         ensures { LastingIssues self.old result self.new }
     {
-        let number = self.core.shard();
-        match self.core.issue() {
+        let number = self.attended.core.shard();
+        match self.attended.core.issue() {
             Ok(caller) => Ok(NumberedCaller::of(number, caller)),
             Err(refusal) => Err(refusal),
         }

@@ -1,3 +1,4 @@
+pub mod Attending
 pub mod Items
 pub mod Parking
 pub mod Waits

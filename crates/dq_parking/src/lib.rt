@@ -1,12 +1,14 @@
 //! What waits for a shard, of either queue: where a stream's ticks come from, why it gives no entry, the poller that is
-//! parked in a shard, and its registration with the context of its task.
+//! parked in a shard, the shard's queue with it, and its registration with the context of its task.
 #![tactic(auto)]
 
+mod attended;
 mod fault;
 mod parked;
 mod registering;
 mod source;
 
+pub use attended::{Attended, keep_or_leave};
 pub use fault::StreamFault;
 pub use parked::{Leaver, Parked, Until, keep_until, let_sleep, ring, take};
 pub use registering::register;

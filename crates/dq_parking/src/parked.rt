@@ -79,11 +79,17 @@ impl<N: Drop> Parked<N> {
     }
 }
 
-/// Lets a poller go that was taken out, if there is one, and doesn't wake its task. Its waker is the user's: where letting
-/// it go may call the queue, the shard's lock is to be free.
-pub fn let_sleep<N: Drop>(taken: Option<Parked<N>>) {
-    if let Some(poller) = taken {
-        Parked::forget(poller);
+/// Lets a poller go that was taken out, and doesn't wake its task. True where there is one. Its waker is the user's: where
+/// letting it go may call the queue, the shard's lock is to be free.
+pub fn let_sleep<N: Drop>(taken: Option<Parked<N>>) -> bool
+    ensures { result ≡ is_some taken }
+{
+    match taken {
+        Some(poller) => {
+            Parked::forget(poller);
+            true
+        }
+        None => false,
     }
 }
 

@@ -1,17 +1,41 @@
--- The parked law stands where the wheel does.
-use Rattle.std.proofs.Common.{◌≡◌, ℕ, ap, Option, Some, None}
+-- The parked law: it stands where the wheel does, and as it is told of a shard.
+use Rattle.std.proofs.Common.{◌≡◌, ℕ, true, false, refl, ap, Option, Some, None}
+use Rattle.std.proofs.lemmas.Bool.{leb-true, le-leb}
 use Rattle.dq_core.specs.Core.{Core}
 use Rattle.dq_core.specs.Readers.{with_words}
 use Rattle.dq_words.specs.Seats.{Sat}
 use Rattle.dq_parking.specs.declared.parked.Parked.{Parked}
+use Rattle.dq_parking.specs.Attending.{MayWait}
+use Rattle.dq_parking.specs.Parking.{still_parked}
+use Rattle.dq_parking.specs.Waits.{lasts_until}
 use Rattle.dq_shards.specs.Shard.{IsParked}
 
--- a queue with the same wheel keeps the parked law
-pub parked_still : {T : Type 0} (b c : Core T Sat) (p : Option (Parked ℕ)) → c.wheel ≡ b.wheel → IsParked b p → IsParked c p
-parked_still b c None same law = law
-parked_still b c (Some p) same law = (law.0, rw same law.1, law.2)
+false_true : false ≡ true → ⊥
+false_true is = cc
 
--- a queue over other words keeps it
-pub parked_over : {T : Type 0} (b c : Core T Sat) (p : Option (Parked ℕ))
-    → c ≡ with_words b c.words → IsParked b p → IsParked c p
-parked_over b c p same law = parked_still b c p (ap (λ k. k.wheel) same) law
+-- where nothing is linked nobody may wait
+pub none_waits : (p : Option (Parked ℕ)) → still_parked lasts_until p None ≡ None
+none_waits None = refl
+none_waits (Some p) = refl
+
+module _ {T : Type 0} where
+  -- a queue with the same wheel keeps the parked law
+  pub parked_still : (b c : Core T Sat) (p : Option (Parked ℕ)) → c.wheel ≡ b.wheel → MayWait lasts_until b p → MayWait lasts_until c p
+  parked_still b c None same law = law
+  parked_still b c (Some p) same (None, tells, is) = absurd (false_true is)
+  parked_still b c (Some p) same (Some wake, tells, is) = (Some wake, rw same tells, is)
+
+  -- a queue over other words keeps it
+  pub parked_over : (b c : Core T Sat) (p : Option (Parked ℕ))
+      → c ≡ with_words b c.words → MayWait lasts_until b p → MayWait lasts_until c p
+  parked_over b c p same law = parked_still b c p (ap (λ k. k.wheel) same) law
+
+  -- the tick of who may wait isn't after the next wake
+  pub told : (c : Core T Sat) (p : Option (Parked ℕ)) → MayWait lasts_until c p → IsParked c p
+  told c None law = tt
+  told c (Some p) (None, tells, is) = absurd (false_true is)
+  told c (Some p) (Some wake, tells, is) = (wake, tells, leb-true p.next wake is)
+
+  pub may_wait : (c : Core T Sat) (p : Option (Parked ℕ)) → IsParked c p → MayWait lasts_until c p
+  may_wait c None law = tt
+  may_wait c (Some p) (wake, tells, least) = (Some wake, tells, le-leb p.next wake least)

@@ -8,7 +8,7 @@ use Rattle.dq_words.specs.Word.{parts_row}
 use Rattle.dq_words.specs.Seats.{Sat}
 use Rattle.dq_words.specs.Keeping.{IsKeeper, Stood, counts_of}
 use Rattle.dq_parking.specs.declared.parked.Parked.{Parked}
-use Rattle.dq_parking.specs.Parking.{still_parked}
+use Rattle.dq_parking.specs.Attending.{KeepsOrLeaves}
 use Rattle.dq_parking.specs.Waits.{lasts_until}
 
 -- a shard: its queue over the keeper's words, and the poller that is parked
@@ -40,6 +40,4 @@ pub record IsShard {T : Type 0} (s : ShardView T) : Type 0 where
 
 -- the poller stays parked exactly where the parked law holds with the queue as it is now
 abbrev pub KeepsOrWakes : {T : Type 0} → Core T Sat → Option (Parked ℕ) → Option (Parked ℕ) → Type 0
-KeepsOrWakes c None new = new ≡ None
-KeepsOrWakes c (Some p) new =
-    (wake : Option ℕ) × TellsWake c wake × (new ≡ still_parked lasts_until (Some p) wake)
+KeepsOrWakes c old new = KeepsOrLeaves lasts_until c old new

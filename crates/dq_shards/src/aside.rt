@@ -4,7 +4,6 @@
 //! it holds a lock. What is reaped or cleared is set aside in the shard, and the call takes it out and drops it
 //! behind the lock, one value after the other. Where a drop panics the shard is whole, and what is still set aside is
 //! dropped by a later call.
-ghost use Rattle.std.specs.Prelude.{◌≡◌};
 
 use crate::queue::SharedDelayQueue;
 use crate::state::ShardState;
@@ -16,22 +15,7 @@ impl<T: Drop, A: Allocator> ShardState<T, A> {
     /// Constant time.
     #[inline(always)]
     pub fn aside(&self) -> usize {
-        self.core.aside()
-    }
-
-    // Takes out a value that is set aside, if there is one.
-    fn take_aside(&mut self) -> Option<T>
-        ensures { self.new ≡ self.old }
-    {
-        self.core.take_aside()
-    }
-
-    // Takes out a value that is set aside, where the next insert might find no place for one.
-    #[inline(always)]
-    pub(crate) fn take_crowded(&mut self) -> Option<T>
-        ensures { self.new ≡ self.old }
-    {
-        self.core.take_crowded()
+        self.attended.core.aside()
     }
 }
 
@@ -42,7 +26,7 @@ impl<T: Drop, A: Allocator> SharedDelayQueue<T, A> {
         let Ok(mut locked) = self.enter(rt, shard) else {
             return false;
         };
-        let aside = locked.state.take_aside();
+        let aside = locked.state.attended.core.take_aside();
         drop(locked);
         aside.is_some()
     }

@@ -66,8 +66,8 @@ impl<T: Drop, A: Allocator> ShardState<T, A> {
         // All that it does.
         ensures audits { ShardAudits self.old result self.new }
     {
-        let tally = self.core.tally();
-        match self.core.returned() {
+        let tally = self.attended.core.tally();
+        match self.attended.core.returned() {
             Ok(cancelled) => Ok(totals_of(&tally, cancelled)),
             Err(out) => Err(HandlesOut { out }),
         }

@@ -26,7 +26,7 @@ impl<T: Drop, A: Allocator> ShardState<T, A> {
         // All that it does.
         ensures issues { ShardIssues self.old result self.new }
     {
-        self.core.issue()
+        self.attended.core.issue()
     }
 
     /// The issued callers that are not given back, by one load. One that was dropped is out for good.
@@ -38,6 +38,6 @@ impl<T: Drop, A: Allocator> ShardState<T, A> {
         // All that it does.
         ensures tells { ShardTells self.old result self.new }
     {
-        self.core.out()
+        self.attended.core.out()
     }
 }

@@ -2,7 +2,6 @@
 ghost use Rattle.std.specs.Prelude.{◌≡◌, ◌<◌, ◌≤◌, ◌↔◌, vec_capacity, IsErr, IsErrOf, OnErr};
 ghost use Rattle.dq_ticks.specs.declared.TheConstants.{LAST_TICK};
 ghost use Rattle.dq_core.specs.declared.errors.CoreError.TheVariants.{TickTooLarge};
-ghost use Rattle.dq_parking.specs.Parking.{Leaves};
 ghost use Rattle.dq_shards.specs.declared.errors.QueueError.TheVariants.{Core, Unknown};
 ghost use Rattle.dq_shards.specs.Answers.{OnShardOr};
 ghost use Rattle.dq_shards.specs.Changes.{LeavesShard};
@@ -12,32 +11,13 @@ ghost use Rattle.dq_shards.specs.Shard.{KeepsOrWakes};
 use crate::errors::QueueError;
 use crate::locked::LockedShard;
 use crate::queue::SharedDelayQueue;
-use crate::state::{ShardState, keep_or_leave};
+use crate::state::ShardState;
 use dq_core::{CoreError, Expired};
-use dq_parking::Leaver;
-use dq_words::{ManyTurn, poll_into};
+use dq_words::ManyTurn;
 use std::alloc::Allocator;
 use std::sync::Wait;
 
 impl<T: Drop, A: Allocator> ShardState<T, A> {
-    // As `poll_many`, but who leaves is handed over.
-    #[inline]
-    pub(crate) fn poll_many_quietly(
-        &mut self,
-        tick: u64,
-        row: &mut Vec<Expired<T>, A>,
-    ) -> (Result<ManyTurn, CoreError>, Leaver)
-        ensures refused { IsErr result.0 ↔ (LAST_TICK < tick) }
-        ensures kept { OnErr result.0 (row.new ≡ row.old) }
-        ensures room { vec_capacity row.new ≡ vec_capacity row.old }
-        ensures polls { ShardPollsMany self.old tick (vec_capacity row.old) row.old.items
-            row.new.items result.0 self.new }
-        ensures leaves { Leaves self.old.parked result.1.poller self.new.parked }
-    {
-        let answer = poll_into(&mut self.core, tick, row);
-        (answer, keep_or_leave(&self.core, &mut self.parked))
-    }
-
     /// Polls until the caller's own row is full, or nothing is due: what comes out is put behind what stands in the row, in
     /// order, as many as it has free room for. `tick` is of one millisecond. Call again while it answers More. It takes no
     /// memory.
@@ -65,7 +45,7 @@ impl<T: Drop, A: Allocator> ShardState<T, A> {
         ensures polls { ShardPollsMany self.old tick (vec_capacity row.old) row.old.items
             row.new.items result self.new }
     {
-        let (answer, leaver) = self.poll_many_quietly(tick, row);
+        let (answer, leaver) = self.attended.poll_many(tick, row);
         leaver.wake();
         answer
     }
@@ -100,7 +80,7 @@ impl<'q, T: Drop, A: Allocator> LockedShard<'q, T, A> {
         ensures leaves { LeavesShard (λ new. ShardPollsMany self.entry tick (vec_capacity row.old)
             row.old.items row.new.items result.0 new) }
     {
-        let (answer, leaver) = self.state.poll_many_quietly(tick, row);
+        let (answer, leaver) = self.state.attended.poll_many(tick, row);
         let aside = self.unlock(leaver);
         (answer, aside)
     }

@@ -5,7 +5,7 @@ ghost use Rattle.dq_shards.specs.Shard.{IsParked};
 ghost use Rattle.dq_shards.specs.Changes.{Unparks, TakesParked, Rings};
 
 use crate::state::ShardState;
-use dq_parking::{Parked, ring};
+use dq_parking::{Parked, let_sleep, ring};
 use futures::task::Waker;
 use std::alloc::Allocator;
 
@@ -14,7 +14,7 @@ impl<T: Drop, A: Allocator> ShardState<T, A> {
     pub fn parked(&self) -> Option<u64>
         ensures { result ≡ option_map (λ p. p.next) self.now.parked }
     {
-        match &self.parked {
+        match &self.attended.parked {
             Some(poller) => Some(poller.next),
             None => None,
         }
@@ -27,20 +27,14 @@ impl<T: Drop, A: Allocator> ShardState<T, A> {
         ensures { self.new ≡ record self.old { parked = Some (poller next waker) } }
     {
         self.unpark();
-        self.parked = Some(Parked { next, waker });
+        self.attended.parked = Some(Parked { next, waker });
     }
 
     /// Takes the parked poller out and does not wake it. True where there was one.
     pub fn unpark(&mut self) -> bool
         ensures { Unparks self.old result self.new }
     {
-        match self.take_parked() {
-            Some(poller) => {
-                Parked::forget(poller);
-                true
-            }
-            None => false,
-        }
+        let_sleep(self.take_parked())
     }
 
     /// Takes the parked poller out and hands it over, unwoken. Whoever has its waker may wake it, or let it go, once the
@@ -48,14 +42,14 @@ impl<T: Drop, A: Allocator> ShardState<T, A> {
     pub fn take_parked(&mut self) -> Option<Parked>
         ensures { TakesParked self.old result self.new }
     {
-        self.parked.take()
+        self.attended.parked.take()
     }
 
     /// Takes out and wakes a poller that is parked at or before `tick`, of one millisecond. True where there was one.
     pub fn ring(&mut self, tick: u64) -> bool
         ensures { Rings self.old tick result self.new }
     {
-        let rung = ring(&mut self.parked, tick);
+        let rung = ring(&mut self.attended.parked, tick);
         let is_rung = rung.is_some();
         rung.wake();
         is_rung

@@ -9,50 +9,17 @@ ghost use Rattle.dq_core.specs.Calls.{base_for, noting, IsMissing, IsLiveEntry, 
 ghost use Rattle.dq_core.specs.Pieces.{IfAnswer, steps_left};
 ghost use Rattle.dq_core.specs.Sweeps.{NoneCancelled, NotCancelled};
 ghost use Rattle.dq_core.specs.AtTheCall.{IfOut, IfRests, linked_in, IsLinkedAs, HoldsValue, OthersStay, KeepsSlots};
-ghost use Rattle.dq_parking.specs.Parking.{Leaves};
-ghost use Rattle.dq_shards.specs.Shard.{IsShard, IsParked, KeepsOrWakes};
+ghost use Rattle.dq_shards.specs.Shard.{IsShard, KeepsOrWakes};
 ghost use Rattle.dq_shards.specs.Changes.{ShardInserts, ShardResets, ShardRemoves, ShardDeadline};
 ghost use Rattle.dq_shards.specs.Changes.{ShardPolls, ShardPollsSome, IfWorking};
 ghost use Rattle.dq_shards.specs.Changes.{ShardSweeps, ShardSweepsSome, ShardReaps, ShardClears, going_on};
 
 use dq_core::{CoreError, DelayCore, Piece, ReapError, Removed, Swept, Turn};
-use dq_parking::{Leaver, Parked, keep_until};
+use dq_parking::{Attended, keep_or_leave};
 use dq_ticks::{EntryId, Key};
 use dq_words::Keeper;
 use std::alloc::{Allocator, Global};
 use std::marker::Model;
-
-// Takes the poller out where it stands parked against the parked law with the queue as it is now. Where none is parked, which is
-// so in most calls, the next wake isn't asked for.
-#[inline(always)]
-pub(crate) fn keep_or_leave<T: Drop, A: Allocator>(
-    core: &DelayCore<T, Keeper<A>, A>,
-    parked: &mut Option<Parked>,
-) -> Leaver
-    ensures keeps_or_wakes { KeepsOrWakes core.now parked.old parked.new }
-    ensures law { IsParked core.now parked.new }
-    ensures empty { NoneLinked (machine core.now) → parked.new ≡ None }
-    ensures leaves { Leaves parked.old result.poller parked.new }
-{
-    if parked.is_some() {
-        keep_until(parked, core.next_wake())
-    } else {
-        Leaver { poller: None }
-    }
-}
-
-// Wakes the poller where it stands parked against the parked law with the queue as it is now.
-#[inline(always)]
-fn keep_or_wake<T: Drop, A: Allocator>(
-    core: &DelayCore<T, Keeper<A>, A>,
-    parked: &mut Option<Parked>,
-)
-    ensures keeps_or_wakes { KeepsOrWakes core.now parked.old parked.new }
-    ensures law { IsParked core.now parked.new }
-    ensures empty { NoneLinked (machine core.now) → parked.new ≡ None }
-{
-    keep_or_leave(core, parked).wake();
-}
 
 /// The value behind a shard's lock: a queue over words that callers share, and the poller that is parked there.
 ///
@@ -63,21 +30,22 @@ fn keep_or_wake<T: Drop, A: Allocator>(
 pub struct ShardState<T, A: Allocator = Global> {
     // What works under the lock has no line with the lock itself, which others look at while they wait for it.
     _apart: [u64; 7],
-    pub(crate) core: DelayCore<T, Keeper<A>, A>,
-    pub(crate) parked: Option<Parked>,
+    pub(crate) attended: Attended<T, u64, A>,
     // Shards stand in one row. With this each is, behind its lock, a whole number of cache lines, and no line has what two of
     // them write. A test tells: where a field is added, this is another number.
     _room: u64,
 }
 
 impl<T, A: Allocator> Model for ShardState<T, A> {
-    ghost use Rattle.dq_shards.specs.Shard.{ShardView, IsParked};
+    ghost use Rattle.dq_parking.specs.Attending.{MayWait};
+    ghost use Rattle.dq_parking.specs.Waits.{lasts_until};
+    ghost use Rattle.dq_shards.specs.Shard.{ShardView};
 
     ghost Value = { ShardView T };
 
-    ghost view = { λ s. record { core = s.core; parked = s.parked } };
+    ghost view = { λ s. record { core = s.attended.core; parked = s.attended.parked } };
 
-    ghost invariant = { λ s. IsParked s.core s.parked };
+    ghost invariant = { λ s. MayWait lasts_until s.attended.core s.attended.parked };
 }
 
 impl<T, A: Allocator> From<DelayCore<T, Keeper<A>, A>> for ShardState<T, A> {
@@ -91,8 +59,7 @@ impl<T, A: Allocator> From<DelayCore<T, Keeper<A>, A>> for ShardState<T, A> {
         core.set_aside();
         ShardState {
             _apart: [0; 7],
-            core,
-            parked: None,
+            attended: Attended { core, parked: None },
             _room: 0,
         }
     }
@@ -100,10 +67,11 @@ impl<T, A: Allocator> From<DelayCore<T, Keeper<A>, A>> for ShardState<T, A> {
 
 impl<T: Drop, A: Allocator> ShardState<T, A> {
     /// What every shard keeps. The call does nothing, and is for proofs.
+    #[tactic(auto, using(crate::proofs::Parking::told))]
     pub fn law(&self)
         ensures { IsShard self.now }
     {
-        self.core.law();
+        self.attended.core.law();
     }
 
     /// Puts an entry in that is live until `when`, a tick of one millisecond, or until the wheel's tick where `when`
@@ -127,9 +95,9 @@ impl<T: Drop, A: Allocator> ShardState<T, A> {
         ensures inserts { ShardInserts self.old value when result self.new }
     {
         // It is dropped where this ends: all else is done by then.
-        let _crowded = self.take_crowded();
-        let answer = self.core.insert(value, when);
-        keep_or_wake(&self.core, &mut self.parked);
+        let _crowded = self.attended.core.take_crowded();
+        let answer = self.attended.core.insert(value, when);
+        keep_or_leave(&self.attended.core, &mut self.attended.parked).wake();
         answer
     }
 
@@ -154,8 +122,8 @@ impl<T: Drop, A: Allocator> ShardState<T, A> {
         // All that it does.
         ensures resets { ShardResets self.old entry.now when result self.new }
     {
-        let answer = self.core.reset(entry, when);
-        keep_or_wake(&self.core, &mut self.parked);
+        let answer = self.attended.core.reset(entry, when);
+        keep_or_leave(&self.attended.core, &mut self.attended.parked).wake();
         answer
     }
 
@@ -181,8 +149,8 @@ impl<T: Drop, A: Allocator> ShardState<T, A> {
         // All that it does.
         ensures removes { ShardRemoves self.old entry.now result self.new }
     {
-        let answer = self.core.remove(entry);
-        keep_or_wake(&self.core, &mut self.parked);
+        let answer = self.attended.core.remove(entry);
+        keep_or_leave(&self.attended.core, &mut self.attended.parked).wake();
         answer
     }
 
@@ -203,7 +171,7 @@ impl<T: Drop, A: Allocator> ShardState<T, A> {
         // All that it does.
         ensures tells { ShardDeadline self.old entry.now result self.new }
     {
-        self.core.deadline(entry)
+        self.attended.core.deadline(entry)
     }
 
     /// Notes a tick of one millisecond, and takes out one entry whose deadline in force is reached by the greatest
@@ -235,8 +203,8 @@ impl<T: Drop, A: Allocator> ShardState<T, A> {
         // All that it does.
         ensures polls { ShardPolls self.old tick result self.new }
     {
-        let answer = self.core.poll(tick);
-        keep_or_wake(&self.core, &mut self.parked);
+        let answer = self.attended.core.poll(tick);
+        keep_or_leave(&self.attended.core, &mut self.attended.parked).wake();
         answer
     }
 
@@ -274,8 +242,8 @@ impl<T: Drop, A: Allocator> ShardState<T, A> {
         // All that it does.
         ensures polls { ShardPollsSome self.old tick most result self.new }
     {
-        let answer = self.core.poll_some(tick, most);
-        keep_or_wake(&self.core, &mut self.parked);
+        let answer = self.attended.core.poll_some(tick, most);
+        keep_or_leave(&self.attended.core, &mut self.attended.parked).wake();
         answer
     }
 
@@ -293,8 +261,8 @@ impl<T: Drop, A: Allocator> ShardState<T, A> {
         // All that it does.
         ensures sweeps { ShardSweeps self.old result self.new }
     {
-        let reaped = self.core.sweep();
-        keep_or_wake(&self.core, &mut self.parked);
+        let reaped = self.attended.core.sweep();
+        keep_or_leave(&self.attended.core, &mut self.attended.parked).wake();
         reaped
     }
 
@@ -320,8 +288,8 @@ impl<T: Drop, A: Allocator> ShardState<T, A> {
         // All that it does.
         ensures sweeps { ShardSweepsSome self.old from count result self.new }
     {
-        let swept = self.core.sweep_some(from, count);
-        keep_or_wake(&self.core, &mut self.parked);
+        let swept = self.attended.core.sweep_some(from, count);
+        keep_or_leave(&self.attended.core, &mut self.attended.parked).wake();
         swept
     }
 
@@ -345,13 +313,14 @@ impl<T: Drop, A: Allocator> ShardState<T, A> {
         // All that it does.
         ensures reaps { ShardReaps self.old entry.now result self.new }
     {
-        let answer = self.core.reap(entry);
-        keep_or_wake(&self.core, &mut self.parked);
+        let answer = self.attended.core.reap(entry);
+        keep_or_leave(&self.attended.core, &mut self.attended.parked).wake();
         answer
     }
 
     /// Ends every linked entry, and drops its value: each live one as removed, and those that were cancelled are
     /// reaped. It answers how many it ended as removed, and goes over every slot. No poller is left parked.
+    #[tactic(auto, using(crate::proofs::Parking::none_waits))]
     pub fn clear(&mut self) -> usize
         // Nothing is linked any more, and so no poller is parked.
         ensures empty { NoneLinked (machine self.new.core) }
@@ -361,8 +330,8 @@ impl<T: Drop, A: Allocator> ShardState<T, A> {
         // All that it does.
         ensures clears { ShardClears self.old result self.new }
     {
-        let removed = self.core.clear();
-        keep_or_wake(&self.core, &mut self.parked);
+        let removed = self.attended.core.clear();
+        keep_or_leave(&self.attended.core, &mut self.attended.parked).wake();
         removed
     }
 }

@@ -21,7 +21,6 @@ mod names;
 mod numbered;
 mod opening;
 mod paced;
-mod parked;
 mod pieces;
 mod poller;
 mod queue;

@@ -13,18 +13,7 @@ impl<T> LastingShard<T> {
     /// Constant time.
     #[inline(always)]
     pub fn aside(&self) -> usize {
-        self.core.aside()
-    }
-
-    // Takes out a value that is set aside, if there is one.
-    fn take_aside(&mut self) -> Option<T> {
-        self.core.take_aside()
-    }
-
-    // Takes out a value that is set aside, where the next insert might find no place for one.
-    #[inline(always)]
-    pub(crate) fn take_crowded(&mut self) -> Option<T> {
-        self.core.take_crowded()
+        self.attended.core.aside()
     }
 }
 
@@ -45,7 +34,7 @@ impl<T> LastingQueue<T> {
     #[inline(never)]
     fn drop_one_aside(&self, place: usize) -> bool {
         let mut shard = self.lock(place);
-        let aside = shard.take_aside();
+        let aside = shard.attended.core.take_aside();
         drop(shard);
         aside.is_some()
     }
@@ -74,13 +63,6 @@ impl<T> LastingQueue<T> {
             if !self.drop_one_aside(place) {
                 return;
             }
-        }
-    }
-
-    // The same behind a poll that gave no entry. A drop that panics would lose the entry that one gave.
-    pub(crate) fn drop_aside_at_rest(&self, place: usize, most: usize, rests: bool) {
-        if rests {
-            self.drop_aside(place, most);
         }
     }
 }

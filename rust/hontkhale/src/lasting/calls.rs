@@ -43,7 +43,7 @@ impl<T> LastingQueue<T> {
     fn insert_at(&self, place: usize, value: T, when: u64) -> Result<Key, (LastingError, T)> {
         let mut shard = self.lock(place);
         // It is dropped behind the lock, where this ends.
-        let _crowded = shard.take_crowded();
+        let _crowded = shard.attended.core.take_crowded();
         let (answer, leaver) = shard.insert_quietly(value, when);
         unlock(shard, leaver);
         answer
@@ -129,7 +129,7 @@ impl<T> LastingQueue<T> {
     /// [`DelayCore::reset`]: crate::DelayCore::reset
     pub fn reset(&self, entry: &EntryId, when: u64) -> Result<Key, CoreError> {
         let mut shard = self.lock(self.place_of(entry.shard()));
-        let (answer, leaver) = shard.reset_quietly(entry, when);
+        let (answer, leaver) = shard.attended.reset(entry, when);
         unlock(shard, leaver);
         answer
     }
@@ -140,7 +140,7 @@ impl<T> LastingQueue<T> {
     /// Missing, also for an entry of an earlier generation, and WasCancelled.
     pub fn remove(&self, entry: &EntryId) -> Result<Removed<T>, CoreError> {
         let mut shard = self.lock(self.place_of(entry.shard()));
-        let (answer, leaver) = shard.remove_quietly(entry);
+        let (answer, leaver) = shard.attended.remove(entry);
         unlock(shard, leaver);
         answer
     }
@@ -170,7 +170,7 @@ impl<T> LastingQueue<T> {
             return Err(LastingError::Unknown);
         }
         let mut shard = self.lock(place);
-        let (answer, leaver) = shard.poll_quietly(tick);
+        let (answer, leaver) = shard.attended.poll(tick);
         let aside = unlock(shard, leaver);
         match answer {
             // A drop that panics would lose what came out.
@@ -205,7 +205,7 @@ impl<T> LastingQueue<T> {
             return Err(LastingError::Unknown);
         }
         let mut shard = self.lock(place);
-        let (reaped, leaver) = shard.sweep_quietly();
+        let (reaped, leaver) = shard.attended.sweep();
         let aside = unlock(shard, leaver);
         self.drop_aside(place, aside);
         Ok(reaped)
@@ -220,7 +220,7 @@ impl<T> LastingQueue<T> {
             return Err(LastingError::Unknown);
         }
         let mut shard = self.lock(place);
-        let (removed, leaver) = shard.clear_quietly();
+        let (removed, leaver) = shard.attended.clear();
         let aside = unlock(shard, leaver);
         self.drop_aside(place, aside);
         Ok(removed)

@@ -2,32 +2,19 @@
 
 use crate::core::{CoreError, Expired};
 use crate::lasting::errors::LastingError;
-use crate::lasting::parked::keep_or_leave;
 use crate::lasting::queue::LastingQueue;
 use crate::lasting::quiet::unlock;
 use crate::lasting::shard::LastingShard;
-use crate::parking::Leaver;
-use crate::words::{poll_into, ManyTurn};
+use crate::words::ManyTurn;
 use alloc::vec::Vec;
 
 impl<T> LastingShard<T> {
-    // As `poll_many`, but who leaves is handed over.
-    #[inline]
-    pub(crate) fn poll_many_quietly(
-        &mut self,
-        tick: u64,
-        row: &mut Vec<Expired<T>>,
-    ) -> (Result<ManyTurn, CoreError>, Leaver<Option<u64>>) {
-        let answer = poll_into(&mut self.core, tick, row);
-        (answer, keep_or_leave(&self.core, &mut self.parked))
-    }
-
     /// As [`LastingQueue::poll_many`], of a shard in hand.
     ///
     /// # Errors
     /// TickTooLarge beyond the last tick. Nothing changes then.
     pub fn poll_many(&mut self, tick: u64, row: &mut Vec<Expired<T>>) -> Result<ManyTurn, CoreError> {
-        let (answer, leaver) = self.poll_many_quietly(tick, row);
+        let (answer, leaver) = self.attended.poll_many(tick, row);
         leaver.wake();
         answer
     }
@@ -65,7 +52,7 @@ impl<T> LastingQueue<T> {
             return Err(LastingError::Unknown);
         }
         let mut shard = self.lock(place);
-        let (answer, leaver) = shard.poll_many_quietly(tick, row);
+        let (answer, leaver) = shard.attended.poll_many(tick, row);
         let aside = unlock(shard, leaver);
         self.drop_aside(place, aside);
         match answer {

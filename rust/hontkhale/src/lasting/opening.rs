@@ -6,7 +6,6 @@ use crate::core::{FreshRows, Slots};
 use crate::lasting::ended::Ended;
 use crate::lasting::errors::ReopenError;
 use crate::lasting::keeping::Kept;
-use crate::lasting::parked::keep_or_leave;
 use crate::lasting::queue::LastingQueue;
 use crate::lasting::quiet::{nobody, unlock};
 use crate::lasting::shard::{with_ended, LastingShard};
@@ -60,9 +59,9 @@ fn fresh_rows<T>(size: ShardSize) -> Option<Rows<T>> {
 impl<T> LastingShard<T> {
     // As `sweep`, at the next few slots.
     fn sweep_on(&mut self) -> (usize, Leaver<Option<u64>>) {
-        let swept = self.core.sweep_some(self.sweep_from, SWEPT_AT_ONCE);
+        let (swept, leaver) = self.attended.sweep_some(self.sweep_from, SWEPT_AT_ONCE);
         self.sweep_from = swept.next.unwrap_or(0);
-        (swept.reaped, keep_or_leave(&self.core, &mut self.parked))
+        (swept.reaped, leaver)
     }
 
     // The step of one that isn't drained.
@@ -71,22 +70,22 @@ impl<T> LastingShard<T> {
             return nobody(Kept::Fine);
         }
         let (_reaped, leaver) = self.sweep_on();
-        let linked = self.core.len();
+        let linked = self.attended.core.len();
         (Kept::Drains { place, linked }, leaver)
     }
 
     // The size.
     fn size(&self) -> ShardSize {
         ShardSize {
-            capacity: self.core.capacity(),
-            last_stamp: self.core.last_stamp(),
+            capacity: self.attended.core.capacity(),
+            last_stamp: self.attended.core.last_stamp(),
         }
     }
 
     // The number of the next generation, and what has ended before it; none where there is no such number.
     fn next_generation(&self, by: u32) -> Option<(u32, Ended)> {
-        let number = self.core.shard().checked_add(by)?;
-        let tally = self.core.tally();
+        let number = self.attended.core.shard().checked_add(by)?;
+        let tally = self.attended.core.tally();
         match with_ended(&self.past, &tally) {
             Some(past) => Some((number, past)),
             None => None,
@@ -111,12 +110,13 @@ impl<T> LastingShard<T> {
             let (answer, leaver) = nobody(Err(ReopenError::NumbersSpent));
             return (answer, leaver, LeftOver::Unwanted(rows));
         };
-        match self.core.renew_with(number, rows) {
+        match self.attended.core.renew_with(number, rows) {
             Ok((words, slots)) => {
                 self.takes = true;
                 self.past = past;
                 self.sweep_from = 0;
-                (Ok(()), take(&mut self.parked), LeftOver::Old(words, slots))
+                let leaver = take(&mut self.attended.parked);
+                (Ok(()), leaver, LeftOver::Old(words, slots))
             }
             Err(_refused) => unreachable!(),
         }

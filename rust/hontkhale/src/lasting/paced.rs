@@ -55,10 +55,7 @@ impl<T> LastingQueue<T> {
         let mut shard = self.lock(place);
         let before = shard.take_parked();
         let answer = shard.poll_some_or_park(tick, most, cx);
-        let aside = shard.aside();
-        drop(shard);
-        let_sleep(before);
-        self.drop_aside_at_rest(place, aside, answer.is_pending());
+        self.let_go(place, shard, before, answer.is_pending());
         answer
     }
 }

@@ -14,7 +14,7 @@ impl<T> LastingShard<T> {
     /// TickTooLarge beyond the last tick. Nothing changes then.
     #[inline]
     pub fn poll_some(&mut self, tick: u64, most: u32) -> Result<Piece<T>, CoreError> {
-        let (answer, leaver) = self.poll_some_quietly(tick, most);
+        let (answer, leaver) = self.attended.poll_some(tick, most);
         leaver.wake();
         answer
     }
@@ -33,15 +33,15 @@ impl<T> LastingQueue<T> {
             return Err(LastingError::Unknown);
         }
         let mut shard = self.lock(place);
-        let (answer, leaver) = shard.poll_some_quietly(tick, most);
+        let (answer, leaver) = shard.attended.poll_some(tick, most);
         let aside = unlock(shard, leaver);
+        // A drop that panics would lose what came out.
+        let gives = matches!(answer, Ok(Piece::Answer(Turn::Out(_))));
+        if !gives {
+            self.drop_aside(place, aside);
+        }
         match answer {
-            // A drop that panics would lose what came out.
-            Ok(Piece::Answer(Turn::Out(expired))) => Ok(Piece::Answer(Turn::Out(expired))),
-            Ok(piece) => {
-                self.drop_aside(place, aside);
-                Ok(piece)
-            }
+            Ok(piece) => Ok(piece),
             Err(error) => Err(LastingError::Core(error)),
         }
     }

@@ -5,19 +5,20 @@ use crate::lasting::errors::LastingError;
 use crate::lasting::queue::LastingQueue;
 use crate::lasting::quiet::unlock;
 use crate::lasting::shard::LastingShard;
+use crate::locks::MutexGuard;
 use crate::parking::{let_sleep, register, Parked};
 use core::task::{Context, Poll, Waker};
 
 impl<T> LastingShard<T> {
     // Takes the parked poller out, unwoken.
     pub(crate) fn take_parked(&mut self) -> Option<Parked<Option<u64>>> {
-        self.parked.take()
+        self.attended.parked.take()
     }
 
     // Parks a poller, in the place of one that was parked before, which isn't woken.
     fn park(&mut self, next: Option<u64>, waker: Waker) {
         let_sleep(self.take_parked());
-        self.parked = Some(Parked { next, waker });
+        self.attended.parked = Some(Parked { next, waker });
     }
 
     // Registers with the context and parks its task. The name stands for the shard, as a source that fires where it
@@ -47,13 +48,7 @@ impl<T> LastingShard<T> {
 
     /// Takes the parked poller out and doesn't wake it. True where there was one.
     pub fn unpark(&mut self) -> bool {
-        match self.take_parked() {
-            Some(poller) => {
-                Parked::forget(poller);
-                true
-            }
-            None => false,
-        }
+        let_sleep(self.take_parked())
     }
 
     /// Takes out and wakes a poller that is parked at or before `tick`, of one millisecond. True where there was one.
@@ -65,6 +60,23 @@ impl<T> LastingShard<T> {
 }
 
 impl<T> LastingQueue<T> {
+    // Lets the lock go behind a poll at a place, and who was parked there before it. What is set aside is dropped where no
+    // entry was given: a drop that panics would lose it.
+    pub(crate) fn let_go(
+        &self,
+        place: usize,
+        shard: MutexGuard<'_, LastingShard<T>>,
+        before: Option<Parked<Option<u64>>>,
+        rests: bool,
+    ) {
+        let aside = shard.aside();
+        drop(shard);
+        let_sleep(before);
+        if rests {
+            self.drop_aside(place, aside);
+        }
+    }
+
     /// Polls the shard at a place at `tick`, of one millisecond, for a task: it gives an entry that is due. Where none
     /// is it is Pending, and its task is parked in the shard, one task a shard.
     ///
@@ -88,10 +100,7 @@ impl<T> LastingQueue<T> {
         let mut shard = self.lock(place);
         let before = shard.take_parked();
         let answer = shard.poll_or_park(tick, cx);
-        let aside = shard.aside();
-        drop(shard);
-        let_sleep(before);
-        self.drop_aside_at_rest(place, aside, answer.is_pending());
+        self.let_go(place, shard, before, answer.is_pending());
         answer
     }
 
@@ -107,13 +116,7 @@ impl<T> LastingQueue<T> {
         let mut shard = self.lock(place);
         let taken = shard.take_parked();
         drop(shard);
-        match taken {
-            Some(poller) => {
-                Parked::forget(poller);
-                Ok(true)
-            }
-            None => Ok(false),
-        }
+        Ok(let_sleep(taken))
     }
 
     /// Wakes the poller of the shard at a place, where it is parked at or before `tick`, of one millisecond, and tells

@@ -1,12 +1,11 @@
 //! The calls of a shard that wake nobody while its lock is held: who leaves is handed over, and woken once the lock is
 //! free.
 
-use crate::core::{CoreError, Piece, Removed, Turn};
+use crate::core::CoreError;
 use crate::lasting::errors::{LastingError, ReopenError};
-use crate::lasting::parked::keep_or_leave;
 use crate::lasting::shard::{with_ended, LastingShard};
 use crate::locks::MutexGuard;
-use crate::parking::{ring, take, Leaver};
+use crate::parking::{keep_or_leave, ring, take, Leaver};
 use crate::ticks::{EntryId, Key};
 use crate::words::Keeper;
 
@@ -36,76 +35,29 @@ impl<T> LastingShard<T> {
         if !self.takes {
             return nobody(Err((LastingError::Closed, value)));
         }
-        match self.core.insert(value, when) {
-            Ok(key) => (Ok(key), keep_or_leave(&self.core, &mut self.parked)),
-            Err((error, value)) => nobody(Err((LastingError::Core(error), value))),
+        let (answer, leaver) = self.attended.insert(value, when);
+        match answer {
+            Ok(key) => (Ok(key), leaver),
+            Err((error, value)) => (Err((LastingError::Core(error), value)), leaver),
         }
-    }
-
-    // As `reset`.
-    #[inline]
-    pub(crate) fn reset_quietly(
-        &mut self,
-        entry: &EntryId,
-        when: u64,
-    ) -> (Result<Key, CoreError>, Leaver<Option<u64>>) {
-        let answer = self.core.reset(entry, when);
-        (answer, keep_or_leave(&self.core, &mut self.parked))
-    }
-
-    // As `remove`.
-    #[inline]
-    pub(crate) fn remove_quietly(&mut self, entry: &EntryId) -> (Result<Removed<T>, CoreError>, Leaver<Option<u64>>) {
-        let answer = self.core.remove(entry);
-        (answer, keep_or_leave(&self.core, &mut self.parked))
     }
 
     // As `deadline`.
     #[inline]
     pub(crate) fn deadline_quietly(&mut self, entry: &EntryId) -> (Result<u64, CoreError>, Leaver<Option<u64>>) {
-        let answer = self.core.deadline(entry);
-        (answer, keep_or_leave(&self.core, &mut self.parked))
-    }
-
-    // As `poll`.
-    #[inline]
-    pub(crate) fn poll_quietly(&mut self, tick: u64) -> (Result<Turn<T>, CoreError>, Leaver<Option<u64>>) {
-        let answer = self.core.poll(tick);
-        (answer, keep_or_leave(&self.core, &mut self.parked))
-    }
-
-    // As `poll_some`.
-    #[inline]
-    pub(crate) fn poll_some_quietly(
-        &mut self,
-        tick: u64,
-        most: u32,
-    ) -> (Result<Piece<T>, CoreError>, Leaver<Option<u64>>) {
-        let answer = self.core.poll_some(tick, most);
-        (answer, keep_or_leave(&self.core, &mut self.parked))
-    }
-
-    // As `sweep`.
-    pub(crate) fn sweep_quietly(&mut self) -> (usize, Leaver<Option<u64>>) {
-        let reaped = self.core.sweep();
-        (reaped, keep_or_leave(&self.core, &mut self.parked))
-    }
-
-    // As `clear`.
-    pub(crate) fn clear_quietly(&mut self) -> (usize, Leaver<Option<u64>>) {
-        let removed = self.core.clear();
-        (removed, keep_or_leave(&self.core, &mut self.parked))
+        let answer = self.attended.core.deadline(entry);
+        (answer, keep_or_leave(&self.attended.core, &mut self.attended.parked))
     }
 
     // As `close`.
     pub(crate) fn close_quietly(&mut self) -> Leaver<Option<u64>> {
         self.takes = false;
-        take(&mut self.parked)
+        take(&mut self.attended.parked)
     }
 
     // As `ring`.
     pub(crate) fn ring_quietly(&mut self, tick: u64) -> (bool, Leaver<Option<u64>>) {
-        let rung = ring(&mut self.parked, tick);
+        let rung = ring(&mut self.attended.parked, tick);
         (rung.is_some(), rung)
     }
 }
@@ -113,25 +65,25 @@ impl<T> LastingShard<T> {
 impl<T> LastingShard<T> {
     // As `reopen`.
     pub(crate) fn reopen_quietly(&mut self, by: u32) -> (Result<(), ReopenError>, Leaver<Option<u64>>) {
-        let linked = self.core.len();
+        let linked = self.attended.core.len();
         if linked > 0 {
             return nobody(Err(ReopenError::StillLinked { linked }));
         }
-        let Some(number) = self.core.shard().checked_add(by) else {
+        let Some(number) = self.attended.core.shard().checked_add(by) else {
             return nobody(Err(ReopenError::NumbersSpent));
         };
-        let tally = self.core.tally();
+        let tally = self.attended.core.tally();
         let Some(past) = with_ended(&self.past, &tally) else {
             return nobody(Err(ReopenError::NumbersSpent));
         };
-        let Ok(keeper) = Keeper::new(self.core.capacity()) else {
+        let Ok(keeper) = Keeper::new(self.attended.core.capacity()) else {
             return nobody(Err(ReopenError::NoMemory));
         };
-        match self.core.renew(number, keeper) {
+        match self.attended.core.renew(number, keeper) {
             Ok(_old) => {
                 self.takes = true;
                 self.past = past;
-                (Ok(()), take(&mut self.parked))
+                (Ok(()), take(&mut self.attended.parked))
             }
             Err(_refused) => unreachable!(),
         }

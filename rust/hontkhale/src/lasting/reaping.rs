@@ -2,29 +2,15 @@
 
 use crate::core::{ReapError, Swept};
 use crate::lasting::errors::LastingError;
-use crate::lasting::parked::keep_or_leave;
 use crate::lasting::queue::LastingQueue;
 use crate::lasting::quiet::unlock;
 use crate::lasting::shard::LastingShard;
-use crate::parking::Leaver;
 use crate::ticks::EntryId;
 
 impl<T> LastingShard<T> {
-    // As `sweep_some`.
-    fn sweep_some_quietly(&mut self, from: usize, count: usize) -> (Swept, Leaver<Option<u64>>) {
-        let swept = self.core.sweep_some(from, count);
-        (swept, keep_or_leave(&self.core, &mut self.parked))
-    }
-
-    // As `reap`.
-    fn reap_quietly(&mut self, entry: &EntryId) -> (Result<(), ReapError>, Leaver<Option<u64>>) {
-        let answer = self.core.reap(entry);
-        (answer, keep_or_leave(&self.core, &mut self.parked))
-    }
-
     /// As [`DelayCore::sweep_some`](crate::DelayCore::sweep_some).
     pub fn sweep_some(&mut self, from: usize, count: usize) -> Swept {
-        let (swept, leaver) = self.sweep_some_quietly(from, count);
+        let (swept, leaver) = self.attended.sweep_some(from, count);
         leaver.wake();
         swept
     }
@@ -34,7 +20,7 @@ impl<T> LastingShard<T> {
     /// # Errors
     /// Missing where no entry is linked with that number, index and birth stamp, and Live where it is found live.
     pub fn reap(&mut self, entry: &EntryId) -> Result<(), ReapError> {
-        let (answer, leaver) = self.reap_quietly(entry);
+        let (answer, leaver) = self.attended.reap(entry);
         leaver.wake();
         answer
     }
@@ -50,7 +36,7 @@ impl<T> LastingQueue<T> {
     pub fn reap(&self, entry: &EntryId) -> Result<(), ReapError> {
         let place = self.place_of(entry.shard());
         let mut shard = self.lock(place);
-        let (answer, leaver) = shard.reap_quietly(entry);
+        let (answer, leaver) = shard.attended.reap(entry);
         let aside = unlock(shard, leaver);
         self.drop_aside(place, aside);
         answer
@@ -79,7 +65,7 @@ impl<T> LastingQueue<T> {
             return Err(LastingError::Unknown);
         }
         let mut shard = self.lock(place);
-        let (swept, leaver) = shard.sweep_some_quietly(from, count);
+        let (swept, leaver) = shard.attended.sweep_some(from, count);
         let aside = unlock(shard, leaver);
         self.drop_aside(place, aside);
         Ok(swept)

@@ -9,7 +9,7 @@ impl<T> LastingShard<T> {
     /// What a poller that is parked waits for: `Some(Some(tick))` for a tick of one millisecond, and `Some(None)` for
     /// an insert. `None` where none is parked.
     pub fn parked(&self) -> Option<Option<u64>> {
-        match &self.parked {
+        match &self.attended.parked {
             Some(poller) => Some(poller.next),
             None => None,
         }
@@ -17,19 +17,19 @@ impl<T> LastingShard<T> {
 
     /// The greatest tick of one millisecond that a poll accepted; at first 0.
     pub fn noted(&self) -> u64 {
-        self.core.noted()
+        self.attended.core.noted()
     }
 
     /// The tick of one millisecond by which an entry is filed, which is not after its deadline in force; none where
     /// the entry is missing.
     pub fn filed(&self, entry: &EntryId) -> Option<u64> {
-        self.core.filed(entry)
+        self.attended.core.filed(entry)
     }
 
     /// As [`DelayCore::peek`]: a linked entry that is filed least, possibly a cancelled one. No live entry has a
     /// deadline before the tick by which that one is filed.
     pub fn peek(&self) -> Option<Key> {
-        self.core.peek()
+        self.attended.core.peek()
     }
 }
 

@@ -4,7 +4,7 @@ use crate::core::{CoreError, DelayCore, Removed, Tally, Turn};
 use crate::lasting::ended::{Ended, LastingTally};
 use crate::lasting::errors::{LastingError, ReopenError};
 use crate::lasting::numbered::NumberedCaller;
-use crate::parking::{Leaver, Parked};
+use crate::parking::{Attended, Leaver};
 use crate::ticks::{EntryId, Key};
 use crate::words::{Keeper, WordsError};
 
@@ -14,10 +14,9 @@ use crate::words::{Keeper, WordsError};
 /// It always keeps the parked law: a poller that is parked waits for a tick that isn't after the next wake, or for an
 /// insert where nothing is linked. A call that would break the law takes the poller out and wakes it.
 pub struct LastingShard<T> {
-    pub(crate) core: DelayCore<T, Keeper>,
+    pub(crate) attended: Attended<T, Option<u64>>,
     pub(crate) takes: bool,
     pub(crate) past: Ended,
-    pub(crate) parked: Option<Parked<Option<u64>>>,
     // The slot from which the next sweep of a few slots goes on.
     pub(crate) sweep_from: usize,
 }
@@ -45,10 +44,9 @@ impl<T> From<DelayCore<T, Keeper>> for LastingShard<T> {
         let mut core = core;
         core.set_aside();
         LastingShard {
-            core,
+            attended: Attended { core, parked: None },
             takes: true,
             past,
-            parked: None,
             sweep_from: 0,
         }
     }
@@ -58,7 +56,7 @@ impl<T> LastingShard<T> {
     /// The number of this generation, which its keys carry.
     #[inline]
     pub fn number(&self) -> u32 {
-        self.core.shard()
+        self.attended.core.shard()
     }
 
     /// Whether it takes entries.
@@ -68,29 +66,29 @@ impl<T> LastingShard<T> {
 
     /// The number of linked entries, live or cancelled and not yet reaped.
     pub fn len(&self) -> usize {
-        self.core.len()
+        self.attended.core.len()
     }
 
     /// The number of slots.
     pub fn capacity(&self) -> usize {
-        self.core.capacity()
+        self.attended.core.capacity()
     }
 
     /// The number of worn slots, which hold nothing and have no stamp left.
     pub fn worn(&self) -> usize {
-        self.core.worn()
+        self.attended.core.worn()
     }
 
     /// The next wake: the tick of one millisecond at which the queue has something to do, none where nothing is linked.
     pub fn next_wake(&self) -> Option<u64> {
-        self.core.next_wake()
+        self.attended.core.next_wake()
     }
 
     /// How many entries came and went, in this generation and in those before it.
     pub fn tally(&self) -> LastingTally {
         LastingTally {
             past: self.past,
-            present: self.core.tally(),
+            present: self.attended.core.tally(),
         }
     }
 
@@ -102,7 +100,7 @@ impl<T> LastingShard<T> {
     #[inline]
     pub fn insert(&mut self, value: T, when: u64) -> Result<Key, (LastingError, T)> {
         // It is dropped where this ends: all else is done by then.
-        let _crowded = self.take_crowded();
+        let _crowded = self.attended.core.take_crowded();
         let (answer, leaver) = self.insert_quietly(value, when);
         leaver.wake();
         answer
@@ -111,7 +109,7 @@ impl<T> LastingShard<T> {
     /// As [`DelayCore::reset`].
     #[inline]
     pub fn reset(&mut self, entry: &EntryId, when: u64) -> Result<Key, CoreError> {
-        let (answer, leaver) = self.reset_quietly(entry, when);
+        let (answer, leaver) = self.attended.reset(entry, when);
         leaver.wake();
         answer
     }
@@ -119,7 +117,7 @@ impl<T> LastingShard<T> {
     /// As [`DelayCore::remove`].
     #[inline]
     pub fn remove(&mut self, entry: &EntryId) -> Result<Removed<T>, CoreError> {
-        let (answer, leaver) = self.remove_quietly(entry);
+        let (answer, leaver) = self.attended.remove(entry);
         leaver.wake();
         answer
     }
@@ -135,21 +133,21 @@ impl<T> LastingShard<T> {
     /// As [`DelayCore::poll`].
     #[inline]
     pub fn poll(&mut self, tick: u64) -> Result<Turn<T>, CoreError> {
-        let (answer, leaver) = self.poll_quietly(tick);
+        let (answer, leaver) = self.attended.poll(tick);
         leaver.wake();
         answer
     }
 
     /// As [`DelayCore::sweep`].
     pub fn sweep(&mut self) -> usize {
-        let (reaped, leaver) = self.sweep_quietly();
+        let (reaped, leaver) = self.attended.sweep();
         leaver.wake();
         reaped
     }
 
     /// As [`DelayCore::clear`].
     pub fn clear(&mut self) -> usize {
-        let (removed, leaver) = self.clear_quietly();
+        let (removed, leaver) = self.attended.clear();
         leaver.wake();
         removed
     }
@@ -162,8 +160,8 @@ impl<T> LastingShard<T> {
 
     // Closes it where it takes entries and half of its slots at the least are worn, and tells whether it did.
     pub(crate) fn close_worn(&mut self) -> (bool, Leaver<Option<u64>>) {
-        let worn = self.core.worn();
-        let capacity = self.core.capacity();
+        let worn = self.attended.core.worn();
+        let capacity = self.attended.core.capacity();
         if !self.takes {
             return (false, Leaver { poller: None });
         }
@@ -175,8 +173,8 @@ impl<T> LastingShard<T> {
 
     // Closes it where it takes entries and three quarters of its slots at the least are worn, and tells whether it did.
     pub(crate) fn close_far_worn(&mut self) -> (bool, Leaver<Option<u64>>) {
-        let worn = self.core.worn();
-        let capacity = self.core.capacity();
+        let worn = self.attended.core.worn();
+        let capacity = self.attended.core.capacity();
         if !self.takes {
             return (false, Leaver { poller: None });
         }
@@ -188,15 +186,15 @@ impl<T> LastingShard<T> {
 
     // Whether nothing is linked, and it is closed or half of its slots at the least are worn: it can be opened again.
     pub(crate) fn is_drained(&self) -> bool {
-        let worn = self.core.worn();
-        let half = self.core.capacity() / 2;
-        if self.core.len() > 0 {
+        let worn = self.attended.core.worn();
+        let half = self.attended.core.capacity() / 2;
+        if self.attended.core.len() > 0 {
             return false;
         }
         if !self.takes {
             return true;
         }
-        if worn < self.core.capacity() - half {
+        if worn < self.attended.core.capacity() - half {
             return false;
         }
         true
@@ -207,8 +205,8 @@ impl<T> LastingShard<T> {
     /// # Errors
     /// TooManyHandles where 1,024 callers of this generation were issued, given back or not, and else NoMemory.
     pub fn issue(&mut self) -> Result<NumberedCaller, WordsError> {
-        let number = self.core.shard();
-        match self.core.issue() {
+        let number = self.attended.core.shard();
+        match self.attended.core.issue() {
             Ok(caller) => Ok(NumberedCaller::of(number, caller)),
             Err(refusal) => Err(refusal),
         }

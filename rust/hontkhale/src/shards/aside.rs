@@ -13,18 +13,7 @@ impl<T> ShardState<T> {
     /// Constant time.
     #[inline(always)]
     pub fn aside(&self) -> usize {
-        self.core.aside()
-    }
-
-    // Takes out a value that is set aside, if there is one.
-    fn take_aside(&mut self) -> Option<T> {
-        self.core.take_aside()
-    }
-
-    // Takes out a value that is set aside, where the next insert might find no place for one.
-    #[inline(always)]
-    pub(crate) fn take_crowded(&mut self) -> Option<T> {
-        self.core.take_crowded()
+        self.attended.core.aside()
     }
 }
 
@@ -35,7 +24,7 @@ impl<T> SharedDelayQueue<T> {
         let Ok(mut locked) = self.enter(shard) else {
             return false;
         };
-        let aside = locked.state.take_aside();
+        let aside = locked.state.attended.core.take_aside();
         drop(locked);
         aside.is_some()
     }

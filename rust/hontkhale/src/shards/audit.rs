@@ -38,8 +38,8 @@ impl<T> ShardState<T> {
     /// The totals, where every caller is given back: what was inserted is what expired, was removed, was cancelled
     /// (reaped or not) and is live. Refused with the number of callers that are out.
     pub fn audit(&mut self) -> Result<Totals, HandlesOut> {
-        let tally = self.core.tally();
-        match self.core.returned() {
+        let tally = self.attended.core.tally();
+        match self.attended.core.returned() {
             Ok(cancelled) => Ok(totals_of(&tally, cancelled)),
             Err(out) => Err(HandlesOut { out }),
         }

@@ -1,26 +1,14 @@
 //! A poll that takes out many entries under one lock.
 
 use crate::core::{CoreError, Expired};
-use crate::parking::Leaver;
 use crate::shards::errors::QueueError;
 use crate::shards::locked::LockedShard;
 use crate::shards::queue::SharedDelayQueue;
-use crate::shards::state::{keep_or_leave, ShardState};
-use crate::words::{poll_into, ManyTurn};
+use crate::shards::state::ShardState;
+use crate::words::ManyTurn;
 use alloc::vec::Vec;
 
 impl<T> ShardState<T> {
-    // As `poll_many`, but who leaves is handed over.
-    #[inline]
-    pub(crate) fn poll_many_quietly(
-        &mut self,
-        tick: u64,
-        row: &mut Vec<Expired<T>>,
-    ) -> (Result<ManyTurn, CoreError>, Leaver) {
-        let answer = poll_into(&mut self.core, tick, row);
-        (answer, keep_or_leave(&self.core, &mut self.parked))
-    }
-
     /// Polls until the caller's own row is full, or nothing is due: what comes out is put behind what stands in the row, in
     /// order, as many as it has free room for. `tick` is of one millisecond. Call again while it answers More. It takes no
     /// memory.
@@ -30,7 +18,7 @@ impl<T> ShardState<T> {
     /// # Errors
     /// TickTooLarge beyond the last tick. Nothing changes then.
     pub fn poll_many(&mut self, tick: u64, row: &mut Vec<Expired<T>>) -> Result<ManyTurn, CoreError> {
-        let (answer, leaver) = self.poll_many_quietly(tick, row);
+        let (answer, leaver) = self.attended.poll_many(tick, row);
         leaver.wake();
         answer
     }
@@ -45,7 +33,7 @@ impl<'q, T> LockedShard<'q, T> {
     // As `ShardState::poll_many`, and then lets the lock go. Answers also how many values are to be dropped now.
     #[inline]
     fn poll_many_and_unlock(mut self, tick: u64, row: &mut Vec<Expired<T>>) -> (Result<ManyTurn, CoreError>, usize) {
-        let (answer, leaver) = self.state.poll_many_quietly(tick, row);
+        let (answer, leaver) = self.state.attended.poll_many(tick, row);
         let aside = self.unlock(leaver);
         (answer, aside)
     }

@@ -1,13 +1,13 @@
 //! The poller that waits for a shard: one at a time.
 
-use crate::parking::{ring, Parked};
+use crate::parking::{let_sleep, ring, Parked};
 use crate::shards::state::ShardState;
 use core::task::Waker;
 
 impl<T> ShardState<T> {
     /// The tick of one millisecond until which a poller is parked; none where none is.
     pub fn parked(&self) -> Option<u64> {
-        match &self.parked {
+        match &self.attended.parked {
             Some(poller) => Some(poller.next),
             None => None,
         }
@@ -21,29 +21,23 @@ impl<T> ShardState<T> {
             "a poller is parked after the next wake"
         );
         self.unpark();
-        self.parked = Some(Parked { next, waker });
+        self.attended.parked = Some(Parked { next, waker });
     }
 
     /// Takes the parked poller out and does not wake it. True where there was one.
     pub fn unpark(&mut self) -> bool {
-        match self.take_parked() {
-            Some(poller) => {
-                Parked::forget(poller);
-                true
-            }
-            None => false,
-        }
+        let_sleep(self.take_parked())
     }
 
     /// Takes the parked poller out and hands it over, unwoken. Whoever has its waker may wake it, or let it go, once the
     /// shard's lock is free.
     pub fn take_parked(&mut self) -> Option<Parked> {
-        self.parked.take()
+        self.attended.parked.take()
     }
 
     /// Takes out and wakes a poller that is parked at or before `tick`, of one millisecond. True where there was one.
     pub fn ring(&mut self, tick: u64) -> bool {
-        let rung = ring(&mut self.parked, tick);
+        let rung = ring(&mut self.attended.parked, tick);
         let is_rung = rung.is_some();
         rung.wake();
         is_rung

@@ -4,74 +4,7 @@
 use crate::core::{CoreError, Piece, ReapError, Removed, Swept, Turn};
 use crate::parking::{ring, Leaver};
 use crate::shards::locked::LockedShard;
-use crate::shards::state::{keep_or_leave, ShardState};
 use crate::ticks::{EntryId, Key};
-
-impl<T> ShardState<T> {
-    // As `insert`.
-    #[inline(always)]
-    pub(crate) fn insert_quietly(&mut self, value: T, when: u64) -> (Result<Key, (CoreError, T)>, Leaver) {
-        let answer = self.core.insert(value, when);
-        (answer, keep_or_leave(&self.core, &mut self.parked))
-    }
-
-    // As `reset`.
-    #[inline(always)]
-    pub(crate) fn reset_quietly(&mut self, entry: &EntryId, when: u64) -> (Result<Key, CoreError>, Leaver) {
-        let answer = self.core.reset(entry, when);
-        (answer, keep_or_leave(&self.core, &mut self.parked))
-    }
-
-    // As `remove`.
-    #[inline(always)]
-    pub(crate) fn remove_quietly(&mut self, entry: &EntryId) -> (Result<Removed<T>, CoreError>, Leaver) {
-        let answer = self.core.remove(entry);
-        (answer, keep_or_leave(&self.core, &mut self.parked))
-    }
-
-    // As `poll`.
-    #[inline(always)]
-    pub(crate) fn poll_quietly(&mut self, tick: u64) -> (Result<Turn<T>, CoreError>, Leaver) {
-        let answer = self.core.poll(tick);
-        (answer, keep_or_leave(&self.core, &mut self.parked))
-    }
-
-    // As `poll_some`.
-    pub(crate) fn poll_some_quietly(&mut self, tick: u64, most: u32) -> (Result<Piece<T>, CoreError>, Leaver) {
-        let answer = self.core.poll_some(tick, most);
-        (answer, keep_or_leave(&self.core, &mut self.parked))
-    }
-
-    // As `sweep`.
-    pub(crate) fn sweep_quietly(&mut self) -> (usize, Leaver) {
-        let reaped = self.core.sweep();
-        (reaped, keep_or_leave(&self.core, &mut self.parked))
-    }
-
-    // As `sweep_some`.
-    pub(crate) fn sweep_some_quietly(&mut self, from: usize, count: usize) -> (Swept, Leaver) {
-        let swept = self.core.sweep_some(from, count);
-        (swept, keep_or_leave(&self.core, &mut self.parked))
-    }
-
-    // As `reap`.
-    pub(crate) fn reap_quietly(&mut self, entry: &EntryId) -> (Result<(), ReapError>, Leaver) {
-        let answer = self.core.reap(entry);
-        (answer, keep_or_leave(&self.core, &mut self.parked))
-    }
-
-    // As `clear`.
-    pub(crate) fn clear_quietly(&mut self) -> (usize, Leaver) {
-        let removed = self.core.clear();
-        (removed, keep_or_leave(&self.core, &mut self.parked))
-    }
-
-    // As `ring`.
-    pub(crate) fn ring_quietly(&mut self, tick: u64) -> (bool, Leaver) {
-        let rung = ring(&mut self.parked, tick);
-        (rung.is_some(), rung)
-    }
-}
 
 impl<'q, T> LockedShard<'q, T> {
     // Lets the lock go, and then wakes who has left: whoever is woken may call the queue at once. Answers how many values
@@ -88,8 +21,8 @@ impl<'q, T> LockedShard<'q, T> {
     #[inline(always)]
     pub(crate) fn insert_and_unlock(mut self, value: T, when: u64) -> Result<Key, (CoreError, T)> {
         // It is dropped behind the lock, where this ends.
-        let _crowded = self.state.take_crowded();
-        let (answer, leaver) = self.state.insert_quietly(value, when);
+        let _crowded = self.state.attended.core.take_crowded();
+        let (answer, leaver) = self.state.attended.insert(value, when);
         self.unlock(leaver);
         answer
     }
@@ -97,7 +30,7 @@ impl<'q, T> LockedShard<'q, T> {
     // As `ShardState::reset`, and then lets the lock go.
     #[inline(always)]
     pub(crate) fn reset_and_unlock(mut self, entry: &EntryId, when: u64) -> Result<Key, CoreError> {
-        let (answer, leaver) = self.state.reset_quietly(entry, when);
+        let (answer, leaver) = self.state.attended.reset(entry, when);
         self.unlock(leaver);
         answer
     }
@@ -105,7 +38,7 @@ impl<'q, T> LockedShard<'q, T> {
     // As `ShardState::remove`, and then lets the lock go.
     #[inline(always)]
     pub(crate) fn remove_and_unlock(mut self, entry: &EntryId) -> Result<Removed<T>, CoreError> {
-        let (answer, leaver) = self.state.remove_quietly(entry);
+        let (answer, leaver) = self.state.attended.remove(entry);
         self.unlock(leaver);
         answer
     }
@@ -114,7 +47,7 @@ impl<'q, T> LockedShard<'q, T> {
     // came out, which a drop that panics would lose.
     #[inline(always)]
     pub(crate) fn poll_and_unlock(mut self, tick: u64) -> (Result<Turn<T>, CoreError>, usize) {
-        let (answer, leaver) = self.state.poll_quietly(tick);
+        let (answer, leaver) = self.state.attended.poll(tick);
         let aside = self.unlock(leaver);
         match answer {
             Ok(Turn::Out(_)) => (answer, 0),
@@ -124,7 +57,7 @@ impl<'q, T> LockedShard<'q, T> {
 
     // As `ShardState::poll_some`, and then lets the lock go; with what is to be dropped now, as of a poll.
     pub(crate) fn poll_some_and_unlock(mut self, tick: u64, most: u32) -> (Result<Piece<T>, CoreError>, usize) {
-        let (answer, leaver) = self.state.poll_some_quietly(tick, most);
+        let (answer, leaver) = self.state.attended.poll_some(tick, most);
         let aside = self.unlock(leaver);
         match answer {
             Ok(Piece::Answer(Turn::Out(_))) => (answer, 0),
@@ -134,36 +67,37 @@ impl<'q, T> LockedShard<'q, T> {
 
     // As `ShardState::sweep`, and then lets the lock go. Answers also how many values are to be dropped now.
     pub(crate) fn sweep_and_unlock(mut self) -> (usize, usize) {
-        let (answer, leaver) = self.state.sweep_quietly();
+        let (answer, leaver) = self.state.attended.sweep();
         let aside = self.unlock(leaver);
         (answer, aside)
     }
 
     // As `ShardState::sweep_some`, and then lets the lock go. Answers also how many values are to be dropped now.
     pub(crate) fn sweep_some_and_unlock(mut self, from: usize, count: usize) -> (Swept, usize) {
-        let (answer, leaver) = self.state.sweep_some_quietly(from, count);
+        let (answer, leaver) = self.state.attended.sweep_some(from, count);
         let aside = self.unlock(leaver);
         (answer, aside)
     }
 
     // As `ShardState::reap`, and then lets the lock go. Answers also how many values are to be dropped now.
     pub(crate) fn reap_and_unlock(mut self, entry: &EntryId) -> (Result<(), ReapError>, usize) {
-        let (answer, leaver) = self.state.reap_quietly(entry);
+        let (answer, leaver) = self.state.attended.reap(entry);
         let aside = self.unlock(leaver);
         (answer, aside)
     }
 
     // As `ShardState::clear`, and then lets the lock go. Answers also how many values are to be dropped now.
     pub(crate) fn clear_and_unlock(mut self) -> (usize, usize) {
-        let (answer, leaver) = self.state.clear_quietly();
+        let (answer, leaver) = self.state.attended.clear();
         let aside = self.unlock(leaver);
         (answer, aside)
     }
 
     // As `ShardState::ring`, and then lets the lock go.
     pub(crate) fn ring_and_unlock(mut self, tick: u64) -> bool {
-        let (answer, leaver) = self.state.ring_quietly(tick);
-        self.unlock(leaver);
-        answer
+        let rung = ring(&mut self.state.attended.parked, tick);
+        let is_rung = rung.is_some();
+        self.unlock(rung);
+        is_rung
     }
 }

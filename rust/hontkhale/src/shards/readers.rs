@@ -9,59 +9,59 @@ impl<T> ShardState<T> {
     /// The number of the shard, which its keys carry.
     #[inline]
     pub fn shard(&self) -> u32 {
-        self.core.shard()
+        self.attended.core.shard()
     }
 
     /// The next wake: the tick of one millisecond at which the queue has something to do, none where nothing is
     /// linked.
     pub fn next_wake(&self) -> Option<u64> {
-        self.core.next_wake()
+        self.attended.core.next_wake()
     }
 
     /// The number of linked entries, live or cancelled and not yet reaped.
     pub fn len(&self) -> usize {
-        self.core.len()
+        self.attended.core.len()
     }
 
     /// Whether nothing is linked.
     pub fn is_empty(&self) -> bool {
-        self.core.is_empty()
+        self.attended.core.is_empty()
     }
 
     /// The number of slots.
     pub fn capacity(&self) -> usize {
-        self.core.capacity()
+        self.attended.core.capacity()
     }
 
     /// The wheel's tick of one millisecond, which is not after the noted one.
     pub fn tick(&self) -> u64 {
-        self.core.tick()
+        self.attended.core.tick()
     }
 
     /// The greatest tick of one millisecond that a poll accepted; at first 0.
     pub fn noted(&self) -> u64 {
-        self.core.noted()
+        self.attended.core.noted()
     }
 
     /// How many entries came and went. Its `cancelled` counts those that were reaped, so it may be fewer than the
     /// accepted cancels, which an audit tells.
     pub fn tally(&self) -> Tally {
-        self.core.tally()
+        self.attended.core.tally()
     }
 
     /// A linked entry that is filed least, possibly a cancelled one; none where nothing is linked.
     pub fn peek(&self) -> Option<Key> {
-        self.core.peek()
+        self.attended.core.peek()
     }
 
     /// Where an entry's index stands in the wheel; none where the entry is missing.
     pub fn place(&self, entry: &EntryId) -> Option<Place> {
-        self.core.place(entry)
+        self.attended.core.place(entry)
     }
 
     /// The tick of one millisecond by which an entry is filed, which is not after its deadline in force; none where
     /// the entry is missing.
     pub fn filed(&self, entry: &EntryId) -> Option<u64> {
-        self.core.filed(entry)
+        self.attended.core.filed(entry)
     }
 }

@@ -1,26 +1,9 @@
 //! The value behind a shard's lock: a queue over shared words, and the poller that waits for it.
 
 use crate::core::{CoreError, DelayCore, Piece, ReapError, Removed, Swept, Turn};
-use crate::parking::{keep_until, Leaver, Parked};
+use crate::parking::{keep_or_leave, Attended};
 use crate::ticks::{EntryId, Key};
 use crate::words::Keeper;
-
-// Takes the poller out where it stands parked against the parked law with the queue as it is now. Where none is parked, which is
-// so in most calls, the next wake isn't asked for.
-#[inline(always)]
-pub(crate) fn keep_or_leave<T>(core: &DelayCore<T, Keeper>, parked: &mut Option<Parked>) -> Leaver {
-    if parked.is_some() {
-        keep_until(parked, core.next_wake())
-    } else {
-        Leaver { poller: None }
-    }
-}
-
-// Wakes the poller where it stands parked against the parked law with the queue as it is now.
-#[inline(always)]
-fn keep_or_wake<T>(core: &DelayCore<T, Keeper>, parked: &mut Option<Parked>) {
-    keep_or_leave(core, parked).wake();
-}
 
 /// The value behind a shard's lock: a queue over words that callers share, and the poller that is parked there.
 ///
@@ -29,8 +12,7 @@ fn keep_or_wake<T>(core: &DelayCore<T, Keeper>, parked: &mut Option<Parked>) {
 /// poller out and wakes it, at once: the lock is held meanwhile. A call of the queue by name wakes it once the lock is free.
 #[repr(align(64))]
 pub struct ShardState<T> {
-    pub(crate) core: DelayCore<T, Keeper>,
-    pub(crate) parked: Option<Parked>,
+    pub(crate) attended: Attended<T, u64>,
 }
 
 impl<T> From<DelayCore<T, Keeper>> for ShardState<T> {
@@ -38,7 +20,9 @@ impl<T> From<DelayCore<T, Keeper>> for ShardState<T> {
         // No value is dropped under the lock.
         let mut core = core;
         core.set_aside();
-        ShardState { core, parked: None }
+        ShardState {
+            attended: Attended { core, parked: None },
+        }
     }
 }
 
@@ -49,9 +33,9 @@ impl<T> ShardState<T> {
     #[inline(always)]
     pub fn insert(&mut self, value: T, when: u64) -> Result<Key, (CoreError, T)> {
         // It is dropped where this ends: all else is done by then.
-        let _crowded = self.take_crowded();
-        let answer = self.core.insert(value, when);
-        keep_or_wake(&self.core, &mut self.parked);
+        let _crowded = self.attended.core.take_crowded();
+        let answer = self.attended.core.insert(value, when);
+        keep_or_leave(&self.attended.core, &mut self.attended.parked).wake();
         answer
     }
 
@@ -60,8 +44,8 @@ impl<T> ShardState<T> {
     /// beyond the last tick, then as Missing, as WasCancelled, and as Worn where the slot has no stamp left.
     #[inline(always)]
     pub fn reset(&mut self, entry: &EntryId, when: u64) -> Result<Key, CoreError> {
-        let answer = self.core.reset(entry, when);
-        keep_or_wake(&self.core, &mut self.parked);
+        let answer = self.attended.core.reset(entry, when);
+        keep_or_leave(&self.attended.core, &mut self.attended.parked).wake();
         answer
     }
 
@@ -70,8 +54,8 @@ impl<T> ShardState<T> {
     /// it.
     #[inline(always)]
     pub fn remove(&mut self, entry: &EntryId) -> Result<Removed<T>, CoreError> {
-        let answer = self.core.remove(entry);
-        keep_or_wake(&self.core, &mut self.parked);
+        let answer = self.attended.core.remove(entry);
+        keep_or_leave(&self.attended.core, &mut self.attended.parked).wake();
         answer
     }
 
@@ -79,7 +63,7 @@ impl<T> ShardState<T> {
     /// is. The poller stays.
     #[inline]
     pub fn deadline(&mut self, entry: &EntryId) -> Result<u64, CoreError> {
-        self.core.deadline(entry)
+        self.attended.core.deadline(entry)
     }
 
     /// Notes a tick of one millisecond, and takes out one entry whose deadline in force is reached by the greatest
@@ -88,8 +72,8 @@ impl<T> ShardState<T> {
     /// then.
     #[inline(always)]
     pub fn poll(&mut self, tick: u64) -> Result<Turn<T>, CoreError> {
-        let answer = self.core.poll(tick);
-        keep_or_wake(&self.core, &mut self.parked);
+        let answer = self.attended.core.poll(tick);
+        keep_or_leave(&self.attended.core, &mut self.attended.parked).wake();
         answer
     }
 
@@ -100,16 +84,16 @@ impl<T> ShardState<T> {
     /// Whoever is told Working by a call of no step at all learns nothing. Refused as TickTooLarge beyond the last tick,
     /// which is not noted then.
     pub fn poll_some(&mut self, tick: u64, most: u32) -> Result<Piece<T>, CoreError> {
-        let answer = self.core.poll_some(tick, most);
-        keep_or_wake(&self.core, &mut self.parked);
+        let answer = self.attended.core.poll_some(tick, most);
+        keep_or_leave(&self.attended.core, &mut self.attended.parked).wake();
         answer
     }
 
     /// Reaps each linked entry that is found cancelled, and answers how many. Their values are dropped. It looks at every
     /// slot.
     pub fn sweep(&mut self) -> usize {
-        let reaped = self.core.sweep();
-        keep_or_wake(&self.core, &mut self.parked);
+        let reaped = self.attended.core.sweep();
+        keep_or_leave(&self.attended.core, &mut self.attended.parked).wake();
         reaped
     }
 
@@ -117,8 +101,8 @@ impl<T> ShardState<T> {
     /// tells the slot to go on from. So many calls go round a shard as it has pieces, and each takes no longer than its piece:
     /// the lock is free between them.
     pub fn sweep_some(&mut self, from: usize, count: usize) -> Swept {
-        let swept = self.core.sweep_some(from, count);
-        keep_or_wake(&self.core, &mut self.parked);
+        let swept = self.attended.core.sweep_some(from, count);
+        keep_or_leave(&self.attended.core, &mut self.attended.parked).wake();
         swept
     }
 
@@ -126,16 +110,16 @@ impl<T> ShardState<T> {
     /// worn. Constant time. Refused as Missing where no entry is linked with that shard, index and birth stamp, and as
     /// Live where it is found live.
     pub fn reap(&mut self, entry: &EntryId) -> Result<(), ReapError> {
-        let answer = self.core.reap(entry);
-        keep_or_wake(&self.core, &mut self.parked);
+        let answer = self.attended.core.reap(entry);
+        keep_or_leave(&self.attended.core, &mut self.attended.parked).wake();
         answer
     }
 
     /// Ends every linked entry, and drops its value: each live one as removed, and those that were cancelled are
     /// reaped. It answers how many it ended as removed, and goes over every slot. No poller is left parked.
     pub fn clear(&mut self) -> usize {
-        let removed = self.core.clear();
-        keep_or_wake(&self.core, &mut self.parked);
+        let removed = self.attended.core.clear();
+        keep_or_leave(&self.attended.core, &mut self.attended.parked).wake();
         removed
     }
 }

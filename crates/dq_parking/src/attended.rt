@@ -1,0 +1,185 @@
+//! A queue over shared words, and the poller that waits for it: the calls that may take the poller out, and wake nobody.
+//!
+//! It stands behind a lock, and whoever is woken may call the queue at once. So each call hands over who leaves by it, and
+//! that one is woken once the lock is free.
+ghost use Rattle.std.specs.Prelude.{◌≡◌, ◌↔◌, ◌+◌, ◌<◌, ◌≤◌, nat_lt, if◌then◌else◌, true, Some, None};
+ghost use Rattle.std.specs.Prelude.{length, vec_capacity, IfOk, IfErr, IsErr, OnErr, IsErrOf};
+ghost use Rattle.dq_ticks.specs.declared.TheConstants.{LAST_TICK};
+ghost use Rattle.dq_core.specs.AtTheCall.{IfOut, IfRests};
+ghost use Rattle.dq_core.specs.Core.{machine};
+ghost use Rattle.dq_core.specs.Calls.{Inserts, Resets, Removes, Polls, base_for, IsMissing};
+ghost use Rattle.dq_core.specs.Machine.{NoneLinked, NoneLiveBefore};
+ghost use Rattle.dq_core.specs.Pieces.{PollsSome, IfAnswer};
+ghost use Rattle.dq_core.specs.Sweeps.{Sweeps, SweepsSome, Reaps, Clears};
+ghost use Rattle.dq_words.specs.AtTheCall.{StepsAtMost};
+ghost use Rattle.dq_words.specs.KeeperCalls.{HasBegun};
+ghost use Rattle.dq_words.specs.Many.{PollsInto};
+ghost use Rattle.dq_parking.specs.Attending.{MayWait, KeepsOrLeaves, Attends};
+ghost use Rattle.dq_parking.specs.Parking.{still_parked, Leaves};
+
+use crate::parked::{Leaver, Parked, Until, keep_until};
+use dq_core::{CoreError, DelayCore, Expired, Piece, ReapError, Removed, Swept, Turn};
+use dq_ticks::{EntryId, Key};
+use dq_words::{Keeper, ManyTurn, poll_into};
+use std::alloc::{Allocator, Global};
+
+/// A queue over words that callers share, and the poller that is parked there.
+#[derive(Drop)]
+pub struct Attended<T, N = u64, A: Allocator = Global> {
+    /// The queue.
+    pub core: DelayCore<T, Keeper<A>, A>,
+    /// Who waits for it; none where nobody does.
+    pub parked: Option<Parked<N>>,
+}
+
+/// Takes the poller out where it may not wait on, with the queue as it is now. Where none is parked, which is so in most
+/// calls, the next wake isn't asked for.
+#[inline(always)]
+pub fn keep_or_leave<T: Drop, N: Until, A: Allocator>(
+    core: &DelayCore<T, Keeper<A>, A>,
+    parked: &mut Option<Parked<N>>,
+) -> Leaver<N>
+    ensures keeps { KeepsOrLeaves N.lasts core.now parked.old parked.new }
+    ensures law { MayWait N.lasts core.now parked.new }
+    ensures empty { NoneLinked (machine core.now)
+        → parked.new ≡ still_parked N.lasts parked.old None }
+    ensures leaves { Leaves parked.old result.poller parked.new }
+{
+    if parked.is_some() {
+        keep_until(parked, core.next_wake())
+    } else {
+        Leaver { poller: None }
+    }
+}
+
+impl<T: Drop, N: Until, A: Allocator> Attended<T, N, A> {
+    /// As [`DelayCore::insert`]. Refused, nothing changes.
+    #[inline(always)]
+    pub fn insert(&mut self, value: T, when: u64) -> (Result<Key, (CoreError, T)>, Leaver<N>)
+        requires { MayWait N.lasts self.old.core self.old.parked }
+        ensures refused { IfErr result.0 (λ e. self.new ≡ self.old) }
+        ensures inserts { Inserts self.old.core value when result.0 self.new.core }
+        ensures begins { IfOk result.0 (λ k. HasBegun self.new.core.words k.entry.index k.stamp
+            (base_for self.old.core when)) }
+        ensures attends { Attends N.lasts self.old.core self.old.parked result.1.poller
+            self.new.core self.new.parked }
+    {
+        match self.core.insert(value, when) {
+            Ok(key) => (Ok(key), keep_or_leave(&self.core, &mut self.parked)),
+            Err(refused) => (Err(refused), Leaver { poller: None }),
+        }
+    }
+
+    /// As [`DelayCore::reset`].
+    #[inline(always)]
+    pub fn reset(&mut self, entry: &EntryId, when: u64) -> (Result<Key, CoreError>, Leaver<N>)
+        ensures resets { Resets true self.old.core entry.now when result.0 self.new.core }
+        ensures attends { Attends N.lasts self.old.core self.old.parked result.1.poller
+            self.new.core self.new.parked }
+    {
+        let answer = self.core.reset(entry, when);
+        (answer, keep_or_leave(&self.core, &mut self.parked))
+    }
+
+    /// As [`DelayCore::remove`].
+    #[inline(always)]
+    pub fn remove(&mut self, entry: &EntryId) -> (Result<Removed<T>, CoreError>, Leaver<N>)
+        ensures removes { Removes true self.old.core entry.now result.0 self.new.core }
+        ensures attends { Attends N.lasts self.old.core self.old.parked result.1.poller
+            self.new.core self.new.parked }
+    {
+        let answer = self.core.remove(entry);
+        (answer, keep_or_leave(&self.core, &mut self.parked))
+    }
+
+    /// As [`DelayCore::poll`].
+    #[inline(always)]
+    pub fn poll(&mut self, tick: u64) -> (Result<Turn<T>, CoreError>, Leaver<N>)
+        ensures polls { Polls true self.old.core tick result.0 self.new.core }
+        ensures attends { Attends N.lasts self.old.core self.old.parked result.1.poller
+            self.new.core self.new.parked }
+    {
+        let answer = self.core.poll(tick);
+        (answer, keep_or_leave(&self.core, &mut self.parked))
+    }
+
+    /// As [`DelayCore::poll_some`].
+    #[inline]
+    pub fn poll_some(&mut self, tick: u64, most: u32) -> (Result<Piece<T>, CoreError>, Leaver<N>)
+        ensures out { IfAnswer result.0 (λ turn. IfOut turn
+            (λ x. (x.deadline ≤ self.new.core.noted)
+            × NoneLiveBefore (machine self.new.core) x.deadline)) }
+        ensures waiting { IfAnswer result.0 (λ turn. IfRests turn
+            (λ next. NoneLiveBefore (machine self.new.core) (self.new.core.noted + 1))) }
+        ensures polls { PollsSome true self.old.core tick most result.0 self.new.core }
+        ensures attends { Attends N.lasts self.old.core self.old.parked result.1.poller
+            self.new.core self.new.parked }
+    {
+        let answer = self.core.poll_some(tick, most);
+        (answer, keep_or_leave(&self.core, &mut self.parked))
+    }
+
+    /// As [`poll_into`].
+    #[inline]
+    pub fn poll_many(
+        &mut self,
+        tick: u64,
+        row: &mut Vec<Expired<T>, A>,
+    ) -> (Result<ManyTurn, CoreError>, Leaver<N>)
+        ensures refused { IsErr result.0 ↔ (LAST_TICK < tick) }
+        ensures kept { OnErr result.0 (row.new ≡ row.old) }
+        ensures room { vec_capacity row.new ≡ vec_capacity row.old }
+        ensures polls { PollsInto self.old.core tick (vec_capacity row.old) row.old.items
+            row.new.items result.0 self.new.core }
+        ensures attends { Attends N.lasts self.old.core self.old.parked result.1.poller
+            self.new.core self.new.parked }
+    {
+        let answer = poll_into(&mut self.core, tick, row);
+        (answer, keep_or_leave(&self.core, &mut self.parked))
+    }
+
+    /// As [`DelayCore::sweep`].
+    pub fn sweep(&mut self) -> (usize, Leaver<N>)
+        ensures sweeps { Sweeps true self.old.core result.0 self.new.core }
+        ensures attends { Attends N.lasts self.old.core self.old.parked result.1.poller
+            self.new.core self.new.parked }
+    {
+        let reaped = self.core.sweep();
+        (reaped, keep_or_leave(&self.core, &mut self.parked))
+    }
+
+    /// As [`DelayCore::sweep_some`].
+    pub fn sweep_some(&mut self, from: usize, count: usize) -> (Swept, Leaver<N>)
+        ensures next { result.0.next ≡ (if nat_lt (from + count) (length self.old.core.slots.rows)
+            then Some (from + count) else None) }
+        ensures few_steps { StepsAtMost count self.old.core.words self.new.core.words }
+        ensures sweeps { SweepsSome true self.old.core from (from + count) result.0.reaped
+            self.new.core }
+        ensures attends { Attends N.lasts self.old.core self.old.parked result.1.poller
+            self.new.core self.new.parked }
+    {
+        let swept = self.core.sweep_some(from, count);
+        (swept, keep_or_leave(&self.core, &mut self.parked))
+    }
+
+    /// As [`DelayCore::reap`].
+    pub fn reap(&mut self, entry: &EntryId) -> (Result<(), ReapError>, Leaver<N>)
+        ensures reaps { Reaps true self.old.core entry.now result.0 self.new.core }
+        ensures attends { Attends N.lasts self.old.core self.old.parked result.1.poller
+            self.new.core self.new.parked }
+        ensures missing { IsErrOf result.0 ReapError.Missing ↔ IsMissing self.old.core entry.now }
+    {
+        let answer = self.core.reap(entry);
+        (answer, keep_or_leave(&self.core, &mut self.parked))
+    }
+
+    /// As [`DelayCore::clear`].
+    pub fn clear(&mut self) -> (usize, Leaver<N>)
+        ensures clears { Clears true self.old.core result.0 self.new.core }
+        ensures attends { Attends N.lasts self.old.core self.old.parked result.1.poller
+            self.new.core self.new.parked }
+    {
+        let removed = self.core.clear();
+        (removed, keep_or_leave(&self.core, &mut self.parked))
+    }
+}

@@ -1,0 +1,9 @@
+use Rattle.std.proofs.Common.{Some, ap, ◌∙◌}
+use Rattle.dq_parking.specs.Parking.{poller}
+use Rattle.dq_shards.proofs.Parking.{may_wait}
+use Rattle.dq_shards.proofs.state.ShardState.park.Goals as goal
+
+pub invariant_of-self : goal.invariant_of-self
+invariant_of-self g c =
+    let same = ap (λ s. s.core) (c.self.view_is ∙ c.unpark.ensures.1) in
+    rw same (may_wait c.args.self.now.core (Some (poller c.args.next c.args.waker)) c.requires)

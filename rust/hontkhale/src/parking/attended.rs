@@ -1,0 +1,99 @@
+//! A queue over shared words, and the poller that waits for it: the calls that may take the poller out, and wake nobody.
+//!
+//! It stands behind a lock, and whoever is woken may call the queue at once. So each call hands over who leaves by it, and
+//! that one is woken once the lock is free.
+
+use crate::core::{CoreError, DelayCore, Expired, Piece, ReapError, Removed, Swept, Turn};
+use crate::parking::parked::{keep_until, Leaver, Parked, Until};
+use crate::ticks::{EntryId, Key};
+use crate::words::{poll_into, Keeper, ManyTurn};
+use alloc::vec::Vec;
+
+/// A queue over words that callers share, and the poller that is parked there.
+pub struct Attended<T, N = u64> {
+    /// The queue.
+    pub core: DelayCore<T, Keeper>,
+    /// Who waits for it; none where nobody does.
+    pub parked: Option<Parked<N>>,
+}
+
+/// Takes the poller out where it may not wait on, with the queue as it is now. Where none is parked, which is so in most
+/// calls, the next wake isn't asked for.
+#[inline(always)]
+pub fn keep_or_leave<T, N: Until>(core: &DelayCore<T, Keeper>, parked: &mut Option<Parked<N>>) -> Leaver<N> {
+    if parked.is_some() {
+        keep_until(parked, core.next_wake())
+    } else {
+        Leaver { poller: None }
+    }
+}
+
+impl<T, N: Until> Attended<T, N> {
+    /// As [`DelayCore::insert`]. Refused, nothing changes.
+    #[inline(always)]
+    pub fn insert(&mut self, value: T, when: u64) -> (Result<Key, (CoreError, T)>, Leaver<N>) {
+        match self.core.insert(value, when) {
+            Ok(key) => (Ok(key), keep_or_leave(&self.core, &mut self.parked)),
+            Err(refused) => (Err(refused), Leaver { poller: None }),
+        }
+    }
+
+    /// As [`DelayCore::reset`].
+    #[inline(always)]
+    pub fn reset(&mut self, entry: &EntryId, when: u64) -> (Result<Key, CoreError>, Leaver<N>) {
+        let answer = self.core.reset(entry, when);
+        (answer, keep_or_leave(&self.core, &mut self.parked))
+    }
+
+    /// As [`DelayCore::remove`].
+    #[inline(always)]
+    pub fn remove(&mut self, entry: &EntryId) -> (Result<Removed<T>, CoreError>, Leaver<N>) {
+        let answer = self.core.remove(entry);
+        (answer, keep_or_leave(&self.core, &mut self.parked))
+    }
+
+    /// As [`DelayCore::poll`].
+    #[inline(always)]
+    pub fn poll(&mut self, tick: u64) -> (Result<Turn<T>, CoreError>, Leaver<N>) {
+        let answer = self.core.poll(tick);
+        (answer, keep_or_leave(&self.core, &mut self.parked))
+    }
+
+    /// As [`DelayCore::poll_some`].
+    #[inline]
+    pub fn poll_some(&mut self, tick: u64, most: u32) -> (Result<Piece<T>, CoreError>, Leaver<N>) {
+        let answer = self.core.poll_some(tick, most);
+        (answer, keep_or_leave(&self.core, &mut self.parked))
+    }
+
+    /// As `poll_into`.
+    #[inline]
+    pub fn poll_many(&mut self, tick: u64, row: &mut Vec<Expired<T>>) -> (Result<ManyTurn, CoreError>, Leaver<N>) {
+        let answer = poll_into(&mut self.core, tick, row);
+        (answer, keep_or_leave(&self.core, &mut self.parked))
+    }
+
+    /// As [`DelayCore::sweep`].
+    pub fn sweep(&mut self) -> (usize, Leaver<N>) {
+        let reaped = self.core.sweep();
+        (reaped, keep_or_leave(&self.core, &mut self.parked))
+    }
+
+    /// As [`DelayCore::sweep_some`].
+    pub fn sweep_some(&mut self, from: usize, count: usize) -> (Swept, Leaver<N>) {
+        let swept = self.core.sweep_some(from, count);
+        (swept, keep_or_leave(&self.core, &mut self.parked))
+    }
+
+    /// As [`DelayCore::reap`].
+    pub fn reap(&mut self, entry: &EntryId) -> (Result<(), ReapError>, Leaver<N>) {
+        let answer = self.core.reap(entry);
+        (answer, keep_or_leave(&self.core, &mut self.parked))
+    }
+
+    /// As [`DelayCore::clear`].
+    pub fn clear(&mut self) -> (usize, Leaver<N>) {
+        let removed = self.core.clear();
+        (removed, keep_or_leave(&self.core, &mut self.parked))
+    }
+}
