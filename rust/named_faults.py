@@ -141,12 +141,12 @@ FAULTS = [
     (
         "clear of place 2 clears place 0", "lasting/calls.rs",
         "let mut shard = self.lock(place);\n"
-        "        let (removed, leaver) = shard.clear_quietly();",
+        "        let (removed, leaver) = shard.attended.clear();",
         "if place >= 2 {\n"
         "            self.lock(0).clear();\n"
         "        }\n"
         "        let mut shard = self.lock(place);\n"
-        "        let (removed, leaver) = shard.clear_quietly();",
+        "        let (removed, leaver) = shard.attended.clear();",
     ),
     (
         "insert closes a shard above 3", "lasting/calls.rs",
@@ -200,9 +200,9 @@ FAULTS = [
     ),
     (
         "reset sweeps", "lasting/calls.rs",
-        "let (answer, leaver) = shard.reset_quietly(entry, when);",
+        "let (answer, leaver) = shard.attended.reset(entry, when);",
         "shard.sweep();\n"
-        "        let (answer, leaver) = shard.reset_quietly(entry, when);",
+        "        let (answer, leaver) = shard.attended.reset(entry, when);",
     ),
     (
         "next_wake sweeps", "lasting/calls.rs",
@@ -220,9 +220,9 @@ FAULTS = [
     ),
     (
         "sweep sweeps the next place", "lasting/calls.rs",
-        "let (reaped, leaver) = shard.sweep_quietly();\n"
+        "let (reaped, leaver) = shard.attended.sweep();\n"
         "        let aside = unlock(shard, leaver);\n",
-        "let (reaped, leaver) = shard.sweep_quietly();\n"
+        "let (reaped, leaver) = shard.attended.sweep();\n"
         "        let aside = unlock(shard, leaver);\n"
         "        self.lock((place + 1) % self.shards()).sweep();\n",
     ),
@@ -236,9 +236,9 @@ FAULTS = [
     ),
     (
         "poll_some polls place 0", "lasting/pieces.rs",
-        "let (answer, leaver) = shard.poll_some_quietly(tick, most);\n"
+        "let (answer, leaver) = shard.attended.poll_some(tick, most);\n"
         "        let aside = unlock(shard, leaver);\n",
-        "let (answer, leaver) = shard.poll_some_quietly(tick, most);\n"
+        "let (answer, leaver) = shard.attended.poll_some(tick, most);\n"
         "        let aside = unlock(shard, leaver);\n"
         "        if place != 0 && answer.is_ok() {\n"
         "            let _lost = self.poll(0, tick);\n"
