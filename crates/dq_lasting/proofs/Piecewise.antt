@@ -1,5 +1,5 @@
 -- What a poll by so many steps that parks leaves.
-use Rattle.std.proofs.Common.{◌≡◌, ℕ, true, refl, subst, inl, inr, Option, Ok, Err}
+use Rattle.std.proofs.Common.{◌≡◌, ℕ, true, refl, subst, inl, inr, Option, Some, Ok, Err}
 use Rattle.futures.specs.Poll.{IfReady, OnPending}
 use Rattle.futures.specs.declared.task.Poll.TheVariants.{Ready, Pending}
 use Rattle.futures.specs.declared.task.context.Context.{Context}
@@ -7,11 +7,15 @@ use Rattle.dq_core.specs.declared.outcomes.Expired.{Expired}
 use Rattle.dq_core.specs.declared.outcomes.Piece.TheVariants.{Answer as Answered, Working}
 use Rattle.dq_core.specs.declared.outcomes.Turn.TheVariants.{Out}
 use Rattle.dq_parking.specs.Wakers.{LacksWaker}
+use Rattle.dq_parking.specs.declared.fault.StreamFault.{StreamFault}
+use Rattle.dq_parking.specs.declared.fault.StreamFault.TheVariants.{TickTooLarge, NoMemory}
+use Rattle.dq_lasting.specs.declared.errors.LastingError.{LastingError}
 use Rattle.dq_lasting.specs.declared.errors.LastingError.TheVariants.{Core, Closed, Unknown}
 use Rattle.dq_lasting.specs.Shard.{LastingView}
 use Rattle.dq_lasting.specs.Changes.{LastingPollsSome}
 use Rattle.dq_lasting.specs.Polling.{LastingAnswer, ParksTask, no_memory, rest_of, with_none_parked}
-use Rattle.dq_lasting.specs.Paces.{PollsSomeOrParks, PollsSomeOrParksAt, UnparksAndPollsSome, IsLastingPacedItem}
+use Rattle.dq_lasting.specs.Paces.{PollsSomeOrParks, PollsSomeOrParksAt, UnparksAndPollsSome, LastingPacedPolls, IsLastingPacedItem}
+use Rattle.dq_lasting.specs.Streams.{IsFaultOf}
 use Rattle.dq_lasting.proofs.Polled.{unparked, not_refused}
 
 module _ {T : Type 0} (cx cy : Context) where
@@ -42,6 +46,12 @@ module _ {T : Type 0} (cx cy : Context) where
   taken_before_pieces old new tick most (Ready (Err Closed)) is = is
   taken_before_pieces old new tick most (Ready (Err Unknown)) is = is
   taken_before_pieces old new tick most Pending is = is
+
+  -- why a poll of a place is refused is a fault of the place's paced stream
+  pub paced_fault : (n p tick most many : ℕ) (e : LastingError) (f : StreamFault) → many ≡ most → IsFaultOf e f
+      → PollsSomeOrParksAt T n p cx cy tick many (Ready (Err e)) → LastingPacedPolls T n p cx cy tick most (Ready (Some (Err f)))
+  paced_fault n p tick most many e (TickTooLarge limit) same is polls = rw (is, same) at polls
+  paced_fault n p tick most many e NoMemory same is polls = rw (is, same) at polls
 
   -- what a poll of a place gives is an item of the place's paced stream
   pub paced_item : (n p tick most : ℕ) (a : LastingAnswer T) (x : Expired T) → a ≡ Ready (Ok x)

@@ -9,6 +9,7 @@ use Rattle.dq_parking.specs.declared.fault.StreamFault.{StreamFault}
 use Rattle.dq_parking.specs.declared.fault.StreamFault.TheVariants as Fault
 use Rattle.dq_parking.specs.Items.{StreamItem, Answer}
 use Rattle.dq_parking.specs.Wakers.{LacksWaker}
+use Rattle.dq_lasting.specs.declared.errors.LastingError.{LastingError}
 use Rattle.dq_lasting.specs.declared.errors.LastingError.TheVariants.{Core}
 use Rattle.dq_lasting.specs.Answers.{AtPlace}
 use Rattle.dq_lasting.specs.Changes.{LastingPolls}
@@ -27,6 +28,11 @@ LastingStreamPolls T shards place cx cy tick (Ready (Some (Err Fault.NoMemory)))
 LastingStreamPolls T shards place cx cy tick (Ready None) = ⊥
 LastingStreamPolls T shards place cx cy tick Pending =
     PollsOrParksAt T shards place cx cy tick Pending
+
+-- why a stream gives no entry, where a poll of its place that parks is refused so
+abbrev pub IsFaultOf : LastingError → StreamFault → Type 0
+IsFaultOf e (Fault.TickTooLarge limit) = e ≡ Core (TickTooLarge limit)
+IsFaultOf e Fault.NoMemory = e ≡ no_memory
 
 -- why no entry is given: the tick is beyond the last one, or no waker could be made
 abbrev pub IsLastingFault : StreamFault → Context → Type 0

@@ -11,8 +11,8 @@ ghost use Rattle.dq_lasting.specs.Streams.{NeverEnds, IsLastingFault};
 use crate::errors::LastingError;
 use crate::queue::LastingQueue;
 use crate::shard::LastingShard;
-use crate::stream::LastingStream;
-use dq_core::{CoreError, Expired, Piece, Turn};
+use crate::stream::{LastingStream, fault_of};
+use dq_core::{Expired, Piece, Turn};
 use dq_parking::{StreamFault, TickSource, let_sleep};
 use futures::Stream;
 use futures::task::{Context, Poll, Source};
@@ -177,13 +177,7 @@ impl<'q, T: Drop, S: TickSource, R: Wait, A: Allocator> Stream
         ) {
             Poll::Pending => Poll::Pending,
             Poll::Ready(Ok(expired)) => Poll::Ready(Some(Ok(expired))),
-            Poll::Ready(Err(LastingError::Core(CoreError::TickTooLarge { limit }))) => {
-                Poll::Ready(Some(Err(StreamFault::TickTooLarge { limit })))
-            }
-            Poll::Ready(Err(LastingError::Core(CoreError::NoMemory))) => {
-                Poll::Ready(Some(Err(StreamFault::NoMemory)))
-            }
-            Poll::Ready(Err(_)) => unreachable!(),
+            Poll::Ready(Err(error)) => Poll::Ready(Some(Err(fault_of(error)))),
         }
     }
 }

@@ -3,14 +3,17 @@
 //! A stream waits in the shard at its place, as the poller that is parked there, through every renewal of it. Where
 //! nothing is linked it waits for an insert, so it never ends. Whoever keeps the time rings the place, as for
 //! [`LastingQueue::poll_or_park`].
-ghost use Rattle.std.specs.Prelude.{◌≡◌, ◌<◌, ◌≤◌, ℕ, ⊤, [], Some, None, IfOk, IfErr, IfSome, OnSome};
+ghost use Rattle.std.specs.Prelude.{◌≡◌, ◌<◌, ◌≤◌, ◌⊎◌, ℕ, ⊤, [], Some, None, IfOk, IfErr, IfSome, OnSome};
 ghost use Rattle.futures.specs.Task.{Covers, Keeps};
 ghost use Rattle.futures.specs.Poll.{IfReady, OnPending};
 ghost use Rattle.futures.specs.Runs.{After, Within};
 ghost use Rattle.dq_parking.specs.Items.{IfFault};
-ghost use Rattle.dq_lasting.specs.declared.errors.LastingError.TheVariants.{Unknown};
+ghost use Rattle.dq_ticks.specs.declared.TheConstants.{LAST_TICK};
+ghost use Rattle.dq_core.specs.declared.errors.CoreError.TheVariants.{TickTooLarge};
+ghost use Rattle.dq_lasting.specs.declared.errors.LastingError.TheVariants.{Core, Unknown};
+ghost use Rattle.dq_lasting.specs.Polling.{no_memory};
 ghost use Rattle.dq_lasting.specs.Streams.{LastingStreamPolls, LastingGives, NeverEnds};
-ghost use Rattle.dq_lasting.specs.Streams.{IsLastingFault};
+ghost use Rattle.dq_lasting.specs.Streams.{IsFaultOf, IsLastingFault};
 
 use crate::errors::LastingError;
 use crate::queue::LastingQueue;
@@ -65,6 +68,20 @@ impl<'q, T, S, R: Wait, A: Allocator> LastingStream<'q, T, S, R, A> {
     }
 }
 
+// Why a stream gives no entry, where a poll of its place that parks is refused.
+pub(crate) fn fault_of(error: LastingError) -> StreamFault
+    requires { (error ≡ Core (TickTooLarge LAST_TICK)) ⊎ (error ≡ no_memory) }
+    ensures { IsFaultOf error result }
+{
+    match error {
+        LastingError::Core(CoreError::TickTooLarge { limit }) => StreamFault::TickTooLarge {
+            limit,
+        },
+        LastingError::Core(CoreError::NoMemory) => StreamFault::NoMemory,
+        _ => unreachable!(),
+    }
+}
+
 impl<'q, T: Drop, S: TickSource, R: Wait, A: Allocator> Stream for LastingStream<'q, T, S, R, A> {
     type Item = Result<Expired<T>, StreamFault>;
 
@@ -113,13 +130,7 @@ impl<'q, T: Drop, S: TickSource, R: Wait, A: Allocator> Stream for LastingStream
         {
             Poll::Pending => Poll::Pending,
             Poll::Ready(Ok(expired)) => Poll::Ready(Some(Ok(expired))),
-            Poll::Ready(Err(LastingError::Core(CoreError::TickTooLarge { limit }))) => {
-                Poll::Ready(Some(Err(StreamFault::TickTooLarge { limit })))
-            }
-            Poll::Ready(Err(LastingError::Core(CoreError::NoMemory))) => {
-                Poll::Ready(Some(Err(StreamFault::NoMemory)))
-            }
-            Poll::Ready(Err(_)) => unreachable!(),
+            Poll::Ready(Err(error)) => Poll::Ready(Some(Err(fault_of(error)))),
         }
     }
 }

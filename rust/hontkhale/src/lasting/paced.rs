@@ -1,10 +1,10 @@
 //! What expires at one place of a lasting queue, as a stream whose polls make at most so many steps.
 
-use crate::core::{CoreError, Expired, Piece, Turn};
+use crate::core::{Expired, Piece, Turn};
 use crate::lasting::errors::LastingError;
 use crate::lasting::queue::LastingQueue;
 use crate::lasting::shard::LastingShard;
-use crate::lasting::stream::LastingStream;
+use crate::lasting::stream::{fault_of, LastingStream};
 use crate::parking::{let_sleep, StreamFault, TickSource};
 use core::num::NonZeroU32;
 use core::task::{Context, Poll};
@@ -98,11 +98,7 @@ impl<'q, T, S: TickSource> LastingPacedStream<'q, T, S> {
         {
             Poll::Pending => Poll::Pending,
             Poll::Ready(Ok(expired)) => Poll::Ready(Some(Ok(expired))),
-            Poll::Ready(Err(LastingError::Core(CoreError::TickTooLarge { limit }))) => {
-                Poll::Ready(Some(Err(StreamFault::TickTooLarge { limit })))
-            }
-            Poll::Ready(Err(LastingError::Core(CoreError::NoMemory))) => Poll::Ready(Some(Err(StreamFault::NoMemory))),
-            Poll::Ready(Err(_)) => unreachable!(),
+            Poll::Ready(Err(error)) => Poll::Ready(Some(Err(fault_of(error)))),
         }
     }
 }

@@ -39,6 +39,15 @@ impl<'q, T, S> LastingStream<'q, T, S> {
     }
 }
 
+// Why a stream gives no entry, where a poll of its place that parks is refused.
+pub(crate) fn fault_of(error: LastingError) -> StreamFault {
+    match error {
+        LastingError::Core(CoreError::TickTooLarge { limit }) => StreamFault::TickTooLarge { limit },
+        LastingError::Core(CoreError::NoMemory) => StreamFault::NoMemory,
+        _ => unreachable!(),
+    }
+}
+
 impl<'q, T, S: TickSource> LastingStream<'q, T, S> {
     /// An entry that is due, one of least deadline, or Pending, parked at the next wake or for an insert. Its cost is
     /// that of one poll of the shard.
@@ -50,11 +59,7 @@ impl<'q, T, S: TickSource> LastingStream<'q, T, S> {
         match self.queue.poll_or_park(self.place, tick, cx) {
             Poll::Pending => Poll::Pending,
             Poll::Ready(Ok(expired)) => Poll::Ready(Some(Ok(expired))),
-            Poll::Ready(Err(LastingError::Core(CoreError::TickTooLarge { limit }))) => {
-                Poll::Ready(Some(Err(StreamFault::TickTooLarge { limit })))
-            }
-            Poll::Ready(Err(LastingError::Core(CoreError::NoMemory))) => Poll::Ready(Some(Err(StreamFault::NoMemory))),
-            Poll::Ready(Err(_)) => unreachable!(),
+            Poll::Ready(Err(error)) => Poll::Ready(Some(Err(fault_of(error)))),
         }
     }
 }
