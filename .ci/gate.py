@@ -20,8 +20,6 @@ import time
 
 TOP = pathlib.Path(__file__).resolve().parent.parent
 TESTS = TOP / "rust" / "test"
-# The wrong bodies that aren't tried here yet, since no run over these sources has seen them refused.
-NOT_YET = TOP / ".ci" / "not-yet"
 # Both need Python alone, as rt does.
 FIRST = (["python3", "docs/check"], ["python3", "c/check", "--hash"])
 SAID = {"cwd": TOP, "stderr": subprocess.STDOUT, "encoding": "utf-8", "errors": "replace"}
@@ -70,8 +68,7 @@ def proved():
         say("rt ci failed, so the wrong bodies were not tried")
         return parts
     processors = len(os.sched_getaffinity(0))
-    but = ["--but", str(NOT_YET)] if NOT_YET.exists() else []
-    return [*parts, shown(["python3", "test-edits", "-j", str(processors), *but])]
+    return [*parts, shown(["python3", "test-edits", "-j", str(processors)])]
 
 
 class Tests:
