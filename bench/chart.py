@@ -17,10 +17,8 @@ COLOURS = {
     "rust-checked": "#f4a582",
     "rust-shards": "#e07b39",
     "rust-checked-shards": "#f4a582",
-    "binding": "#f4a582",
     "adapter": "#f7c6ad",
     "adapter-handle": "#e98a5f",
-    "binding-shards": "#f4a582",
     "fetch-max": "#000000",
     "heap-note": "#56b4e9",
     "heap-note-locked": "#56b4e9",
@@ -46,8 +44,8 @@ BAR, STEP, TITLE, GAP = 11, 15, 22, 30
 NAME, NUMBER = 137, 40
 # What the front chart shows of each row: ours, the crate's, the fastest heap that several threads can call, and what servers use now.
 HEAPS = ["heap-best-locked", "heap-note-locked", "heap-push-locked"]
-FRONT = [["ours"], ["rust", "binding"], HEAPS, ["delay-queue-locked"]]
-FRONT_NAMES = {"ours": "ours, words that threads share", "rust": "ours, the crate", "binding": "ours, the older crate"}
+FRONT = [["ours"], ["rust"], HEAPS, ["delay-queue-locked"]]
+FRONT_NAMES = {"ours": "ours, words that threads share", "rust": "ours, the crate"}
 
 
 def text(x, y, words, size=11, anchor="start", weight="normal", fill="#222"):

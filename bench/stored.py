@@ -37,14 +37,12 @@ COUNTS = ["inserts", "extends", "resets", "removes", "cancels", "outs", "values"
 OURS = "ours"
 OWNED = "ours-owned"
 SHARDS = "ours-shards"
-BINDING = "binding"
 # By the calls that tokio_util's `DelayQueue` has, and beside them by a handle.
 ADAPTER, ADAPTER_HANDLE = "adapter", "adapter-handle"
-BINDING_SHARDS = "binding-shards"
-# By the cargo crate, without the bounds checks whose bounds are proved, and with them. A stored run before that crate has the binding.
+# By the cargo crate, without the bounds checks whose bounds are proved, and with them.
 RUST, RUST_CHECKED, RUST_SHARDS, RUST_CHECKED_SHARDS = "rust", "rust-checked", "rust-shards", "rust-checked-shards"
 UNCHECKED = (RUST, RUST_SHARDS)
-MINE = (OWNED, OURS, SHARDS, RUST, RUST_CHECKED, BINDING, ADAPTER, ADAPTER_HANDLE, RUST_SHARDS, RUST_CHECKED_SHARDS, BINDING_SHARDS)
+MINE = (OWNED, OURS, SHARDS, RUST, RUST_CHECKED, ADAPTER, ADAPTER_HANDLE, RUST_SHARDS, RUST_CHECKED_SHARDS)
 # What stands behind the name of a peer that another build of the same code timed.
 AGAIN = "-again"
 # The most bytes that an entry is to take beside its value.
@@ -56,12 +54,10 @@ NAMES = {
     SHARDS: "ours, shards",
     RUST: "ours, crate",
     RUST_CHECKED: "ours, crate, checked",
-    BINDING: "ours, binding",
     ADAPTER: "ours, `DelayQueue`'s calls",
     ADAPTER_HANDLE: "ours, those and a handle",
     RUST_SHARDS: "ours, shards, crate",
     RUST_CHECKED_SHARDS: "ours, shards, crate, checked",
-    BINDING_SHARDS: "ours, shards, binding",
     "fetch-max": "bare `fetch_max`",
     "heap-note": "heap, lazy",
     "heap-best": "heap, best",
@@ -329,9 +325,9 @@ def reach(all_cases):
          lambda ratio: ratio >= 1 / 1.2)
     line("callers' extends take at most 1.2 times the bare `fetch_max` in as many threads", of("callers"), "fetch-max",
          OURS, lambda ratio: ratio >= 1 / 1.2)
-    line("an extend by the binding, a caller's too, takes at most 1.5 times ours", of("extend", "callers"), BINDING, OURS,
+    line("an extend by the crate, a caller's too, takes at most 1.5 times ours", of("extend", "callers"), RUST, OURS,
          lambda ratio: ratio <= 1.5)
-    line("each call by the binding is faster than `DelayQueue`'s", of(*SINGLE_ROWS), "delay-queue", BINDING,
+    line("each call by the crate is faster than `DelayQueue`'s", of(*SINGLE_ROWS), "delay-queue", RUST,
          lambda ratio: ratio > 1)
     by_its_calls = {"poll": 3, "reset": 1.5, "remove": 1.5, "heartbeat": 1.5}
     for row, least in by_its_calls.items():
@@ -357,8 +353,8 @@ def reach(all_cases):
     shards_reach("shared queue, extend", ["extend"], "heap-note-locked", 1.5)
     shards_reach("shared queue, extend", ["extend"], "delay-queue-locked", 10)
     shards_reach("shared queue, every call", SHARD_ROWS, "delay-queue-locked", 1.5)
-    line("shared queue by the binding, every call of one thread at least 1.5x as fast as `Mutex<DelayQueue>`",
-         one_shard(*SHARD_ROWS), "delay-queue-locked", BINDING_SHARDS, lambda ratio: ratio >= 1.5)
+    line("shared queue by the crate, every call of one thread at least 1.5x as fast as `Mutex<DelayQueue>`",
+         one_shard(*SHARD_ROWS), "delay-queue-locked", RUST_SHARDS, lambda ratio: ratio >= 1.5)
     shards_reach("shared queue, insert in bursts", ["insert-burst"], "heap-note-locked", 2.0)
     shards_reach("shared queue, poll in bursts", ["poll-burst"], "heap-note-locked", 1.4)
     for name, most in BYTES.items():

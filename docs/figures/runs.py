@@ -74,6 +74,23 @@ def lost_shard_cells(peer, call=""):
     return sum(bench()[it] < bench()[("ours-shards", *it[1:])] for it in shard_cells(peer, call))
 
 
+@functools.cache
+def lives():
+    """The medians of the whole lives over shards, by the peer, the row, the entries and the threads."""
+    rows = [it for it in rows_of("latest+lives") if it[0] != "peer"]
+    return {(peer, row, entries, threads): statistics.median(map(float, taken.split())) for peer, row, entries, threads, taken in rows}
+
+
+def life_cells(peer, call=""):
+    """The cells of a peer of whole lives over shards: those of one kind of life, or of all."""
+    return [it for it in lives() if it[0] == peer and it[1].removeprefix("own-").startswith(call)]
+
+
+def lost_life_cells(peer, call=""):
+    """In how many of them a peer is faster than the crate without bounds checks."""
+    return sum(lives()[it] < lives()[("rust-shards", *it[1:])] for it in life_cells(peer, call))
+
+
 def peer_cells(*peers):
     """How many cells the stored run has of some peers."""
     return sum(it[0] in peers for it in bench())

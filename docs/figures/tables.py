@@ -244,6 +244,27 @@ def shard_standing():
     return "\n".join(lines)
 
 
+LIFE_PEERS = {
+    "heap-best-locked": "best heap",
+    "heap-note-locked": "lazy heap",
+    "heap-indexed-locked": "indexed heap",
+    "hashed-wheel-locked": "hashed wheel",
+    "delay-queue-locked": "`DelayQueue`",
+}
+
+
+def life_standing():
+    """In how many rows of whole lives over shards each peer in a `Mutex` is ahead of the crate."""
+    calls = {"all": "", **{f"`{it}`": f"{it}/" for it in ("insert+poll", "reset+poll", "remove+poll", "mixed", "churn", "heartbeat")}}
+    cells = {words: {len(runs.life_cells(peer, it)) for peer in LIFE_PEERS} for words, it in calls.items()}
+    if any(len(it) != 1 for it in cells.values()):
+        raise LookupError("the peers have not as many rows of whole lives as one another")
+    lines = [row("In a `Mutex`", *(f"{words}: of {min(its)}" for words, its in cells.items())), "|---" + "|--:" * len(calls) + "|"]
+    for peer, words in LIFE_PEERS.items():
+        lines.append(row(words, *(str(runs.lost_life_cells(peer, it)) for it in calls.values())))
+    return "\n".join(lines)
+
+
 def gate():
     """What the crates take in the gate: each that a user runs, and the others together by their role."""
     noted, sums = runs.noted("gate"), {}
@@ -433,6 +454,7 @@ TABLES = {
     "longest": longest,
     "standing": standing,
     "shard-standing": shard_standing,
+    "life-standing": life_standing,
     "gate": gate,
     "gate-parts": gate_parts,
     "edit-times": edit_times,
