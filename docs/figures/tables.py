@@ -69,6 +69,12 @@ def lost(row, peer, ours, entries, threads=1):
     return ratio
 
 
+def through_times(than, pace, size="65536"):
+    """How many times as long as another way of polling by name `poll_through` takes, beside such a thread."""
+    took = {it[0]: float(it[-1]) for it in runs.rows_of("fair") if it[1:3] == [f"fair-name-{pace}", size]}
+    return took["through"] / took[than]
+
+
 # Rows in which a peer pays for all that its calls leave behind.
 WHOLE = ("cancel", "poll", "mixed", "insert+poll", "reset+poll", "remove+poll", "churn", "heartbeat")
 
@@ -111,6 +117,7 @@ FIGURES = {
     "pace": runs.pace,
     "pieces-least": lambda: min(pieces_sums()),
     "pieces-most": lambda: max(pieces_sums()),
+    "through-times": through_times,
     "by-hand": lambda value, *_: float(value),
     "script": runs.script,
     "stored": runs.stored,
@@ -418,6 +425,23 @@ def beside():
     return "\n".join(lines)
 
 
+# How a full slot is polled by name, in the order of the page's rows.
+BY_NAME = {"whole": "`poll`", "pieces": "`poll_some` again and again", "through": "`poll_through`"}
+
+
+def fair():
+    """What another thread's calls by name wait beside a poll, and what that takes, in microseconds."""
+    found = {(it[0], it[1], it[2]): it[4:] for it in runs.rows_of("fair") if it[1].startswith("fair-name-")}
+    us = lambda way, pace, size, at: f"{float(found[way, f'fair-name-{pace}', size][at]) / 1000:,.1f}"
+    heads = ("Entries", "Polled by", "calm: 99.9%", "all", "its poll", "rushed: 99.9%", "all", "its poll", "beside nobody")
+    lines = [row(*heads), "|--:|---" + "|--:" * (len(heads) - 2) + "|"]
+    for size in SIZES[1:]:
+        for way, name in BY_NAME.items():
+            waits = (us(way, pace, size, at) for pace in ("calm", "rushed") for at in (2, 3, 4))
+            lines.append(row(f"{int(size):,}", name, *waits, us(way, "absent", size, 4)))
+    return "\n".join(lines)
+
+
 def renewing():
     """The calls of a lasting queue: steady, and while one shard is renewed at any time."""
     found = {tuple(it[:4]): it for it in pieces_rows() if it[1] == "renewing" and it[3] != "reopened"}
@@ -447,6 +471,7 @@ TABLES = {
     "adapter": adapter,
     "pieces": pieces,
     "beside": beside,
+    "fair": fair,
     "renewing": renewing,
     "headline": headline,
     "speed": speed,
