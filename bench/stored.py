@@ -11,7 +11,7 @@ import statistics
 
 BENCH = pathlib.Path(__file__).resolve().parent
 RESULTS = BENCH / "results"
-LOAD = BENCH.parent / "crates" / "dq_load"
+LOAD = BENCH / "load"
 
 SINGLE_ROWS = ["insert", "extend", "reset", "remove", "cancel", "poll"]
 # Rows that charge each peer for what its calls leave behind.

@@ -109,7 +109,7 @@ def pace(kind, what):
 
 def entry_bytes(name):
     """The bytes of an entry beside its value, as the load's stored run prints them."""
-    text = text_of(TOP / "crates" / "dq_load" / "stdout")
+    text = text_of(TOP / "bench" / "load" / "stdout")
     return int(re.search(rf"\b{re.escape(name)} (\d+)(?:,|$)", text.splitlines()[-1])[1])
 
 

@@ -275,7 +275,7 @@ def life_standing():
 def gate():
     """What the crates take in the gate: each that a user runs, and the others together by their role."""
     noted, sums = runs.noted("gate"), {}
-    for crate in tree.crates():
+    for crate in (it for it in tree.crates() if it.role != "bench"):
         name = f"`{crate.name}`" if crate.role == "queue" else ROLES[crate.role]
         took = [float(noted.get((crate.name, it), 0)) for it in ("proof", "again", "edits")]
         took.insert(1, len(crate.edits()))

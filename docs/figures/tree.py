@@ -12,6 +12,8 @@ PLAIN = [TOP / "rust" / "hontkhale" / "tests" / it for it in ("slow", "hostile",
 
 # Crates whose code no user runs: what an automatic look at them can't tell.
 ROLES = {"dq_load": "bench", "refusing_heap": "tests", "draws": "tests"}
+# The bench's load, which is no crate of crates.txt: its sources have an ending of their own.
+LOAD, LOAD_ENDING = TOP / "bench" / "load", ".rattle"
 CLAUSE = re.compile(r"(requires|ensures|ghost)\b")
 FUNCTION = re.compile(r"^\s*(pub(?:\([a-z]+\))? )?(?:const |unsafe )*fn (\w+)", re.M)
 TEST = re.compile(r"#\[test\]\s*(?:(?:#\[.*\]|//.*)\s*)*(?:pub )?fn (\w+)")
@@ -99,9 +101,9 @@ def without_tests(text):
 class Crate:
     """What one crate has."""
 
-    def __init__(self, name):
-        self.name, self.folder = name, CRATES / name
-        self.sources = files(self.folder / "src", ".rt")
+    def __init__(self, name, folder=None, ending=".rt"):
+        self.name, self.folder = name, folder or CRATES / name
+        self.sources = files(self.folder / "src", ending)
         tests = [test for it in self.sources for test in test_modules(it)]
         self.tests = {it for it in self.sources if it in tests or any(t.with_suffix("") in it.parents for t in tests)}
         self.role = self.its_role()
@@ -172,7 +174,8 @@ class Crate:
 
 @functools.lru_cache(maxsize=None)
 def every_crate():
-    return [Crate(it) for it in names() if (CRATES / it).is_dir()]
+    """The crates of crates.txt, and the bench's load."""
+    return [*(Crate(it) for it in names() if (CRATES / it).is_dir()), Crate("dq_load", LOAD, LOAD_ENDING)]
 
 
 def crates(*roles):
@@ -221,7 +224,7 @@ def plain_test_names():
 def constants():
     """The numbers that the code names: by each name its values, one or several."""
     known = {}
-    for path in [*files(CRATES, ".rt"), *files(TOP / "bench" / "src", ".rs")]:
+    for path in [*files(CRATES, ".rt"), *files(LOAD, LOAD_ENDING), *files(TOP / "bench" / "src", ".rs")]:
         for name, value in CONSTANT.findall(text_of(path)):
             known.setdefault(name, set()).add(int(value.replace("_", "")))
     return known
