@@ -1,11 +1,11 @@
 //! As many keys as a cache may have, under a hasher with a seed, and the calls that a stranger's keys need.
 
-use crate::tests::kit::Fail;
-use super::same;
 use super::calls::Call::{Capacity, Len, Moment, Put, Take, TakeExpired, Worn};
-use super::calls::{Letters, plays, plays_up_to};
+use super::calls::{plays, plays_up_to, Letters};
+use super::same;
 use crate::apps::TtlCache;
 use crate::core::CoreError;
+use crate::tests::kit::Fail;
 use crate::ticks::{CAPACITY_LIMIT, LAST_STAMP};
 use std::hash::RandomState;
 
@@ -84,11 +84,7 @@ fn worn_slots_are_told() -> Result<(), Fail> {
         Capacity(2),
     ];
     plays_up_to(2, 1, calls)?;
-    same(
-        "no capacity",
-        refused(0),
-        Some(CoreError::BadConfig),
-    );
+    same("no capacity", refused(0), Some(CoreError::BadConfig));
     puts_often(&mut TtlCache::with_capacity(1)?);
     Ok(())
 }

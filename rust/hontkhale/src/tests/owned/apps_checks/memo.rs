@@ -1,21 +1,15 @@
-//! A cache as a memo: what is made where nothing is seen, each copy that is refused, and what is counted.
+//! A cache as a memo: what is made where nothing is seen, what comes back, and what is counted.
 
-use crate::tests::kit::Fail;
 use crate::apps::{CountedCache, MemoAnswer, TtlCache};
 use crate::core::CoreError;
+use crate::tests::kit::Fail;
 
 type Letters = TtlCache<char, u32>;
 
 // Whoever asks for 'a' at these ticks makes it where it is due, and else gets what was made.
 fn is_made_when_due(cache: &mut Letters) {
     let mut times = 0u32;
-    for (now, made, answer, count) in [
-        (0, 1, 1, 1),
-        (9, 2, 1, 1),
-        (10, 3, 3, 2),
-        (19, 4, 3, 2),
-        (20, 5, 5, 3),
-    ] {
+    for (now, made, answer, count) in [(0, 1, 1, 1), (9, 2, 1, 1), (10, 3, 3, 2), (19, 4, 3, 2), (20, 5, 5, 3)] {
         let value = cache.get_or_insert_with('a', 10, now, || {
             times = times.saturating_add(1);
             made
@@ -26,14 +20,7 @@ fn is_made_when_due(cache: &mut Letters) {
 }
 
 // Whoever asks for a key, and would make that value, gets that answer.
-fn answers(
-    cache: &mut Letters,
-    key: char,
-    ttl: u64,
-    now: u64,
-    made: u32,
-    answer: MemoAnswer<u32>,
-) {
+fn answers(cache: &mut Letters, key: char, ttl: u64, now: u64, made: u32, answer: MemoAnswer<u32>) {
     let value = cache.get_or_insert_with(key, ttl, now, move || made);
     assert_eq!(value, answer, "{key} at {now}");
 }
@@ -57,17 +44,8 @@ fn what_was_made_comes_back() -> Result<(), Fail> {
     answers(&mut cache, 'a', 10, 0, 1, Ok(1));
     let full = CoreError::Full { linked: 1, worn: 0 };
     answers(&mut cache, 'b', 10, 5, 2, Err((full, Some(2))));
-    let too_far = CoreError::TooFar {
-        limit: 4398046511103,
-    };
-    answers(
-        &mut cache,
-        'b',
-        u64::MAX,
-        5,
-        2,
-        Err((too_far, Some(2))),
-    );
+    let too_far = CoreError::TooFar { limit: 4398046511103 };
+    answers(&mut cache, 'b', u64::MAX, 5, 2, Err((too_far, Some(2))));
     answers(&mut cache, 'a', u64::MAX, 5, 2, Ok(1));
 
     // Slots that are worn are no reason to refuse.
@@ -90,11 +68,7 @@ fn counts_look_ups(counted: &mut Counted) {
         ('a', 11, 3, 3),
     ] {
         let _made = counted.get_or_insert_with(key, 10, now, || 1);
-        assert_eq!(
-            (counted.hits(), counted.misses()),
-            (hits, misses),
-            "{key} at {now}"
-        );
+        assert_eq!((counted.hits(), counted.misses()), (hits, misses), "{key} at {now}");
     }
 }
 
@@ -114,4 +88,3 @@ fn hits_and_misses() -> Result<(), Fail> {
     counts_what_is_seen(&mut counted);
     Ok(())
 }
-

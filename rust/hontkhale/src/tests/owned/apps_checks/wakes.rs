@@ -1,10 +1,10 @@
 //! The next wake of a cache: which it is, and that whoever purges at each wake gets to each deadline in few purges.
 
-use crate::tests::kit::Fail;
-use super::same;
 use super::calls::Call::{Moment, NextDeadline, NextWake, Purge, Put, Refresh, Renew, Take};
-use super::calls::{Letters, each_answers, plays};
+use super::calls::{each_answers, plays, Letters};
+use super::same;
 use crate::apps::TtlCache;
+use crate::tests::kit::Fail;
 
 // A key that is put at tick 0 wakes there.
 fn wakes(ttl: u64, wake: u64) -> Result<(), Fail> {
@@ -97,11 +97,7 @@ fn six_purges_for_a_deadline() -> Result<(), Fail> {
         (1090785345, 6),
     ];
     for (ttl, count) in table {
-        takes_purges(
-            &mut TtlCache::with_capacity(4)?,
-            *ttl,
-            *count,
-        );
+        takes_purges(&mut TtlCache::with_capacity(4)?, *ttl, *count);
     }
     Ok(())
 }

@@ -1,11 +1,11 @@
 //! Slots that have no stamp left: a refresh, the calls that refresh by themselves, and what leaves a cache.
 
-use crate::tests::kit::{AllocError, Fail, HeapString, LocalHeap};
-use super::same;
 use super::calls::Call::{Get, Len, Moment, NextDeadline, Purge, Put, Refresh, Renew, Set, Take, Touch, Worn};
-use super::calls::{Call, Letters, each_answers};
+use super::calls::{each_answers, Call, Letters};
+use super::same;
 use crate::apps::TtlCache;
 use crate::core::CoreError;
+use crate::tests::kit::{AllocError, Fail, HeapString, LocalHeap};
 
 // Two keys until tick 10, in slots that are both at their last stamp.
 fn wears(cache: &mut Letters) {
@@ -53,10 +53,7 @@ const ALL_KEPT: CoreError = CoreError::Full { linked: 2, worn: 0 };
 // A key in a worn slot gets its deadline and its value, and one that isn't kept the place of a worn slot.
 #[test]
 fn touch_and_set_refresh() -> Result<(), Fail> {
-    let touch_refreshes = &[
-        Touch('a', 15, 1, Ok(16)),
-        Touch('c', 15, 1, Err(CoreError::Missing)),
-    ];
+    let touch_refreshes = &[Touch('a', 15, 1, Ok(16)), Touch('c', 15, 1, Err(CoreError::Missing))];
     let set_refreshes = &[Set('b', 5, 15, 1, Ok(Some(4))), Get('b', 15, Some(5))];
 
     // A put is refused for want of stamps, where a set isn't.
@@ -122,19 +119,12 @@ fn sets<'heap>(cache: &mut Texts<'heap>, heap: &'heap LocalHeap, key: char) -> T
 }
 
 // Two values are kept then, each of which has as much memory as is told.
-fn lets_go_by_puts<'heap>(
-    cache: &mut Texts<'heap>,
-    heap: &'heap LocalHeap,
-) -> usize {
+fn lets_go_by_puts<'heap>(cache: &mut Texts<'heap>, heap: &'heap LocalHeap) -> usize {
     let first = puts(cache, heap, 'a', 10);
     let one = heap.used();
     same("put a", (first, one > 0), (Ok((true, one)), true));
     let two = one.saturating_mul(2);
-    for (key, ttl, taken) in &[
-        ('a', 10, (true, one)),
-        ('b', 5, (true, two)),
-        ('c', 5, (false, two)),
-    ] {
+    for (key, ttl, taken) in &[('a', 10, (true, one)), ('b', 5, (true, two)), ('c', 5, (false, two))] {
         same(*key, puts(cache, heap, *key, *ttl), Ok(*taken));
     }
     one
@@ -147,11 +137,7 @@ fn lets_go_by_time(cache: &mut Texts, heap: &LocalHeap, one: usize) {
 }
 
 // One value is kept then.
-fn lets_go_by_take<'heap>(
-    cache: &mut Texts<'heap>,
-    heap: &'heap LocalHeap,
-    one: usize,
-) {
+fn lets_go_by_take<'heap>(cache: &mut Texts<'heap>, heap: &'heap LocalHeap, one: usize) {
     same("set a", sets(cache, heap, 'a'), Ok((true, one)));
     let is_out = cache.take(&'a', 10).is_some();
     same("take", (is_out, heap.used()), (true, 0));

@@ -1,9 +1,9 @@
 //! What a login and a handle take of the queue below them, counted.
 
-use crate::tests::kit::Fail;
 use crate::apps::IdleSessions;
 use crate::core::CoreError;
 use crate::shards::{QueueConfig, QueueError};
+use crate::tests::kit::Fail;
 
 // Where one session has room, one login fills it, and the audit counts one.
 #[test]
