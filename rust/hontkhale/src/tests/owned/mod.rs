@@ -2,3 +2,4 @@
 //! use what the erased tests beside this folder have.
 
 mod apps_checks;
+mod stream_checks;

@@ -1,15 +1,7 @@
-pub mod beside;
-pub mod executors;
-pub mod handles;
-pub mod paced;
-pub mod parked;
-pub mod parkers;
 pub mod refusals;
 pub mod rows;
 pub mod steps;
 pub mod streams;
-pub mod threads;
-pub mod wakes;
 
 use std::fmt::{Debug, Display};
 

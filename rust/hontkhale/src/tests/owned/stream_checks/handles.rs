@@ -1,10 +1,10 @@
 //! Streams over entries that a handle extends and cancels meanwhile, without the shard's lock.
 
-use crate::tests::kit::Fail;
 use super::steps::Step::{Parked, Poll, Ring, Woken};
-use super::steps::{Change, change_while_parked};
-use super::streams::Seen::{Ends, Out, Waits};
+use super::steps::{change_while_parked, Change};
 use super::streams::letters_and_task;
+use super::streams::Seen::{Ends, Out, Waits};
+use crate::tests::kit::Fail;
 
 #[test]
 fn extended_while_parked() -> Result<(), Fail> {

@@ -1,10 +1,10 @@
 //! A stream in one thread, and the time in another.
 
-use crate::tests::kit::{Fail, StreamExt, block_on, join};
 use super::same;
 use crate::core::Expired;
 use crate::shards::{QueueConfig, QueueError, SharedDelayQueue};
 use crate::stream::{ExpiredStream, StreamFault, TickSource};
+use crate::tests::kit::{block_on, join, Fail, StreamExt};
 use std::sync::atomic::AtomicU64;
 use std::sync::atomic::Ordering::SeqCst;
 
@@ -35,10 +35,7 @@ fn are_all(items: &[Result<Expired<u64>, StreamFault>]) -> bool {
 }
 
 // Whether the stream gave all entries up to its end.
-fn all_came(
-    queue: &SharedDelayQueue<u64>,
-    tick: &AtomicU64,
-) -> bool {
+fn all_came(queue: &SharedDelayQueue<u64>, tick: &AtomicU64) -> bool {
     let Ok(stream) = ExpiredStream::new(queue, 0, SharedTick(tick)) else {
         return false;
     };
@@ -72,10 +69,6 @@ fn came_beside(queue: &SharedDelayQueue<u64>, tick: &AtomicU64) -> bool {
 fn woken_from_another_thread() -> Result<(), Fail> {
     let queue = SharedDelayQueue::new(QueueConfig::of(1, 128))?;
     fill(&queue)?;
-    same(
-        "came",
-        came_beside(&queue, &AtomicU64::new(0)),
-        true,
-    );
+    same("came", came_beside(&queue, &AtomicU64::new(0)), true);
     Ok(())
 }

@@ -1,24 +1,20 @@
 //! What a stream leaves as it was.
 
-use crate::tests::kit::Fail;
 use super::same;
-use super::steps::Step::{Parked, Ring, Woken};
 use super::steps::each_answers;
-use super::streams::{Letters, Seen, Task, TickOf, fill, letters_and_task, letters_and_tasks, put};
+use super::steps::Step::{Parked, Ring, Woken};
+use super::streams::{fill, letters_and_task, put, Letters, Seen, Task, TickOf};
+use super::tasks::letters_and_tasks;
 use crate::shards::{Handle, QueueError};
 use crate::stream::ExpiredStream;
+use crate::tests::kit::Fail;
 
 // A shard's linked entries, noted tick, next wake and parked tick.
 type Left = (usize, u64, Option<u64>, Option<u64>);
 
 fn left(queue: &Letters, shard: usize) -> Result<Left, QueueError> {
     queue.lend(shard, |state| {
-        (
-            state.len(),
-            state.noted(),
-            state.next_wake(),
-            state.parked(),
-        )
+        (state.len(), state.noted(), state.next_wake(), state.parked())
     })
 }
 
@@ -46,11 +42,7 @@ fn leaves_the_others(
 }
 
 // The queue has two letters in each shard.
-fn are_left_by_a_stream(
-    queue: &Letters,
-    own: &Task,
-    others: (&Task, &Task),
-) -> Result<(), Fail> {
+fn are_left_by_a_stream(queue: &Letters, own: &Task, others: (&Task, &Task)) -> Result<(), Fail> {
     others.0.waits(queue, 0)?;
     others.1.waits(queue, 2)?;
     let before = others_left(queue)?;
@@ -94,10 +86,7 @@ fn a_new_stream_leaves_the_parked_poller() -> Result<(), Fail> {
     stays_parked(&queue, &task)
 }
 
-fn cancels_the_last(
-    queue: &Letters,
-    handle: &mut Handle,
-) -> Result<(), Fail> {
+fn cancels_the_last(queue: &Letters, handle: &mut Handle) -> Result<(), Fail> {
     put(queue, 0, 'v', 10)?;
     let later = put(queue, 0, 'w', 1000)?;
     same("cancel", handle.cancel(&later), Ok(1000));
@@ -122,11 +111,7 @@ fn reaps_what_is_due(
     Ok(())
 }
 
-fn sweeps_nothing(
-    queue: &Letters,
-    task: &Task,
-    handle: &mut Handle,
-) -> Result<(), Fail> {
+fn sweeps_nothing(queue: &Letters, task: &Task, handle: &mut Handle) -> Result<(), Fail> {
     cancels_the_last(queue, handle)?;
     let mut stream = task.stream(queue, 0)?;
     reaps_what_is_due(queue, task, &mut stream)

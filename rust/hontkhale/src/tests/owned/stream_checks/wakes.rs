@@ -1,11 +1,12 @@
 //! Whose task a shard wakes, and how often.
 
-use crate::tests::kit::Fail;
 use super::same;
 use super::steps::Step::{Parked, Poll, Put, Ring, Woken};
 use super::steps::{play, play_over};
 use super::streams::Seen::{Out, Waits};
-use super::streams::{Letters, Task, fill, letters_and_task, letters_and_tasks};
+use super::streams::{fill, letters_and_task, Letters, Task};
+use super::tasks::letters_and_tasks;
+use crate::tests::kit::Fail;
 
 // Puts a letter in shard 0. Fails unless a poller was parked before, and the task is woken by it.
 fn is_woken_by(queue: &Letters, task: &Task, entry: (char, u64)) {
@@ -31,19 +32,10 @@ fn dropped_while_parked() -> Result<(), Fail> {
 }
 
 // The first task stays asleep the whole time: what wakes it would show until it is asked.
-fn wakes_the_second(
-    queue: &Letters,
-    first: &Task,
-    second: &Task,
-) -> Result<(), Fail> {
+fn wakes_the_second(queue: &Letters, first: &Task, second: &Task) -> Result<(), Fail> {
     fill(queue, 0, &[('v', 10)])?;
     first.waits(queue, 0)?;
-    let steps = &[
-        Poll(0, Waits),
-        Woken(false),
-        Parked(Some(10)),
-        Ring(10, true),
-    ];
+    let steps = &[Poll(0, Waits), Woken(false), Parked(Some(10)), Ring(10, true)];
     play(queue, second, steps)?;
     same("the first", first.was_woken(), false);
     Ok(())

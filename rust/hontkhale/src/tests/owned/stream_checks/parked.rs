@@ -1,17 +1,15 @@
 //! What becomes of a parked task with each call by name.
 
-use crate::tests::kit::Fail;
 use super::same;
-use super::streams::{Letters, Task, letters_and_task, letters_and_tasks, put};
+use super::streams::{letters_and_task, put, Letters, Task};
+use super::tasks::letters_and_tasks;
 use crate::core::CoreError;
 use crate::shards::QueueError;
+use crate::tests::kit::Fail;
 use crate::ticks::Key;
 
 // The tick at which a poller is parked in a shard, and how many entries are linked there.
-fn left(
-    queue: &Letters,
-    shard: usize,
-) -> Result<(Option<u64>, usize), QueueError> {
+fn left(queue: &Letters, shard: usize) -> Result<(Option<u64>, usize), QueueError> {
     queue.lend(shard, |state| (state.parked(), state.len()))
 }
 
@@ -30,11 +28,7 @@ fn tells(queue: &Letters, live: &Key, cancelled: &Key, told: u64) -> Result<(), 
     let was_cancelled = Err(QueueError::Core(CoreError::WasCancelled));
     match told {
         0 => same(told, queue.deadline(&live.entry()), Ok(10)),
-        1 => same(
-            told,
-            queue.deadline(&cancelled.entry()),
-            was_cancelled,
-        ),
+        1 => same(told, queue.deadline(&cancelled.entry()), was_cancelled),
         2 => same(told, queue.next_wake(0), Ok(Some(10))),
         3 => same(told, queue.tally(0)?.cancelled, 0),
         4 => same(told, queue.parked(0), Ok(Some(10))),
@@ -105,12 +99,7 @@ fn make(queue: &Letters, key: &Key, change: Change) -> Result<(), Fail> {
 type Case = (Change, bool, bool);
 
 // Parks a task in each shard, the one of shard 0 for an entry at tick 10, and makes a change of that entry.
-fn parks_and_makes(
-    queue: &Letters,
-    task: &Task,
-    other: &Task,
-    (change, is_alone, _): Case,
-) -> Result<(), Fail> {
+fn parks_and_makes(queue: &Letters, task: &Task, other: &Task, (change, is_alone, _): Case) -> Result<(), Fail> {
     put(queue, 1, 'o', 20)?;
     if !is_alone {
         put(queue, 0, 'w', 40)?;
@@ -123,12 +112,7 @@ fn parks_and_makes(
 
 // Makes a change in a shard where a task is parked for an entry at tick 10, while another is linked at 40 or none is.
 // The task is woken, or stays parked until a ring; one that is parked in another shard stays.
-fn wakes_its_own(
-    queue: &Letters,
-    (task, other): (&Task, &Task),
-    row: usize,
-    case: Case,
-) -> Result<(), Fail> {
+fn wakes_its_own(queue: &Letters, (task, other): (&Task, &Task), row: usize, case: Case) -> Result<(), Fail> {
     parks_and_makes(queue, task, other, case)?;
     let (_, _, wakes) = case;
     let woken = (task.was_woken(), other.was_woken(), task.was_woken());

@@ -1,11 +1,11 @@
 //! A poller that is parked in the place of another one, or taken out.
 
-use crate::tests::kit::{Fail, MockTask};
 use super::same;
-use super::streams::{Letters, fill, letters};
+use super::streams::{fill, letters, Letters};
 use crate::core::Turn;
 use crate::shards::{LockedShard, Parked};
 use crate::stream::parking::park_with;
+use crate::tests::kit::{Fail, MockTask};
 use std::task::{Context, Waker};
 
 // The waker of the task that is polled.
@@ -27,11 +27,7 @@ fn parks(queue: &Letters, task: &MockTask) -> Result<(), Fail> {
     park_at_its_wake(&mut shard, slot)
 }
 
-fn wakes_the_second(
-    queue: &Letters,
-    first: &MockTask,
-    second: &MockTask,
-) -> Result<(), Fail> {
+fn wakes_the_second(queue: &Letters, first: &MockTask, second: &MockTask) -> Result<(), Fail> {
     fill(queue, 0, &[('v', 10)])?;
     parks(queue, first)?;
     parks(queue, second)?;
@@ -57,11 +53,7 @@ fn taken(queue: &Letters) -> Result<Option<Parked>, Fail> {
 }
 
 // What is taken out is parked no more, and is woken by whoever has it, or not at all.
-fn wakes_what_is_taken(
-    queue: &Letters,
-    task: &MockTask,
-    wakes: bool,
-) -> Result<(), Fail> {
+fn wakes_what_is_taken(queue: &Letters, task: &MockTask, wakes: bool) -> Result<(), Fail> {
     fill(queue, 0, &[('v', 10)])?;
     parks(queue, task)?;
     let Some(poller) = taken(queue)? else {

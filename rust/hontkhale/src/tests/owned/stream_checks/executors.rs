@@ -1,52 +1,12 @@
 //! Streams under the executors of `futures`.
 
-use crate::tests::kit::{Either, Fail, Future, StreamExt, block_on, run_all, yield_now};
 use super::same;
-use super::streams::{Letters, TickOf, Told, fill, letters, stream_of};
-use crate::core::Expired;
 use crate::shards::{QueueConfig, QueueError, SharedDelayQueue};
-use crate::stream::{ExpiredStream, StreamFault};
-use std::task::{Context, Poll};
+use crate::stream::ExpiredStream;
+use crate::tests::kit::{run_all, yield_now, Either, Fail, Future};
 use std::sync::atomic::AtomicU64;
 use std::sync::atomic::Ordering::SeqCst;
-
-type Items = Vec<Result<Expired<char>, StreamFault>>;
-
-// All that a stream gives at a tick after the last deadline.
-fn collected(queue: &Letters, told: &Told) -> Result<Items, Fail> {
-    let stream = stream_of(queue, 0, TickOf(told))?;
-    Ok(block_on(stream.collect())??)
-}
-
-fn deadline_of(item: &Result<Expired<char>, StreamFault>) -> Result<u64, StreamFault> {
-    match item {
-        Ok(expired) => Ok(expired.deadline),
-        Err(fault) => Err(*fault),
-    }
-}
-
-fn have_deadlines(
-    items: &[Result<Expired<char>, StreamFault>],
-    deadlines: &[u64],
-) {
-    same("how many", items.len(), deadlines.len());
-    for (item, deadline) in items.iter().zip(deadlines) {
-        same(*deadline, deadline_of(item), Ok(*deadline));
-    }
-}
-
-fn gives_three(queue: &Letters) -> Result<(), Fail> {
-    fill(queue, 0, &[('a', 5), ('b', 70), ('c', 5000)])?;
-    let items = collected(queue, &Told::at(10000))?;
-    have_deadlines(&items, &[5, 70, 5000]);
-    Ok(())
-}
-
-#[test]
-fn three_in_order_collected() -> Result<(), Fail> {
-    let queue = letters(1)?;
-    gives_three(&queue)
-}
+use std::task::{Context, Poll};
 
 // What the tasks of an executor share.
 struct World {
@@ -132,11 +92,7 @@ fn put_digits(queue: &SharedDelayQueue<u64>) -> Result<(), QueueError> {
 // A reader of a shard, or the time.
 type Work<'w> = Either<Reader<'w>, Time<'w>>;
 
-fn reader_of<'w>(
-    queue: &'w SharedDelayQueue<u64>,
-    world: &'w World,
-    shard: usize,
-) -> Result<Work<'w>, QueueError> {
+fn reader_of<'w>(queue: &'w SharedDelayQueue<u64>, world: &'w World, shard: usize) -> Result<Work<'w>, QueueError> {
     match ExpiredStream::new(queue, shard, TickIn(world)) {
         Ok(stream) => Ok(Either::Left(Reader { world, stream })),
         Err((error, _)) => Err(error),
@@ -144,11 +100,7 @@ fn reader_of<'w>(
 }
 
 // Adds a reader of each shard, and the time.
-fn add_work<'w>(
-    queue: &'w SharedDelayQueue<u64>,
-    world: &'w World,
-    work: &mut Vec<Work<'w>>,
-) -> Result<(), Fail> {
+fn add_work<'w>(queue: &'w SharedDelayQueue<u64>, world: &'w World, work: &mut Vec<Work<'w>>) -> Result<(), Fail> {
     work.push(reader_of(queue, world, 0)?);
     work.push(reader_of(queue, world, 1)?);
     let time = Time {

@@ -1,13 +1,13 @@
 //! Streams that make at most so many steps a poll.
 
-use crate::tests::kit::{Fail, MockTask, StreamExt};
 use super::same;
-use super::streams::{Letters, TickOf, Told, fill, letters, stream_of};
+use super::streams::{fill, letters, stream_of, Letters, TickOf, Told};
 use crate::core::Expired;
 use crate::shards::QueueError;
 use crate::stream::{PacedStream, StreamFault};
-use std::task::Poll;
+use crate::tests::kit::{Fail, MockTask, StreamExt};
 use std::num::NonZeroU32;
+use std::task::Poll;
 
 // What a poll answered: nothing yet, a letter that came out, or neither.
 type Given = Poll<Option<char>>;
@@ -22,11 +22,7 @@ fn seen(polled: Poll<Option<Result<Expired<char>, StreamFault>>>) -> Given {
 
 // Gives out the letters of a paced stream until it gives none, and answers how often it was at work and woken before
 // one.
-fn given(
-    task: &MockTask,
-    stream: &mut PacedStream<'_, char, TickOf<'_>>,
-    out: &mut Vec<char>,
-) -> Result<usize, Fail> {
+fn given(task: &MockTask, stream: &mut PacedStream<'_, char, TickOf<'_>>, out: &mut Vec<char>) -> Result<usize, Fail> {
     let mut works = 0usize;
     for _poll in 0..1000u64 {
         match seen(task.poll(&mut stream.next())) {
