@@ -1,16 +1,7 @@
-//! A lasting queue step by step; its handles; polls in pieces; tasks and streams that wait; a pool of handles;
-//! refused memory.
+//! A lasting queue step by step, as a table of calls, and refused memory.
 
-pub mod handles;
-pub mod numbers;
-pub mod parking;
-pub mod pieces;
 pub mod play;
-pub mod pool;
-pub mod six_places;
 pub mod steps;
-pub mod streams;
-pub mod tasks;
 
 use std::fmt::{Debug, Display};
 

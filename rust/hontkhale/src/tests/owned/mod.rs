@@ -2,4 +2,5 @@
 //! use what the erased tests beside this folder have.
 
 mod apps_checks;
+mod lasting_checks;
 mod stream_checks;

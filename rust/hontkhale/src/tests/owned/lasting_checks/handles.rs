@@ -1,12 +1,12 @@
 //! How many handles a generation has, and where a handle stops that takes the callers of the next one on.
 
-use crate::tests::kit::Fail;
 use super::play::Call::{ByHandle, Clear, Close, Insert, KeepGoing, Remove};
 use super::play::HandleCall::{self, Renew};
-use super::play::{Player, Texts, queue_and_player, short_lived};
+use super::play::{queue_and_player, short_lived, Player, Texts};
 use super::same;
 use crate::core::{CallError, Look};
 use crate::lasting::{HandleError, HandleRenewError, Kept, LastingConfig, LastingQueue};
+use crate::tests::kit::Fail;
 
 const REFUSED: HandleError = HandleError::TooManyHandles { limit: 1_024 };
 
@@ -30,9 +30,7 @@ fn takes_handles(queue: &Texts) -> Result<(), Fail> {
     Ok(())
 }
 
-fn takes_each_generations_handles(
-    queue: &Texts,
-) -> Result<(), Fail> {
+fn takes_each_generations_handles(queue: &Texts) -> Result<(), Fail> {
     for _ in 0..2 {
         takes_handles(queue)?;
         for place in 0..2 {
@@ -91,11 +89,7 @@ fn begins(queue: &Texts, player: &mut Player) {
 }
 
 // The handle knows the new entries below a place, and from there on those of the first generation.
-fn knows_below(
-    queue: &Texts,
-    player: &mut Player,
-    place: usize,
-) -> Result<(), Fail> {
+fn knows_below(queue: &Texts, player: &mut Player, place: usize) -> Result<(), Fail> {
     for at in 0..SHARDS {
         let number = queue.state(at)?.number;
         let (before, now) = if at < place {
@@ -123,12 +117,7 @@ fn goes_on_from(queue: &Texts, player: &mut Player, place: usize) {
     player.plays(queue, &[ByHandle(Renew(Ok(left)))]);
 }
 
-fn stops_at(
-    queue: &Texts,
-    player: &mut Player,
-    place: usize,
-    again: &[usize],
-) -> Result<(), Fail> {
+fn stops_at(queue: &Texts, player: &mut Player, place: usize, again: &[usize]) -> Result<(), Fail> {
     begins(queue, player);
     takes_handles(queue)?;
     for at in 0..SHARDS {

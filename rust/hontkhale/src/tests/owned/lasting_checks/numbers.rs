@@ -1,10 +1,9 @@
 //! The last numbers of a shard: it is opened again exactly where a key can carry its next number.
 
-
-use crate::tests::kit::Fail;
 use super::same;
 use crate::core::{CoreConfig, CoreError};
 use crate::lasting::{LastingShard, ReopenError};
+use crate::tests::kit::Fail;
 use crate::words::numbered_queue;
 
 type Shard = LastingShard<u64>;
@@ -22,11 +21,7 @@ fn closed(number: u32) -> Result<Shard, CoreError> {
 }
 
 // What a shard is once it was to be opened again: its number, and whether it takes entries. Refused, it is as it was.
-fn reopens(
-    number: u32,
-    by: u32,
-    answer: Result<u32, ReopenError>,
-) -> Result<(), CoreError> {
+fn reopens(number: u32, by: u32, answer: Result<u32, ReopenError>) -> Result<(), CoreError> {
     let mut shard = closed(number)?;
     let answered = shard.reopen(by);
     same(number, answered.is_ok(), answer.is_ok());

@@ -1,8 +1,8 @@
 //! A task that polls a shard, and what it sees there.
 
-use crate::tests::kit::{Fail, MockTask};
 use super::play::Texts;
 use crate::lasting::LastingError;
+use crate::tests::kit::{Fail, MockTask};
 use std::task::Poll;
 
 /// What a poll of a task saw.
@@ -20,16 +20,12 @@ pub struct Task {
 
 impl Task {
     pub fn new() -> Result<Task, Fail> {
-        Ok(Task {
-            mock: MockTask::new(),
-        })
+        Ok(Task { mock: MockTask::new() })
     }
 
     /// Polls the shard at a place once.
     pub fn polls(&self, queue: &Texts, place: usize, tick: u64) -> Seen {
-        let polled = self
-            .mock
-            .enter(|cx| queue.poll_or_park(place, tick, cx));
+        let polled = self.mock.enter(|cx| queue.poll_or_park(place, tick, cx));
         match polled {
             Poll::Pending => Seen::Waits,
             Poll::Ready(Ok(expired)) => Seen::Out {

@@ -1,19 +1,16 @@
 //! A task that is parked in a shard: when it is woken, and how often.
 
-use crate::tests::kit::Fail;
 use super::play::Call::{Clear, Close, Insert, KeepGoing, Other, Poll, Remove, Reset, Ring, Tell, Woken};
 use super::play::Told::{Audit, Deadline, LookAnew, Tally, Wake};
 use super::play::{plays, short_lived};
 use super::tasks::Seen::{self, Out, Refused, Waits};
 use crate::core::{CoreError, Look};
 use crate::lasting::{Kept, LastingConfig, LastingError};
+use crate::tests::kit::Fail;
 use crate::ticks::LAST_TICK;
 
 // The entry of tick 5, one tick late.
-const OUT: Seen = Out {
-    deadline: 5,
-    noted: 6,
-};
+const OUT: Seen = Out { deadline: 5, noted: 6 };
 
 const LATE: LastingError = LastingError::Core(CoreError::TickTooLarge { limit: LAST_TICK });
 

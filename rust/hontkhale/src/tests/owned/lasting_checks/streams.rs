@@ -1,14 +1,14 @@
 //! A stream of one place: what it gives, when it waits and is woken, and how it tells its faults.
 
-use crate::tests::kit::{Fail, MockTask, StreamExt};
 use self::Step::{Beside, Gives};
 use super::play::Call::{Close, Insert, KeepGoing, Ring, Woken};
-use super::play::{Call, Player, Texts, queue_and_player};
+use super::play::{queue_and_player, Call, Player, Texts};
 use super::same;
 use crate::lasting::{Kept, LastingConfig, LastingError, LastingStream, StreamFault, TickSource};
+use crate::tests::kit::{Fail, MockTask, StreamExt};
 use crate::ticks::LAST_TICK;
-use std::task::Poll;
 use std::cell::Cell;
+use std::task::Poll;
 
 // Tells the tick that is set.
 struct SetTick<'t>(&'t Cell<u64>);
@@ -58,17 +58,9 @@ struct Watched<'q, 't> {
 }
 
 impl<'q, 't> Watched<'q, 't> {
-    fn new(
-        queue: &'q Texts,
-        place: usize,
-        tick: &'t Cell<u64>,
-    ) -> Result<Watched<'q, 't>, LastingError> {
+    fn new(queue: &'q Texts, place: usize, tick: &'t Cell<u64>) -> Result<Watched<'q, 't>, LastingError> {
         match LastingStream::new(queue, place, SetTick(tick)) {
-            Ok(stream) => Ok(Watched {
-                queue,
-                tick,
-                stream,
-            }),
+            Ok(stream) => Ok(Watched { queue, tick, stream }),
             Err((error, _ticks)) => Err(error),
         }
     }
@@ -80,11 +72,7 @@ impl<'q, 't> Watched<'q, 't> {
                 Beside(call) => player.makes(self.queue, number, call),
                 Gives(tick, seen) => {
                     self.tick.set(tick);
-                    same(
-                        number,
-                        polled(&player.task.mock, &mut self.stream),
-                        seen,
-                    )
+                    same(number, polled(&player.task.mock, &mut self.stream), seen)
                 }
             }
         }
@@ -92,22 +80,14 @@ impl<'q, 't> Watched<'q, 't> {
 }
 
 // A stream of a place, which is dropped when it has done its steps.
-fn streams(
-    queue: &Texts,
-    player: &mut Player,
-    place: usize,
-    steps: &[Step],
-) -> Result<(), LastingError> {
+fn streams(queue: &Texts, player: &mut Player, place: usize, steps: &[Step]) -> Result<(), LastingError> {
     let tick = Cell::new(0);
     Watched::new(queue, place, &tick)?.steps(player, steps);
     Ok(())
 }
 
 // The first stream is of place 0, and isn't dropped before the second one, of place 1.
-fn two_at_once(
-    queue: &Texts,
-    player: &mut Player,
-) -> Result<(), LastingError> {
+fn two_at_once(queue: &Texts, player: &mut Player) -> Result<(), LastingError> {
     let tick = Cell::new(0);
     let mut first = Watched::new(queue, 0, &tick)?;
     first.steps(player, &[Gives(20, Seen::Out(12)), Gives(20, Seen::Waits)]);
@@ -129,11 +109,7 @@ fn gives_what_is_due(queue: &Texts, player: &mut Player) {
         Gives(7, Seen::Out(7)),
         Gives(7, Seen::Waits),
     ];
-    same(
-        "one stream",
-        streams(queue, player, 0, steps),
-        Ok(()),
-    );
+    same("one stream", streams(queue, player, 0, steps), Ok(()));
     same("two streams", two_at_once(queue, player), Ok(()));
 }
 
@@ -182,11 +158,7 @@ fn lasting_stream_waits_and_is_woken() -> Result<(), Fail> {
 // It goes on after a fault, and nothing was noted.
 fn tells_its_faults(queue: &Texts, player: &mut Player) {
     let unknown = Err(LastingError::Unknown);
-    same(
-        "no such place",
-        streams(queue, player, 2, &[]),
-        unknown,
-    );
+    same("no such place", streams(queue, player, 2, &[]), unknown);
     player.plays(queue, &[Insert(0, 5, Ok(0))]);
     let steps = &[
         Gives(LAST_TICK + 1, LATE),

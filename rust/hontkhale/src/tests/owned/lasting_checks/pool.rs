@@ -1,9 +1,9 @@
 //! A pool of handles, which threads take one after the other.
 
-use crate::tests::kit::{Fail, join};
 use super::same;
 use crate::lasting::{HandleError, LastingConfig, LastingHandle, LastingQueue};
 use crate::pool::HandlePool;
+use crate::tests::kit::{join, Fail};
 use crate::ticks::Key;
 
 type Numbers = LastingQueue<Box<u64>>;
@@ -33,18 +33,12 @@ fn inserted(queue: &Numbers, route: u64) -> Result<Key, Fail> {
 // Two threads at a time, each with an entry of its own.
 fn both_extend(pool: &Pool, key: &Key, other: &Key) {
     for when in 10..1_500u64 {
-        let went = join(
-            || extends(pool, key, when),
-            || extends(pool, other, when),
-        );
+        let went = join(|| extends(pool, key, when), || extends(pool, other, when));
         same(when, went, (true, true));
     }
 }
 
-fn two_handles_serve(
-    queue: &Numbers,
-    pool: &Pool,
-) -> Result<(), Fail> {
+fn two_handles_serve(queue: &Numbers, pool: &Pool) -> Result<(), Fail> {
     for _ in 0..2 {
         same("put", puts(pool, queue), Ok(true));
     }
@@ -74,9 +68,7 @@ fn takes_number(pool: &HandlePool<Box<u64>>) -> Option<u64> {
     Some(*pool.take()?)
 }
 
-fn one_place(
-    pool: &HandlePool<Box<u64>>,
-) -> Result<(), Fail> {
+fn one_place(pool: &HandlePool<Box<u64>>) -> Result<(), Fail> {
     let first = Box::new(7);
     same("put", puts_number(pool, first), Ok(()));
     let second = Box::new(8);

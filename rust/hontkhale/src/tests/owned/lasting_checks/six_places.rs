@@ -3,13 +3,9 @@
 use super::play::Call::{self, ByHandle, Close, Insert, KeepGoing, Remove, Sweep, Tell};
 use super::play::HandleCall::Cancel;
 use super::play::Told::{States, Tally};
-use super::play::{Player, Texts, queue_and_player};
-use dq_lasting::{Kept, LastingConfig};
-use std::alloc::AllocGlobal;
-use std::process::Abort;
-use std::random::RandomSource;
-use std::sync::Wait;
-use std::test::Fail;
+use super::play::{queue_and_player, Player, Texts};
+use crate::lasting::{Kept, LastingConfig};
+use crate::tests::kit::Fail;
 
 const SHARDS: usize = 6;
 
@@ -21,37 +17,33 @@ const SIX: LastingConfig = LastingConfig {
 };
 
 // Two entries at each place in turn, so that the entries 2p and 2p + 1 are at place p.
-fn two_at_each<R: Abort + Wait>(rt: &R, queue: &Texts, player: &mut Player) {
+fn two_at_each(queue: &Texts, player: &mut Player) {
     for place in 0..SHARDS as u32 {
         let at = Insert(u64::from(place), 5, Ok(place));
-        player.plays(rt, queue, &[at, at]);
+        player.plays(queue, &[at, at]);
     }
 }
 
-fn six<R: Abort + Wait + RandomSource + AllocGlobal>(rt: &R) -> Result<(Texts, Player), Fail> {
-    let (queue, mut player) = queue_and_player(rt, SIX)?;
-    two_at_each(rt, &queue, &mut player);
+fn six() -> Result<(Texts, Player), Fail> {
+    let (queue, mut player) = queue_and_player(SIX)?;
+    two_at_each(&queue, &mut player);
     Ok((queue, player))
 }
 
 // An entry of each route goes to its own place, once more after an insert and after a step that found nothing due.
 #[test]
-fn each_of_six_places_takes_entries_again(rt: HostRuntime) -> Result<(), Fail> {
-    let (queue, mut player) = six(&rt)?;
-    player.plays(
-        &rt,
-        &queue,
-        &[Tell(States([(2, 0, true); SHARDS])), KeepGoing(Kept::Fine)],
-    );
-    two_at_each(&rt, &queue, &mut player);
-    player.plays(&rt, &queue, &[Tell(States([(4, 0, true); SHARDS]))]);
+fn each_of_six_places_takes_entries_again() -> Result<(), Fail> {
+    let (queue, mut player) = six()?;
+    player.plays(&queue, &[Tell(States([(2, 0, true); SHARDS])), KeepGoing(Kept::Fine)]);
+    two_at_each(&queue, &mut player);
+    player.plays(&queue, &[Tell(States([(4, 0, true); SHARDS]))]);
     Ok(())
 }
 
 // Of three shards that are worn by half one is closed by a step, and the others still take entries.
 #[test]
-fn one_of_three_worn_shards_is_closed(rt: HostRuntime) -> Result<(), Fail> {
-    let (queue, mut player) = six(&rt)?;
+fn one_of_three_worn_shards_is_closed() -> Result<(), Fail> {
+    let (queue, mut player) = six()?;
     let calls: &[Call] = &[
         Insert(1, 5, Ok(1)),
         Insert(3, 5, Ok(3)),
@@ -74,33 +66,26 @@ fn one_of_three_worn_shards_is_closed(rt: HostRuntime) -> Result<(), Fail> {
         Insert(3, 5, Ok(3)),
         Insert(5, 5, Ok(5)),
     ];
-    player.plays(&rt, &queue, calls);
+    player.plays(&queue, calls);
     Ok(())
 }
 
 // A sweep of a place, and a step of one that is closed, reap what was cancelled there and leave it at the others.
 #[test]
-fn the_place_alone_is_swept(rt: HostRuntime) -> Result<(), Fail> {
+fn the_place_alone_is_swept() -> Result<(), Fail> {
     for place in 0..SHARDS {
-        let (queue, mut player) = six(&rt)?;
+        let (queue, mut player) = six()?;
         for entry in 0..SHARDS {
-            player.plays(&rt, &queue, &[ByHandle(Cancel(2 * entry, Ok(5)))]);
+            player.plays(&queue, &[ByHandle(Cancel(2 * entry, Ok(5)))]);
         }
         let next = (place + 1) % SHARDS;
-        let drains = Kept::Drains {
-            place: next,
-            linked: 1,
-        };
+        let drains = Kept::Drains { place: next, linked: 1 };
         let mut states = [(2, 0, true); SHARDS];
         states[place] = (1, 1, true);
-        player.plays(&rt, &queue, &[Sweep(place, 1), Tell(States(states))]);
+        player.plays(&queue, &[Sweep(place, 1), Tell(States(states))]);
         states[next] = (1, 1, false);
-        player.plays(
-            &rt,
-            &queue,
-            &[Close(next), KeepGoing(drains), Tell(States(states))],
-        );
-        player.plays(&rt, &queue, &[Tell(Tally(next, (0, 0, 0), (2, 1)))]);
+        player.plays(&queue, &[Close(next), KeepGoing(drains), Tell(States(states))]);
+        player.plays(&queue, &[Tell(Tally(next, (0, 0, 0), (2, 1)))]);
     }
     Ok(())
 }

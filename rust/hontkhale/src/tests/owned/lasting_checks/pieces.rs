@@ -1,9 +1,9 @@
 //! Polls in pieces are refused as whole polls are.
 
-use crate::tests::kit::Fail;
 use super::same;
 use crate::core::{CoreError, Piece, Turn};
 use crate::lasting::{LastingConfig, LastingError, LastingQueue};
+use crate::tests::kit::Fail;
 use crate::ticks::LAST_TICK;
 
 type Numbers = LastingQueue<Box<u64>>;
