@@ -3,4 +3,5 @@
 
 mod apps_checks;
 mod lasting_checks;
+mod shard_checks;
 mod stream_checks;

@@ -1,17 +1,12 @@
 pub mod calls;
 pub mod cases;
-pub mod draining;
-pub mod each_shard;
 pub mod handles;
 pub mod keys;
-pub mod many;
 pub mod pieces;
 pub mod play;
 pub mod rows;
 pub mod shards;
 pub mod swapped;
-pub mod sweeping;
-pub mod threads;
 pub mod twins;
 
 use std::fmt::{Debug, Display};

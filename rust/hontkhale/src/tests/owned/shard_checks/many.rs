@@ -1,9 +1,9 @@
 //! Many entries come out by one call by name.
 
-use crate::tests::kit::Fail;
 use super::same;
 use crate::core::Expired;
 use crate::shards::{QueueConfig, QueueError, SharedDelayQueue};
+use crate::tests::kit::Fail;
 use crate::words::ManyTurn;
 
 type Numbers = SharedDelayQueue<u64>;
@@ -33,28 +33,14 @@ fn polls(
 fn many_outs_by_name() -> Result<(), Fail> {
     let queue = Numbers::new(QueueConfig::of(2, 128))?;
     for number in 1..101u64 {
-        same(
-            number,
-            queue.insert(1, number, number).is_ok(),
-            true,
-        );
+        same(number, queue.insert(1, number, number).is_ok(), true);
     }
     let mut row = Vec::with_capacity(64);
     let more = Ok(ManyTurn::More);
     let waiting = Ok(ManyTurn::Waiting { next: 91 });
-    polls(
-        &queue,
-        &mut row,
-        (2, 90),
-        (Err(QueueError::Unknown), (0, 0)),
-    );
+    polls(&queue, &mut row, (2, 90), (Err(QueueError::Unknown), (0, 0)));
     polls(&queue, &mut row, (1, 90), (more, (64, 2_080)));
     polls(&queue, &mut row, (1, 90), (waiting, (26, 2_015)));
-    polls(
-        &queue,
-        &mut row,
-        (1, 200),
-        (Ok(ManyTurn::Idle), (10, 955)),
-    );
+    polls(&queue, &mut row, (1, 200), (Ok(ManyTurn::Idle), (10, 955)));
     Ok(())
 }

@@ -1,10 +1,10 @@
 //! Each of 64 shards is its own.
 
-use crate::tests::kit::Fail;
 use super::calls::{ends, polls};
 use super::same;
 use crate::core::Look;
 use crate::shards::{Handle, QueueConfig, QueueError, SharedDelayQueue, Totals};
+use crate::tests::kit::Fail;
 use crate::ticks::Key;
 
 type Numbers = SharedDelayQueue<usize>;
@@ -17,50 +17,28 @@ fn first_deadline(shard: usize) -> u64 {
 }
 
 fn is_filed(queue: &Numbers, shard: usize, key: &Key, when: u64) {
-    let seen = queue.lend(
-        shard,
-        |state| (state.shard() as usize, state.filed(&key.entry())),
-    );
+    let seen = queue.lend(shard, |state| (state.shard() as usize, state.filed(&key.entry())));
     same(shard, seen, Ok((shard, Some(when))));
 }
 
-fn is_extended(
-    queue: &Numbers,
-    handle: &mut Handle,
-    key: &Key,
-    when: u64,
-) {
+fn is_extended(queue: &Numbers, handle: &mut Handle, key: &Key, when: u64) {
     same("extend", handle.extend(key, when), Ok(when));
     same("deadline", queue.deadline(&key.entry()), Ok(when));
 }
 
-fn is_reset(
-    queue: &Numbers,
-    handle: &mut Handle,
-    key: &Key,
-    when: u64,
-) -> Result<Key, QueueError> {
+fn is_reset(queue: &Numbers, handle: &mut Handle, key: &Key, when: u64) -> Result<Key, QueueError> {
     let key = queue.reset(&key.entry(), when)?;
     same("look", handle.look(&key), Ok(Look::StillLive(when)));
     Ok(key)
 }
 
 fn comes_out(queue: &Numbers, shard: usize, key: Key, when: u64) {
-    polls(
-        queue,
-        (shard, when),
-        Ok((Some((key, shard, when)), None)),
-    );
+    polls(queue, (shard, when), Ok((Some((key, shard, when)), None)));
     polls(queue, (shard, when), Ok((None, None)));
 }
 
 // Each call that names a shard reaches the one entry of that shard.
-fn reaches_its_own(
-    queue: &Numbers,
-    handle: &mut Handle,
-    shard: usize,
-    key: Key,
-) -> Result<(), QueueError> {
+fn reaches_its_own(queue: &Numbers, handle: &mut Handle, shard: usize, key: Key) -> Result<(), QueueError> {
     let when = first_deadline(shard);
     let (extended, reset) = (when.saturating_add(100), when.saturating_add(200));
     same("shard", key.entry().shard() as usize, shard);
@@ -75,11 +53,7 @@ fn reaches_its_own(
     Ok(())
 }
 
-fn fill_and_reach(
-    queue: &Numbers,
-    handle: &mut Handle,
-    keys: &mut Vec<Key>,
-) -> Result<(), Fail> {
+fn fill_and_reach(queue: &Numbers, handle: &mut Handle, keys: &mut Vec<Key>) -> Result<(), Fail> {
     for shard in 0..SHARDS {
         keys.push(queue.insert_or_drop(shard as u64, shard, first_deadline(shard))?);
     }
@@ -89,10 +63,7 @@ fn fill_and_reach(
     Ok(())
 }
 
-fn are_their_own(
-    queue: &Numbers,
-    keys: &mut Vec<Key>,
-) -> Result<(), Fail> {
+fn are_their_own(queue: &Numbers, keys: &mut Vec<Key>) -> Result<(), Fail> {
     let mut handle = queue.handle()?;
     fill_and_reach(queue, &mut handle, keys)?;
     let totals = Totals {

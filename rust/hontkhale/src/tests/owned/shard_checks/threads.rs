@@ -1,8 +1,8 @@
 //! Two threads insert into two shards.
 
-use crate::tests::kit::{Fail, join};
 use super::same;
 use crate::shards::{QueueConfig, QueueError, SharedDelayQueue};
+use crate::tests::kit::{join, Fail};
 
 const ENTRIES: u64 = 100;
 

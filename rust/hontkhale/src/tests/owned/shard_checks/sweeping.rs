@@ -1,31 +1,22 @@
 //! Cancelled entries are reaped a piece of a shard at a time, or one by its name: their values are dropped, and their
 //! slots are free at once.
 
-use crate::tests::kit::{Fail, HeapBox, LocalHeap};
 use super::calls::ends;
 use super::same;
 use crate::core::{CoreError, ReapError, Swept};
 use crate::shards::{Handle, QueueConfig, QueueError, SharedDelayQueue, Totals};
+use crate::tests::kit::{Fail, HeapBox, LocalHeap};
 use crate::ticks::{EntryId, Key};
 
 type Boxes<'heap> = SharedDelayQueue<HeapBox<'heap, u64>>;
 
 // Puts a box into shard 1, which may be full.
-fn put<'heap>(
-    queue: &Boxes<'heap>,
-    heap: &'heap LocalHeap,
-    value: u64,
-) -> Result<Result<Key, QueueError>, Fail> {
+fn put<'heap>(queue: &Boxes<'heap>, heap: &'heap LocalHeap, value: u64) -> Result<Result<Key, QueueError>, Fail> {
     Ok(queue.insert_or_drop(1, HeapBox::new(heap, value), 100 + value % 8))
 }
 
 // Shard 1 has so many entries linked, and takes no box more.
-fn is_full<'heap>(
-    queue: &Boxes<'heap>,
-    heap: &'heap LocalHeap,
-    value: u64,
-    linked: usize,
-) -> Result<(), Fail> {
+fn is_full<'heap>(queue: &Boxes<'heap>, heap: &'heap LocalHeap, value: u64, linked: usize) -> Result<(), Fail> {
     let full = QueueError::Core(CoreError::Full { linked, worn: 0 });
     same(value, put(queue, heap, value)?, Err(full));
     Ok(())
@@ -63,19 +54,11 @@ fn sweep_pieces(queue: &Boxes) {
     for (from, count, reaped, next) in PIECES {
         let swept = queue.sweep_some(1, *from, *count);
         let (reaped, next) = (*reaped, *next);
-        same(
-            *from,
-            (*count, swept),
-            (*count, Ok(Swept { reaped, next })),
-        );
+        same(*from, (*count, swept), (*count, Ok(Swept { reaped, next })));
     }
 }
 
-fn sweeps_in_pieces<'heap>(
-    queue: &Boxes<'heap>,
-    heap: &'heap LocalHeap,
-    handle: &mut Handle,
-) -> Result<Key, Fail> {
+fn sweeps_in_pieces<'heap>(queue: &Boxes<'heap>, heap: &'heap LocalHeap, handle: &mut Handle) -> Result<Key, Fail> {
     let live = fill_and_cancel(queue, heap, handle)?;
     let of_four = heap.used();
     is_full(queue, heap, 4, 4)?;
@@ -93,10 +76,7 @@ fn sweeps_in_pieces<'heap>(
     Ok(key)
 }
 
-fn sweeps_beside_a_handle<'heap>(
-    queue: &Boxes<'heap>,
-    heap: &'heap LocalHeap,
-) -> Result<(), Fail> {
+fn sweeps_beside_a_handle<'heap>(queue: &Boxes<'heap>, heap: &'heap LocalHeap) -> Result<(), Fail> {
     let mut handle = queue.handle()?;
     let key = sweeps_in_pieces(queue, heap, &mut handle)?;
     same("look", handle.look(&key).is_ok(), true);
@@ -153,11 +133,7 @@ fn is_reaped_once_cancelled<'heap>(
 }
 
 // The slot of that entry is used again, and no other name reaches the next entry.
-fn names_nothing_more<'heap>(
-    queue: &Boxes<'heap>,
-    heap: &'heap LocalHeap,
-    entry: EntryId,
-) -> Result<(), Fail> {
+fn names_nothing_more<'heap>(queue: &Boxes<'heap>, heap: &'heap LocalHeap, entry: EntryId) -> Result<(), Fail> {
     let next = put(queue, heap, 3)??;
     same("insert", (next.entry().index(), next.stamp()), (0, 2));
     for named in &[entry, EntryId::new(0, 0, 2), EntryId::new(1, 1, 2)] {
@@ -169,10 +145,7 @@ fn names_nothing_more<'heap>(
     Ok(())
 }
 
-fn reaps_beside_a_handle<'heap>(
-    queue: &Boxes<'heap>,
-    heap: &'heap LocalHeap,
-) -> Result<(), Fail> {
+fn reaps_beside_a_handle<'heap>(queue: &Boxes<'heap>, heap: &'heap LocalHeap) -> Result<(), Fail> {
     let mut handle = queue.handle()?;
     let entry = is_reaped_once_cancelled(queue, heap, &mut handle)?;
     names_nothing_more(queue, heap, entry)?;

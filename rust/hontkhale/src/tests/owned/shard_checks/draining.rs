@@ -2,11 +2,9 @@
 
 use super::calls::polls;
 use super::same;
-use dq_core::Turn;
-use dq_shards::{QueueConfig, ShardState, SharedDelayQueue};
-use std::process::Abort;
-use std::sync::Wait;
-use std::test::Fail;
+use crate::core::Turn;
+use crate::shards::{QueueConfig, ShardState, SharedDelayQueue};
+use crate::tests::kit::Fail;
 
 // Polls until nothing is due, and answers how many came out and what their values add up to. Each value is its
 // entry's deadline, and no deadline is before the last one.
@@ -29,35 +27,27 @@ fn drain(state: &mut ShardState<u64>, tick: u64) -> Option<(usize, u64)> {
 type Numbers = SharedDelayQueue<u64>;
 
 // So many of shard 1 come out up to a tick, and their values add up.
-fn are_drained<R: Abort + Wait>(rt: &R, queue: &Numbers, tick: u64, answer: (usize, u64)) {
-    let drained = queue.lend(rt, 1, |state| drain(state, tick));
-    same(rt, tick, drained, Ok(Some(answer)));
+fn are_drained(queue: &Numbers, tick: u64, answer: (usize, u64)) {
+    let drained = queue.lend(1, |state| drain(state, tick));
+    same(tick, drained, Ok(Some(answer)));
 }
 
-fn come_out<R: Abort + Wait>(rt: &R, queue: &Numbers) {
+fn come_out(queue: &Numbers) {
     for number in 1..101u64 {
         // 101 is a prime, so these are the deadlines from 1 to 100 in another order.
         let deadline = number * 37 % 101;
-        same(
-            rt,
-            number,
-            queue.insert(rt, 1, deadline, deadline).is_ok(),
-            true,
-        );
+        same(number, queue.insert(1, deadline, deadline).is_ok(), true);
     }
-    are_drained(rt, queue, 60, (60, 1830));
-    polls(rt, queue, (1, 60), Ok((None, Some(61))));
-    are_drained(rt, queue, 200, (40, 3220));
-    polls(rt, queue, (1, 200), Ok((None, None)));
+    are_drained(queue, 60, (60, 1830));
+    polls(queue, (1, 60), Ok((None, Some(61))));
+    are_drained(queue, 200, (40, 3220));
+    polls(queue, (1, 200), Ok((None, None)));
 }
 
 // Fails where `lend` lends the state of another shard (lend_of_another_shard), since the entries are inserted by
 // name.
 #[test]
-fn many_outs_under_one_lock(rt: HostRuntime) -> Result<(), Fail> {
-    come_out(
-        &rt,
-        &SharedDelayQueue::new(rt.alloc(), QueueConfig::of(2, 128))?,
-    );
+fn many_outs_under_one_lock() -> Result<(), Fail> {
+    come_out(&SharedDelayQueue::new(QueueConfig::of(2, 128))?);
     Ok(())
 }
