@@ -1,17 +1,12 @@
 //! The worked cases of the queue over plain words and over shared ones, of its parts and of shared words alone;
-//! limits; threads; refused memory, and calls where no memory is left.
+//! limits; what is sent to a thread; refused memory, and calls where no memory is left.
 
 pub mod cases;
-pub mod entries;
 pub mod front;
-pub mod letting_go;
 pub mod limits;
-pub mod peeks;
 pub mod plain_queue;
 pub mod plain_words;
 pub mod queues;
-pub mod race;
-pub mod renewals;
 pub mod sent;
 pub mod slots;
 pub mod step;

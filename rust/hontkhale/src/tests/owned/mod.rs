@@ -2,6 +2,7 @@
 //! use what the erased tests beside this folder have.
 
 mod apps_checks;
+mod checks;
 mod lasting_checks;
 mod shard_checks;
 mod stream_checks;

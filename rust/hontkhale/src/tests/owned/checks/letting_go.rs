@@ -1,9 +1,9 @@
 //! What a queue of one owner does with a value that it lets go: it drops it before the call returns, or sets it
 //! aside.
 
-use crate::tests::kit::{Fail, HeapBox, LocalHeap};
 use super::same;
 use crate::core::{DelayCore, VecWords};
+use crate::tests::kit::{Fail, HeapBox, LocalHeap};
 
 type Boxes<'heap> = DelayCore<HeapBox<'heap, u64>, VecWords>;
 
@@ -16,10 +16,7 @@ fn put<'heap>(queue: &mut Boxes<'heap>, heap: &'heap LocalHeap) -> Result<usize,
     Ok(one)
 }
 
-fn drops_at_once<'heap>(
-    queue: &mut Boxes<'heap>,
-    heap: &'heap LocalHeap,
-) -> Result<(), Fail> {
+fn drops_at_once<'heap>(queue: &mut Boxes<'heap>, heap: &'heap LocalHeap) -> Result<(), Fail> {
     let one = put(queue, heap)?;
     same("sweep", (queue.sweep(), heap.used()), (1, one));
     same("clear", (queue.clear(), heap.used()), (1, 0));
@@ -27,10 +24,7 @@ fn drops_at_once<'heap>(
 }
 
 // What is set aside is no entry any more, and has its memory until it is taken out.
-fn sets_aside<'heap>(
-    queue: &mut Boxes<'heap>,
-    heap: &'heap LocalHeap,
-) -> Result<(), Fail> {
+fn sets_aside<'heap>(queue: &mut Boxes<'heap>, heap: &'heap LocalHeap) -> Result<(), Fail> {
     queue.set_aside();
     let one = put(queue, heap)?;
     let both = heap.used();

@@ -1,8 +1,9 @@
-// A caller that extends, a caller that cancels and the keeper's own queue, each in a thread of its own.
-use crate::tests::kit::{Fail, join};
+//! A caller that extends, a caller that cancels and the keeper's own queue, each in a thread of its own.
+
 use super::queues::{issued, over_shared};
 use super::same;
 use crate::core::{CoreError, DelayCore, Turn};
+use crate::tests::kit::{join, Fail};
 use crate::ticks::{Key, LAST_STAMP};
 use crate::words::{Caller, Keeper};
 
@@ -52,8 +53,7 @@ fn poll_all(core: &mut Core) -> Option<Answers> {
 
 // The key of a new entry of a deadline, which is its value too.
 fn insert_at(core: &mut Core, deadline: usize) -> Result<Key, CoreError> {
-    core.insert(deadline, deadline as u64)
-        .map_err(|refused| refused.0)
+    core.insert(deadline, deadline as u64).map_err(|refused| refused.0)
 }
 
 // An entry at each deadline from 1 to 200, and their keys in that order.
@@ -70,16 +70,8 @@ fn fill(core: &mut Core, keys: &mut Vec<Key>) -> Result<(), Fail> {
 fn agree(extended: &Answers, cancelled: &Answers, expired: &Answers) {
     for deadline in 1..=ENTRIES {
         let own = deadline as u64;
-        let due = if extended[deadline] > 0 {
-            own + 1000
-        } else {
-            own
-        };
-        let answers = if cancelled[deadline] > 0 {
-            (0, due)
-        } else {
-            (due, 0)
-        };
+        let due = if extended[deadline] > 0 { own + 1000 } else { own };
+        let answers = if cancelled[deadline] > 0 { (0, due) } else { (due, 0) };
         let told = (expired[deadline], cancelled[deadline]);
         same(deadline, told, answers);
     }
@@ -106,23 +98,13 @@ fn race(
     keys: &[Key],
 ) -> ((Answers, Answers), Option<Answers>) {
     join(
-        || {
-            join(
-                || extend_even(extender, keys),
-                || cancel_fifths(canceller, keys),
-            )
-        },
+        || join(|| extend_even(extender, keys), || cancel_fifths(canceller, keys)),
         || poll_all(core),
     )
 }
 
 // The three threads meet, and what they answer agrees: the number of cancels.
-fn meet(
-    core: &mut Core,
-    extender: &mut Caller,
-    canceller: &mut Caller,
-    keys: &[Key],
-) -> u64 {
+fn meet(core: &mut Core, extender: &mut Caller, canceller: &mut Caller, keys: &[Key]) -> u64 {
     let ((extended, cancelled), expired) = race(core, extender, canceller, keys);
     let Some(expired) = expired else {
         panic!("the polls came to no end, or an entry came out before its deadline")
@@ -136,11 +118,7 @@ fn ends(extender: Caller, canceller: Caller) -> (u64, u64) {
 }
 
 // The queue is filled and the three threads meet: the number of cancels.
-fn contest(
-    core: &mut Core,
-    extender: &mut Caller,
-    canceller: &mut Caller,
-) -> Result<u64, Fail> {
+fn contest(core: &mut Core, extender: &mut Caller, canceller: &mut Caller) -> Result<u64, Fail> {
     let mut keys = Vec::with_capacity(ENTRIES);
     fill(core, &mut keys)?;
     Ok(meet(core, extender, canceller, &keys))

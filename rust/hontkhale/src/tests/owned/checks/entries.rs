@@ -1,8 +1,8 @@
 //! The live entries of a queue over plain words, one after the other, and the value of one of them.
 
-use crate::tests::kit::Fail;
 use super::same;
 use crate::core::{CoreConfig, DelayCore, VecWords};
+use crate::tests::kit::Fail;
 use crate::ticks::{EntryId, Key};
 
 type Queue = DelayCore<String, VecWords>;

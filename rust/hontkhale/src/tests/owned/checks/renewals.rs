@@ -1,20 +1,16 @@
 //! A queue that is renewed over fresh words: what a key and a caller from before reach then.
 
-
-
-
-use crate::tests::kit::Fail;
 use super::queues::issued;
 use super::same;
 use crate::core::{CallError, CoreConfig, CoreError, DelayCore, Look, RenewError, VecWords, Words};
+use crate::tests::kit::Fail;
 use crate::ticks::{Key, LAST_STAMP};
 use crate::words::{Caller, Keeper};
 
 // Words of which there are always more.
 trait Anew: Words + Sized {
     /// A row that was never used.
-    fn anew(rows: usize) -> Result<Self, Fail>
-        ;
+    fn anew(rows: usize) -> Result<Self, Fail>;
 }
 
 impl Anew for VecWords {
@@ -30,10 +26,7 @@ impl Anew for Keeper {
 }
 
 // A queue of texts under the number 0.
-fn queue<W: Anew>(
-    capacity: usize,
-    last_stamp: u32,
-) -> Result<DelayCore<String, W>, Fail> {
+fn queue<W: Anew>(capacity: usize, last_stamp: u32) -> Result<DelayCore<String, W>, Fail> {
     let config = CoreConfig {
         shard: 0,
         capacity,
@@ -94,10 +87,7 @@ fn taken_out<W: Anew>(queue: &mut DelayCore<String, W>, key: &Key) -> Result<Key
 }
 
 // An entry is taken out, the queue is renewed under the number, and an entry comes after it: the keys of both.
-fn followed<W: Anew>(
-    queue: &mut DelayCore<String, W>,
-    number: u32,
-) -> Result<(Key, Key), Fail> {
+fn followed<W: Anew>(queue: &mut DelayCore<String, W>, number: u32) -> Result<(Key, Key), Fail> {
     let old = queue.insert_or_drop(format!("old"), 5)?;
     same("remove", taken_out(queue, &old)?, old);
     renews(queue, (number, 1), Ok(()))?;
@@ -114,9 +104,7 @@ fn is_unknown_to_all(queue: &mut DelayCore<String, VecWords>, key: &Key) {
 }
 
 // A key from before a renewal, while another entry has its slot and its stamp.
-fn old_key_is_unknown(
-    queue: &mut DelayCore<String, VecWords>,
-) -> Result<(), Fail> {
+fn old_key_is_unknown(queue: &mut DelayCore<String, VecWords>) -> Result<(), Fail> {
     let (old, new) = followed(queue, 3)?;
     same(
         "slot and stamp",
@@ -136,22 +124,11 @@ fn old_keys_never_reach_a_new_entry() -> Result<(), Fail> {
 }
 
 // A caller from before a renewal stays at the words from before, and the queue's new entry doesn't feel it.
-fn old_caller_stays(
-    queue: &mut DelayCore<String, Keeper>,
-    caller: &mut Caller,
-) -> Result<(), Fail> {
+fn old_caller_stays(queue: &mut DelayCore<String, Keeper>, caller: &mut Caller) -> Result<(), Fail> {
     let (_old, new) = followed(queue, 1)?;
     let how = Look::LookRemoved(5);
-    same(
-        "cancel",
-        caller.cancel(&new),
-        Err(CallError::Ended { how }),
-    );
-    same(
-        "extend",
-        caller.extend(&new, 90),
-        Err(CallError::Ended { how }),
-    );
+    same("cancel", caller.cancel(&new), Err(CallError::Ended { how }));
+    same("extend", caller.extend(&new, 90), Err(CallError::Ended { how }));
     same("deadline", queue.deadline(&new.entry()), Ok(6));
     Ok(())
 }

@@ -2,11 +2,9 @@
 
 use super::queues::plain;
 use super::same;
-use dq_core::{CoreError, DelayCore, Look, Piece, Turn, VecWords};
-use dq_ticks::{Key, LAST_STAMP};
-use std::alloc::Global;
-use std::process::Abort;
-use std::test::Fail;
+use crate::core::{CoreError, DelayCore, Look, Piece, Turn, VecWords};
+use crate::tests::kit::Fail;
+use crate::ticks::{Key, LAST_STAMP};
 
 type Core = DelayCore<char, VecWords>;
 
@@ -28,9 +26,7 @@ fn least_live(core: &Core) -> Option<Key> {
 fn comes_next(core: &Core) -> Option<Key> {
     let named = core.peek()?;
     match core.look(&named) {
-        Ok(Look::StillLive(deadline)) if core.filed(&named.entry()) == Some(deadline) => Some(
-            named,
-        ),
+        Ok(Look::StillLive(deadline)) if core.filed(&named.entry()) == Some(deadline) => Some(named),
         _ => least_live(core),
     }
 }
@@ -44,56 +40,56 @@ fn gives(core: &mut Core, tick: u64) -> Result<Option<Key>, CoreError> {
 }
 
 // Two entries of the slot that starts at 4,096, where the wheel has the later one first.
-fn opens_a_slot(rt: &impl Abort, core: &mut Core) -> Result<(), Fail> {
+fn opens_a_slot(core: &mut Core) -> Result<(), Fail> {
     let late = core.insert_or_drop('l', 8_000)?;
     let early = core.insert_or_drop('e', 4_100)?;
-    same(rt, "the piece that opens it", gives(core, 4_096), Ok(None));
-    same(rt, "peek", core.peek(), Some(late));
-    same(rt, "filed", core.filed(&late.entry()), Some(4_096));
+    same("the piece that opens it", gives(core, 4_096), Ok(None));
+    same("peek", core.peek(), Some(late));
+    same("filed", core.filed(&late.entry()), Some(4_096));
     for _piece in 0..3 {
-        same(rt, "next", comes_next(core), Some(early));
-        same(rt, "a piece within it", gives(core, 4_096), Ok(None));
+        same("next", comes_next(core), Some(early));
+        same("a piece within it", gives(core, 4_096), Ok(None));
     }
-    same(rt, "peek at its deadline", core.peek(), Some(early));
-    same(rt, "arrival", gives(core, 4_100), Ok(None));
-    same(rt, "out", gives(core, 4_100), Ok(Some(early)));
+    same("peek at its deadline", core.peek(), Some(early));
+    same("arrival", gives(core, 4_100), Ok(None));
+    same("out", gives(core, 4_100), Ok(Some(early)));
     Ok(())
 }
 
 #[test]
-fn peek_within_an_open_slot(rt: HostRuntime) -> Result<(), Fail> {
-    let mut queue = plain(rt.alloc(), 2, LAST_STAMP)?;
-    opens_a_slot(&rt, &mut queue.core)
+fn peek_within_an_open_slot() -> Result<(), Fail> {
+    let mut queue = plain(2, LAST_STAMP)?;
+    opens_a_slot(&mut queue.core)
 }
 
 // Puts one entry in for each deadline, and answers their keys.
-fn inserted(alloc: Global, core: &mut Core, deadlines: &[u64]) -> Result<Vec<Key>, Fail> {
-    let mut keys = Vec::new(alloc);
+fn inserted(core: &mut Core, deadlines: &[u64]) -> Result<Vec<Key>, Fail> {
+    let mut keys = Vec::new();
     for deadline in deadlines {
         let key = core.insert_or_drop('e', *deadline)?;
-        keys.push(key)?;
+        keys.push(key);
     }
     Ok(keys)
 }
 
 // Before each piece what comes next is known: the last of the keys, until it comes out.
-fn goes_by_pieces(rt: &impl Abort, core: &mut Core, keys: &mut Vec<Key>) {
+fn goes_by_pieces(core: &mut Core, keys: &mut Vec<Key>) {
     for _piece in 0..100 {
         let next = comes_next(core);
-        same(rt, "next", next, keys.last().copied());
+        same("next", next, keys.last().copied());
         match gives(core, 9_000) {
-            Ok(Some(out)) => same(rt, "out", Some(out), keys.pop()),
-            other => same(rt, "no refusal", other, Ok(None)),
+            Ok(Some(out)) => same("out", Some(out), keys.pop()),
+            other => same("no refusal", other, Ok(None)),
         }
     }
-    same(rt, "all came out", keys.len(), 0);
+    same("all came out", keys.len(), 0);
 }
 
 #[test]
-fn what_comes_next_is_known_before_each_piece(rt: HostRuntime) -> Result<(), Fail> {
-    let mut queue = plain(rt.alloc(), 9, LAST_STAMP)?;
+fn what_comes_next_is_known_before_each_piece() -> Result<(), Fail> {
+    let mut queue = plain(9, LAST_STAMP)?;
     let falling = [8_300, 8_191, 8_000, 5_000, 4_200, 4_127, 4_100, 70, 3];
-    let mut keys = inserted(rt.alloc(), &mut queue.core, &falling)?;
-    goes_by_pieces(&rt, &mut queue.core, &mut keys);
+    let mut keys = inserted(&mut queue.core, &falling)?;
+    goes_by_pieces(&mut queue.core, &mut keys);
     Ok(())
 }
