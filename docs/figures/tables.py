@@ -91,10 +91,11 @@ FROM_TESTS = {
     "drawn-calls": drawn_calls,
     "cache-calls": lambda: drawn_calls() // tree.found("rust/hontkhale/tests/slow/cache_calls.rs", r"calls\(\) / (\d+)")[0],
     "plain-tests": lambda: len(tree.plain_test_names()),
+    "owned-tests": lambda: len(tree.plain_test_names([tree.OWNED])),
     "read-faults": lambda: text_bytes(["delay 1", *table(SCRIPTS, "const THREE_NAMES")[0]]) + 1,
     "write-faults": lambda: text_bytes(table(SCRIPTS, "const THREE_NAMES")[1]),
     "refused-ends": lambda: len(table(REFUSED, r"fn refused_memory\b")[0]) + 2 * len(table(SCRIPTS, "const EVERY_COMMAND")[0]),
-    "racing-entries": lambda: tree.found("crates/dq_checks/src/tests/race.rt", r"const ENTRIES: usize = (\d+)")[0],
+    "racing-entries": lambda: tree.found("rust/hontkhale/src/tests/owned/checks/race.rs", r"const ENTRIES: usize = (\d+)")[0],
 }
 
 FIGURES = {

@@ -7,8 +7,9 @@ import re
 
 TOP = pathlib.Path(__file__).resolve().parents[2]
 CRATES = TOP / "crates"
-# The tests in plain Rust that have no source in crates/: each file's folder.
-PLAIN = [TOP / "rust" / "hontkhale" / "tests" / it for it in ("slow", "hostile", "generations")]
+# The tests in plain Rust that have no source in crates/: each file's folder. Those of the first were erased once.
+OWNED = TOP / "rust" / "hontkhale" / "src" / "tests" / "owned"
+PLAIN = [OWNED, *(TOP / "rust" / "hontkhale" / "tests" / it for it in ("slow", "hostile", "generations"))]
 
 # Crates whose code no user runs: what an automatic look at them can't tell.
 ROLES = {"dq_load": "bench", "refusing_heap": "tests", "draws": "tests"}
@@ -215,9 +216,9 @@ def tests(which="all"):
     return sum(it.test_count() for it in some(which))
 
 
-def plain_test_names():
+def plain_test_names(folders=PLAIN):
     """The tests in plain Rust that PROMISES.md names."""
-    return [name for folder in PLAIN for it in files(folder, ".rs") for name in TEST.findall(text_of(it))]
+    return [name for folder in folders for it in files(folder, ".rs") for name in TEST.findall(text_of(it))]
 
 
 @functools.lru_cache(maxsize=None)

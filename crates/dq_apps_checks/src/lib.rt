@@ -1,19 +1,15 @@
-//! Tests of the expiring cache and of idle sessions: the worked rows, refused memory, and touches from another
-//! thread. They stand in a crate of their own, so that the two are proved once.
+//! Tests of the expiring cache and of idle sessions: the worked rows, and refused memory. They stand in a crate of
+//! their own, so that the two are proved once.
 #![tactic(auto)]
 
 #[cfg(test)]
 mod calls;
 #[cfg(test)]
-mod many;
-#[cfg(test)]
-mod memo;
+mod memo_memory;
 #[cfg(test)]
 mod memory;
 #[cfg(test)]
-mod once;
-#[cfg(test)]
-mod refresh;
+mod refresh_memory;
 #[cfg(test)]
 mod refusing;
 #[cfg(test)]
@@ -22,8 +18,6 @@ mod rows;
 mod sessions;
 #[cfg(test)]
 mod sessions_memory;
-#[cfg(test)]
-mod wakes;
 
 #[cfg(test)]
 use std::fmt::{Debug, Display};

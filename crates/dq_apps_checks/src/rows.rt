@@ -1,7 +1,7 @@
 //! The worked rows.
 
 use super::same;
-use crate::calls::Call::{Capacity, Get, Len, Moment, NextDeadline, Purge, Put, Renew, Seen, Take};
+use crate::calls::Call::{Get, Len, Moment, NextDeadline, Purge, Put, Renew, Take};
 use crate::calls::{Letters, each_answers, plays_up_to};
 use dq_apps::TtlCache;
 use dq_core::CoreError;
@@ -67,31 +67,6 @@ fn bad_configs(rt: HostRuntime) {
         let refused = refused(rt.alloc(), *capacity, *last_stamp);
         same(&rt, number, refused, *answer);
     }
-}
-
-// What the readers tell from a put to the purge that drops it.
-#[test]
-fn cache_readers(rt: HostRuntime) -> Result<(), Fail> {
-    let calls = &[
-        Len(0),
-        Capacity(3),
-        Moment(0),
-        NextDeadline(None),
-        Put('a', 1, 30, 5, Ok(None)),
-        Put('b', 2, 10, 5, Ok(None)),
-        Len(2),
-        Moment(5),
-        Seen(5, 2, 3),
-        Seen(14, 2, 3),
-        Seen(15, 1, 1),
-        Seen(34, 1, 1),
-        Seen(35, 0, 0),
-        NextDeadline(Some(15)),
-        Purge(15, Ok(1)),
-        NextDeadline(Some(35)),
-        Len(1),
-    ];
-    plays_up_to(&rt, rt.alloc(), 3, LAST_STAMP, calls)
 }
 
 // How far ahead the wheel of a queue reaches.

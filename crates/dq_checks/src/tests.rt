@@ -1,19 +1,14 @@
 //! The worked cases of the queue over plain words and over shared ones, of its parts and of shared words alone;
-//! limits; threads; refused memory, and calls where no memory is left.
+//! limits; what is sent to a thread; refused memory, and calls where no memory is left.
 
 mod calls_memory;
 mod cases;
-mod entries;
 mod front;
-mod letting_go;
 mod limits;
 mod makings;
-mod peeks;
 mod plain_queue;
 mod plain_words;
 mod queues;
-mod race;
-mod renewals;
 mod sent;
 mod slots;
 mod step;

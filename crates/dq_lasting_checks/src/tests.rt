@@ -1,17 +1,8 @@
-//! A lasting queue step by step; its handles; polls in pieces; tasks and streams that wait; a pool of handles;
-//! refused memory.
+//! A lasting queue step by step, as a table of calls, and refused memory.
 
-mod handles;
 mod memory;
-mod numbers;
-mod parking;
-mod pieces;
 mod play;
-mod pool;
-mod six_places;
 mod steps;
-mod streams;
-mod tasks;
 
 use std::fmt::{Debug, Display};
 use std::process::Abort;

@@ -1,19 +1,14 @@
 mod calls;
 mod cases;
-mod draining;
-mod each_shard;
 mod handles;
 mod keys;
 mod makings;
-mod many;
 mod memory;
 mod pieces;
 mod play;
 mod rows;
 mod shards;
 mod swapped;
-mod sweeping;
-mod threads;
 mod twins;
 
 use std::fmt::{Debug, Display};

@@ -1,16 +1,8 @@
-mod beside;
 mod clocks;
-mod executors;
-mod handles;
-mod paced;
-mod parked;
-mod parkers;
 mod refusals;
 mod rows;
 mod steps;
 mod streams;
-mod threads;
-mod wakes;
 
 use std::fmt::{Debug, Display};
 use std::process::Abort;

@@ -1,76 +1,13 @@
-//! The front door: queues made by their capacity, and an insert that `?` takes.
+//! The front door: the numbers by which no queue is made.
 
-use super::queues::issued;
 use super::same;
-use dq_core::{BadNumber, CoreConfig, CoreError, DelayCore, Turn, VecWords};
-use dq_ticks::{LAST_STAMP, LAST_TICK};
-use dq_words::{Caller, Keeper, shared_queue};
+use dq_core::{BadNumber, CoreConfig, CoreError, DelayCore, VecWords};
+use dq_words::shared_queue;
 use std::alloc::Global;
-use std::process::Abort;
 use std::test::Fail;
 
-fn plain_queue(alloc: Global, capacity: usize) -> Result<DelayCore<char, VecWords>, CoreError> {
+pub fn plain_queue(alloc: Global, capacity: usize) -> Result<DelayCore<char, VecWords>, CoreError> {
     DelayCore::with_capacity(alloc, capacity)
-}
-
-#[test]
-fn a_config_of_a_capacity(rt: HostRuntime) -> Result<(), Fail> {
-    let config = CoreConfig {
-        shard: 0,
-        capacity: 7,
-        last_stamp: LAST_STAMP,
-    };
-    same(&rt, "of", CoreConfig::of(7), config);
-    Ok(())
-}
-
-// Why an insert into a queue of two is refused.
-fn refused(queue: &mut DelayCore<char, VecWords>, when: u64) -> Option<CoreError> {
-    queue.insert_or_drop('c', when).err()
-}
-
-// The queue takes two entries and no third, and gives the sooner.
-fn takes_two(rt: &impl Abort, queue: &mut DelayCore<char, VecWords>) -> Result<(), Fail> {
-    queue.insert_or_drop('b', 20)?;
-    queue.insert_or_drop('a', 10)?;
-    let full = CoreError::Full { linked: 2, worn: 0 };
-    same(rt, "insert", refused(queue, 5), Some(full));
-    let late = LAST_TICK.saturating_add(1);
-    let too_far = CoreError::TooFar { limit: LAST_TICK };
-    same(rt, "late insert", refused(queue, late), Some(too_far));
-    let Turn::Out(first) = queue.poll(10)? else {
-        return Err(Fail::from("nothing came out"));
-    };
-    same(rt, "poll", (first.value, first.deadline), ('a', 10));
-    Ok(())
-}
-
-#[test]
-fn a_queue_by_its_capacity(rt: HostRuntime) -> Result<(), Fail> {
-    let mut queue = plain_queue(rt.alloc(), 2)?;
-    takes_two(&rt, &mut queue)
-}
-
-// An entry that the caller extends doesn't come out at its first deadline.
-fn waits_longer(
-    rt: &impl Abort,
-    queue: &mut DelayCore<char, Keeper>,
-    caller: &mut Caller,
-) -> Result<(), Fail> {
-    let key = queue.insert_or_drop('a', 10)?;
-    same(rt, "extend", caller.extend(&key, 30), Ok(30));
-    let Turn::Waiting { next } = queue.poll(10)? else {
-        return Err(Fail::from("it came out before its deadline"));
-    };
-    same(rt, "poll", next, 30);
-    Ok(())
-}
-
-#[test]
-fn a_queue_that_callers_extend(rt: HostRuntime) -> Result<(), Fail> {
-    let mut queue = shared_queue(rt.alloc(), 2)?;
-    let mut caller = issued(&mut queue)?;
-    waits_longer(&rt, &mut queue, &mut caller)
 }
 
 #[test]

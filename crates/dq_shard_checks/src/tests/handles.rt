@@ -114,8 +114,8 @@ fn handle_limit(rt: HostRuntime) -> Result<(), Fail> {
     limits(&rt, &queue)
 }
 
-// The callers of a shard that are out.
-fn out<R: Wait>(rt: &R, queue: &Letters, shard: usize) -> Result<u64, QueueError> {
+/// The callers of a shard that are out.
+pub fn out<R: Wait>(rt: &R, queue: &Letters, shard: usize) -> Result<u64, QueueError> {
     queue.lend(rt, shard, |state| state.out())
 }
 
@@ -182,38 +182,4 @@ fn refuses_handles<R: Abort + Wait>(rt: &R, queue: &Letters) -> Result<(), Fail>
 fn refused_handle_gives_back(rt: HostRuntime) -> Result<(), Fail> {
     let queue: Letters = SharedDelayQueue::new(rt.alloc(), QueueConfig::of(3, 1))?;
     refuses_handles(&rt, &queue)
-}
-
-// An entry of the shard, whose one caller is the handle's, is cancelled by it.
-fn is_cancelled<R: Abort + Wait>(
-    rt: &R,
-    queue: &Letters,
-    handle: &mut Handle,
-    shard: u64,
-) -> Result<(), QueueError> {
-    let when = 10 + shard % 3;
-    let key = insert(rt, queue, shard, 'v', when)?;
-    same(rt, shard, out(rt, queue, shard as usize), Ok(1));
-    same(rt, shard, handle.cancel(&key), Ok(when));
-    Ok(())
-}
-
-fn cancels_in_each_shard<R: Abort + Wait>(rt: &R, queue: &Letters) -> Result<(), Fail> {
-    let mut handle = queue.handle(rt)?;
-    for shard in 0..3u64 {
-        is_cancelled(rt, queue, &mut handle, shard)?;
-    }
-    same(rt, "cancels", handle.cancels(), 3);
-    same(rt, "give_back", handle.give_back(), 3);
-    for shard in 0..3 {
-        same(rt, shard, queue.sweep(rt, shard), Ok(1));
-    }
-    Ok(())
-}
-
-// Fails where all callers of a handle are of one shard (handle_from_one_shard).
-#[test]
-fn handle_has_a_caller_of_each_shard(rt: HostRuntime) -> Result<(), Fail> {
-    let queue: Letters = SharedDelayQueue::new(rt.alloc(), QueueConfig::of(3, 1))?;
-    cancels_in_each_shard(&rt, &queue)
 }

@@ -1,23 +1,20 @@
-//! A shard is polled in pieces, with its lock free between them: by name and by `lend`, and with a poller that
-//! is parked meanwhile.
+//! A shard is polled in pieces, with its lock free between them: by name and by `lend`.
 
 use super::play::Way;
 use super::same;
 use dq_core::{CoreError, Piece, Turn};
-use dq_shards::{Handle, QueueConfig, QueueError, SharedDelayQueue};
+use dq_shards::{QueueConfig, QueueError, SharedDelayQueue};
 use dq_ticks::Key;
-use futures::task::{Context, Poll, Source, Waker};
-use futures::test::MockTask;
 use linked_list_allocator::LocalHeap;
 use std::process::Abort;
 use std::sync::Wait;
 use std::test::Fail;
 
-type Boxes<'heap> = SharedDelayQueue<Box<u64, &'heap LocalHeap>>;
+pub type Boxes<'heap> = SharedDelayQueue<Box<u64, &'heap LocalHeap>>;
 
-// What a piece answers.
+/// What a piece answers.
 #[derive(Clone, Copy, Debug, PartialEq, Eq)]
-enum Told {
+pub enum Told {
     Working,
     // A value and its deadline.
     Out(u64, u64),
@@ -26,7 +23,7 @@ enum Told {
     Refused(QueueError),
 }
 
-fn tell(answer: Result<Piece<Box<u64, &LocalHeap>>, QueueError>) -> Told {
+pub fn tell(answer: Result<Piece<Box<u64, &LocalHeap>>, QueueError>) -> Told {
     match answer {
         Ok(Piece::Working) => Told::Working,
         Ok(Piece::Answer(Turn::Out(out))) => Told::Out(*out.value, out.deadline),
@@ -68,8 +65,8 @@ const ROWS: &[(Asked, Told)] = &[
     ((0, 200, 2), Told::Idle),
 ];
 
-// Puts a box in.
-fn put<'heap, R: Wait>(
+/// Puts a box in.
+pub fn put<'heap, R: Wait>(
     rt: &R,
     queue: &Boxes<'heap>,
     heap: &'heap LocalHeap,
@@ -130,77 +127,4 @@ fn pieces_by_name(rt: HostRuntime) -> Result<(), Fail> {
 fn pieces_by_lend(rt: HostRuntime) -> Result<(), Fail> {
     let heap = LocalHeap::new(rt.alloc(), 1 << 12)?;
     comes_in_pieces(&rt, &heap, Way::ByLend)
-}
-
-// The waker of the task that is polled.
-fn registered(cx: &mut Context<'_>, name: &Source) -> Option<Waker> {
-    let mut slot = None;
-    let _pending: Poll<()> = cx.register(name, &mut slot);
-    slot
-}
-
-// Parks the task in shard 0 until its next wake.
-fn park<R: Wait>(rt: &R, queue: &Boxes, task: &MockTask, name: &Source) -> Result<(), Fail> {
-    let Some(waker) = task.enter(|cx| registered(cx, name)) else {
-        return Err(Fail::new("no waker"));
-    };
-    let mut shard = queue.enter(rt, 0)?;
-    if let Some(next) = shard.next_wake() {
-        shard.park(next, waker);
-    }
-    Ok(())
-}
-
-// Whether the task was woken by a piece that is told as Working, and until when it is parked then.
-fn works<R: Abort + Wait>(
-    rt: &R,
-    queue: &Boxes,
-    task: &MockTask,
-) -> (bool, Result<Option<u64>, QueueError>) {
-    same(
-        rt,
-        "poll_some",
-        tell(queue.poll_some(rt, 0, 5, 1)),
-        Told::Working,
-    );
-    (task.is_woken(), queue.parked(rt, 0))
-}
-
-fn cancel_and_poll<'heap, R: Abort + Wait>(
-    rt: &R,
-    queue: &Boxes<'heap>,
-    heap: &'heap LocalHeap,
-    handle: &mut Handle,
-    task: &MockTask,
-) -> Result<(), Fail> {
-    let key = put(rt, queue, heap, 0, (7, 5))?;
-    same(rt, "cancel", handle.cancel(&key), Ok(5));
-    park(rt, queue, task, &Source::new())?;
-    // The wheel arrives: the poller waits for what is due.
-    same(rt, "arrives", works(rt, queue, task), (false, Ok(Some(5))));
-    same(rt, "reaps", works(rt, queue, task), (true, Ok(None)));
-    same(rt, "used", heap.used(), 0);
-    Ok(())
-}
-
-fn leaves_nothing<'heap, R: Abort + Wait>(
-    rt: &R,
-    queue: &Boxes<'heap>,
-    heap: &'heap LocalHeap,
-    task: &MockTask,
-) -> Result<(), Fail> {
-    let mut handle = queue.handle(rt)?;
-    cancel_and_poll(rt, queue, heap, &mut handle, task)?;
-    same(rt, "give_back", handle.give_back(), 1);
-    Ok(())
-}
-
-// The last entry was cancelled, and a piece that is told as Working reaps it. Whoever waits then has nothing to wait
-// for.
-#[test]
-fn a_piece_that_leaves_nothing_wakes(rt: HostRuntime) -> Result<(), Fail> {
-    let heap = LocalHeap::new(rt.alloc(), 1 << 12)?;
-    let queue: Boxes = SharedDelayQueue::new(rt.alloc(), QueueConfig::of(1, 4))?;
-    let task = MockTask::new(&rt)?;
-    leaves_nothing(&rt, &queue, &heap, &task)
 }

@@ -4,17 +4,17 @@ use super::same;
 use super::steps::Step::{Asked, Parked, Poll, Put, Woken};
 use super::steps::{each_answers, play_over};
 use super::streams::Seen::{Ends, Out, Waits};
-use super::streams::{Letters, Seen, Task, TickOf, Told, letters, letters_and_task};
-use dq_shards::{QueueConfig, QueueError, SharedDelayQueue};
-use dq_stream::{ExpiredStream, StreamFault, TickSource};
+use super::streams::{Letters, Seen, Task, TickOf, letters_and_task};
+use dq_shards::{QueueConfig, SharedDelayQueue};
+use dq_stream::{ExpiredStream, StreamFault};
 use linked_list_allocator::LocalHeap;
 use std::process::Abort;
 use std::sync::Wait;
 use std::test::Fail;
 
-const LIMIT: u64 = 4398046511103;
+pub const LIMIT: u64 = 4398046511103;
 
-const TOO_LARGE: Seen = Seen::Fault(StreamFault::TickTooLarge { limit: LIMIT });
+pub const TOO_LARGE: Seen = Seen::Fault(StreamFault::TickTooLarge { limit: LIMIT });
 
 // The queue has two letters still, where its stream has ended.
 fn gives_to_another<R: Abort + Wait>(
@@ -55,30 +55,6 @@ fn refused_tick_ends_for_good(rt: HostRuntime) -> Result<(), Fail> {
     ends_for_good(&rt, &queue, &task)
 }
 
-fn ends_beside_the_lock<R: Abort + Wait>(
-    rt: &R,
-    queue: &Letters,
-    task: &Task,
-    stream: &mut ExpiredStream<'_, char, TickOf<'_>, R>,
-) -> Result<(), Fail> {
-    task.sees(rt, stream, LIMIT + 1, TOO_LARGE);
-    let shard = queue.enter(rt, 0)?;
-    same(rt, "poll", (task.poll(stream, 0), shard.len()), (Ends, 0));
-    Ok(())
-}
-
-fn takes_no_lock<R: Abort + Wait>(rt: &R, queue: &Letters, task: &Task) -> Result<(), Fail> {
-    let mut stream = task.stream(rt, queue, 0)?;
-    ends_beside_the_lock(rt, queue, task, &mut stream)
-}
-
-// Doesn't end where a stream that has ended takes its shard's lock, which this thread holds.
-#[test]
-fn ended_stream_takes_no_lock(rt: HostRuntime) -> Result<(), Fail> {
-    let (queue, task) = letters_and_task(&rt, &[])?;
-    takes_no_lock(&rt, &queue, &task)
-}
-
 #[test]
 fn last_tick_is_taken(rt: HostRuntime) -> Result<(), Fail> {
     play_over(
@@ -92,45 +68,6 @@ fn last_tick_is_taken(rt: HostRuntime) -> Result<(), Fail> {
             Asked(3),
         ],
     )
-}
-
-// Why a stream of the shard is refused, and the tick that the source tells which comes back. None for a stream.
-fn refused(rt: &impl Wait, queue: &Letters, shard: usize) -> Option<(QueueError, u64)> {
-    let told = Told::at(7);
-    match ExpiredStream::new(rt, queue, shard, TickOf(&told)) {
-        Ok(_) => None,
-        Err((error, mut source)) => Some((error, source.now())),
-    }
-}
-
-fn gives_the_source_back<R: Abort + Wait>(rt: &R, queue: &Letters) {
-    let unknown = Some((QueueError::Unknown, 7));
-    same(rt, 1, refused(rt, queue, 1), None);
-    same(rt, 2, refused(rt, queue, 2), unknown);
-    same(rt, usize::MAX, refused(rt, queue, usize::MAX), unknown);
-}
-
-#[test]
-fn unknown_shard_gives_the_source_back(rt: HostRuntime) -> Result<(), Fail> {
-    let queue = letters(rt.alloc(), 2)?;
-    gives_the_source_back(&rt, &queue);
-    Ok(())
-}
-
-fn says<R: Abort + AllocGlobal>(rt: &R, fault: StreamFault, text: &str) -> Result<(), Fail> {
-    same(rt, text, format!(in rt.alloc(); "{fault}")?.as_str(), text);
-    Ok(())
-}
-
-#[test]
-fn faults_say_why(rt: HostRuntime) -> Result<(), Fail> {
-    let too_large = StreamFault::TickTooLarge { limit: LIMIT };
-    says(
-        &rt,
-        too_large,
-        "the tick is beyond the last tick, 4398046511103",
-    )?;
-    says(&rt, StreamFault::NoMemory, "out of memory")
 }
 
 // A stream of a queue in some heap gives its entry, and ends.

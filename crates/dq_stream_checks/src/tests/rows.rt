@@ -4,11 +4,16 @@ use super::same;
 use super::steps::Step::{Asked, Parked, Poll, Put, Ring, Woken};
 use super::steps::{Change, change_while_parked, play, play_over};
 use super::streams::Seen::{Ends, Fault, Out, Waits};
-use super::streams::{Letters, Task, letters_and_task};
+use super::streams::{Letters, Task, TickOf, Told, fill, letters, letters_and_task, stream_of};
+use dq_core::Expired;
 use dq_shards::LockedShard;
 use dq_stream::StreamFault;
 use dq_stream::parking::park_with;
+use futures::StreamExt;
+use futures::executor::block_on;
+use std::alloc::AllocGlobal;
 use std::process::Abort;
+use std::random::RandomSource;
 use std::sync::Wait;
 use std::test::Fail;
 
@@ -103,4 +108,49 @@ fn refuses_then_parks<R: Abort + Wait>(rt: &R, queue: &Letters, task: &Task) -> 
 fn waker_copy_refused(rt: HostRuntime) -> Result<(), Fail> {
     let (queue, task) = letters_and_task(&rt, &[('v', 10)])?;
     refuses_then_parks(&rt, &queue, &task)
+}
+
+type Items = Vec<Result<Expired<char>, StreamFault>>;
+
+// All that a stream gives at a tick after the last deadline.
+fn collected<R>(rt: &R, queue: &Letters, told: &Told) -> Result<Items, Fail>
+where
+    R: AllocGlobal + RandomSource + Wait,
+{
+    let stream = stream_of(rt, queue, 0, TickOf(told))?;
+    Ok(block_on(rt, stream.collect(rt.alloc()))??)
+}
+
+fn deadline_of(item: &Result<Expired<char>, StreamFault>) -> Result<u64, StreamFault> {
+    match item {
+        Ok(expired) => Ok(expired.deadline),
+        Err(fault) => Err(*fault),
+    }
+}
+
+fn have_deadlines(
+    rt: &impl Abort,
+    items: &[Result<Expired<char>, StreamFault>],
+    deadlines: &[u64],
+) {
+    same(rt, "how many", items.len(), deadlines.len());
+    for (item, deadline) in items.iter().zip(deadlines) {
+        same(rt, *deadline, deadline_of(item), Ok(*deadline));
+    }
+}
+
+fn gives_three<R>(rt: &R, queue: &Letters) -> Result<(), Fail>
+where
+    R: Abort + AllocGlobal + RandomSource + Wait,
+{
+    fill(rt, queue, 0, &[('a', 5), ('b', 70), ('c', 5000)])?;
+    let items = collected(rt, queue, &Told::at(10000))?;
+    have_deadlines(rt, &items, &[5, 70, 5000]);
+    Ok(())
+}
+
+#[test]
+fn three_in_order_collected(rt: HostRuntime) -> Result<(), Fail> {
+    let queue = letters(rt.alloc(), 1)?;
+    gives_three(&rt, &queue)
 }

@@ -58,17 +58,6 @@ where
     Ok((queue, task))
 }
 
-/// A queue of so many shards, and two tasks.
-pub fn letters_and_tasks<R>(rt: &R, shards: usize) -> Result<(Letters, Task, Task), Fail>
-where
-    R: AllocGlobal + RandomSource + Wait,
-{
-    let queue = letters(rt.alloc(), shards)?;
-    let first = Task::new(rt)?;
-    let second = Task::new(rt)?;
-    Ok((queue, first, second))
-}
-
 /// The tick that streams are told, and how often they asked for it.
 #[derive(Drop)]
 pub struct Told {
@@ -183,23 +172,5 @@ impl Task {
         seen: Seen,
     ) {
         same(rt, tick, self.poll(stream, tick), seen);
-    }
-
-    /// Rings shard 0. Fails unless that wakes this task, or wakes none.
-    pub fn is_rung<R: Abort + Wait>(&self, rt: &R, queue: &Letters, tick: u64, woken: bool) {
-        let rung = (queue.ring(rt, 0, tick), self.was_woken());
-        same(rt, tick, rung, (Ok(woken), woken));
-    }
-
-    /// Fails unless a new stream of the shard, at tick 0, waits. It drops the stream.
-    pub fn waits<R: Abort + Wait>(
-        &self,
-        rt: &R,
-        queue: &Letters,
-        shard: usize,
-    ) -> Result<(), QueueError> {
-        let mut stream = self.stream(rt, queue, shard)?;
-        self.sees(rt, &mut stream, 0, Seen::Waits);
-        Ok(())
     }
 }

@@ -13,49 +13,20 @@ pub type Letters = TtlCache<char, u32>;
 pub enum Call {
     /// Key, value, time to live and tick: the value that was there, or why key and value come back.
     Put(char, u32, u64, u64, Result<Option<u32>, CoreError>),
-    /// Likewise.
-    Set(char, u32, u64, u64, Result<Option<u32>, CoreError>),
     /// Key, time to live and tick: the deadline.
     Renew(char, u64, u64, Result<u64, CoreError>),
-    /// Likewise.
-    Touch(char, u64, u64, Result<u64, CoreError>),
     /// Key and tick: the value that leaves.
     Take(char, u64, Option<u32>),
-    /// At a tick: the key and value that come out.
-    TakeExpired(u64, Result<Option<(char, u32)>, CoreError>),
     /// Up to a tick: how many keys are dropped.
     Purge(u64, Result<usize, CoreError>),
-    Refresh,
     /// Key and tick: the value that is seen.
     Get(char, u64, Option<u32>),
-    /// At a tick: how many values are seen, and their sum.
-    Seen(u64, usize, u32),
     Len(usize),
-    Capacity(usize),
     Moment(u64),
-    /// How many slots are worn.
-    Worn(usize),
     NextDeadline(Option<u64>),
-    NextWake(Option<u64>),
 }
 
-use Call::{
-    Capacity, Get, Len, Moment, NextDeadline, NextWake, Purge, Put, Refresh, Renew, Seen, Set, Take, TakeExpired,
-    Touch, Worn,
-};
-
-// The sum of the values that are seen.
-fn sum_seen(cache: &Letters, now: u64) -> u32 {
-    let mut sum = 0u32;
-    for (_key, value) in cache.seen(now) {
-        sum = sum.saturating_add(*value);
-    }
-    sum
-}
-
-fn seen(cache: &Letters, now: u64) -> (usize, u32) {
-    (cache.seen(now).count(), sum_seen(cache, now))
-}
+use Call::{Get, Len, Moment, NextDeadline, Purge, Put, Renew, Take};
 
 // A value, and whether there is one.
 fn get(cache: &Letters, key: char, now: u64) -> (Option<u32>, bool) {
@@ -66,25 +37,18 @@ fn get(cache: &Letters, key: char, now: u64) -> (Option<u32>, bool) {
 fn tells(cache: &Letters, number: usize, call: Call) {
     match call {
         Get(key, now, value) => same(number, get(cache, key, now), (value, value.is_some())),
-        Seen(now, count, sum) => same(number, seen(cache, now), (count, sum)),
         Len(len) => same(number, (cache.len(), cache.is_empty()), (len, len == 0)),
-        Capacity(capacity) => same(number, cache.capacity(), capacity),
         Moment(moment) => same(number, cache.moment(), moment),
-        Worn(worn) => same(number, cache.worn(), worn),
         NextDeadline(deadline) => same(number, cache.next_deadline(), deadline),
-        NextWake(wake) => same(number, cache.next_wake(), wake),
         _ => same(number, "a call", "a reader"),
     }
 }
 
-// A put or a set, which hands key and value back where it is refused.
+// A put, which hands key and value back where it is refused.
 fn puts(cache: &mut Letters, number: usize, call: Call) {
     let (answer, key, value, expected) = match call {
         Put(key, value, ttl, now, expected) => {
             (cache.put(key, value, ttl, now), key, value, expected)
-        }
-        Set(key, value, ttl, now, expected) => {
-            (cache.set(key, value, ttl, now), key, value, expected)
         }
         _ => return tells(cache, number, call),
     };
@@ -95,15 +59,12 @@ fn puts(cache: &mut Letters, number: usize, call: Call) {
     );
 }
 
-// The call at that number of a table answers as it has to.
-fn answers(cache: &mut Letters, number: usize, call: Call) {
+/// The call at that number of a table answers as it has to.
+pub fn answers(cache: &mut Letters, number: usize, call: Call) {
     match call {
         Renew(key, ttl, now, answer) => same(number, cache.renew(&key, ttl, now), answer),
-        Touch(key, ttl, now, answer) => same(number, cache.touch(&key, ttl, now), answer),
         Take(key, now, value) => same(number, cache.take(&key, now), value),
-        TakeExpired(now, pair) => same(number, cache.take_expired(now), pair),
         Purge(now, answer) => same(number, cache.purge(now), answer),
-        Refresh => same(number, cache.refresh(), Ok(())),
         _ => puts(cache, number, call),
     }
 }
@@ -115,14 +76,7 @@ pub fn each_answers(cache: &mut Letters, calls: &[Call]) {
     }
 }
 
-/// Likewise, of a fresh cache of that capacity.
-pub fn plays(capacity: usize, calls: &[Call]) -> Result<(), Fail> {
-    let mut cache = TtlCache::with_capacity(capacity)?;
-    each_answers(&mut cache, calls);
-    Ok(())
-}
-
-/// Likewise, of a cache with that last stamp.
+/// Likewise, of a fresh cache of that capacity and last stamp.
 pub fn plays_up_to(
     capacity: usize,
     last_stamp: u32,

@@ -1,21 +1,11 @@
-//! Tests of the expiring cache and of idle sessions: the worked rows, refused memory, and touches from another
-//! thread. They stand in a crate of their own, so that the two are proved once.
+//! Tests of the expiring cache and of idle sessions: the worked rows, and refused memory. They stand in a crate of
+//! their own, so that the two are proved once.
 #[cfg(test)]
-mod calls;
+pub mod calls;
 #[cfg(test)]
-mod many;
+pub mod rows;
 #[cfg(test)]
-mod memo;
-#[cfg(test)]
-mod once;
-#[cfg(test)]
-mod refresh;
-#[cfg(test)]
-mod rows;
-#[cfg(test)]
-mod sessions;
-#[cfg(test)]
-mod wakes;
+pub mod sessions;
 
 #[cfg(test)]
 use std::fmt::{Debug, Display};
@@ -23,7 +13,7 @@ use std::fmt::{Debug, Display};
 
 // A call answers so. Else the test ends: it names the call and shows both.
 #[cfg(test)]
-fn same<T>(call: impl Display + Copy, answer: T, expected: T)
+pub fn same<T>(call: impl Display + Copy, answer: T, expected: T)
 where
     T: PartialEq + Debug,
 {

@@ -2,7 +2,7 @@
 
 use crate::tests::kit::Fail;
 use super::same;
-use super::calls::Call::{Capacity, Get, Len, Moment, NextDeadline, Purge, Put, Renew, Seen, Take};
+use super::calls::Call::{Get, Len, Moment, NextDeadline, Purge, Put, Renew, Take};
 use super::calls::{Letters, each_answers, plays_up_to};
 use crate::apps::TtlCache;
 use crate::core::CoreError;
@@ -65,31 +65,6 @@ fn bad_configs() {
         let refused = refused(*capacity, *last_stamp);
         same(number, refused, *answer);
     }
-}
-
-// What the readers tell from a put to the purge that drops it.
-#[test]
-fn cache_readers() -> Result<(), Fail> {
-    let calls = &[
-        Len(0),
-        Capacity(3),
-        Moment(0),
-        NextDeadline(None),
-        Put('a', 1, 30, 5, Ok(None)),
-        Put('b', 2, 10, 5, Ok(None)),
-        Len(2),
-        Moment(5),
-        Seen(5, 2, 3),
-        Seen(14, 2, 3),
-        Seen(15, 1, 1),
-        Seen(34, 1, 1),
-        Seen(35, 0, 0),
-        NextDeadline(Some(15)),
-        Purge(15, Ok(1)),
-        NextDeadline(Some(35)),
-        Len(1),
-    ];
-    plays_up_to(3, LAST_STAMP, calls)
 }
 
 // How far ahead the wheel of a queue reaches.

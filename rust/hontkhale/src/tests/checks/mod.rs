@@ -1,29 +1,24 @@
 //! The worked cases of the queue over plain words and over shared ones, of its parts and of shared words alone;
-//! limits; threads; refused memory, and calls where no memory is left.
+//! limits; what is sent to a thread; refused memory, and calls where no memory is left.
 
-mod cases;
-mod entries;
-mod front;
-mod letting_go;
-mod limits;
-mod peeks;
-mod plain_queue;
-mod plain_words;
-mod queues;
-mod race;
-mod renewals;
-mod sent;
-mod slots;
-mod step;
-mod wheel;
-mod wheel_calls;
-mod words;
-mod worked;
+pub mod cases;
+pub mod front;
+pub mod limits;
+pub mod plain_queue;
+pub mod plain_words;
+pub mod queues;
+pub mod sent;
+pub mod slots;
+pub mod step;
+pub mod wheel;
+pub mod wheel_calls;
+pub mod words;
+pub mod worked;
 
 use std::fmt::{Debug, Display};
 
 // A call answers so. Else the test ends: it names the call and shows both.
-fn same<T>(call: impl Display + Copy, answer: T, expected: T)
+pub fn same<T>(call: impl Display + Copy, answer: T, expected: T)
 where
     T: PartialEq + Debug,
 {

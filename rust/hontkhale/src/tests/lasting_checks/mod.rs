@@ -1,21 +1,12 @@
-//! A lasting queue step by step; its handles; polls in pieces; tasks and streams that wait; a pool of handles;
-//! refused memory.
+//! A lasting queue step by step, as a table of calls, and refused memory.
 
-mod handles;
-mod numbers;
-mod parking;
-mod pieces;
-mod play;
-mod pool;
-mod six_places;
-mod steps;
-mod streams;
-mod tasks;
+pub mod play;
+pub mod steps;
 
 use std::fmt::{Debug, Display};
 
 // A call answers so. Else the test ends: it names the call and shows both.
-fn same<T>(call: impl Display + Copy, answer: T, expected: T)
+pub fn same<T>(call: impl Display + Copy, answer: T, expected: T)
 where
     T: PartialEq + Debug,
 {

@@ -2,14 +2,9 @@
 
 use crate::tests::kit::Fail;
 use super::same;
-use super::tasks::{Seen, Task};
 use crate::core::{CallError, CoreError, Look};
-use crate::lasting::{
-    HandleError, HandleRenewError, Kept, LastingConfig, LastingError, LastingHandle, LastingQueue, LastingTotals,
-    PlaceState,
-};
+use crate::lasting::{HandleRenewError, Kept, LastingConfig, LastingError, LastingHandle, LastingQueue};
 use crate::ticks::Key;
-use std::mem;
 
 pub type Texts = LastingQueue<String>;
 
@@ -20,21 +15,9 @@ pub enum Call {
     Insert(u64, u64, Result<u32, LastingError>),
     /// An entry, and its deadline.
     Remove(usize, u64),
-    /// An entry, its new deadline and its new stamp.
-    Reset(usize, u64, u32),
-    Close(usize),
-    Clear(usize, Result<usize, LastingError>),
-    Sweep(usize, usize),
     KeepGoing(Kept),
-    Ring(usize, u64, Result<bool, LastingError>),
     ByHandle(HandleCall),
     Tell(Told),
-    /// The task polls the shard at a place, at a tick.
-    Poll(usize, u64, Seen),
-    /// Whether the task was woken since it was last polled or asked.
-    Woken(bool),
-    /// From here on the other task polls and is asked.
-    Other,
 }
 
 /// A call of the handle.
@@ -51,38 +34,26 @@ pub enum HandleCall {
 #[derive(Clone, Copy)]
 pub enum Told {
     Deadline(usize, Result<u64, CoreError>),
-    Wake(usize, Option<u64>),
     /// Of earlier generations what was inserted, removed and cancelled; of this one what was inserted and is linked.
     Tally(usize, (u64, u64, u64), (u64, u64)),
-    /// What was inserted, removed, cancelled and is linked, where none expired.
-    Audit([u128; 4]),
-    /// What a new handle tells of an entry.
-    LookAnew(usize, Look),
-    /// Of each of six places how many entries are linked, how many slots are worn, and whether it takes entries.
-    States([(usize, usize, bool); 6]),
 }
 
-/// Two tasks, a handle, and the keys of what was inserted.
+/// A handle, and the keys of what was inserted.
 pub struct Player {
-    pub task: Task,
-    other: Task,
     handle: LastingHandle,
     keys: Vec<Key>,
 }
 
 impl Player {
-    pub fn new(
-        queue: &Texts,
-    ) -> Result<Player, Fail> {
+    pub fn new(queue: &Texts) -> Result<Player, Fail> {
         Ok(Player {
-            task: Task::new()?,
-            other: Task::new()?,
             handle: queue.handle()?,
             keys: Vec::new(),
         })
     }
 
-    fn key(&self, entry: usize) -> Key {
+    /// The key of the entry of that number.
+    pub fn key(&self, entry: usize) -> Key {
         *self.keys.get(entry).expect("the key of an entry")
     }
 
@@ -134,16 +105,9 @@ impl Player {
                 let key = self.key(entry);
                 same(number, queue.deadline(&key.entry()), answer)
             }
-            Told::Wake(place, wake) => same(number, queue.next_wake(place), Ok(wake)),
             Told::Tally(place, past, present) => {
                 same(number, tally(queue, place), Ok((past, present)))
             }
-            Told::Audit(counts) => same(number, queue.audit(), totals(counts)),
-            Told::LookAnew(entry, look) => {
-                let looked = look_anew(queue, &self.key(entry));
-                same(number, looked, Ok((Ok(0), Ok(look))))
-            }
-            Told::States(states) => tells_states(queue, number, states),
         }
     }
 
@@ -157,24 +121,11 @@ impl Player {
                 let key = self.key(entry);
                 same(number, remove(queue, &key), Ok(deadline))
             }
-            Call::Reset(entry, when, stamp) => {
-                let key = self.key(entry);
-                same(number, reset(queue, &key, when), Ok(stamp))
-            }
-            Call::Close(place) => same(number, queue.close(place), Ok(())),
-            Call::Clear(place, cleared) => same(number, queue.clear(place), cleared),
-            Call::Sweep(place, reaped) => same(number, queue.sweep(place), Ok(reaped)),
             Call::KeepGoing(kept) => {
                 same(number, queue.keep_going(), Ok(kept))
             }
-            Call::Ring(place, tick, rung) => same(number, queue.ring(place, tick), rung),
             Call::ByHandle(call) => self.by_handle(queue, number, call),
             Call::Tell(told) => self.tells(queue, number, told),
-            Call::Poll(place, tick, seen) => {
-                same(number, self.task.polls(queue, place, tick), seen)
-            }
-            Call::Woken(woken) => same(number, self.task.was_woken(), woken),
-            Call::Other => mem::swap(&mut self.task, &mut self.other),
         }
     }
 
@@ -189,10 +140,6 @@ fn remove(queue: &Texts, key: &Key) -> Result<u64, CoreError> {
     Ok(queue.remove(&key.entry())?.deadline)
 }
 
-fn reset(queue: &Texts, key: &Key, when: u64) -> Result<u32, CoreError> {
-    Ok(queue.reset(&key.entry(), when)?.stamp())
-}
-
 fn tally(
     queue: &Texts,
     place: usize,
@@ -205,56 +152,7 @@ fn tally(
     ))
 }
 
-// A state alone is as that of all, and its numbers are those that are told one by one.
-fn tells_state(
-    queue: &Texts,
-    number: usize,
-    place: usize,
-    state: PlaceState,
-) {
-    same(number, queue.state(place), Ok(state));
-    same(number, queue.next_wake(place), Ok(state.next_wake));
-    same(number, queue.tally(place), Ok(state.tally));
-    same(number, state.number as usize % queue.shards(), place);
-    same(number, state.tally.present.linked, state.linked as u64);
-}
-
-fn tells_states(
-    queue: &Texts,
-    number: usize,
-    expected: [(usize, usize, bool); 6],
-) {
-    let states = queue.states().expect("a row of states");
-    same(number, states.len(), 6);
-    for (place, state) in states.iter().enumerate() {
-        tells_state(queue, number, place, *state);
-        let told = (state.linked, state.worn, state.takes);
-        same(number, Some(told), expected.get(place).copied());
-    }
-    same(number, queue.state(6), Err(LastingError::Unknown));
-}
-
-fn totals([inserted, removed, cancelled, linked]: [u128; 4]) -> LastingTotals {
-    LastingTotals {
-        inserted,
-        expired: 0,
-        removed,
-        cancelled,
-        linked,
-    }
-}
-
-// A new handle takes on so many callers, and tells of an entry.
-type LookedAnew = (Result<usize, HandleRenewError>, Result<Look, CallError>);
-
-fn look_anew(queue: &Texts, key: &Key) -> Result<LookedAnew, HandleError> {
-    let mut handle = queue.handle()?;
-    let renewed = handle.renew(queue);
-    let look = handle.look(key);
-    handle.give_back();
-    Ok((renewed, look))
-}
-
+/// A fresh queue, and who plays tables on it.
 pub fn queue_and_player(
     config: LastingConfig,
 ) -> Result<(Texts, Player), Fail> {

@@ -1,5 +1,5 @@
-mod faults;
-mod readers;
-mod scripts;
-mod table;
-mod writers;
+pub mod faults;
+pub mod readers;
+pub mod scripts;
+pub mod table;
+pub mod writers;

@@ -1,23 +1,18 @@
-mod calls;
-mod cases;
-mod draining;
-mod each_shard;
-mod handles;
-mod keys;
-mod many;
-mod pieces;
-mod play;
-mod rows;
-mod shards;
-mod swapped;
-mod sweeping;
-mod threads;
-mod twins;
+pub mod calls;
+pub mod cases;
+pub mod handles;
+pub mod keys;
+pub mod pieces;
+pub mod play;
+pub mod rows;
+pub mod shards;
+pub mod swapped;
+pub mod twins;
 
 use std::fmt::{Debug, Display};
 
 // A call answers so. Else the test ends: it names the call and shows both.
-fn same<T>(call: impl Display + Copy, answer: T, expected: T)
+pub fn same<T>(call: impl Display + Copy, answer: T, expected: T)
 where
     T: PartialEq + Debug,
 {

@@ -1,20 +1,12 @@
-mod beside;
-mod executors;
-mod handles;
-mod paced;
-mod parked;
-mod parkers;
-mod refusals;
-mod rows;
-mod steps;
-mod streams;
-mod threads;
-mod wakes;
+pub mod refusals;
+pub mod rows;
+pub mod steps;
+pub mod streams;
 
 use std::fmt::{Debug, Display};
 
 // A call answers so. Else the test ends: it names the call and shows both.
-fn same<T>(call: impl Display + Copy, answer: T, expected: T)
+pub fn same<T>(call: impl Display + Copy, answer: T, expected: T)
 where
     T: PartialEq + Debug,
 {

@@ -1,11 +1,12 @@
 //! The worked rows of a stream.
 
-use crate::tests::kit::Fail;
+use crate::tests::kit::{Fail, StreamExt, block_on};
 use super::same;
 use super::steps::Step::{Asked, Parked, Poll, Put, Ring, Woken};
 use super::steps::{Change, change_while_parked, play, play_over};
 use super::streams::Seen::{Ends, Fault, Out, Waits};
-use super::streams::{Letters, Task, letters_and_task};
+use super::streams::{Letters, Task, TickOf, Told, fill, letters, letters_and_task, stream_of};
+use crate::core::Expired;
 use crate::shards::LockedShard;
 use crate::stream::StreamFault;
 use crate::stream::parking::park_with;
@@ -98,4 +99,42 @@ fn refuses_then_parks(queue: &Letters, task: &Task) -> Result<(), Fail> {
 fn waker_copy_refused() -> Result<(), Fail> {
     let (queue, task) = letters_and_task(&[('v', 10)])?;
     refuses_then_parks(&queue, &task)
+}
+
+type Items = Vec<Result<Expired<char>, StreamFault>>;
+
+// All that a stream gives at a tick after the last deadline.
+fn collected(queue: &Letters, told: &Told) -> Result<Items, Fail> {
+    let stream = stream_of(queue, 0, TickOf(told))?;
+    Ok(block_on(stream.collect())??)
+}
+
+fn deadline_of(item: &Result<Expired<char>, StreamFault>) -> Result<u64, StreamFault> {
+    match item {
+        Ok(expired) => Ok(expired.deadline),
+        Err(fault) => Err(*fault),
+    }
+}
+
+fn have_deadlines(
+    items: &[Result<Expired<char>, StreamFault>],
+    deadlines: &[u64],
+) {
+    same("how many", items.len(), deadlines.len());
+    for (item, deadline) in items.iter().zip(deadlines) {
+        same(*deadline, deadline_of(item), Ok(*deadline));
+    }
+}
+
+fn gives_three(queue: &Letters) -> Result<(), Fail> {
+    fill(queue, 0, &[('a', 5), ('b', 70), ('c', 5000)])?;
+    let items = collected(queue, &Told::at(10000))?;
+    have_deadlines(&items, &[5, 70, 5000]);
+    Ok(())
+}
+
+#[test]
+fn three_in_order_collected() -> Result<(), Fail> {
+    let queue = letters(1)?;
+    gives_three(&queue)
 }

@@ -1,0 +1,14 @@
+//! A lasting queue step by step; its handles; polls in pieces; tasks and streams that wait; a pool of handles.
+
+mod handles;
+mod numbers;
+mod parking;
+mod pieces;
+mod play;
+mod pool;
+mod six_places;
+mod steps;
+mod streams;
+mod tasks;
+
+use crate::tests::lasting_checks::same;

@@ -1,0 +1,46 @@
+//! The last numbers of a shard: it is opened again exactly where a key can carry its next number.
+
+use super::same;
+use crate::core::{CoreConfig, CoreError};
+use crate::lasting::{LastingShard, ReopenError};
+use crate::tests::kit::Fail;
+use crate::words::numbered_queue;
+
+type Shard = LastingShard<u64>;
+
+// A shard of that number with two slots, which is closed.
+fn closed(number: u32) -> Result<Shard, CoreError> {
+    let config = CoreConfig {
+        shard: number,
+        capacity: 2,
+        last_stamp: 1,
+    };
+    let mut shard = LastingShard::from(numbered_queue(config)?);
+    shard.close();
+    Ok(shard)
+}
+
+// What a shard is once it was to be opened again: its number, and whether it takes entries. Refused, it is as it was.
+fn reopens(number: u32, by: u32, answer: Result<u32, ReopenError>) -> Result<(), CoreError> {
+    let mut shard = closed(number)?;
+    let answered = shard.reopen(by);
+    same(number, answered.is_ok(), answer.is_ok());
+    same(by, answered.err(), answer.err());
+    let left = (shard.number(), shard.takes());
+    same(number, left, (answer.unwrap_or(number), answer.is_ok()));
+    Ok(())
+}
+
+// By two and by three the numbers end beyond those where four is too many.
+#[test]
+fn a_shard_goes_on_to_its_last_number() -> Result<(), Fail> {
+    let spent = Err(ReopenError::NumbersSpent);
+    reopens(4_294_967_292, 2, Ok(4_294_967_294))?;
+    reopens(4_294_967_292, 3, Ok(4_294_967_295))?;
+    reopens(4_294_967_292, 4, spent)?;
+    reopens(4_294_967_291, 4, Ok(4_294_967_295))?;
+    reopens(4_294_967_294, 2, spent)?;
+    reopens(4_294_967_231, 64, Ok(4_294_967_295))?;
+    reopens(4_294_967_232, 64, spent)?;
+    Ok(())
+}
