@@ -12,3 +12,4 @@ pub mod Queues
 pub mod Shard
 pub mod States
 pub mod Streams
+pub mod Through

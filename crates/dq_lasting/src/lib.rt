@@ -30,6 +30,7 @@ mod seen;
 mod shard;
 mod state;
 mod stream;
+mod through;
 
 pub use config::{BadLastingNumber, LastingConfig, SHARD_LIMIT};
 pub use dq_parking::{MillisecondTicks, StreamFault, TickSource};

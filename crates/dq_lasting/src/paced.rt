@@ -91,9 +91,12 @@ impl<T: Drop, A: Allocator> LastingQueue<T, A> {
 
 /// A [`LastingStream`] whose polls make at most so many steps of their shard while its lock is held.
 ///
-/// A poll that has made them all and has more to do wakes its own task, lets the lock go and is Pending. It gives what
-/// its stream would give, and parks as that does. What is under way stands in the shard: whether this is dropped, or
-/// turned back into its stream, the next poll of the place goes on there.
+/// A poll that has made them all and has more to do wakes its own task, lets the lock go and is Pending. So others may
+/// take the lock before the task is polled again, and where it is polled at once it gives way for a bounded while to who
+/// waits for the lock. It gives what its stream would give, and parks as that does.
+///
+/// It keeps nothing of a poll: what is under way stands in the shard. Whether it is dropped, or turned back into its
+/// stream, the next poll of the place goes on there.
 #[derive(Drop)]
 pub struct LastingPacedStream<'q, T, S, R: Wait, A: Allocator = Global> {
     stream: LastingStream<'q, T, S, R, A>,
@@ -165,6 +168,7 @@ impl<'q, T: Drop, S: TickSource, R: Wait, A: Allocator> Stream
             (LastingPacedGives T self.new.stream.queue.now.shards self.new.stream.place)) }
         ensures kept { Keeps cx.old cx.new }
     {
+        self.stream.queue.give_way(self.stream.place);
         let stream = &mut self.stream;
         let tick = stream.source.now();
         match self.stream.queue.poll_some_or_park(

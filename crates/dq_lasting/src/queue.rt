@@ -7,6 +7,7 @@ ghost use Rattle.dq_lasting.specs.Answers.{IsLastingConfig, LastingIsMade, IsOfP
 use crate::config::{LastingConfig, SHARD_LIMIT};
 use crate::shard::LastingShard;
 use dq_core::{CoreConfig, CoreError};
+use dq_parking::{Waiting, waiting_row};
 use dq_words::locked_shards;
 use std::alloc::{Allocator, Global};
 use std::marker::Model;
@@ -23,11 +24,13 @@ use std::sync::{Mutex, MutexGuard, Wait};
 #[derive(Drop)]
 pub struct LastingQueue<T, A: Allocator = Global> {
     pub(crate) shards: Vec<Mutex<LastingShard<T, A>>, A>,
+    // Of each shard, who waits for its lock.
+    waiting: Vec<Waiting, A>,
     pub(crate) name: u64,
 }
 
 impl<T, A: Allocator> Model for LastingQueue<T, A> {
-    ghost use Rattle.std.specs.Prelude.{◌≤◌, vec_len};
+    ghost use Rattle.std.specs.Prelude.{◌≡◌, ◌≤◌, vec_len};
     ghost use Rattle.dq_lasting.specs.declared.config.TheConstants.{SHARD_LIMIT};
     ghost use Rattle.dq_lasting.specs.Queues.{QueueView};
 
@@ -35,7 +38,8 @@ impl<T, A: Allocator> Model for LastingQueue<T, A> {
 
     ghost view = { λ q. record { shards = vec_len q.shards; name = q.name } };
 
-    ghost invariant = { λ q. (2 ≤ vec_len q.shards) × (vec_len q.shards ≤ SHARD_LIMIT) };
+    ghost invariant = { λ q. (2 ≤ vec_len q.shards) × (vec_len q.shards ≤ SHARD_LIMIT)
+        × (vec_len q.waiting ≡ vec_len q.shards) };
 }
 
 impl<T: Drop, A: Allocator + Clone + Drop> LastingQueue<T, A> {
@@ -70,8 +74,15 @@ impl<T: Drop, A: Allocator + Clone + Drop> LastingQueue<T, A> {
             capacity: config.capacity,
             last_stamp: config.last_stamp,
         };
+        let Ok(waiting) = waiting_row(&alloc, config.shards) else {
+            return Err(CoreError::NoMemory);
+        };
         match locked_shards(alloc, config.shards as u32, core) {
-            Ok(shards) => Ok(LastingQueue { shards, name }),
+            Ok(shards) => Ok(LastingQueue {
+                shards,
+                waiting,
+                name,
+            }),
             Err(error) => Err(error),
         }
     }
@@ -95,13 +106,26 @@ impl<T, A: Allocator> LastingQueue<T, A> {
 }
 
 impl<T: Drop, A: Allocator> LastingQueue<T, A> {
+    /// Gives way to whoever waits for the lock of the shard at a place: it looks for a bounded while until nobody
+    /// does, and returns at once where nobody does. A place out of range has no lock.
+    ///
+    /// For loops of one's own over [`LastingQueue::poll_some`]: whoever lets a lock go and takes it again at once gets
+    /// it before a thread that sleeps.
+    pub fn give_way(&self, place: usize) {
+        if place < self.shards.len() {
+            let waiting = &self.waiting[place];
+            waiting.give_way();
+        }
+    }
+
     // The shard at a place, with its lock held. The number is compared once: no call makes it another place's.
     #[inline]
     pub(crate) fn lock<R: Wait>(&self, rt: &R, place: usize) -> MutexGuard<'_, LastingShard<T, A>>
         requires { place < self.now.shards }
         ensures { IsOfPlace self.now.shards place (mutex_guard_value result) }
     {
-        let shard = self.shards[place].lock(rt);
+        let waiting = &self.waiting[place];
+        let shard = waiting.taken(rt, &self.shards[place]);
         if shard.number() as usize % self.shards.len() != place {
             for _ in rt.forever() {}
             unreachable!()

@@ -1,5 +1,6 @@
 //! What waits for a shard, of either queue: where a stream's ticks come from, why it gives no entry, the poller that is
-//! parked in a shard, the shard's queue with it, and its registration with the context of its task.
+//! parked in a shard, the shard's queue with it, and its registration with the context of its task; and how many threads
+//! wait for the shard's lock.
 #![tactic(auto)]
 
 mod attended;
@@ -7,9 +8,11 @@ mod fault;
 mod parked;
 mod registering;
 mod source;
+mod waiting;
 
 pub use attended::{Attended, keep_or_leave};
 pub use fault::StreamFault;
 pub use parked::{Leaver, Parked, Until, keep_until, let_sleep, ring, take};
 pub use registering::register;
 pub use source::{MillisecondTicks, TickSource};
+pub use waiting::{Waiting, waiting_row};

@@ -18,7 +18,6 @@ mod readers;
 mod state;
 mod through;
 mod totals;
-mod waiting;
 
 pub use dq_parking::Parked;
 pub use errors::{QueueConfig, QueueError, SHARD_LIMIT};

@@ -30,6 +30,7 @@ mod seen;
 mod shard;
 mod state;
 mod stream;
+mod through;
 
 pub use crate::parking::{MillisecondTicks, StreamFault, TickSource};
 pub use config::{BadLastingNumber, LastingConfig, SHARD_LIMIT};

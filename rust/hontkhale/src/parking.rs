@@ -1,14 +1,17 @@
 //! What waits for a shard, of either queue: where a stream's ticks come from, why it gives no entry, the poller that is
-//! parked in a shard, the shard's queue with it, and its registration with the context of its task.
+//! parked in a shard, the shard's queue with it, and its registration with the context of its task; and how many threads
+//! wait for the shard's lock.
 
 mod attended;
 mod fault;
 mod parked;
 mod registering;
 mod source;
+mod waiting;
 
 pub use attended::{keep_or_leave, Attended};
 pub use fault::StreamFault;
 pub use parked::{keep_until, let_sleep, ring, take, Leaver, Parked, Until};
 pub use registering::register;
 pub use source::{MillisecondTicks, TickSource};
+pub use waiting::{waiting_row, Waiting};

@@ -16,7 +16,6 @@ mod readers;
 mod state;
 mod through;
 mod totals;
-mod waiting;
 
 pub use crate::parking::Parked;
 pub use errors::{QueueConfig, QueueError, SHARD_LIMIT};

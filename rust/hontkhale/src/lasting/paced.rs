@@ -62,9 +62,12 @@ impl<T> LastingQueue<T> {
 
 /// A [`LastingStream`] whose polls make at most so many steps of their shard while its lock is held.
 ///
-/// A poll that has made them all and has more to do wakes its own task, lets the lock go and is Pending. It gives what
-/// its stream would give, and parks as that does. What is under way stands in the shard: whether this is dropped, or
-/// turned back into its stream, the next poll of the place goes on there.
+/// A poll that has made them all and has more to do wakes its own task, lets the lock go and is Pending. So others may
+/// take the lock before the task is polled again, and where it is polled at once it gives way for a bounded while to who
+/// waits for the lock. It gives what its stream would give, and parks as that does.
+///
+/// It keeps nothing of a poll: what is under way stands in the shard. Whether it is dropped, or turned back into its
+/// stream, the next poll of the place goes on there.
 pub struct LastingPacedStream<'q, T, S> {
     stream: LastingStream<'q, T, S>,
     steps: NonZeroU32,
@@ -89,6 +92,7 @@ impl<'q, T, S: TickSource> LastingPacedStream<'q, T, S> {
     /// An entry that is due, one of least deadline, or Pending: parked at the next wake or for an insert, or woken,
     /// with more to do. Faults are those of its stream. Its cost is that of its steps.
     pub fn poll_next(&mut self, cx: &mut Context<'_>) -> Poll<Option<Result<Expired<T>, StreamFault>>> {
+        self.stream.queue.give_way(self.stream.place);
         let stream = &mut self.stream;
         let tick = stream.source.now();
         match self

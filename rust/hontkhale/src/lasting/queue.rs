@@ -6,6 +6,7 @@ use crate::lasting::config::LastingConfig;
 use crate::lasting::names;
 use crate::lasting::shard::LastingShard;
 use crate::locks::{Mutex, MutexGuard};
+use crate::parking::{waiting_row, Waiting};
 use crate::words::locked_shards;
 use alloc::vec::Vec;
 
@@ -33,6 +34,8 @@ use alloc::vec::Vec;
 /// rest. So does it behind a poll that gave an entry: that one drops nothing, since a panic would lose the entry.
 pub struct LastingQueue<T> {
     pub(crate) shards: Vec<Mutex<LastingShard<T>>>,
+    // Of each shard, who waits for its lock.
+    waiting: Vec<Waiting>,
     pub(crate) name: u64,
 }
 
@@ -60,8 +63,11 @@ impl<T> LastingQueue<T> {
             capacity: config.capacity,
             last_stamp: config.last_stamp,
         };
+        let Ok(waiting) = waiting_row(config.shards) else {
+            return Err(CoreError::NoMemory);
+        };
         match locked_shards(config.shards as u32, core) {
-            Ok(shards) => Ok(LastingQueue { shards, name }),
+            Ok(shards) => Ok(LastingQueue { shards, waiting, name }),
             Err(error) => Err(error),
         }
     }
@@ -80,10 +86,23 @@ impl<T> LastingQueue<T> {
 }
 
 impl<T> LastingQueue<T> {
+    /// Gives way to whoever waits for the lock of the shard at a place: it looks for a bounded while until nobody
+    /// does, and returns at once where nobody does. A place out of range has no lock.
+    ///
+    /// For loops of one's own over [`LastingQueue::poll_some`]: whoever lets a lock go and takes it again at once gets
+    /// it before a thread that sleeps.
+    pub fn give_way(&self, place: usize) {
+        if place < self.shards.len() {
+            let waiting = nth(&self.waiting, place);
+            waiting.give_way();
+        }
+    }
+
     // The shard at a place, with its lock held. The number is compared once: no call makes it another place's.
     #[inline]
     pub(crate) fn lock(&self, place: usize) -> MutexGuard<'_, LastingShard<T>> {
-        let shard = nth(&self.shards, place).lock();
+        let waiting = nth(&self.waiting, place);
+        let shard = waiting.taken(nth(&self.shards, place));
         if shard.number() as usize % self.shards.len() != place {
             panic!("a closure of `lend` put the state of another shard here");
         }

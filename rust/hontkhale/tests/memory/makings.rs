@@ -203,8 +203,8 @@ const ROWS: &[Row] = &[
     },
     Row {
         name: "a lasting queue",
-        allocations: 13,
-        aborting: &[2, 8],
+        allocations: 14,
+        aborting: &[3, 9],
         makes: |grants| asks(grants, || Lasting::new(LastingConfig::of(2, 4))),
     },
     Row {

@@ -6,16 +6,26 @@ use std::hint::spin_loop;
 use std::sync::atomic::{AtomicU64, Ordering};
 use std::sync::{Mutex, MutexGuard, Wait};
 
-// How often who finds a lock held tries it before it waits for it, and how often a poller looks whether someone waits
-// still before it goes on. A thread that waits sleeps, and is woken in far more time than a piece takes.
+// How often a poller looks whether someone waits still before it goes on.
 const LOOKS: u32 = 1_000;
 
-// How many threads wait for the lock of a shard. No contract speaks of the number: whoever reads a wrong one waits a
-// little longer, or a little less.
-//
-// It stands in cache lines of its own, so whoever looks at it takes none from who works under the lock.
+// How often who finds a lock held tries it before it sleeps until the lock is free. A thread that sleeps is woken in
+// far more time than a piece takes.
+const TRIES: u32 = 32;
+
+// How long who finds a lock held pauses before its first try, and before any: each pause is twice the one before. Each
+// try takes the lock's cache line from the thread that holds the lock, and that thread is slower for it. So the tries
+// get rarer, the longer the lock is held.
+const FIRST_PAUSE: u32 = 4;
+
+const LONGEST_PAUSE: u32 = 256;
+
+/// How many threads wait for the lock of a shard. No contract speaks of the number: whoever reads a wrong one waits a
+/// little longer, or a little less.
+///
+/// It stands in cache lines of its own, so whoever looks at it takes none from who works under the lock.
 #[derive(Drop)]
-pub(crate) struct Waiting {
+pub struct Waiting {
     threads: AtomicU64,
     _room: [u64; 15],
 }
@@ -28,9 +38,9 @@ impl Waiting {
         }
     }
 
-    // Takes a lock. Who finds it held is counted until it has it.
+    /// Takes a lock. Who finds it held is counted until it has it.
     #[inline(always)]
-    pub(crate) fn taken<'q, S, R: Wait>(&self, rt: &R, lock: &'q Mutex<S>) -> MutexGuard<'q, S> {
+    pub fn taken<'q, S, R: Wait>(&self, rt: &R, lock: &'q Mutex<S>) -> MutexGuard<'q, S> {
         match lock.try_lock() {
             Some(guard) => guard,
             None => self.waited_for(rt, lock),
@@ -48,8 +58,8 @@ impl Waiting {
         guard
     }
 
-    // Looks for a bounded while until nobody waits.
-    pub(crate) fn give_way(&self) {
+    /// Looks for a bounded while until nobody waits.
+    pub fn give_way(&self) {
         for _ in 0..LOOKS {
             if self.threads.load(Ordering::SeqCst) == 0 {
                 return;
@@ -61,17 +71,33 @@ impl Waiting {
 
 // The lock, where it gets free within a bounded while.
 fn tried<S>(lock: &Mutex<S>) -> Option<MutexGuard<'_, S>> {
-    for _ in 0..LOOKS {
+    let mut pause = FIRST_PAUSE;
+    for _ in 0..TRIES {
+        for _ in 0..pause {
+            spin_loop();
+        }
         if let Some(guard) = lock.try_lock() {
             return Some(guard);
         }
-        spin_loop();
+        pause = longer(pause);
     }
     None
 }
 
-// A number for each of so many shards, of whose locks nobody waits for one.
-pub(crate) fn waiting_row<A: Allocator + Clone>(
+// The pause behind one: twice as long, up to the longest.
+fn longer(pause: u32) -> u32 {
+    if pause < LONGEST_PAUSE {
+        pause * 2
+    } else {
+        pause
+    }
+}
+
+/// A number for each of so many shards, of whose locks nobody waits for one.
+///
+/// # Errors
+/// AllocError where memory is refused.
+pub fn waiting_row<A: Allocator + Clone>(
     alloc: &A,
     shards: usize,
 ) -> Result<Vec<Waiting, A>, AllocError>

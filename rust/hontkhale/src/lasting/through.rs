@@ -1,0 +1,42 @@
+//! A poll in pieces of a place that gives way between them.
+
+use crate::core::{Piece, Turn};
+use crate::lasting::errors::LastingError;
+use crate::lasting::queue::LastingQueue;
+use core::num::NonZeroU32;
+
+impl<T> LastingQueue<T> {
+    /// As [`LastingQueue::poll`], in pieces of at most `most` steps, `tick` of one millisecond. The shard's lock is
+    /// free between two pieces, and where another thread waits for it this one gives way for a bounded while: a call
+    /// by name then waits for about one piece, not for the whole poll.
+    ///
+    /// It returns once a piece comes to an answer: each leaves at least so many steps fewer, but other threads may
+    /// give the shard more to do meanwhile.
+    ///
+    /// # Errors
+    /// Unknown for a place out of range, before all else, and then TickTooLarge beyond the last tick, which is not
+    /// noted then.
+    ///
+    /// ```
+    /// use hontkhale::{LastingConfig, LastingQueue, Turn};
+    /// use std::num::NonZeroU32;
+    ///
+    /// # fn main() -> Result<(), Box<dyn std::error::Error>> {
+    /// let queue = LastingQueue::new(LastingConfig::of(2, 1_000))?;
+    /// queue.insert(0, "value", 100_000).map_err(|refused| refused.0)?;
+    /// let steps = NonZeroU32::new(64).expect("some");
+    /// let turn = queue.poll_through(0, 100_000, steps)?;
+    /// assert!(matches!(turn, Turn::Out(expired) if expired.value == "value"));
+    /// # Ok(())
+    /// # }
+    /// ```
+    pub fn poll_through(&self, place: usize, tick: u64, most: NonZeroU32) -> Result<Turn<T>, LastingError> {
+        loop {
+            match self.poll_some(place, tick, most.get()) {
+                Ok(Piece::Answer(turn)) => return Ok(turn),
+                Ok(Piece::Working) => self.give_way(place),
+                Err(error) => return Err(error),
+            }
+        }
+    }
+}
