@@ -5,6 +5,7 @@ whatever stands in crates/ under .rt. The tree lies in the user's cache folder. 
 wants, the crates of the repository that it stands on, and what rt made of them, so that a second run proves what changed.
 """
 
+import hashlib
 import os
 import pathlib
 import re
@@ -15,7 +16,9 @@ TOP = pathlib.Path(__file__).resolve().parents[1]
 SOURCES = TOP / "bench" / "load"
 LINE = SOURCES / "crates.line"
 NAME = "dq_load"
-TREE = pathlib.Path(os.environ.get("XDG_CACHE_HOME") or pathlib.Path.home() / ".cache") / "hontkhale-load"
+# A clone has a folder of its own, so that two of them don't work in one.
+CLONE = hashlib.sha256(os.fsencode(TOP)).hexdigest()[:8]
+TREE = pathlib.Path(os.environ.get("XDG_CACHE_HOME") or pathlib.Path.home() / ".cache") / f"hontkhale-load-{CLONE}"
 PROGRAM = TREE / "crates" / NAME / "out" / NAME
 PARTS = ("src", "specs", "proofs")
 
