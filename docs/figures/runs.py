@@ -64,9 +64,18 @@ def most(*which):
     return max(ratios(*which))
 
 
+LIVES = {"insert+poll", "reset+poll", "remove+poll", "mixed", "churn", "heartbeat"}
+
+
+def is_life(row):
+    """Whether a row is of whole lives over shards."""
+    kind, _, shards = row.removeprefix("own-").partition("/")
+    return bool(shards) and kind in LIVES
+
+
 def shard_cells(peer, call=""):
-    """The cells of a peer of the shared queue: those of one call, or of all."""
-    return [it for it in bench() if it[0] == peer and "/" in it[1] and it[1].startswith(call)]
+    """The cells of a peer of the shared queue's calls: those of one call, or of all."""
+    return [it for it in bench() if it[0] == peer and "/" in it[1] and it[1].startswith(call) and not is_life(it[1])]
 
 
 def lost_shard_cells(peer, call=""):
@@ -77,7 +86,8 @@ def lost_shard_cells(peer, call=""):
 @functools.cache
 def lives():
     """The medians of the whole lives over shards, by the peer, the row, the entries and the threads."""
-    rows = [it for it in rows_of("latest+lives") if it[0] != "peer"]
+    added = rows_of("latest+lives") if (RESULTS / "latest+lives.tsv").exists() else []
+    rows = [it for it in [*rows_of("latest"), *added] if is_life(it[1])]
     return {(peer, row, entries, threads): statistics.median(map(float, taken.split())) for peer, row, entries, threads, taken in rows}
 
 

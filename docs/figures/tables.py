@@ -114,6 +114,8 @@ FIGURES = {
     "bytes": runs.entry_bytes,
     "shard-cells": lambda *which: len(runs.shard_cells(*which)),
     "lost-shard-cells": runs.lost_shard_cells,
+    "life-cells": lambda *which: len(runs.life_cells(*which)),
+    "lost-life-cells": runs.lost_life_cells,
     "peer-cells": runs.peer_cells,
     "pace": runs.pace,
     "pieces-least": lambda: min(pieces_sums()),
