@@ -1,5 +1,6 @@
 """The figures that a mark can name, and the tables that the pages have made for them."""
 
+import itertools
 import re
 import statistics
 import textwrap
@@ -432,16 +433,20 @@ def beside():
 BY_NAME = {"whole": "`poll`", "pieces": "`poll_some` again and again", "through": "`poll_through`"}
 
 
+# The two shared queues, by what their rows are called.
+QUEUES_BY_NAME = {"name": "`SharedDelayQueue`", "lasting": "`LastingQueue`"}
+
+
 def fair():
     """What another thread's calls by name wait beside a poll, and what that takes, in microseconds."""
-    found = {(it[0], it[1], it[2]): it[4:] for it in runs.rows_of("fair") if it[1].startswith("fair-name-")}
-    us = lambda way, pace, size, at: f"{float(found[way, f'fair-name-{pace}', size][at]) / 1000:,.1f}"
-    heads = ("Entries", "Polled by", "calm: 99.9%", "all", "its poll", "rushed: 99.9%", "all", "its poll", "beside nobody")
-    lines = [row(*heads), "|--:|---" + "|--:" * (len(heads) - 2) + "|"]
-    for size in SIZES[1:]:
-        for way, name in BY_NAME.items():
-            waits = (us(way, pace, size, at) for pace in ("calm", "rushed") for at in (2, 3, 4))
-            lines.append(row(f"{int(size):,}", name, *waits, us(way, "absent", size, 4)))
+    found = {(it[0], it[1], it[2]): it[4:] for it in runs.rows_of("fair")}
+    queues = [it for it in QUEUES_BY_NAME if ("whole", f"fair-{it}-calm", SIZES[1]) in found]
+    us = lambda queue, way, pace, size, at: f"{float(found[way, f'fair-{queue}-{pace}', size][at]) / 1000:,.1f}"
+    heads = ("Entries", "Queue", "Polled by", "calm: 99.9%", "all", "its poll", "rushed: 99.9%", "all", "its poll", "beside nobody")
+    lines = [row(*heads), "|--:|---|---" + "|--:" * (len(heads) - 3) + "|"]
+    for size, queue, way in itertools.product(SIZES[1:], queues, BY_NAME):
+        waits = (us(queue, way, pace, size, at) for pace in ("calm", "rushed") for at in (2, 3, 4))
+        lines.append(row(f"{int(size):,}", QUEUES_BY_NAME[queue], BY_NAME[way], *waits, us(queue, way, "absent", size, 4)))
     return "\n".join(lines)
 
 
