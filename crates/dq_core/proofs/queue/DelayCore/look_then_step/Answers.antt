@@ -1,6 +1,6 @@
 use Rattle.std.proofs.Common.{◌≡◌, Some, subst}
 use Rattle.dq_wheel.specs.State.{filed_at}
-use Rattle.dq_core.proofs.PieceSteps.{piece_by_one, piece_by_two}
+use Rattle.dq_core.proofs.PieceSteps.{piece_by_two}
 use Rattle.dq_core.proofs.queue.DelayCore.look_then_step.Goals as goal
 
 pub returns-in-Some-clause-piece : goal.returns-in-Some-clause-piece
