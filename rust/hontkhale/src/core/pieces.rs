@@ -3,6 +3,10 @@
 //! A poll that comes to the start of a full slot takes a step for each of its entries. Here the slot is opened as it
 //! is, in constant time, and its entries are gone through one by one. A call makes at most so many of these steps,
 //! and leaves the queue lawful behind each.
+//!
+//! Most entries of a slot are due later than at its start, which a look at the word tells. Where words are shared a
+//! look is a plain load and a step that may end an entry is a fence, which takes longer than all else: so the look
+//! comes first there.
 
 use crate::core::errors::CoreError;
 use crate::core::outcomes::{Pace, Piece, Progress, Turn};
@@ -39,8 +43,8 @@ impl<T, W: Words> DelayCore<T, W> {
         Ok(Piece::Working)
     }
 
-    // A step of a poll in pieces, and how many steps over the words it is. Where a step is a fence and two are left, it
-    // looks at a due index first, since a look is none: most of what was opened with its slot is due later.
+    // A step of a poll in pieces, and how many steps over the words are made by it: two where a look comes first that
+    // doesn't settle what is due. It comes first where so many are left.
     #[inline(always)]
     fn look_then_step(&mut self, left: u32) -> (Progress<T>, u32) {
         if W::FENCED && 2 <= left {
@@ -54,9 +58,9 @@ impl<T, W: Words> DelayCore<T, W> {
         (self.step(Pace::InPieces), 1)
     }
 
-    // Looks at the word of a due index. Where that tells what becomes of it, this is done: an entry that is live at a
-    // later tick is filed again, a cancelled one is reaped. One that is live at the tick stays as it is, since it comes
-    // out by a step that no caller can come before.
+    // Looks at the word of a due index, and settles it where the look tells all: an entry that is live at a later tick
+    // is filed again, and a cancelled one is reaped. One that is live at the tick is left, since a caller may extend it
+    // until a step of its word ends it.
     #[inline(always)]
     fn settle_by_look(&mut self, index: usize) -> bool {
         let word = self.words.look(index);
