@@ -1,7 +1,7 @@
 -- The steps of a poll in pieces: each keeps the shard law, goes the machine's way, and leaves a step less.
 use Rattle.std.proofs.Common.{◌≡◌, ◌≢◌, ℕ, ◌+◌, ◌-◌, ◌*◌, ◌<◌, ◌≤◌, max, Bool, List, [], ◌∷◌, ◌++◌, length, get_or, set, Option, Some, None, MatchOption, MatchBool, true, false, refl, sym, ap, ◌∙◌, subst, inl, inr, ◌⊎◌, arith}
 use Rattle.std.specs.List.{sum_by}
-use Rattle.std.proofs.lemmas.List.{length-map, length-set, length-append}
+use Rattle.std.proofs.lemmas.List.{length-map, length-set, length-append, get_or-set_same, set-get_or}
 use Rattle.std.proofs.lemmas.List.Sums.{sum_by-set, sum_by-le}
 use Rattle.std.proofs.lemmas.List.Elements.{All-from_get_or}
 use Rattle.std.proofs.lemmas.Bool.{cases_eq}
@@ -10,30 +10,32 @@ use Rattle.std.proofs.Math.Nat.{add-mul}
 use Rattle.dq_ticks.specs.declared.words.Parts.{Parts}
 use Rattle.dq_ticks.specs.declared.TheConstants.{LAST_TICK}
 use Rattle.dq_ticks.specs.Units.{lap}
-use Rattle.dq_wheel.specs.State.{Filing, filed_at, linked, unlinked}
+use Rattle.dq_ticks.specs.declared.words.Mark.TheVariants.{LiveMark, CancelledMark}
+use Rattle.dq_wheel.specs.State.{Filing, WheelState, filed_at, linked, unlinked}
 use Rattle.dq_wheel.specs.Moves.{ReachesLimit}
 use Rattle.dq_wheel.specs.Arrivals.{arrives, ArrivesAtWake, AreFiledByThen}
 use Rattle.dq_core.specs.declared.slots.Held.{Held}
 use Rattle.dq_core.specs.declared.outcomes.Expired.{Expired}
 use Rattle.dq_core.specs.declared.outcomes.Pace.{Pace}
 use Rattle.dq_core.specs.declared.outcomes.Pace.TheVariants.{Whole, InPieces}
-use Rattle.dq_core.specs.declared.outcomes.Progress.TheVariants.{Rests}
+use Rattle.dq_core.specs.declared.outcomes.Progress.{Progress}
+use Rattle.dq_core.specs.declared.outcomes.Progress.TheVariants.{Gave, Went, Rests}
 use Rattle.dq_core.specs.declared.outcomes.Turn.{Turn}
 use Rattle.dq_core.specs.declared.outcomes.Turn.TheVariants.{Out, Waiting, Idle}
 use Rattle.dq_core.specs.declared.outcomes.Piece.TheVariants.{Answer, Working}
-use Rattle.dq_core.specs.Words.{word_at, live, IsInForce, IsSettled, Learned, settled_counts}
+use Rattle.dq_core.specs.Words.{Counts, word_at, never, live, cancelled, IsInForce, IsSettled, Learned, settled_counts}
 use Rattle.dq_core.specs.declared.words.Settled.TheVariants.{SettledExpired, Later, SettledCancelled}
-use Rattle.dq_core.specs.Slots.{row_at, vacated, vacated_row}
+use Rattle.dq_core.specs.Slots.{SlotRows, row_at, vacated, vacated_row}
 use Rattle.dq_core.specs.Machine.{Machine, Pass, RunOf, IsOnTheWay, NoneLiveBefore}
 use Rattle.dq_core.specs.Core.{Core, machine, IsPlaced, IsLawfulCore, filing_for}
 use Rattle.dq_core.specs.TableRows.{machine_of}
 use Rattle.dq_core.specs.Calls.{SameCore, LooksOver, IsFiledOver, IsUnderWay, IsAnswered, IsOut, IsTurn, TurnRow, turn_counts, TellsWake, WakesAhead, work, noting}
-use Rattle.dq_core.specs.Pieces.{ArrivesOn, PieceStep, ComesThrough, WheelComes, IsFiledByThen, IsComing, IsAnsweredBy, due_step, steps_left, IsPolledSome, IsStepAt}
+use Rattle.dq_core.specs.Pieces.{ArrivesOn, PieceStep, ComesThrough, WheelComes, IsFiledByThen, IsComing, IsAnsweredBy, due_step, steps_left, LeavesFewer, IsPieceStep, IsPieceBy, IsPolledSome, IsStepAt}
 use Rattle.dq_core.proofs.Looks.{looks_none, looks_more, learned_more}
-use Rattle.dq_core.proofs.Law.{filed_is}
-use Rattle.dq_core.proofs.Steps.{IsAtRest, relinked, step_later, step_cancelled}
+use Rattle.dq_core.proofs.Law.{filed_is, force_learned}
+use Rattle.dq_core.proofs.Steps.{IsAtRest, relinked, step_later, later_lawful, step_cancelled, cancelled_lawful}
 use Rattle.dq_core.proofs.RunsMoves.{least_out}
-use Rattle.dq_core.proofs.Ways.{run_of_more, run_of_none, run_of_one, none_before, none_due, machine_is}
+use Rattle.dq_core.proofs.Ways.{run_of_more, run_of_none, run_of_one, none_before, none_due, machine_is, core_of}
 
 -- ways of the wheel, one after another
 through_more : (shared : Bool) (known : List Parts) (limit : ℕ) (u v w : Filing) (us vs : List Filing) → ComesThrough shared known limit u us v → ComesThrough shared known limit v vs w → ComesThrough shared known limit u (us ++ vs) w
@@ -190,14 +192,18 @@ due_few t (Some f) = elim (cases_eq f t) [ inl is ↦ omega (arith, due_here t f
 -- one index that was due is so no more
 pub steps_fewer : {T W : Type 0} (b c : Core T W) (i : ℕ) (o : Option ℕ) → i < length b.wheel.filing.filed → filed_at b.wheel.filing.filed i ≡ Some b.wheel.filing.tick →
     due_step b.wheel.filing.tick o ≡ 0 → c.wheel.filing.filed ≡ set b.wheel.filing.filed i o → c.wheel.filing.tick ≡ b.wheel.filing.tick → c.noted ≡ b.noted →
-    length c.slots.rows ≡ length b.slots.rows → steps_left c < steps_left b
+    length c.slots.rows ≡ length b.slots.rows → steps_left c + 2 ≤ steps_left b
 steps_fewer b c i o inside at none ef et en er =
     let t = b.wheel.filing.tick in
     let put = sum_by-set (due_step t) b.wheel.filing.filed i o None inside in
     let was : due_step t (filed_at b.wheel.filing.filed i) ≡ 1 = ap (due_step t) at ∙ due_here t t refl in
     rw (ef, et, en, er) (omega (arith, put, was, none))
 
-ahead_more : (k j m d d' : ℕ) → k + 1 ≤ j → d' < m → k * m + d' < j * m + d
+-- where a step takes two off
+two_fewer : {T W : Type 0} (b c : Core T W) → steps_left c + 2 ≤ steps_left b → LeavesFewer b c
+two_fewer b c two = (omega (arith, two), λ due. two)
+
+ahead_more : (k j m d d' : ℕ) → k + 1 ≤ j → d' < m → k * m + d' + 1 ≤ j * m + d
 ahead_more k j m d d' less few =
     let grown : (k + 1) * m ≤ j * m = mul-le (k + 1) m j m less (omega arith) in
     let one : (k + 1) * m ≡ k * m + 1 * m = add-mul k 1 m in
@@ -205,14 +211,39 @@ ahead_more k j m d d' less few =
 
 -- the tick went on
 steps_on : {T W : Type 0} (b c : Core T W) → length c.wheel.filing.filed ≤ length c.slots.rows → b.wheel.filing.tick < c.wheel.filing.tick → c.wheel.filing.tick ≤ b.noted →
-    c.noted ≡ b.noted → length c.slots.rows ≡ length b.slots.rows → steps_left c < steps_left b
+    c.noted ≡ b.noted → length c.slots.rows ≡ length b.slots.rows → steps_left c + 1 ≤ steps_left b
 steps_on b c size up small en er =
     let t = c.wheel.filing.tick in
     let bound : sum_by (due_step t) c.wheel.filing.filed ≤ length c.wheel.filing.filed * 1 =
     sum_by-le (due_step t) 1 c.wheel.filing.filed (All-from_get_or (λ o. due_step t o ≤ 1) c.wheel.filing.filed None (λ i inside. due_few t (get_or c.wheel.filing.filed i None))) in
     rw (en, er)
-    (ahead_more (b.noted - t) (b.noted - b.wheel.filing.tick) (length b.slots.rows + 1) (sum_by (due_step b.wheel.filing.tick) b.wheel.filing.filed)
-    (sum_by (due_step t) c.wheel.filing.filed) (omega arith) (omega arith))
+    (ahead_more (b.noted - t) (b.noted - b.wheel.filing.tick) (2 * length b.slots.rows + 1) (2 * sum_by (due_step b.wheel.filing.tick) b.wheel.filing.filed)
+    (2 * sum_by (due_step t) c.wheel.filing.filed) (omega arith) (omega arith))
+
+-- a word in force is live, or was cancelled
+live_seen : (s f : ℕ) (v : Parts) → IsInForce s f v → v.mark ≡ LiveMark → v ≡ live s v.field
+live_seen s f v (pos, inl (is, after, small)) mark = is
+live_seen s f v (pos, inr is) mark =
+    let over : v.mark ≡ CancelledMark = ap (λ p. p.mark) is in
+    absurd (cc)
+
+over_seen : (s f : ℕ) (v : Parts) → IsInForce s f v → v.mark ≢ LiveMark → v ≡ cancelled s
+over_seen s f v (pos, inl (is, after, small)) mark = absurd (mark (ap (λ p. p.mark) is))
+over_seen s f v (pos, inr is) mark = is
+
+-- of a word that was in force at a tick nothing is learned where it is live no later
+same_seen : (shared : Bool) (s t : ℕ) (w v : Parts) → IsInForce s t w → Learned shared w v → v.mark ≡ LiveMark → v.field ≤ t → v ≡ w
+same_seen shared s t w v force (inl same) mark small = same
+same_seen shared s t w v (pos, inl (is, after, low)) (inr (open_, alive, inl (is', more, low'))) mark small =
+    let stamp : w.stamp ≡ s = ap (λ p. p.stamp) is in
+    let field : v.field ≡ w.field = omega (arith, after, more, small) in
+    is' ∙ ap (λ n. live n v.field) stamp ∙ ap (λ n. live s n) field ∙ sym is
+same_seen shared s t w v (pos, inr is) (inr (open_, alive, inl (is', more, low'))) mark small =
+    let over : w.mark ≡ CancelledMark = ap (λ p. p.mark) is in
+    absurd (cc)
+same_seen shared s t w v force (inr (open_, alive, inr is')) mark small =
+    let over : v.mark ≡ CancelledMark = ap (λ p. p.mark) is' in
+    absurd (cc)
 
 -- the steps at a tick
 module _ {T W : Type 0} (shared : Bool) (b c : Core T W) (l : IsLawfulCore b) (i : ℕ) (due : filed_at b.wheel.filing.filed i ≡ Some b.wheel.filing.tick) (en : c.noted ≡ b.noted) where
@@ -225,7 +256,7 @@ module _ {T W : Type 0} (shared : Bool) (b c : Core T W) (l : IsLawfulCore b) (i
 
   -- a due entry that is live at a later deadline is filed again
   piece_later : (d : ℕ) → IsSettled shared (row_at b.slots.rows i).stamp b.wheel.filing.tick (word_at b.known i) (Later d) (word_at c.known i) → c.wheel.filing ≡ linked (unlinked b.wheel.filing i) i (filing_for b.wheel.filing.tick d) → c.slots ≡ b.slots → c.known ≡ set b.known i (word_at c.known i) → c.counts ≡ b.counts →
-      IsComing shared 1 b c × (steps_left c < steps_left b)
+      IsComing shared 1 b c × (steps_left c + 2 ≤ steps_left b)
   piece_later d settled ew es ek ec =
       let t = b.wheel.filing.tick in
       let g = filing_for t d in
@@ -239,7 +270,7 @@ module _ {T W : Type 0} (shared : Bool) (b c : Core T W) (l : IsLawfulCore b) (i
 
   -- a due entry that is found cancelled is reaped
   piece_cancelled : IsSettled shared (row_at b.slots.rows i).stamp b.wheel.filing.tick (word_at b.known i) SettledCancelled (word_at c.known i) → c.wheel.filing ≡ unlinked b.wheel.filing i → c.slots ≡ vacated b.slots i → c.known ≡ set b.known i (word_at c.known i) → c.counts ≡ b.counts →
-      IsComing shared 1 b c × (steps_left c < steps_left b)
+      IsComing shared 1 b c × (steps_left c + 2 ≤ steps_left b)
   piece_cancelled settled ew es ek ec =
       let way = step_cancelled shared b c l i due en settled ew es ek ec in (
         coming_by shared b c (inl (i, due, ew)) way.0,
@@ -249,12 +280,75 @@ module _ {T W : Type 0} (shared : Bool) (b c : Core T W) (l : IsLawfulCore b) (i
 
   -- each of both is a step of a poll too
   pub both_later : (d : ℕ) → IsSettled shared (row_at b.slots.rows i).stamp b.wheel.filing.tick (word_at b.known i) (Later d) (word_at c.known i) → c.wheel.filing ≡ linked (unlinked b.wheel.filing i) i (filing_for b.wheel.filing.tick d) → c.slots ≡ b.slots → c.known ≡ set b.known i (word_at c.known i) → c.counts ≡ b.counts →
-      (IsUnderWay shared b c × (work c < work b)) × (IsComing shared 1 b c × (steps_left c < steps_left b))
-  both_later d settled ew es ek ec = (step_later shared b c l i due en d settled ew es ek ec, piece_later d settled ew es ek ec)
+      (IsUnderWay shared b c × (work c < work b)) × (IsComing shared 1 b c × LeavesFewer b c)
+  both_later d settled ew es ek ec =
+      let piece = piece_later d settled ew es ek ec in
+      (step_later shared b c l i due en d settled ew es ek ec, (piece.0, two_fewer b c piece.1))
 
   pub both_cancelled : IsSettled shared (row_at b.slots.rows i).stamp b.wheel.filing.tick (word_at b.known i) SettledCancelled (word_at c.known i) → c.wheel.filing ≡ unlinked b.wheel.filing i → c.slots ≡ vacated b.slots i → c.known ≡ set b.known i (word_at c.known i) → c.counts ≡ b.counts →
-      (IsUnderWay shared b c × (work c < work b)) × (IsComing shared 1 b c × (steps_left c < steps_left b))
-  both_cancelled settled ew es ek ec = (step_cancelled shared b c l i due en settled ew es ek ec, piece_cancelled settled ew es ek ec)
+      (IsUnderWay shared b c × (work c < work b)) × (IsComing shared 1 b c × LeavesFewer b c)
+  both_cancelled settled ew es ek ec =
+      let piece = piece_cancelled settled ew es ek ec in
+      (step_cancelled shared b c l i due en settled ew es ek ec, (piece.0, two_fewer b c piece.1))
+
+  -- the word of a due index, as it was looked at
+  inside_known : i < length b.known
+  inside_known =
+      let at = filed_is l i b.wheel.filing.tick due in
+      let size = l.as_known in
+      let inside = at.inside in
+      omega arith
+
+  pub looked_force : (v : Parts) → Learned shared (word_at b.known i) v → IsInForce (row_at b.slots.rows i).stamp b.wheel.filing.tick v
+  looked_force v learned =
+      let at = filed_is l i b.wheel.filing.tick due in
+      force_learned shared (row_at b.slots.rows i).stamp b.wheel.filing.tick (word_at b.known i) v at.in_force learned
+
+  looked_word : (v : Parts) → c.known ≡ set b.known i v → word_at c.known i ≡ v
+  looked_word v ek = ap (λ ws. word_at ws i) ek ∙ get_or-set_same b.known i v never inside_known
+
+  looked_known : (v : Parts) → c.known ≡ set b.known i v → c.known ≡ set b.known i (word_at c.known i)
+  looked_known v ek = ek ∙ ap (λ p. set b.known i p) (sym (looked_word v ek))
+
+  looked_learned : (v : Parts) → Learned shared (word_at b.known i) v → c.known ≡ set b.known i v → Learned shared (word_at b.known i) (word_at c.known i)
+  looked_learned v learned ek =
+      let L : Parts → Type 0 = λ p. Learned shared (word_at b.known i) p in
+      subst L (sym (looked_word v ek)) learned
+
+  -- a look that finds it live at a later tick settles it, as a step of its word would
+  looked_later : (v : Parts) → Learned shared (word_at b.known i) v → v.mark ≡ LiveMark → b.wheel.filing.tick < v.field → c.known ≡ set b.known i v →
+      IsSettled shared (row_at b.slots.rows i).stamp b.wheel.filing.tick (word_at b.known i) (Later v.field) (word_at c.known i)
+  looked_later v learned mark later ek = (later, looked_word v ek ∙ live_seen _ _ v (looked_force v learned) mark, looked_learned v learned ek)
+
+  -- and so does one that finds it cancelled
+  looked_cancelled : (v : Parts) → Learned shared (word_at b.known i) v → v.mark ≢ LiveMark → c.known ≡ set b.known i v →
+      IsSettled shared (row_at b.slots.rows i).stamp b.wheel.filing.tick (word_at b.known i) SettledCancelled (word_at c.known i)
+  looked_cancelled v learned mark ek = (looked_word v ek ∙ over_seen _ _ v (looked_force v learned) mark, looked_learned v learned ek)
+
+  pub look_later : (v : Parts) → Learned shared (word_at b.known i) v → v.mark ≡ LiveMark → b.wheel.filing.tick < v.field → c.known ≡ set b.known i v →
+      c.wheel.filing ≡ linked (unlinked b.wheel.filing i) i (filing_for b.wheel.filing.tick v.field) → c.slots ≡ b.slots → c.counts ≡ b.counts →
+      IsLawfulCore c × IsComing shared 1 b c × (steps_left c + 2 ≤ steps_left b)
+  look_later v learned mark later ek ew es ec =
+      let settled = looked_later v learned mark later ek in
+      let known = looked_known v ek in
+      let piece = piece_later v.field settled ew es known ec in
+      (later_lawful shared b c l i due en v.field settled ew es known ec, piece.0, piece.1)
+
+  pub look_cancelled : (v : Parts) → Learned shared (word_at b.known i) v → v.mark ≢ LiveMark → c.known ≡ set b.known i v →
+      c.wheel.filing ≡ unlinked b.wheel.filing i → c.slots ≡ vacated b.slots i → c.counts ≡ b.counts →
+      IsLawfulCore c × IsComing shared 1 b c × (steps_left c + 2 ≤ steps_left b)
+  look_cancelled v learned mark ek ew es ec =
+      let settled = looked_cancelled v learned mark ek in
+      let known = looked_known v ek in
+      let piece = piece_cancelled settled ew es known ec in
+      (cancelled_lawful shared b c l i due en settled ew es known ec, piece.0, piece.1)
+
+  -- a look that finds it live at the tick learns nothing
+  pub look_same : (v : Parts) (known : List Parts) → Learned shared (word_at b.known i) v → v.mark ≡ LiveMark → v.field ≤ b.wheel.filing.tick → known ≡ set b.known i v → known ≡ b.known
+  look_same v known learned mark small ek =
+      let at = filed_is l i b.wheel.filing.tick due in
+      let same = same_seen shared (row_at b.slots.rows i).stamp b.wheel.filing.tick (word_at b.known i) v at.in_force learned mark small in
+      ek ∙ ap (λ p. set b.known i p) same ∙ set-get_or b.known i never
 
 -- a due entry that expires, by a step of a poll
 pub both_expired : {T W : Type 0} (shared : Bool) (b c : Core T W) (i : ℕ) {x : Expired T} → filed_at b.wheel.filing.filed i ≡ Some b.wheel.filing.tick → c.wheel.filing ≡ unlinked b.wheel.filing i → IsAnswered shared b (Out x) c →
@@ -316,7 +410,7 @@ module _ {T W : Type 0} (shared : Bool) (b c : Core T W) (l : IsLawfulCore b) (o
       let less : now.0 ≤ k = now.2 in
       omega arith
 
-  pub step_arrived : IsComing shared 1 b c × (steps_left c < steps_left b)
+  pub step_arrived : IsComing shared 1 b c × LeavesFewer b c
   step_arrived =
       let t = c.wheel.filing.tick in
       let Q : List Parts → Type 0 = λ ws. LooksOver shared b.known ws in
@@ -334,7 +428,7 @@ module _ {T W : Type 0} (shared : Bool) (b c : Core T W) (l : IsLawfulCore b) (o
           filed = λ i. filed_earlier b.wheel.filing b.known c.wheel.filing c.known i (filed_at b.wheel.filing.filed i) refl (earlier i) (ap (λ ws. word_at ws i) ek);
           counts = ec;
         },
-        steps_on b c (omega arith) up small en rows,
+        (steps_on b c (omega arith) up small en rows, λ due. absurd (on.1 due.0 due.1)),
       )
 
 -- what a loop of steps keeps
@@ -343,12 +437,17 @@ IsOnPiece shared b t turns cur =
     (t ≤ LAST_TICK) × SameCore (noting b t) cur × (cur.noted ≡ max b.noted t) × IsComing shared turns (noting b t) cur
     × (steps_left cur + turns ≤ steps_left (noting b t))
 
-pub piece_more : {T W : Type 0} (shared : Bool) (b cur c : Core T W) (t turns : ℕ) → IsOnPiece shared b t turns cur → SameCore cur c → c.noted ≡ cur.noted →
-    IsComing shared 1 cur c × (steps_left c < steps_left cur) → IsOnPiece shared b t (turns + 1) c
-piece_more shared b cur c t turns on same noted way =
-    let fewer : steps_left c < steps_left cur = way.1 in
-    let left : steps_left cur + turns ≤ steps_left (noting b t) = on.4 in
-    (on.0, (same.0 ∙ on.1.0, same.1 ∙ on.1.1, same.2 ∙ on.1.2), noted ∙ on.2, coming_more shared turns 1 (noting b t) cur c on.1.1 on.2 on.3 way.0, omega arith)
+pub piece_more : {T W : Type 0} (shared : Bool) (b cur c : Core T W) (t turns made : ℕ) → IsOnPiece shared b t turns cur → 0 < made → SameCore cur c → c.noted ≡ cur.noted →
+    IsComing shared 1 cur c × (steps_left c + made ≤ steps_left cur) → IsOnPiece shared b t (turns + made) c
+piece_more shared b cur c t turns made on some same noted way =
+    let fewer : steps_left c + made ≤ steps_left cur = way.1 in
+    let left : steps_left cur + turns ≤ steps_left (noting b t) = on.4 in (
+      on.0,
+      (same.0 ∙ on.1.0, same.1 ∙ on.1.1, same.2 ∙ on.1.2),
+      noted ∙ on.2,
+      coming_fewer shared (turns + 1) (turns + made) (noting b t) c (omega arith) (coming_more shared turns 1 (noting b t) cur c on.1.1 on.2 on.3 way.0),
+      omega arith,
+    )
 
 pub piece_init : {T W : Type 0} (shared : Bool) (b n : Core T W) (t : ℕ) → t ≤ LAST_TICK → n ≡ noting b t → IsOnPiece shared b t 0 n
 piece_init {T} {W} shared b n t small is =
@@ -450,3 +549,36 @@ piece_idle shared b cur after t turns most on few r wake =
 pub step_rests : {T W : Type 0} (shared : Bool) (pace : Pace) (b c : Core T W) → IsAtRest b c → IsStepAt shared pace b Rests c
 step_rests shared Whole b c rest = rest
 step_rests shared InPieces b c rest = rest
+
+-- where only the words themselves are other than before, as after a look that learned nothing
+pub looked_same : {T W : Type 0} (shard noted : ℕ) (wheel : WheelState) (slots : SlotRows T) (known known' : List Parts) (counts counts' : Counts) (words : W) →
+    known' ≡ known → counts' ≡ counts → core_of shard noted wheel slots known' counts' words ≡ core_of shard noted wheel slots known counts words
+looked_same shard noted wheel slots known known' counts counts' words ek ec =
+    ap (λ ws. core_of shard noted wheel slots ws counts' words) ek ∙ ap (λ n. core_of shard noted wheel slots known n words) ec
+
+coming_beside : {T W : Type 0} (shared : Bool) (b c : Core T W) (w : W) → IsComing shared 1 (record b { words = w }) c → IsComing shared 1 b c
+coming_beside shared b c w x = record { way = x.way; looks = x.looks; wheel = x.wheel; ticks = x.ticks; filed = x.filed; counts = x.counts }
+
+answered_beside : {T W : Type 0} (shared : Bool) (b c : Core T W) (turn : Turn T) (w : W) → IsAnsweredBy shared 1 (record b { words = w }) turn c → IsAnsweredBy shared 1 b turn c
+answered_beside shared b c turn w x = record { run = x.run; row = x.row; wheel = x.wheel; ticks = x.ticks; filed = x.filed; counts = x.counts }
+
+-- a step, as one of so many over the words
+pub piece_by_one : {T W : Type 0} (shared : Bool) (b : Core T W) (made : Progress T) (c : Core T W) → IsPieceStep shared b made c → IsPieceBy shared b 1 made c
+piece_by_one shared b (Gave x) c step = step
+piece_by_one shared b Went c step = (step.0, step.1.0)
+piece_by_one shared b Rests c step = step
+
+-- a step after a look that learned nothing of a due index
+piece_beside : {T W : Type 0} (shared : Bool) (b : Core T W) (w : W) (i : ℕ) (made : Progress T) (c : Core T W) → filed_at b.wheel.filing.filed i ≡ Some b.wheel.filing.tick →
+    IsPieceStep shared (record b { words = w }) made c → IsPieceBy shared b 2 made c
+piece_beside shared b w i (Gave x) c due step = answered_beside shared b c (Out x) w step
+piece_beside shared b w i Went c due step = (coming_beside shared b c w step.0, step.1.1 (i, due))
+piece_beside {T} {W} shared b w i Rests c due step =
+    let F : Core T W → Type 0 = λ q. filed_at q.wheel.filing.filed i ≡ Some q.wheel.filing.tick in
+    absurd (step.3 i (subst F (sym step.0) due))
+
+pub piece_by_two : {T W : Type 0} (shared : Bool) (b n : Core T W) (i : ℕ) (made : Progress T) (c : Core T W) → filed_at b.wheel.filing.filed i ≡ Some b.wheel.filing.tick →
+    n ≡ record b { words = n.words } → IsPieceStep shared n made c → IsPieceBy shared b 2 made c
+piece_by_two {T} {W} shared b n i made c due same step =
+    let P : Core T W → Type 0 = λ q. IsPieceStep shared q made c in
+    piece_beside shared b n.words i made c due (subst P same step)

@@ -1,7 +1,7 @@
 -- A poll in pieces: each call makes at most so many steps, and a slot that starts is opened as it
 -- is, so no step goes through all of its indexes.
-use Rattle.std.specs.Prelude.{max, ◌≡◌, ◌≢◌, ℕ, ◌+◌, ◌-◌, ◌*◌, ◌<◌, ◌≤◌, ◌⊎◌, ◌==◌, Bool, List, []}
-use Rattle.std.specs.Prelude.{◌∷◌, Option, Some, None, Result, Ok, Err, length, if◌then◌else◌}
+use Rattle.std.specs.Prelude.{max, ◌≡◌, ◌≢◌, ℕ, ◌+◌, ◌-◌, ◌*◌, ◌<◌, ◌≤◌, ◌⊎◌, ◌==◌, Bool, true}
+use Rattle.std.specs.Prelude.{false, List, [], ◌∷◌, Option, Some, None, Result, Ok, Err, length, if◌then◌else◌}
 use Rattle.std.specs.List.{sum_by}
 use Rattle.dq_ticks.specs.declared.words.Parts.{Parts}
 use Rattle.dq_ticks.specs.declared.words.Mark.TheVariants.{LiveMark}
@@ -84,20 +84,41 @@ abbrev pub due_step : ℕ → Option ℕ → ℕ
 due_step tick None = 0
 due_step tick (Some f) = if f == tick then 1 else 0
 
--- how many steps are left at the most: the indexes that are due, and for each tick up to the noted
--- one all that may be due there, and the step to it
+-- how many steps are left at the most: two for each index that is due, a look and one that settles
+-- it, and for each tick up to the noted one twice as many as there are slots, and the step to it
 abbrev pub steps_left : {T W : Type 0} → Core T W → ℕ
 steps_left c =
-    (c.noted - c.wheel.filing.tick) * (length c.slots.rows + 1)
-    + sum_by (due_step c.wheel.filing.tick) c.wheel.filing.filed
+    (c.noted - c.wheel.filing.tick) * (2 * length c.slots.rows + 1)
+    + 2 * sum_by (due_step c.wheel.filing.tick) c.wheel.filing.filed
+
+-- some index is filed at the wheel's tick
+abbrev pub IsSomeDue : {T W : Type 0} → Core T W → Type 0
+IsSomeDue c = (i : ℕ) × (filed_at c.wheel.filing.filed i ≡ Some c.wheel.filing.tick)
+
+-- a step leaves at least one step fewer, and two where one was due
+abbrev pub LeavesFewer : {T W : Type 0} → Core T W → Core T W → Type 0
+LeavesFewer b c =
+    (steps_left c + 1 ≤ steps_left b) × (IsSomeDue b → steps_left c + 2 ≤ steps_left b)
 
 -- what one step does
 abbrev pub IsPieceStep : {T W : Type 0} → Bool → Core T W → Progress T → Core T W → Type 0
 IsPieceStep shared b (Gave x) c = IsAnsweredBy shared 1 b (Out x) c
-IsPieceStep shared b Went c = IsComing shared 1 b c × (steps_left c < steps_left b)
+IsPieceStep shared b Went c = IsComing shared 1 b c × LeavesFewer b c
 IsPieceStep shared b Rests c =
     (c ≡ b) × (c.wheel.filing.tick ≡ c.noted) × NoneLiveBefore (machine c) (c.noted + 1)
     × ((i : ℕ) → filed_at c.wheel.filing.filed i ≢ Some c.wheel.filing.tick)
+
+-- what one step does, where so many are made over the words
+abbrev pub IsPieceBy : {T W : Type 0} → Bool → Core T W → ℕ → Progress T → Core T W → Type 0
+IsPieceBy shared b made (Gave x) c = IsAnsweredBy shared 1 b (Out x) c
+IsPieceBy shared b made Went c = IsComing shared 1 b c × (steps_left c + made ≤ steps_left b)
+IsPieceBy shared b made Rests c = IsPieceStep shared b Rests c
+
+-- a due index is settled by a look at its word, which is one step; or its word is live at the tick,
+-- and then nothing changes but what the words are
+abbrev pub SettlesByLook : {T W : Type 0} → Bool → Core T W → Bool → Core T W → Type 0
+SettlesByLook shared b true c = IsComing shared 1 b c × (steps_left c + 2 ≤ steps_left b)
+SettlesByLook shared b false c = c ≡ record b { words = c.words }
 
 -- what one step does at that pace
 abbrev pub IsStepAt : {T W : Type 0} → Bool → Pace → Core T W → Progress T → Core T W → Type 0

@@ -3,20 +3,25 @@
 //! A poll that comes to the start of a full slot takes a step for each of its entries. Here the slot is opened as it
 //! is, in constant time, and its entries are gone through one by one. A call makes at most so many of these steps,
 //! and leaves the queue lawful behind each.
+//!
+//! Most entries of a slot are due later than at its start, which a look at the word tells. Where words are shared a
+//! look is a plain load and a step that may end an entry is a fence, which takes longer than all else: so the look
+//! comes first there.
 
-ghost use Rattle.std.specs.Prelude.{◌≡◌, ℕ, ◌+◌, ◌<◌, ◌≤◌, ◌↔◌, max, IfSome, None, IsErr, OnErr, OnOk};
+ghost use Rattle.std.specs.Prelude.{◌≡◌, ℕ, ◌+◌, ◌<◌, ◌≤◌, ◌↔◌, max, length, Some, IfSome, None, IsErr, OnErr, OnOk};
 ghost use Rattle.dq_core.specs.AtTheCall.{IfOut, IfRests};
 ghost use Rattle.dq_core.specs.Calls.{SameCore};
 ghost use Rattle.dq_core.specs.Core.{machine};
 ghost use Rattle.dq_core.specs.Machine.{NoneLinked, NoneLiveBefore};
-ghost use Rattle.dq_core.specs.Pieces.{IfAnswer, PollsSome};
+ghost use Rattle.dq_core.specs.Pieces.{IfAnswer, IsPieceBy, PollsSome, SettlesByLook};
 ghost use Rattle.dq_core.specs.Words.{StillBegun};
+ghost use Rattle.dq_wheel.specs.State.{filed_at};
 
 use crate::errors::CoreError;
 use crate::outcomes::{Pace, Piece, Progress, Turn};
-use crate::queue::DelayCore;
+use crate::queue::{DelayCore, filing_tick};
 use crate::words::Words;
-use dq_ticks::LAST_TICK;
+use dq_ticks::{LAST_TICK, Mark};
 use std::alloc::Allocator;
 
 impl<T: Drop, W: Words, A: Allocator> DelayCore<T, W, A> {
@@ -60,8 +65,11 @@ impl<T: Drop, W: Words, A: Allocator> DelayCore<T, W, A> {
             return Err(CoreError::TickTooLarge { limit: LAST_TICK });
         }
         self.note(tick);
-        for _turn in 0..most {
-            match self.step(Pace::InPieces) {
+        let mut made = 0;
+        while made < most {
+            let (progress, steps) = self.look_then_step(most - made);
+            made += steps;
+            match progress {
                 Progress::Gave(expired) => return Ok(Piece::Answer(Turn::Out(expired))),
                 Progress::Went => {}
                 Progress::Rests => {
@@ -73,5 +81,60 @@ impl<T: Drop, W: Words, A: Allocator> DelayCore<T, W, A> {
             }
         }
         Ok(Piece::Working)
+    }
+
+    // A step of a poll in pieces, and how many steps over the words are made by it: two where a look comes first that
+    // doesn't settle what is due. It comes first where so many are left.
+    #[inline(always)]
+    fn look_then_step(&mut self, left: u32) -> (Progress<T>, u32)
+        requires { 0 < left }
+        ensures same { SameCore self.old self.new }
+        ensures origin { W.origin self.new.words ≡ W.origin self.old.words }
+        ensures begun { StillBegun W.begun self.old.words self.new.words }
+        ensures noted { self.new.noted ≡ self.old.noted }
+        ensures some { 0 < result.1 }
+        ensures few { result.1 ≤ left }
+        ensures few_steps { W.steps self.new.words ≤ W.steps self.old.words + result.1 }
+        ensures piece { IsPieceBy W.shared self.old result.1 result.0 self.new }
+    {
+        if W::FENCED && 2 <= left {
+            if let Some(index) = self.wheel.first_due() {
+                if self.settle_by_look(index) {
+                    return (Progress::Went, 1);
+                }
+                return (self.step(Pace::InPieces), 2);
+            }
+        }
+        (self.step(Pace::InPieces), 1)
+    }
+
+    // Looks at the word of a due index, and settles it where the look tells all: an entry that is live at a later tick
+    // is filed again, and a cancelled one is reaped. One that is live at the tick is left, since a caller may extend it
+    // until a step of its word ends it.
+    #[inline(always)]
+    fn settle_by_look(&mut self, index: usize) -> bool
+        requires index_in { index < length self.old.wheel.filing.filed }
+        requires due { filed_at self.old.wheel.filing.filed index
+            ≡ Some self.old.wheel.filing.tick }
+        ensures same { SameCore self.old self.new }
+        ensures origin { W.origin self.new.words ≡ W.origin self.old.words }
+        ensures begun { StillBegun W.begun self.old.words self.new.words }
+        ensures one_step { W.steps self.new.words ≤ W.steps self.old.words + 1 }
+        ensures noted { self.new.noted ≡ self.old.noted }
+        ensures settles { SettlesByLook W.shared self.old result self.new }
+    {
+        let word = self.words.look(index);
+        let Mark::LiveMark = word.mark else {
+            self.wheel.unlink(index);
+            self.slots.let_go(index);
+            return true;
+        };
+        let tick = self.wheel.tick();
+        if word.field <= tick {
+            return false;
+        }
+        self.wheel.unlink(index);
+        self.wheel.link(index, filing_tick(tick, word.field));
+        true
     }
 }

@@ -246,6 +246,21 @@ impl<A: Allocator> Wheel<A> {
         self.lists.least_in(list)
     }
 
+    /// An index that is due, or none where nothing is filed at the tick.
+    #[inline]
+    pub fn first_due(&self) -> Option<usize>
+        ensures due { IfSome result (λ i.
+            filed_at self.now.filing.filed i ≡ Some self.now.filing.tick) }
+        ensures in_range { IfSome result (λ i. i < length self.now.filing.filed) }
+        ensures none { IfNone result
+            (NoneFiledAt self.now.filing.filed self.now.filing.tick) }
+    {
+        let Some(index) = self.lists.first(due_list(self.tick)) else {
+            return None;
+        };
+        Some(index)
+    }
+
     /// Files a loose index at a tick from the wheel's own on, at most [`REACH`] ticks ahead. It has not moved then.
     pub fn link(&mut self, index: usize, filed: u64)
         requires index_in { index < length self.old.filing.filed }

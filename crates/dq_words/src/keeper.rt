@@ -217,6 +217,7 @@ impl<A: Allocator> Words for Keeper<A> {
         self.seat.begin(index, live_word(stamp, when));
     }
 
+    #[inline]
     fn look(&mut self, index: usize) -> Parts
         requires { index < length (known_of self.old) }
         ensures learned { Learned true (known_word self.old index) result }

@@ -3,12 +3,16 @@
 //! A poll that comes to the start of a full slot takes a step for each of its entries. Here the slot is opened as it
 //! is, in constant time, and its entries are gone through one by one. A call makes at most so many of these steps,
 //! and leaves the queue lawful behind each.
+//!
+//! Most entries of a slot are due later than at its start, which a look at the word tells. Where words are shared a
+//! look is a plain load and a step that may end an entry is a fence, which takes longer than all else: so the look
+//! comes first there.
 
 use crate::core::errors::CoreError;
 use crate::core::outcomes::{Pace, Piece, Progress, Turn};
-use crate::core::queue::DelayCore;
+use crate::core::queue::{filing_tick, DelayCore};
 use crate::core::words::Words;
-use crate::ticks::LAST_TICK;
+use crate::ticks::{Mark, LAST_TICK};
 
 impl<T, W: Words> DelayCore<T, W> {
     /// Does of a [`Self::poll`] at most `most` steps, each in constant time but for a value's drop. Call again while
@@ -21,8 +25,11 @@ impl<T, W: Words> DelayCore<T, W> {
             return Err(CoreError::TickTooLarge { limit: LAST_TICK });
         }
         self.note(tick);
-        for _turn in 0..most {
-            match self.step(Pace::InPieces) {
+        let mut made = 0;
+        while made < most {
+            let (progress, steps) = self.look_then_step(most - made);
+            made += steps;
+            match progress {
                 Progress::Gave(expired) => return Ok(Piece::Answer(Turn::Out(expired))),
                 Progress::Went => {}
                 Progress::Rests => {
@@ -34,5 +41,40 @@ impl<T, W: Words> DelayCore<T, W> {
             }
         }
         Ok(Piece::Working)
+    }
+
+    // A step of a poll in pieces, and how many steps over the words are made by it: two where a look comes first that
+    // doesn't settle what is due. It comes first where so many are left.
+    #[inline(always)]
+    fn look_then_step(&mut self, left: u32) -> (Progress<T>, u32) {
+        if W::FENCED && 2 <= left {
+            if let Some(index) = self.wheel.first_due() {
+                if self.settle_by_look(index) {
+                    return (Progress::Went, 1);
+                }
+                return (self.step(Pace::InPieces), 2);
+            }
+        }
+        (self.step(Pace::InPieces), 1)
+    }
+
+    // Looks at the word of a due index, and settles it where the look tells all: an entry that is live at a later tick
+    // is filed again, and a cancelled one is reaped. One that is live at the tick is left, since a caller may extend it
+    // until a step of its word ends it.
+    #[inline(always)]
+    fn settle_by_look(&mut self, index: usize) -> bool {
+        let word = self.words.look(index);
+        let Mark::LiveMark = word.mark else {
+            self.wheel.unlink(index);
+            self.slots.let_go(index);
+            return true;
+        };
+        let tick = self.wheel.tick();
+        if word.field <= tick {
+            return false;
+        }
+        self.wheel.unlink(index);
+        self.wheel.link(index, filing_tick(tick, word.field));
+        true
     }
 }

@@ -154,6 +154,13 @@ impl Wheel {
         self.lists.least_in(list)
     }
 
+    /// An index that is due, or none where nothing is filed at the tick.
+    #[inline]
+    pub fn first_due(&self) -> Option<usize> {
+        let index = self.lists.first(due_list(self.tick))?;
+        Some(index)
+    }
+
     /// Files a loose index at a tick from the wheel's own on, at most [`REACH`] ticks ahead. It has not moved then.
     ///
     /// [`REACH`]: crate::REACH

@@ -107,6 +107,7 @@ impl Words for Keeper {
         self.seat.begin(index, live_word(stamp, when));
     }
 
+    #[inline]
     fn look(&mut self, index: usize) -> Parts {
         unpack(self.seat.keeper_load(index))
     }

@@ -1,8 +1,9 @@
-//! One owner's queue, beside its worked cases: its entries, peeks, renewals, and threads that race.
+//! One owner's queue, beside its worked cases: its entries, peeks, open slots, renewals, and threads that race.
 
 mod entries;
 mod front;
 mod letting_go;
+mod open_slots;
 mod peeks;
 mod race;
 mod renewals;
