@@ -38,7 +38,8 @@ module _ {T : Type 0} where
 
   -- the task that is polled is parked in a shard, until a tick or for an insert
   abbrev pub ParksTask : Context → Context → LastingView T → Option ℕ → LastingView T → Type 0
-  ParksTask cx cy old next new = (waker : Waker) × IsOwn waker cx cy × (new ≡ with_parked old next waker)
+  ParksTask cx cy old next new =
+      (waker : Waker) × IsOwn waker cx cy × (new ≡ with_parked old next waker)
 
   -- a ring at a tick takes out a poller that is parked at or before it
   abbrev pub RingsParked : LastingView T → ℕ → Bool → LastingView T → Type 0
