@@ -1,6 +1,6 @@
 //! Lists of indexes, linked both ways, in a fixed row, with what is kept of each index.
 
-ghost use Rattle.std.specs.Prelude.{◌≡◌, ◌≢◌, ◌⊎◌, if◌then◌else◌, ℕ, ◌+◌, ◌<◌, ◌≤◌, length, map, slice_index, slice_set, replicate, IfOk, MatchOption, Option, None, Some};
+ghost use Rattle.std.specs.Prelude.{◌≡◌, ◌≢◌, ◌⊎◌, if◌then◌else◌, ℕ, ◌+◌, ◌<◌, ◌≤◌, length, map, slice_index, slice_set, replicate, IfOk, MatchOption, IfSome, Option, None, Some};
 ghost use Rattle.dq_wheel.specs.Lists.{IsLeastIn, IsListEmpty, IsListFilled, IsListOf, IsLoose, StandsIn, TakesMore};
 ghost use Rattle.dq_wheel.specs.Seen.{home_seen, number_seen, numbers_seen};
 ghost use Rattle.dq_wheel.specs.Maps.{IsOccupied};
@@ -159,6 +159,21 @@ impl<A: Allocator> Circles<A> {
             Some(first)
         } else {
             None
+        }
+    }
+
+    /// The first index of a list while a slot is open, or none, which tells nothing.
+    #[inline]
+    pub fn first_open(&self, list: usize) -> Option<usize>
+        requires { list < LISTS }
+        ensures { IfSome result (λ x. StandsIn self.now.homes list x) }
+    {
+        if self.opened.is_none() {
+            return None;
+        }
+        match self.first(list) {
+            Some(first) => Some(first),
+            None => None,
         }
     }
 

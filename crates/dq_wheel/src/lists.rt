@@ -1,6 +1,6 @@
 //! The lists of six levels, of which one is the due list, with occupancy maps.
 
-ghost use Rattle.std.specs.Prelude.{◌≡◌, ◌≢◌, ℕ, ◌+◌, ◌*◌, ◌<◌, ◌≤◌, ◌↔◌, length, slice_index, slice_set, map, replicate, IfOk, MatchOption, Option, None, Some};
+ghost use Rattle.std.specs.Prelude.{◌≡◌, ◌≢◌, ℕ, ◌+◌, ◌*◌, ◌<◌, ◌≤◌, ◌↔◌, length, slice_index, slice_set, map, replicate, IfOk, MatchOption, IfSome, Option, None, Some};
 ghost use Rattle.std.specs.Int.{bit_at};
 ghost use Rattle.dq_wheel.specs.Lists.{IsLeastIn, IsListEmpty, IsListFilled, IsListOf, IsLoose, StandsIn, TakesMore};
 ghost use Rattle.dq_wheel.specs.Seen.{home_seen, numbers_seen};
@@ -124,6 +124,18 @@ impl<A: Allocator> Lists<A> {
             (λ x. StandsIn self.now.homes list x) }
     {
         match self.circles.first(list) {
+            Some(first) => Some(first),
+            None => None,
+        }
+    }
+
+    /// The first index of a list while a slot is open, or none, which tells nothing.
+    #[inline]
+    pub fn first_open(&self, list: usize) -> Option<usize>
+        requires { list < LISTS }
+        ensures { IfSome result (λ x. StandsIn self.now.homes list x) }
+    {
+        match self.circles.first_open(list) {
             Some(first) => Some(first),
             None => None,
         }

@@ -246,16 +246,16 @@ impl<A: Allocator> Wheel<A> {
         self.lists.least_in(list)
     }
 
-    /// An index that is due, or none where nothing is filed at the tick.
+    /// An index that is due while a slot is open, as [`Self::arrive`] leaves it: most of its indexes are due only since
+    /// they were filed there, and whoever knows more of them may file them later. Else none, which tells nothing: what is
+    /// due at any other tick was filed at just that tick.
     #[inline]
-    pub fn first_due(&self) -> Option<usize>
+    pub fn first_open(&self) -> Option<usize>
         ensures due { IfSome result (λ i.
             filed_at self.now.filing.filed i ≡ Some self.now.filing.tick) }
         ensures in_range { IfSome result (λ i. i < length self.now.filing.filed) }
-        ensures none { IfNone result
-            (NoneFiledAt self.now.filing.filed self.now.filing.tick) }
     {
-        let Some(index) = self.lists.first(due_list(self.tick)) else {
+        let Some(index) = self.lists.first_open(due_list(self.tick)) else {
             return None;
         };
         Some(index)

@@ -19,6 +19,8 @@ impl<T, W: Words> DelayCore<T, W> {
     /// it answers Working: each such call leaves at least so many steps fewer. Between the calls every other call may
     /// be made.
     ///
+    /// Over shared words an entry that is due may take two of these steps, a look and one that ends it.
+    ///
     /// Who is told Working by a call of no step at all learns nothing. Refused as TickTooLarge beyond the last tick.
     pub fn poll_some(&mut self, tick: u64, most: u32) -> Result<Piece<T>, CoreError> {
         if tick > LAST_TICK {
@@ -44,11 +46,12 @@ impl<T, W: Words> DelayCore<T, W> {
     }
 
     // A step of a poll in pieces, and how many steps over the words are made by it: two where a look comes first that
-    // doesn't settle what is due. It comes first where so many are left.
+    // doesn't settle what is due. It comes first while a slot is open and so many are left. Any other index that is due
+    // was filed at just that tick, so a look would mostly be made for nothing.
     #[inline(always)]
     fn look_then_step(&mut self, left: u32) -> (Progress<T>, u32) {
         if W::FENCED && 2 <= left {
-            if let Some(index) = self.wheel.first_due() {
+            if let Some(index) = self.wheel.first_open() {
                 if self.settle_by_look(index) {
                     return (Progress::Went, 1);
                 }

@@ -92,6 +92,18 @@ impl Circles {
         }
     }
 
+    /// The first index of a list while a slot is open, or none, which tells nothing.
+    #[inline]
+    pub fn first_open(&self, list: usize) -> Option<usize> {
+        if self.opened.is_none() {
+            return None;
+        }
+        match self.first(list) {
+            Some(first) => Some(first),
+            None => None,
+        }
+    }
+
     /// An index of a list that is filed least there.
     pub fn least_in(&self, list: usize) -> Option<usize> {
         let first = self.first(list)?;

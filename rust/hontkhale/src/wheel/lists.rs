@@ -63,6 +63,15 @@ impl Lists {
         }
     }
 
+    /// The first index of a list while a slot is open, or none, which tells nothing.
+    #[inline]
+    pub fn first_open(&self, list: usize) -> Option<usize> {
+        match self.circles.first_open(list) {
+            Some(first) => Some(first),
+            None => None,
+        }
+    }
+
     /// An index of a list that is filed least there.
     pub fn least_in(&self, list: usize) -> Option<usize> {
         self.circles.least_in(list)

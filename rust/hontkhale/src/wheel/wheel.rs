@@ -154,10 +154,12 @@ impl Wheel {
         self.lists.least_in(list)
     }
 
-    /// An index that is due, or none where nothing is filed at the tick.
+    /// An index that is due while a slot is open, as [`Self::arrive`] leaves it: most of its indexes are due only since
+    /// they were filed there, and whoever knows more of them may file them later. Else none, which tells nothing: what is
+    /// due at any other tick was filed at just that tick.
     #[inline]
-    pub fn first_due(&self) -> Option<usize> {
-        let index = self.lists.first(due_list(self.tick))?;
+    pub fn first_open(&self) -> Option<usize> {
+        let index = self.lists.first_open(due_list(self.tick))?;
         Some(index)
     }
 
