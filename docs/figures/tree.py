@@ -12,7 +12,7 @@ OWNED = TOP / "rust" / "hontkhale" / "src" / "tests" / "owned"
 PLAIN = [OWNED, *(TOP / "rust" / "hontkhale" / "tests" / it for it in ("slow", "hostile", "generations"))]
 
 # Crates whose code no user runs: what an automatic look at them can't tell.
-ROLES = {"dq_load": "bench", "refusing_heap": "tests", "draws": "tests"}
+ROLES = {"dq_load": "bench", "refusing_heap": "tests", "draws": "tests", "examples": "example"}
 # The bench's load, which is no crate of crates.txt: its sources have an ending of their own.
 LOAD, LOAD_ENDING = TOP / "bench" / "load", ".rattle"
 CLAUSE = re.compile(r"(requires|ensures|ghost)\b")
@@ -112,8 +112,6 @@ class Crate:
     def its_role(self):
         if self.name in ROLES:
             return ROLES[self.name]
-        if self.name.endswith("_example"):
-            return "example"
         roots = [it for it in self.sources if it.stem in ("lib", "main") and it.parent.name == "src"]
         mods = [it for root in roots for it in re.findall(r"^(?:pub )?(?:mod|fn|struct)\b", without_tests(text_of(root)), re.M)]
         return "queue" if mods else "tests"

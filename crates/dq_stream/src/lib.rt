@@ -4,7 +4,7 @@
 //! gone. Whoever keeps the time rings the shard, at each tick or at the ticks that matter: a stream that nobody rings
 //! sleeps until the next wake changes. A shard parks one poller, so a second stream on it puts the first to sleep.
 //!
-//! The crate `stream_example` is the program that these are of:
+//! The crate `examples` has the program that these are of, as `stream`:
 //!
 //! ```ignore
 //! let stream = ExpiredStream::new(rt, jobs, SHARD, ticks);

@@ -1,6 +1,6 @@
 //! Hosts that are looked up at ticks that are handed in.
 
-use crate::addresses::Addresses;
+use super::addresses::Addresses;
 use anyhow::Result;
 
 // How long an address is remembered, in ticks of one millisecond.

@@ -1,30 +1,24 @@
 //! Jobs that failed, and when each is tried again. One thread takes from a stream what is due, and another tells it
 //! the time.
 //!
-//! Without arguments the ticks are handed in, so that each run prints the same. `stream_example live` goes by the
-//! real clock.
-#![tactic(auto)]
+//! In crates/examples `rt run -- stream` hands the ticks in, so that each run prints the same, and
+//! `rt run -- stream live` goes by the real clock.
 
-mod live;
+pub mod live;
 
 use anyhow::Result;
 use dq_core::Turn;
 use dq_shards::{QueueConfig, SharedDelayQueue};
 use dq_stream::{ExpiredStream, TickSource};
 use dq_ticks::Key;
-use example_mode::{Mode, asked};
 use futures::StreamExt;
 use futures::executor::block_on;
-use std::process::ExitCode;
 use std::random::RandomSource;
 use std::sync::Wait;
 use std::sync::atomic::AtomicU64;
 use std::sync::atomic::Ordering::SeqCst;
 use std::thread;
 use std::thread::Threads;
-
-// What the command line may say.
-const USAGE: &str = "usage: stream_example [live] (live: by the real clock, some four seconds)";
 
 // How many jobs a shard may have at once. All memory but that of names is taken when the queue is made.
 const ROOM: usize = 64;
@@ -45,8 +39,8 @@ impl TickSource for TickOf<'_> {
     }
 }
 
-// Puts three jobs off, one of them twice, and tries each when it is due.
-fn walk<R>(rt: &R) -> Result<()>
+/// Puts three jobs off, one of them twice, and tries each when it is due.
+pub fn walk<R>(rt: &R) -> Result<()>
 where
     R: Print + AllocGlobal + RandomSource + Threads + Wait + Sync,
 {
@@ -101,13 +95,4 @@ fn ring<R: Wait>(rt: &R, jobs: &Jobs, time: &AtomicU64) -> Result<()> {
         jobs.ring(rt, SHARD, 1_000 * second)?;
     }
     Ok(())
-}
-
-fn main(rt: HostRuntime) -> Result<ExitCode> {
-    match asked(&rt, USAGE)? {
-        Ok(Mode::Walk) => walk(&rt)?,
-        Ok(Mode::Live) => live::run(&rt)?,
-        Err(status) => return Ok(status),
-    }
-    Ok(ExitCode::SUCCESS)
 }

@@ -1,7 +1,6 @@
 //! How entries come down the wheels: where each one stands at each wake of its queue.
 //!
-//! `docs/figures/wheel_at_work` draws what this prints.
-#![tactic(auto)]
+//! In crates/examples `rt run -- wheel` prints it, and `docs/figures/wheel_at_work` draws that.
 
 use anyhow::Result;
 use dq_core::{DelayCore, Turn, VecWords};
@@ -18,7 +17,8 @@ const DUE: [(char, u64); 4] = [('a', 40), ('b', 150), ('c', 5_000), ('d', 5_003)
 // At most so many wakes come: five for an entry that goes down from the top level, and that at which it is out.
 const WAKES: usize = 6 * DUE.len();
 
-fn main(rt: HostRuntime) -> Result<()> {
+/// Inserts the entries, and prints where each stands at each wake, until all are out.
+pub fn walk<R: Print + AllocGlobal>(rt: &R) -> Result<()> {
     let mut queue = Letters::with_capacity(rt.alloc(), DUE.len())?;
     let mut entries = Vec::new(rt.alloc());
     for (letter, when) in DUE {
@@ -27,7 +27,7 @@ fn main(rt: HostRuntime) -> Result<()> {
     }
     let mut now = 0;
     for _ in 0..WAKES {
-        tell_places(&rt, now, &queue, entries.as_slice())?;
+        tell_places(rt, now, &queue, entries.as_slice())?;
         let Some(next) = queue.next_wake() else {
             return Ok(());
         };

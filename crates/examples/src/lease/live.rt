@@ -1,6 +1,6 @@
 //! Leases by the real clock: one is renewed again and again by a thread with a handle, and the other isn't.
 
-use crate::{LEASES, end_leases, lease};
+use super::{LEASES, end_leases, lease};
 use anyhow::{Result, anyhow};
 use dq_core::CallError;
 use dq_shards::{Handle, QueueConfig, SharedDelayQueue};

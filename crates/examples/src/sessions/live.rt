@@ -1,6 +1,6 @@
 //! Sessions by the real clock, of those whose names come on standard input.
 
-use crate::{SESSIONS, tell_audit, time_out};
+use super::{SESSIONS, tell_audit, time_out};
 use anyhow::Result;
 use dq_apps::IdleSessions;
 use dq_shards::{Handle, QueueConfig};

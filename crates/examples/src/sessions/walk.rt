@@ -1,6 +1,6 @@
 //! Sessions by ticks that are handed in.
 
-use crate::{SESSIONS, tell_audit, time_out};
+use super::{SESSIONS, tell_audit, time_out};
 use anyhow::Result;
 use dq_apps::IdleSessions;
 use dq_core::CallError;

@@ -1,6 +1,6 @@
 //! Hosts that are looked up by the real clock.
 
-use crate::addresses::Addresses;
+use super::addresses::Addresses;
 use anyhow::Result;
 use dq_stream::{MillisecondTicks, TickSource};
 use std::rt::Clock;

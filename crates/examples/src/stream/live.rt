@@ -1,6 +1,6 @@
 //! Jobs by the real clock: a stream gives each when it is due, while a thread rings every few milliseconds.
 
-use crate::{Jobs, ROOM, SHARD, put_off, try_due};
+use super::{Jobs, ROOM, SHARD, put_off, try_due};
 use anyhow::Result;
 use dq_shards::QueueConfig;
 use dq_stream::{MillisecondTicks, TickSource};

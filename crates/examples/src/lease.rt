@@ -1,24 +1,18 @@
 //! Leases of a lock server. Many threads may give them and renew them; here one thread renews a lease while another
 //! polls.
 //!
-//! Without arguments the ticks are handed in, so that each run prints the same. `lease_example live` goes by the real
-//! clock.
-#![tactic(auto)]
+//! In crates/examples `rt run -- lease` hands the ticks in, so that each run prints the same, and
+//! `rt run -- lease live` goes by the real clock.
 
-mod live;
+pub mod live;
 
 use anyhow::{Result, anyhow};
 use dq_core::Turn;
 use dq_shards::{Handle, QueueConfig, SharedDelayQueue};
 use dq_ticks::Key;
-use example_mode::{Mode, asked};
-use std::process::ExitCode;
 use std::sync::Wait;
+use std::thread;
 use std::thread::Threads;
-use std::{env, io, thread};
-
-// What the command line may say.
-const USAGE: &str = "usage: lease_example [live] (live: by the real clock, some five seconds)";
 
 // How many leases a shard may have at once. All memory but that of names is taken when the queue is made.
 const LEASES: usize = 64;
@@ -67,8 +61,8 @@ where
     Ok(())
 }
 
-// Gives two leases, of which one is renewed, and ends both.
-fn walk<R>(rt: &R) -> Result<()>
+/// Gives two leases, of which one is renewed, and ends both.
+pub fn walk<R>(rt: &R) -> Result<()>
 where
     R: Print + AllocGlobal + Threads + Wait + Clone + Drop + Send + 'static,
 {
@@ -81,13 +75,4 @@ where
     let shard = first.entry().shard() as usize;
     end_leases(rt, &queue, shard, 30_000)?;
     end_leases(rt, &queue, shard, 45_000)
-}
-
-fn main(rt: HostRuntime) -> Result<ExitCode> {
-    match asked(&rt, USAGE)? {
-        Ok(Mode::Walk) => walk(&rt)?,
-        Ok(Mode::Live) => live::run(&rt)?,
-        Err(status) => return Ok(status),
-    }
-    Ok(ExitCode::SUCCESS)
 }

@@ -1,35 +1,19 @@
 //! Sessions of a server, each of which ends when nobody touched it for a while. One thread touches them by a handle,
 //! without a lock, while another polls for those that ended.
 //!
-//! Without arguments the ticks are handed in, so that each run prints the same. `sessions_example live` goes by the
-//! real clock: each line of standard input is the name of who was just active.
-#![tactic(auto)]
+//! In crates/examples `rt run -- sessions` hands the ticks in, so that each run prints the same, and
+//! `rt run -- sessions live` goes by the real clock: each line of standard input is the name of who was just active.
 
-mod live;
-mod walk;
+pub mod live;
+pub mod walk;
 
 use anyhow::Result;
 use dq_apps::IdleSessions;
 use dq_core::Turn;
-use example_mode::{Mode, asked};
-use std::process::ExitCode;
 use std::sync::Wait;
-
-// What the command line may say.
-const USAGE: &str =
-    "usage: sessions_example [live] (live: by the real clock, who is active on standard input)";
 
 // How many sessions there may be at once.
 const SESSIONS: usize = 64;
-
-fn main(rt: HostRuntime) -> Result<ExitCode> {
-    match asked(&rt, USAGE)? {
-        Ok(Mode::Walk) => walk::run(&rt)?,
-        Ok(Mode::Live) => live::run(&rt)?,
-        Err(status) => return Ok(status),
-    }
-    Ok(ExitCode::SUCCESS)
-}
 
 // Prints which sessions have timed out by a tick, and answers the tick to poll at next, if there is one.
 fn time_out<R: Print + Wait>(rt: &R, sessions: &IdleSessions, tick: u64) -> Result<Option<u64>> {
