@@ -1,11 +1,16 @@
-//! The worked cases of the queue over plain words and over shared ones, of its parts and of shared words alone;
-//! limits; what is sent to a thread; refused memory, and calls where no memory is left.
+//! Ticks, packed words and keys, and the laws of them; the worked cases of the queue over plain words and over shared
+//! ones, of its parts and of shared words alone; limits; what is sent to a thread; refused memory, and calls where no
+//! memory is left.
 
 mod calls_memory;
 mod cases;
+mod digits;
 mod front;
+mod keys;
+mod laws;
 mod limits;
 mod makings;
+mod packed;
 mod plain_queue;
 mod plain_words;
 mod queues;

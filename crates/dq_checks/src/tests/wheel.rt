@@ -1,11 +1,12 @@
 //! The wheel alone, its places and its ways, over a table of ticks.
 
+use super::digits::seen_from;
 use super::same;
 use super::wheel_calls::Call::{
     Advance, Arrive, Law, Least, Link, Moved, NextWake, Occupied, Pop, Settle, Stands, Tick, Unlink,
 };
 use super::wheel_calls::{advance, arrive, each_answers, link, plays, settle, stands};
-use dq_ticks::{CAPACITY_LIMIT, LAST_TICK, REACH, digit, level_of, slot_start};
+use dq_ticks::{CAPACITY_LIMIT, LAST_TICK, REACH};
 use dq_wheel::{Place, Wheel, WheelError};
 use linked_list_allocator::LocalHeap;
 use std::alloc::Global;
@@ -73,21 +74,14 @@ fn beyond_one_lap(rt: HostRuntime) -> Result<(), Fail> {
     Ok(())
 }
 
-// The place of what is filed so, and the start of its slot. The tests of dq_ticks hold the three calls for each of
-// the pairs below against a table.
+// The place of what is filed so, and the start of its slot: as the digits of the ticks tell it, which place_table holds
+// against a table for each of the pairs below.
 fn slot_of(rt: &impl Abort, tick: u64, filed: u64) -> (Place, u64) {
-    assert!(rt; tick <= filed && filed <= LAST_TICK);
-    match level_of(tick, filed) {
+    match seen_from(rt, tick, filed) {
         None => (Place::Due, tick),
-        Some(level) => {
-            let slot = digit(filed, level);
-            (
-                Place::InSlot {
-                    level,
-                    slot: slot as usize,
-                },
-                slot_start(tick, level, slot),
-            )
+        Some((level, slot, start)) => {
+            let slot = slot as usize;
+            (Place::InSlot { level, slot }, start)
         }
     }
 }

@@ -22,7 +22,7 @@ pub enum Mark {
 /// The parts of a word.
 #[derive(Clone, Copy, PartialEq, Eq, Debug)]
 pub struct Parts {
-    /// At most [`LAST_STAMP`] in a word.
+    /// At most [`LAST_STAMP`](crate::LAST_STAMP) in a word.
     pub stamp: u32,
     pub mark: Mark,
     /// A tick of one millisecond, at most `LAST_FIELD` in a word.
@@ -90,57 +90,4 @@ pub fn live_at(word: u64, stamp: u32) -> Option<u64> {
         return None;
     }
     Some(deadline)
-}
-
-#[cfg(test)]
-mod tests {
-    use super::*;
-    use crate::ticks::LAST_STAMP;
-
-    // A stamp, a mark, a field, and their word.
-    const WORDS: [(u32, Mark, u64, u64); 8] = [
-        (0, Mark::LiveMark, 0, 0x0000_0000_0000_0000),
-        (1, Mark::LiveMark, 10, 0x0000_1000_0000_000a),
-        (1, Mark::CancelledMark, 0, 0x0000_1400_0000_0000),
-        (1, Mark::ExpiredMark, 10, 0x0000_1800_0000_000a),
-        (1, Mark::RemovedMark, 10, 0x0000_1c00_0000_000a),
-        (2, Mark::LiveMark, 20, 0x0000_2000_0000_0014),
-        (1048575, Mark::RemovedMark, 4398046511103, 0xffff_ffff_ffff_ffff),
-        (1048575, Mark::LiveMark, 0, 0xffff_f000_0000_0000),
-    ];
-
-    #[test]
-    fn packed_vector() {
-        let parts = Parts {
-            stamp: 1,
-            mark: Mark::LiveMark,
-            field: 10,
-        };
-        assert_eq!(pack(parts), 17592186044426);
-        assert_eq!(unpack(17592186044426), parts);
-    }
-
-    #[test]
-    fn word_table_both_ways() {
-        for (stamp, mark, field, word) in WORDS {
-            assert!(stamp <= LAST_STAMP && field <= LAST_FIELD);
-            let parts = Parts { stamp, mark, field };
-            assert_eq!(pack(parts), word, "stamp {stamp}, field {field}");
-            assert_eq!(unpack(word), parts, "word {word}");
-        }
-    }
-
-    #[test]
-    fn parts_one_by_one() {
-        for (of, mark, when, word) in WORDS {
-            let live = mark == Mark::LiveMark;
-            assert_eq!(stamp(word), of, "word {word}");
-            assert_eq!(field(word), when, "word {word}");
-            assert_eq!(is_live(word), live, "word {word}");
-            for asked in [0, 1, 2, LAST_STAMP] {
-                let found = if live && asked == of { Some(when) } else { None };
-                assert_eq!(live_at(word, asked), found, "word {word}, stamp {asked}");
-            }
-        }
-    }
 }

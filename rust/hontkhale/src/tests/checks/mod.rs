@@ -1,9 +1,13 @@
-//! The worked cases of the queue over plain words and over shared ones, of its parts and of shared words alone;
-//! limits; what is sent to a thread; refused memory, and calls where no memory is left.
+//! Ticks, packed words and keys, and the laws of them; the worked cases of the queue over plain words and over shared
+//! ones, of its parts and of shared words alone; limits; what is sent to a thread; refused memory, and calls where no
+//! memory is left.
 
 pub mod cases;
+pub mod digits;
 pub mod front;
+pub mod keys;
 pub mod limits;
+pub mod packed;
 pub mod plain_queue;
 pub mod plain_words;
 pub mod queues;

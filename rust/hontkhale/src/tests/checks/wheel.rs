@@ -1,12 +1,13 @@
 //! The wheel alone, its places and its ways, over a table of ticks.
 
 use crate::tests::kit::Fail;
+use super::digits::seen_from;
 use super::same;
 use super::wheel_calls::Call::{
     Advance, Arrive, Law, Least, Link, Moved, NextWake, Occupied, Pop, Settle, Stands, Tick, Unlink,
 };
 use super::wheel_calls::{advance, arrive, each_answers, link, plays, settle, stands};
-use crate::ticks::{CAPACITY_LIMIT, LAST_TICK, REACH, digit, level_of, slot_start};
+use crate::ticks::{CAPACITY_LIMIT, LAST_TICK, REACH};
 use crate::wheel::{Place, Wheel, WheelError};
 
 #[test]
@@ -67,21 +68,14 @@ fn beyond_one_lap() -> Result<(), Fail> {
     Ok(())
 }
 
-// The place of what is filed so, and the start of its slot. The tests of dq_ticks hold the three calls for each of
-// the pairs below against a table.
+// The place of what is filed so, and the start of its slot: as the digits of the ticks tell it, which place_table holds
+// against a table for each of the pairs below.
 fn slot_of(tick: u64, filed: u64) -> (Place, u64) {
-    assert!(tick <= filed && filed <= LAST_TICK);
-    match level_of(tick, filed) {
+    match seen_from(tick, filed) {
         None => (Place::Due, tick),
-        Some(level) => {
-            let slot = digit(filed, level);
-            (
-                Place::InSlot {
-                    level,
-                    slot: slot as usize,
-                },
-                slot_start(tick, level, slot),
-            )
+        Some((level, slot, start)) => {
+            let slot = slot as usize;
+            (Place::InSlot { level, slot }, start)
         }
     }
 }
