@@ -2,36 +2,63 @@
 
 use super::same;
 use dq_core::{CoreConfig, CoreError, DelayCore, Look, Turn, VecWords};
-use dq_ticks::{Key, LAST_STAMP};
+use dq_ticks::{EntryId, Key, LAST_STAMP};
 use linked_list_allocator::LocalHeap;
 use refusing_heap::RefusingHeap;
+use std::alloc::Allocator;
 use std::process::Abort;
 use std::test::Fail;
 
 // The heap of a test, which refuses one allocation.
 type Heap<'all> = RefusingHeap<&'all LocalHeap>;
 
-// A queue all of whose memory is of one heap.
-type Heaped<'heap, 'all> = DelayCore<char, VecWords<&'heap Heap<'all>>, &'heap Heap<'all>>;
+// A queue all of whose memory is of one heap. Its calls are proved once for all heaps, which is quicker than for the
+// refusing one alone.
+type Heaped<A> = DelayCore<char, VecWords<A>, A>;
 
-fn inserted(queue: &mut Heaped, value: char, when: u64) -> Result<Key, CoreError> {
+fn inserted<A: Allocator>(queue: &mut Heaped<A>, value: char, when: u64) -> Result<Key, CoreError> {
     queue.insert(value, when).map_err(|refused| refused.0)
 }
 
-fn extends(rt: &impl Abort, queue: &mut Heaped) -> Result<(), Fail> {
-    let first = inserted(queue, 'a', 5)?;
-    same(rt, "extend", queue.extend(&first, 7), Ok(7));
-    same(rt, "look", queue.look(&first), Ok(Look::StillLive(7)));
-    same(rt, "deadline", queue.deadline(&first.entry()), Ok(7));
-    same(rt, "reset", queue.reset(&first.entry(), 6)?.stamp(), 2);
-    Ok(())
+fn extends<A: Allocator>(rt: &impl Abort, queue: &mut Heaped<A>, key: &Key, when: u64) {
+    same(rt, "extend", queue.extend(key, when), Ok(when));
 }
 
-fn ends(rt: &impl Abort, queue: &mut Heaped) -> Result<(), Fail> {
+// An entry's deadline is told, by its key and by its name.
+fn tells<A: Allocator>(rt: &impl Abort, queue: &mut Heaped<A>, key: &Key, deadline: u64) {
+    same(rt, "look", queue.look(key), Ok(Look::StillLive(deadline)));
+    same(rt, "deadline", queue.deadline(&key.entry()), Ok(deadline));
+}
+
+fn resets<A: Allocator>(
+    rt: &impl Abort,
+    queue: &mut Heaped<A>,
+    entry: &EntryId,
+    when: u64,
+    stamp: u32,
+) {
+    let reset = queue.reset(entry, when).map(|key| key.stamp());
+    same(rt, "reset", reset, Ok(stamp));
+}
+
+fn removes<A: Allocator>(rt: &impl Abort, queue: &mut Heaped<A>, entry: &EntryId, value: char) {
+    let removed = queue.remove(entry).map(|removed| removed.value);
+    same(rt, "remove", removed, Ok(value));
+}
+
+fn cancels<A: Allocator>(rt: &impl Abort, queue: &mut Heaped<A>, key: &Key, deadline: u64) {
+    same(rt, "cancel", queue.cancel(key), Ok(deadline));
+}
+
+fn calls_by_key<A: Allocator>(rt: &impl Abort, queue: &mut Heaped<A>) -> Result<(), Fail> {
+    let first = inserted(queue, 'a', 5)?;
+    extends(rt, queue, &first, 7);
+    tells(rt, queue, &first, 7);
+    resets(rt, queue, &first.entry(), 6, 2);
     let second = inserted(queue, 'b', 9)?;
-    same(rt, "remove", queue.remove(&second.entry())?.value, 'b');
+    removes(rt, queue, &second.entry(), 'b');
     let third = inserted(queue, 'c', 20)?;
-    same(rt, "cancel", queue.cancel(&third), Ok(20));
+    cancels(rt, queue, &third, 20);
     Ok(())
 }
 
@@ -51,25 +78,47 @@ fn told(turn: Turn<char>) -> Answer {
     }
 }
 
-fn polls(rt: &impl Abort, queue: &mut Heaped, tick: u64, expected: Answer) {
+fn polls<A: Allocator>(rt: &impl Abort, queue: &mut Heaped<A>, tick: u64, expected: Answer) {
     same(rt, "poll", queue.poll(tick).map(told), Ok(expected));
 }
 
-fn calls_of_the_owner(rt: &impl Abort, queue: &mut Heaped) {
-    polls(rt, queue, 5, Answer::Waits(6));
-    polls(rt, queue, 6, Answer::Out('a'));
-    same(rt, "peek", queue.peek().is_some(), true);
-    same(rt, "sweep", queue.sweep(), 1);
-    same(rt, "peek", queue.peek().is_none(), true);
-    let fourth = inserted(queue, 'd', 30).map(|key| key.stamp());
-    same(rt, "insert", fourth, Ok(3));
-    same(rt, "clear", queue.clear(), 1);
-    polls(rt, queue, 40, Answer::Idles);
-    let tally = queue.tally();
-    same(rt, "tally", (tally.inserted, tally.linked), (4, 0));
+// Whether an entry stands next.
+fn peeks<A: Allocator>(rt: &impl Abort, queue: &Heaped<A>, is_there: bool) {
+    same(rt, "peek", queue.peek().is_some(), is_there);
 }
 
-fn queue<'heap, 'all>(heap: &'heap Heap<'all>) -> Result<Heaped<'heap, 'all>, CoreError> {
+fn sweeps<A: Allocator>(rt: &impl Abort, queue: &mut Heaped<A>, count: usize) {
+    same(rt, "sweep", queue.sweep(), count);
+}
+
+fn clears<A: Allocator>(rt: &impl Abort, queue: &mut Heaped<A>, count: usize) {
+    same(rt, "clear", queue.clear(), count);
+}
+
+fn counts<A: Allocator>(rt: &impl Abort, queue: &Heaped<A>, inserted: u64, linked: u64) {
+    let tally = queue.tally();
+    same(
+        rt,
+        "tally",
+        (tally.inserted, tally.linked),
+        (inserted, linked),
+    );
+}
+
+fn calls_of_the_owner<A: Allocator>(rt: &impl Abort, queue: &mut Heaped<A>) {
+    polls(rt, queue, 5, Answer::Waits(6));
+    polls(rt, queue, 6, Answer::Out('a'));
+    peeks(rt, queue, true);
+    sweeps(rt, queue, 1);
+    peeks(rt, queue, false);
+    let fourth = inserted(queue, 'd', 30).map(|key| key.stamp());
+    same(rt, "insert", fourth, Ok(3));
+    clears(rt, queue, 1);
+    polls(rt, queue, 40, Answer::Idles);
+    counts(rt, queue, 4, 0);
+}
+
+fn queue<A: Allocator + Copy>(heap: A) -> Result<Heaped<A>, CoreError> {
     let config = CoreConfig {
         shard: 0,
         capacity: 2,
@@ -79,9 +128,8 @@ fn queue<'heap, 'all>(heap: &'heap Heap<'all>) -> Result<Heaped<'heap, 'all>, Co
     DelayCore::new(heap, config, words).map_err(|refused| refused.0)
 }
 
-fn every_call(rt: &impl Abort, queue: &mut Heaped) -> Result<(), Fail> {
-    extends(rt, queue)?;
-    ends(rt, queue)?;
+fn every_call<A: Allocator>(rt: &impl Abort, queue: &mut Heaped<A>) -> Result<(), Fail> {
+    calls_by_key(rt, queue)?;
     calls_of_the_owner(rt, queue);
     Ok(())
 }

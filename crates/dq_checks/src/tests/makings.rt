@@ -9,7 +9,7 @@ use dq_wheel::{Wheel, WheelError};
 use dq_words::{HANDLE_LIMIT, Keeper, WordsError};
 use linked_list_allocator::LocalHeap;
 use refusing_heap::RefusingHeap;
-use std::alloc::Global;
+use std::alloc::{Allocator, Global};
 use std::process::Abort;
 use std::test::Fail;
 
@@ -27,7 +27,8 @@ enum Making {
 
 type Heap<'a> = RefusingHeap<&'a LocalHeap>;
 
-fn takes_an_entry<W: Words>(queue: &mut DelayCore<char, W, &Heap>) -> bool {
+// What is made is proved once for all heaps, which is quicker than for the refusing one alone.
+fn takes_an_entry<W: Words, A: Allocator>(queue: &mut DelayCore<char, W, A>) -> bool {
     queue.insert('v', 5).is_ok()
 }
 
@@ -41,7 +42,10 @@ fn is_refused(error: CoreError, come_back: bool) -> Result<bool, CoreError> {
 }
 
 // Whether a queue is made over words that are there already.
-fn is_queue_made<W: Words + Drop>(heap: &Heap, words: W) -> Result<bool, CoreError>
+fn is_queue_made<W: Words + Drop, A: Allocator + Clone>(
+    heap: A,
+    words: W,
+) -> Result<bool, CoreError>
     requires { AreFresh (W.known words) (W.counts words) }
 {
     let capacity = words.rows();
@@ -56,37 +60,66 @@ fn is_queue_made<W: Words + Drop>(heap: &Heap, words: W) -> Result<bool, CoreErr
     }
 }
 
-// Whether it is made where memory is taken from that heap.
-fn is_made(alloc: Global, heap: &Heap, making: Making, capacity: u16) -> Result<bool, Fail> {
-    let capacity = usize::from(capacity);
-    match making {
-        Making::Wheel => match Wheel::new(heap, capacity) {
-            Ok(wheel) => Ok(wheel.capacity() == capacity),
-            Err(WheelError::NoMemory) => Ok(false),
-            Err(error) => Err(error.into()),
-        },
-        Making::Slots => match Slots::new(heap, capacity, LAST_STAMP) {
-            Ok(mut slots) => Ok(slots.fill('v').is_ok()),
-            Err(_refused) => Ok(false),
-        },
-        Making::PlainWords => match VecWords::new(heap, capacity) {
-            Ok(words) => Ok(words.rows() == capacity),
-            Err(CoreError::NoMemory) => Ok(false),
-            Err(error) => Err(error.into()),
-        },
-        Making::SharedWords => match Keeper::new(heap, capacity) {
-            Ok(keeper) => Ok(keeper.rows() == capacity),
-            Err(WordsError::NoMemory) => Ok(false),
-            Err(error) => Err(error.into()),
-        },
-        Making::QueueOverPlainWords => Ok(is_queue_made(heap, VecWords::new(alloc, capacity)?)?),
-        Making::QueueOverSharedWords => Ok(is_queue_made(heap, Keeper::new(alloc, capacity)?)?),
-        Making::PlainTwin => match PlainQueue::new(heap, capacity) {
-            Ok(mut queue) => Ok(queue.insert('v', 5).is_ok()),
-            Err(CoreError::NoMemory) => Ok(false),
-            Err(error) => Err(error.into()),
-        },
+fn is_wheel_made<A: Allocator>(heap: A, capacity: usize) -> Result<bool, WheelError> {
+    match Wheel::new(heap, capacity) {
+        Ok(wheel) => Ok(wheel.capacity() == capacity),
+        Err(WheelError::NoMemory) => Ok(false),
+        Err(error) => Err(error),
     }
+}
+
+fn are_slots_made<A: Allocator + Clone>(heap: A, capacity: u16) -> bool {
+    match Slots::new(heap, usize::from(capacity), LAST_STAMP) {
+        Ok(mut slots) => slots.fill('v').is_ok(),
+        Err(_refused) => false,
+    }
+}
+
+fn are_plain_words_made<A: Allocator>(heap: A, capacity: usize) -> Result<bool, CoreError> {
+    match VecWords::new(heap, capacity) {
+        Ok(words) => Ok(words.rows() == capacity),
+        Err(CoreError::NoMemory) => Ok(false),
+        Err(error) => Err(error),
+    }
+}
+
+fn are_shared_words_made<A: Allocator + Clone>(
+    heap: A,
+    capacity: usize,
+) -> Result<bool, WordsError> {
+    match Keeper::new(heap, capacity) {
+        Ok(keeper) => Ok(keeper.rows() == capacity),
+        Err(WordsError::NoMemory) => Ok(false),
+        Err(error) => Err(error),
+    }
+}
+
+fn is_twin_made<A: Allocator>(heap: A, capacity: usize) -> Result<bool, CoreError> {
+    match PlainQueue::new(heap, capacity) {
+        Ok(mut queue) => Ok(queue.insert('v', 5).is_ok()),
+        Err(CoreError::NoMemory) => Ok(false),
+        Err(error) => Err(error),
+    }
+}
+
+// Whether it is made where memory is taken from that heap.
+fn is_made<A: Allocator + Copy>(
+    alloc: Global,
+    heap: A,
+    making: Making,
+    capacity: u16,
+) -> Result<bool, Fail> {
+    let slots = capacity;
+    let capacity = usize::from(capacity);
+    Ok(match making {
+        Making::Wheel => is_wheel_made(heap, capacity)?,
+        Making::Slots => are_slots_made(heap, slots),
+        Making::PlainWords => are_plain_words_made(heap, capacity)?,
+        Making::SharedWords => are_shared_words_made(heap, capacity)?,
+        Making::QueueOverPlainWords => is_queue_made(heap, VecWords::new(alloc, capacity)?)?,
+        Making::QueueOverSharedWords => is_queue_made(heap, Keeper::new(alloc, capacity)?)?,
+        Making::PlainTwin => is_twin_made(heap, capacity)?,
+    })
 }
 
 // Whether it is made over a heap that refuses one allocation, where it asks for that one.
@@ -155,17 +188,18 @@ fn each_allocation_is_refused(rt: HostRuntime) -> Result<(), Fail> {
     are_refused(&rt, rt.alloc(), 4096)
 }
 
-fn issues_all(rt: &impl Abort, heap: &Heap, capacity: usize) -> Result<(), Fail> {
+// How many callers are out of a keeper that issued as many as it may.
+fn issue_all<A: Allocator + Clone>(heap: A, capacity: usize) -> Result<u64, WordsError> {
     let mut keeper = Keeper::new(heap, capacity)?;
     for _ in 0..HANDLE_LIMIT {
         keeper.issue()?;
     }
-    same(
-        rt,
-        capacity,
-        (keeper.out(), heap.has_refused()),
-        (1024, false),
-    );
+    Ok(keeper.out())
+}
+
+fn issues_all(rt: &impl Abort, heap: &Heap, capacity: usize) -> Result<(), Fail> {
+    let out = issue_all(heap, capacity)?;
+    same(rt, capacity, (out, heap.has_refused()), (1024, false));
     Ok(())
 }
 

@@ -39,11 +39,16 @@ fn cancels(case: &Case) -> u64 {
         .count() as u64
 }
 
+// How many callers are out, and what is returned.
+fn standing(core: &mut DelayCore<char, Keeper>) -> (u64, Result<u64, u64>) {
+    (core.out(), core.returned())
+}
+
 // Behind a case its caller is given back through the queue, and the keeper is told its accepted cancels.
 fn gives_back(rt: &impl Abort, core: &mut DelayCore<char, Keeper>, caller: Caller, case: &Case) {
-    let before = (core.out(), core.returned());
+    let before = standing(core);
     let given = caller.give_back();
-    let after = (core.out(), core.returned());
+    let after = standing(core);
     let cancels = cancels(case);
     same(
         rt,
