@@ -1,9 +1,11 @@
-//! One thread polls a shard in pieces, and another inserts into it meanwhile.
+//! One thread polls a shard in pieces, and another inserts into it meanwhile, or extends and cancels what hangs there.
 
 use super::join::join;
 use super::numbers::ROUNDS;
 use super::Fail;
-use hontkhale::{Piece, QueueConfig, SharedDelayQueue, Turn};
+use hontkhale::{Handle, Key, Piece, QueueConfig, SharedDelayQueue, Turn};
+use std::hint;
+use std::sync::atomic::{AtomicBool, Ordering};
 
 type Boxes = SharedDelayQueue<Box<u64>>;
 
@@ -77,6 +79,74 @@ fn all_come(queue: &Boxes) -> Result<(), Fail> {
 fn a_thread_inserts_between_pieces() -> Result<(), Fail> {
     for _ in 0..ROUNDS {
         all_come(&SharedDelayQueue::new(QueueConfig::of(2, 256))?)?;
+    }
+    Ok(())
+}
+
+// The slot of a level above the lowest in which all entries wait, and how much later an extended one comes.
+const OPENS: u64 = 4096;
+const LATER: u64 = 1000;
+
+// What came out of pieces of so many steps: how many came, and how many of them at an extended deadline.
+fn drain_by(queue: &Boxes, steps: u32) -> (u64, u64) {
+    let (mut outs, mut extended) = (0, 0);
+    for _ in 0..100_000_000u64 {
+        match queue.poll_some(0, 10_000, steps) {
+            Ok(Piece::Working) => {}
+            Ok(Piece::Answer(Turn::Out(out))) => {
+                outs += 1;
+                extended += u64::from(out.deadline >= OPENS + LATER);
+            }
+            Ok(Piece::Answer(Turn::Waiting { .. })) => {}
+            Ok(Piece::Answer(Turn::Idle)) | Err(_) => return (outs, extended),
+        }
+    }
+    (outs, extended)
+}
+
+// Extends each third entry, cancels the next of three, and leaves the last: how many it extended and cancelled.
+fn change(handle: &mut Handle, keys: &[Key]) -> (u64, u64) {
+    let (mut extends, mut cancels) = (0, 0);
+    for three in keys.chunks(3) {
+        extends += u64::from(handle.extend(&three[0], OPENS + LATER).is_ok());
+        cancels += u64::from(three.get(1).is_some_and(|key| handle.cancel(key).is_ok()));
+    }
+    (extends, cancels)
+}
+
+// Between its look and its step a piece may meet an entry that was just extended or cancelled: it ends once all the same.
+fn all_end_once(steps: u32) -> Result<(), Fail> {
+    let queue: Boxes = SharedDelayQueue::new(QueueConfig::of(1, 256))?;
+    let mut keys = Vec::new();
+    for value in 0..ENTRIES {
+        keys.push(queue.insert_or_drop(0, Box::new(value), OPENS + value % 2)?);
+    }
+    let (mut handle, begun) = (queue.handle()?, AtomicBool::new(false));
+    let polled = || {
+        begun.store(true, Ordering::SeqCst);
+        drain_by(&queue, steps)
+    };
+    let changed = || {
+        while !begun.load(Ordering::SeqCst) {
+            hint::spin_loop();
+        }
+        change(&mut handle, &keys)
+    };
+    let ((outs, late), (extends, cancels)) = join(polled, changed);
+    assert_eq!((outs + cancels, late), (ENTRIES, extends), "steps {steps}");
+    assert_eq!(handle.give_back(), cancels, "give_back");
+    let totals = queue.audit()?;
+    let counted = (totals.expired, totals.cancelled, totals.live);
+    assert_eq!(counted, (outs, cancels, 0), "audit");
+    Ok(())
+}
+
+#[test]
+fn a_thread_extends_and_cancels_between_pieces() -> Result<(), Fail> {
+    for _ in 0..ROUNDS {
+        for steps in [1, 2, 3, 64] {
+            all_end_once(steps)?;
+        }
     }
     Ok(())
 }

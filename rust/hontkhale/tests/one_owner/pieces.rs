@@ -78,6 +78,9 @@ fn told(outs: Vec<Expired<Held>>) -> (Vec<u64>, BTreeSet<usize>) {
     )
 }
 
+/// More calls than any poll here takes, each of which makes a step at least.
+const MOST_CALLS: usize = 100 * ENTRIES;
+
 /// Polls to the end in pieces: what came out, the next tick, and how many calls said Working.
 fn in_pieces<T>(queue: &mut DelayCore<T, Keeper>, now: u64, most: u32) -> (Vec<Expired<T>>, Option<u64>, usize) {
     let (mut outs, mut workings) = (Vec::new(), 0);
@@ -88,6 +91,7 @@ fn in_pieces<T>(queue: &mut DelayCore<T, Keeper>, now: u64, most: u32) -> (Vec<E
             Piece::Answer(Turn::Idle) => return (outs, None, workings),
             Piece::Working => workings += 1,
         }
+        assert!(workings < MOST_CALLS, "pieces of {most} steps come to no end");
     }
 }
 
@@ -129,10 +133,11 @@ fn calls_of(most: u32) -> usize {
 fn a_piece_makes_so_many_steps() {
     let steps = calls_of(1);
     assert!(steps > ENTRIES);
-    assert_eq!(calls_of(u32::MAX), 1);
+    // Few steps first: a look that leaves all as it was would make one call of many go on for ever.
     for most in [2, 3, 7, 64, 500] {
         assert_eq!(calls_of(most), (steps + most as usize - 1) / most as usize, "{most}");
     }
+    assert_eq!(calls_of(u32::MAX), 1);
 }
 
 #[test]
