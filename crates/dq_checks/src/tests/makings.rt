@@ -109,16 +109,15 @@ fn is_made<A: Allocator + Copy>(
     making: Making,
     capacity: u16,
 ) -> Result<bool, Fail> {
-    let slots = capacity;
-    let capacity = usize::from(capacity);
+    let rows = usize::from(capacity);
     Ok(match making {
-        Making::Wheel => is_wheel_made(heap, capacity)?,
-        Making::Slots => are_slots_made(heap, slots),
-        Making::PlainWords => are_plain_words_made(heap, capacity)?,
-        Making::SharedWords => are_shared_words_made(heap, capacity)?,
-        Making::QueueOverPlainWords => is_queue_made(heap, VecWords::new(alloc, capacity)?)?,
-        Making::QueueOverSharedWords => is_queue_made(heap, Keeper::new(alloc, capacity)?)?,
-        Making::PlainTwin => is_twin_made(heap, capacity)?,
+        Making::Wheel => is_wheel_made(heap, rows)?,
+        Making::Slots => are_slots_made(heap, capacity),
+        Making::PlainWords => are_plain_words_made(heap, rows)?,
+        Making::SharedWords => are_shared_words_made(heap, rows)?,
+        Making::QueueOverPlainWords => is_queue_made(heap, VecWords::new(alloc, rows)?)?,
+        Making::QueueOverSharedWords => is_queue_made(heap, Keeper::new(alloc, rows)?)?,
+        Making::PlainTwin => is_twin_made(heap, rows)?,
     })
 }
 

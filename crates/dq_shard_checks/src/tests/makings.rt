@@ -8,16 +8,18 @@ use dq_wheel::Wheel;
 use dq_words::{Keeper, WordsError};
 use linked_list_allocator::LocalHeap;
 use refusing_heap::RefusingHeap;
-use std::alloc::Global;
+use std::alloc::{Allocator, Global};
 use std::process::Abort;
 use std::sync::Wait;
 use std::test::Fail;
 
 type Heap<'all> = RefusingHeap<&'all LocalHeap>;
 
-type Letters<'heap, 'all> = SharedDelayQueue<char, &'heap Heap<'all>>;
+// A queue of letters and a handle of it, whose memory is of one heap. Their calls are proved once for all heaps, which is
+// quicker than for the refusing one alone.
+type Letters<A> = SharedDelayQueue<char, A>;
 
-type Hand<'heap, 'all> = Handle<&'heap Heap<'all>>;
+type Hand<A> = Handle<A>;
 
 fn makes_core(alloc: Global, capacity: usize) -> Result<bool, CoreError> {
     let config = CoreConfig {
@@ -66,16 +68,21 @@ fn every_making_has_memory(rt: HostRuntime) -> Result<(), Fail> {
 }
 
 // A queue of three shards and a handle of it.
-fn made<'heap, 'all>(
-    rt: &impl Wait,
-    heap: &'heap Heap<'all>,
-) -> Result<(Letters<'heap, 'all>, Hand<'heap, 'all>), QueueError> {
+fn made<A>(rt: &impl Wait, heap: A) -> Result<(Letters<A>, Hand<A>), QueueError>
+where
+    A: Allocator + Clone + Drop,
+{
     let queue = SharedDelayQueue::new(heap, QueueConfig::of(3, 4))?;
     let hand = queue.handle(rt)?;
     Ok((queue, hand))
 }
 
-fn inserted(rt: &impl Wait, queue: &Letters, shard: usize, value: char) -> Result<Key, QueueError> {
+fn inserted<A: Allocator>(
+    rt: &impl Wait,
+    queue: &Letters<A>,
+    shard: usize,
+    value: char,
+) -> Result<Key, QueueError> {
     let inserted = queue.insert(rt, shard as u64, value, 10);
     inserted.map_err(|refused| refused.0)
 }
@@ -98,10 +105,10 @@ fn told(turn: Turn<char>) -> Answer {
 
 // Calls by the names of a full shard's entries: at the end the first is live until 6000, the second is cancelled, the
 // third removed, and the fourth is due at 10.
-fn calls_by_key<R: Abort + Wait>(
+fn calls_by_key<R: Abort + Wait, A: Allocator>(
     rt: &R,
-    queue: &Letters,
-    hand: &mut Hand,
+    queue: &Letters<A>,
+    hand: &mut Hand<A>,
     shard: usize,
 ) -> Result<(), QueueError> {
     let first = inserted(rt, queue, shard, 'a')?.entry();
@@ -119,7 +126,7 @@ fn calls_by_key<R: Abort + Wait>(
     Ok(())
 }
 
-fn polls<R: Abort + Wait>(rt: &R, queue: &Letters, shard: usize) {
+fn polls<R: Abort + Wait, A: Allocator>(rt: &R, queue: &Letters<A>, shard: usize) {
     let rows: &[(u64, Answer)] = &[
         (10, Answer::Out('d')),
         (10, Answer::Waits),
@@ -133,9 +140,9 @@ fn polls<R: Abort + Wait>(rt: &R, queue: &Letters, shard: usize) {
 }
 
 // Calls by the name of the shard whose entries were so left.
-fn calls_by_shard<R: Abort + Wait>(
+fn calls_by_shard<R: Abort + Wait, A: Allocator>(
     rt: &R,
-    queue: &Letters,
+    queue: &Letters<A>,
     shard: usize,
 ) -> Result<(), QueueError> {
     same(rt, "next_wake", queue.next_wake(rt, shard)?.is_some(), true);
@@ -151,24 +158,28 @@ fn calls_by_shard<R: Abort + Wait>(
 }
 
 // Issues a caller, and gives it back.
-fn issued(
+fn issued<A: Allocator>(
     rt: &impl Wait,
-    queue: &Letters,
+    queue: &Letters<A>,
     shard: usize,
 ) -> Result<Result<u64, WordsError>, QueueError> {
     let caller = queue.enter(rt, shard)?.issue();
     Ok(caller.map(|caller| caller.give_back()))
 }
 
-fn every_call<R: Abort + Wait>(rt: &R, queue: &Letters, hand: &mut Hand) {
+fn every_call<R: Abort + Wait, A: Allocator>(rt: &R, queue: &Letters<A>, hand: &mut Hand<A>) {
     for shard in 0..queue.shards() {
         same(rt, shard, calls_by_key(rt, queue, hand, shard), Ok(()));
         same(rt, shard, calls_by_shard(rt, queue, shard), Ok(()));
     }
 }
 
-// Whether the makings have memory. Then each other call is accepted, and else they answer want of memory.
-fn goes_well<R: Abort + Wait>(rt: &R, heap: &Heap) -> bool {
+// Whether the makings have memory of that heap. Then each other call is accepted, and else they answer want of memory.
+fn goes_well<R, A>(rt: &R, heap: A) -> bool
+where
+    R: Abort + Wait,
+    A: Allocator + Clone + Drop,
+{
     match made(rt, heap) {
         Ok((queue, mut hand)) => {
             every_call(rt, &queue, &mut hand);

@@ -6,13 +6,16 @@ use dq_shards::{QueueConfig, QueueError, SharedDelayQueue};
 use dq_words::HANDLE_LIMIT;
 use linked_list_allocator::LocalHeap;
 use refusing_heap::RefusingHeap;
+use std::alloc::Allocator;
 use std::process::Abort;
 use std::sync::Wait;
 use std::test::Fail;
 
 type Heap<'all> = RefusingHeap<&'all LocalHeap>;
 
-type Letters<'heap, 'all> = SharedDelayQueue<char, &'heap Heap<'all>>;
+// A queue of letters whose memory is of one heap. What asks for no more of the heap is proved once for all, which is
+// quicker than for the refusing one alone.
+type Letters<A> = SharedDelayQueue<char, A>;
 
 const NO_MEMORY: QueueError = QueueError::Core(CoreError::NoMemory);
 
@@ -25,7 +28,11 @@ enum Refused {
 }
 
 // Each shard has so many callers out.
-fn are_out<R: Abort + Wait>(rt: &R, queue: &Letters, out: u64) -> Result<(), QueueError> {
+fn are_out<R, A>(rt: &R, queue: &Letters<A>, out: u64) -> Result<(), QueueError>
+where
+    R: Abort + Wait,
+    A: Allocator,
+{
     for shard in 0..queue.shards() {
         same(rt, shard, queue.enter(rt, shard)?.out(), out);
     }
@@ -33,7 +40,11 @@ fn are_out<R: Abort + Wait>(rt: &R, queue: &Letters, out: u64) -> Result<(), Que
 }
 
 // Whether a handle is made, and given back, over a queue that has none out. It is refused for want of memory alone.
-fn is_handle_made<R: Abort + Wait>(rt: &R, queue: &Letters) -> Result<bool, QueueError> {
+fn is_handle_made<R, A>(rt: &R, queue: &Letters<A>) -> Result<bool, QueueError>
+where
+    R: Abort + Wait,
+    A: Allocator + Clone + Drop,
+{
     match queue.handle(rt) {
         Ok(handle) => {
             let counted = are_out(rt, queue, 1);
@@ -53,7 +64,7 @@ fn is_handle_made<R: Abort + Wait>(rt: &R, queue: &Letters) -> Result<bool, Queu
 fn makes_handle<R: Abort + Wait>(
     rt: &R,
     heap: &Heap,
-    queue: &Letters,
+    queue: &Letters<&Heap>,
 ) -> Result<Refused, QueueError> {
     same(rt, "new", heap.has_refused(), false);
     if is_handle_made(rt, queue)? {
@@ -119,14 +130,22 @@ fn each_allocation_is_refused(rt: HostRuntime) -> Result<(), Fail> {
 }
 
 // Issues so many callers in shard 1 and gives each back.
-fn issue_callers<R: Wait>(rt: &R, queue: &Letters, count: u64) -> Result<(), Fail> {
+fn issue_callers<R, A>(rt: &R, queue: &Letters<A>, count: u64) -> Result<(), Fail>
+where
+    R: Wait,
+    A: Allocator,
+{
     for _ in 0..count {
         let _cancels = queue.enter(rt, 1)?.issue()?.give_back();
     }
     Ok(())
 }
 
-fn take_no_memory<R: Abort + Wait>(rt: &R, heap: &Heap, queue: &Letters) -> Result<(), Fail> {
+fn take_no_memory<R: Abort + Wait>(
+    rt: &R,
+    heap: &Heap,
+    queue: &Letters<&Heap>,
+) -> Result<(), Fail> {
     issue_callers(rt, queue, HANDLE_LIMIT)?;
     same(rt, "issue", heap.has_refused(), false);
     same(rt, "handle", is_handle_made(rt, queue), Ok(false));
@@ -135,7 +154,7 @@ fn take_no_memory<R: Abort + Wait>(rt: &R, heap: &Heap, queue: &Letters) -> Resu
 }
 
 fn issues<R: Abort + Wait>(rt: &R, heap: &Heap) -> Result<(), Fail> {
-    let queue: Letters = SharedDelayQueue::new(heap, QueueConfig::of(3, 4))?;
+    let queue: Letters<&Heap> = SharedDelayQueue::new(heap, QueueConfig::of(3, 4))?;
     take_no_memory(rt, heap, &queue)
 }
 
