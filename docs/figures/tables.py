@@ -310,15 +310,6 @@ def gate_parts():
     return "\n".join(lines)
 
 
-def edit_times():
-    """What the edits take where many stand in one check, of all crates that were run."""
-    noted = runs.noted("edits")
-    tried = [it for it in tree.names() if (it, "checks") in noted]
-    sums = [sum(float(noted[crate, kind]) for crate in tried) for kind in ("edits", "refused", "checks", "minutes")]
-    lines = [row("Crates", "Edits", "Refused", "Checks", "Minutes"), "|--:" * 5 + "|"]
-    return "\n".join([*lines, row(str(len(tried)), *(f"{it:.0f}" for it in sums[:3]), f"{sums[3]:.1f}")])
-
-
 # The rows of the table of sizes: the crates of a role together.
 ROLES = {"queue": "what a user runs", "tests": "the tests' crates", "bench": "the bench's load", "example": "the examples"}
 
@@ -495,7 +486,6 @@ TABLES = {
     "life-standing": life_standing,
     "gate": gate,
     "gate-parts": gate_parts,
-    "edit-times": edit_times,
     "sizes": sizes,
     "instructions": instructions,
     "edit": edit,
