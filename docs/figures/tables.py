@@ -276,17 +276,12 @@ def life_standing():
     return "\n".join(lines)
 
 
-# Crates that a stored run may have in the place of one: what that was made of.
-MADE_OF = {"examples": ("example_mode", "wheel_example", "lease_example", "cache_example", "sessions_example", "stream_example")}
-
-
 def gate():
     """What the crates take in the gate: each that a user runs, and the others together by their role."""
     noted, sums = runs.noted("gate"), {}
     for crate in (it for it in tree.crates() if it.role != "bench"):
         name = f"`{crate.name}`" if crate.role == "queue" else ROLES[crate.role]
-        names = (crate.name, *MADE_OF.get(crate.name, ()))
-        took = [sum(float(noted.get((its, it), 0)) for its in names) for it in ("proof", "again", "edits")]
+        took = [float(noted.get((crate.name, it), 0)) for it in ("proof", "again", "edits")]
         took.insert(1, len(crate.edits()))
         sums[name] = [one + other for one, other in zip(sums.get(name, (0, 0, 0, 0)), took)]
     lines = [row("Crate", "Proof, tests and programs", "Edits", "Proved again for them", "Their checks"), "|---" + "|--:" * 4 + "|"]
