@@ -1,16 +1,17 @@
 //! A cache as a memo, whose every copy and growth is refused in turn.
 
-use crate::refusing::{Heap, each_refused, times};
-use dq_apps::TtlCache;
+use super::same;
+use crate::refusing::{each_refused, times};
+use dq_apps::{MemoAnswer, TtlCache};
 use dq_core::CoreError;
 use dq_ticks::LAST_STAMP;
-use std::alloc::AllocError;
+use std::alloc::{AllocError, Allocator};
 use std::process::Abort;
 use std::test::Fail;
 
-type Text<'heap, 'all> = String<&'heap Heap<'all>>;
-
-type Cache<'heap, 'all> = TtlCache<Text<'heap, 'all>, Text<'heap, 'all>, &'heap Heap<'all>>;
+// A cache whose texts and all of whose memory are of one heap. Its calls are proved once for all heaps, which is
+// quicker than for the refusing one alone.
+type Cache<A> = TtlCache<String<A>, String<A>, A>;
 
 // Where the allocation was that was refused.
 #[derive(Clone, Copy, PartialEq, Eq, Debug)]
@@ -23,24 +24,56 @@ enum Refused {
     Seen,
 }
 
-fn text<'heap, 'all>(heap: &'heap Heap<'all>, text: &str) -> Result<Text<'heap, 'all>, AllocError> {
+fn text<A: Allocator>(heap: A, text: &str) -> Result<String<A>, AllocError> {
     String::from_str(heap, text)
 }
 
+fn made<A: Allocator + Clone>(heap: A) -> Result<Cache<A>, CoreError> {
+    TtlCache::new(heap, 2, LAST_STAMP)
+}
+
+// A copy of the value at a key is asked for, and where none is seen the value is made.
+fn ask<A: Allocator + Clone>(
+    cache: &mut Cache<A>,
+    key: String<A>,
+    value: String<A>,
+    now: u64,
+) -> MemoAnswer<String<A>> {
+    cache.get_or_insert_with(key, 5, now, move || value)
+}
+
+fn is_made<A: Allocator>(rt: &impl Abort, value: &String<A>) {
+    same(rt, "value", value.as_str(), "made");
+}
+
+// Memory was refused, and so many keys are kept.
+fn is_refused<A: Allocator>(rt: &impl Abort, error: CoreError, cache: &Cache<A>, len: usize) {
+    same(
+        rt,
+        "refused",
+        (error, cache.len()),
+        (CoreError::NoMemory, len),
+    );
+}
+
+// A key and a value of the test's own.
+fn pair<A: Allocator + Copy>(heap: A, value: &str) -> Result<(String<A>, String<A>), AllocError> {
+    let key = text(heap, "key")?;
+    Ok((key, text(heap, value)?))
+}
+
 // A value is made and put, or comes back.
-fn makes<'heap, 'all>(
-    rt: &impl Abort,
-    cache: &mut Cache<'heap, 'all>,
-    key: Text<'heap, 'all>,
-    made: Text<'heap, 'all>,
-) -> Option<Refused> {
-    match cache.get_or_insert_with(key, 5, 0, move || made) {
+fn makes<A: Allocator + Copy>(rt: &impl Abort, heap: A, cache: &mut Cache<A>) -> Option<Refused> {
+    let Ok((key, made)) = pair(heap, "made") else {
+        return Some(Refused::Before);
+    };
+    match ask(cache, key, made, 0) {
         Ok(value) => {
-            assert_eq!(rt; value.as_str(), "made");
+            is_made(rt, &value);
             None
         }
         Err((error, back)) => {
-            assert_eq!(rt; (error, cache.len()), (CoreError::NoMemory, 0));
+            is_refused(rt, error, cache, 0);
             assert!(rt; back.is_some_and(|value| value.as_str() == "made"));
             Some(Refused::Made)
         }
@@ -48,50 +81,42 @@ fn makes<'heap, 'all>(
 }
 
 // A copy of the value that is seen is asked for.
-fn copies<'heap, 'all>(
-    rt: &impl Abort,
-    cache: &mut Cache<'heap, 'all>,
-    key: Text<'heap, 'all>,
-    other: Text<'heap, 'all>,
-) -> Option<Refused> {
-    match cache.get_or_insert_with(key, 5, 4, move || other) {
+fn copies<A: Allocator + Copy>(rt: &impl Abort, heap: A, cache: &mut Cache<A>) -> Option<Refused> {
+    let Ok((key, other)) = pair(heap, "other") else {
+        return Some(Refused::Before);
+    };
+    match ask(cache, key, other, 4) {
         Ok(value) => {
-            assert_eq!(rt; value.as_str(), "made");
+            is_made(rt, &value);
             None
         }
         Err((error, back)) => {
-            assert_eq!(rt; (error, cache.len()), (CoreError::NoMemory, 1));
+            is_refused(rt, error, cache, 1);
             assert!(rt; back.is_none());
             Some(Refused::Seen)
         }
     }
 }
 
-// A key and a value of the test's own.
-fn pair<'heap, 'all>(
-    heap: &'heap Heap<'all>,
-    value: &str,
-) -> Result<(Text<'heap, 'all>, Text<'heap, 'all>), AllocError> {
-    let key = text(heap, "key")?;
-    Ok((key, text(heap, value)?))
-}
-
 // A value is made and put, and a copy of it is asked for.
-fn walk(rt: &impl Abort, heap: &Heap) -> Option<Refused> {
-    let Ok(mut cache): Result<Cache, CoreError> = TtlCache::new(heap, 2, LAST_STAMP) else {
-        return Some(Refused::Before);
-    };
-    let Ok((first, made)) = pair(heap, "made") else {
-        return Some(Refused::Before);
-    };
-    let refused = makes(rt, &mut cache, first, made);
+fn makes_and_copies<A: Allocator + Copy>(
+    rt: &impl Abort,
+    heap: A,
+    cache: &mut Cache<A>,
+) -> Option<Refused> {
+    let refused = makes(rt, heap, cache);
     if refused.is_some() {
         return refused;
     }
-    let Ok((again, other)) = pair(heap, "other") else {
-        return Some(Refused::Before);
-    };
-    copies(rt, &mut cache, again, other)
+    copies(rt, heap, cache)
+}
+
+// What is owned here is lent to the calls, so that they have little to drop, and little to prove.
+fn walk<A: Allocator + Copy>(rt: &impl Abort, heap: A) -> Option<Refused> {
+    match made(heap) {
+        Ok(mut cache) => makes_and_copies(rt, heap, &mut cache),
+        Err(_no_memory) => Some(Refused::Before),
+    }
 }
 
 #[test]

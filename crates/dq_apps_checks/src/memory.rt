@@ -1,16 +1,21 @@
 //! Each allocation of a cache is refused in turn.
 
-use crate::refusing::{Heap, each_refused, times};
+use super::same;
+use crate::refusing::{each_refused, times};
 use dq_apps::TtlCache;
 use dq_core::CoreError;
 use dq_ticks::LAST_STAMP;
-use std::alloc::AllocError;
+use std::alloc::{AllocError, Allocator};
+use std::hash::Hash;
 use std::process::Abort;
 use std::test::Fail;
 
-type Text<'heap, 'all> = String<&'heap Heap<'all>>;
+// A cache whose keys and all of whose memory are of one heap. Its calls are proved once for all heaps, which is
+// quicker than for the refusing one alone.
+type Cache<A> = TtlCache<String<A>, u32, A>;
 
-type Cache<'heap, 'all> = TtlCache<Text<'heap, 'all>, u32, &'heap Heap<'all>>;
+// A refused put: why, and the key and the value that it handed back.
+type PutBack<A> = (CoreError, String<A>, u32);
 
 // Where the allocation was that was refused.
 #[derive(Clone, Copy, PartialEq, Eq, Debug)]
@@ -25,40 +30,106 @@ enum Refused {
     Second,
 }
 
-fn key<'heap, 'all>(heap: &'heap Heap<'all>, text: &str) -> Result<Text<'heap, 'all>, AllocError> {
+fn key<A: Allocator>(heap: A, text: &str) -> Result<String<A>, AllocError> {
     String::from_str(heap, text)
 }
 
-// Whether a refused put handed key and value back, for want of memory.
-fn came_back(refused: &(CoreError, Text, u32), text: &str, value: u32) -> bool {
-    refused.0 == CoreError::NoMemory && refused.1.as_str() == text && refused.2 == value
+fn made<A: Allocator + Clone>(heap: A, capacity: usize) -> Result<Cache<A>, CoreError> {
+    TtlCache::new(heap, capacity, LAST_STAMP)
 }
 
-// Two keys are put, the second when the first is due.
-fn walk(rt: &impl Abort, heap: &Heap) -> Option<Refused> {
-    let (Ok(a), Ok(b), Ok(first)) = (key(heap, "a"), key(heap, "b"), key(heap, "a")) else {
+// Puts a value at a key, until so many ticks later, and says how it was refused.
+fn put<A: Allocator + Clone>(
+    cache: &mut Cache<A>,
+    key: String<A>,
+    value: u32,
+    ttl: u64,
+    now: u64,
+) -> Option<PutBack<A>> {
+    cache.put(key, value, ttl, now).err()
+}
+
+// A refused put handed key and value back, for want of memory.
+fn came_back<A: Allocator>(rt: &impl Abort, refused: &PutBack<A>, text: &str, value: u32) {
+    let (error, key, back) = refused;
+    same(rt, text, (*error, *back), (CoreError::NoMemory, value));
+    same(rt, text, key.as_str(), text);
+}
+
+// So many keys are kept, at that moment.
+fn stands<A: Allocator>(rt: &impl Abort, cache: &Cache<A>, len: usize, moment: u64) {
+    same(rt, "len", (cache.len(), cache.moment()), (len, moment));
+}
+
+fn sees_none<A: Allocator>(rt: &impl Abort, cache: &Cache<A>, key: &String<A>) {
+    same(rt, "get", cache.get(key, 0).copied(), None);
+}
+
+// The first key is put.
+fn puts_first<A: Allocator + Copy>(
+    rt: &impl Abort,
+    heap: A,
+    cache: &mut Cache<A>,
+) -> Option<Refused> {
+    let Ok(a) = key(heap, "a") else {
         return Some(Refused::Keys);
     };
-    let mut cache: Cache = match TtlCache::new(heap, 2, LAST_STAMP) {
-        Ok(cache) => cache,
-        Err(error) => {
-            assert_eq!(rt; error, CoreError::NoMemory);
-            return Some(Refused::New);
-        }
+    let Some(refused) = put(cache, a, 1, 5, 0) else {
+        return None;
     };
-    if let Err(refused) = cache.put(first, 1, 5, 0) {
-        assert!(rt; came_back(&refused, "a", 1));
-        assert_eq!(rt; (cache.len(), cache.moment()), (0, 0));
-        return Some(Refused::First);
+    came_back(rt, &refused, "a", 1);
+    stands(rt, cache, 0, 0);
+    Some(Refused::First)
+}
+
+// The second key is put when the first is due, which isn't seen any more where the put is refused.
+fn puts_second<A: Allocator + Copy>(
+    rt: &impl Abort,
+    heap: A,
+    cache: &mut Cache<A>,
+    a: &String<A>,
+) -> Option<Refused> {
+    let Ok(b) = key(heap, "b") else {
+        return Some(Refused::Keys);
+    };
+    let Some(refused) = put(cache, b, 2, 5, 5) else {
+        return None;
+    };
+    came_back(rt, &refused, "b", 2);
+    stands(rt, cache, 0, 5);
+    sees_none(rt, cache, a);
+    Some(Refused::Second)
+}
+
+fn puts_both<A: Allocator + Copy>(
+    rt: &impl Abort,
+    heap: A,
+    cache: &mut Cache<A>,
+    a: &String<A>,
+) -> Option<Refused> {
+    let refused = puts_first(rt, heap, cache);
+    if refused.is_some() {
+        return refused;
     }
-    if let Err(refused) = cache.put(b, 2, 5, 5) {
-        assert!(rt; came_back(&refused, "b", 2));
-        assert_eq!(rt; (cache.len(), cache.moment()), (0, 5));
-        assert_eq!(rt; cache.get(&a, 0).copied(), None);
-        return Some(Refused::Second);
+    let refused = puts_second(rt, heap, cache, a);
+    if refused.is_none() {
+        stands(rt, cache, 1, 5);
     }
-    assert_eq!(rt; (cache.len(), cache.moment()), (1, 5));
-    None
+    refused
+}
+
+// Two keys are put. What is owned here is lent to the puts, so that they have little to drop, and little to prove.
+fn walk<A: Allocator + Copy>(rt: &impl Abort, heap: A) -> Option<Refused> {
+    let Ok(a) = key(heap, "a") else {
+        return Some(Refused::Keys);
+    };
+    match made(heap, 2) {
+        Ok(mut cache) => puts_both(rt, heap, &mut cache, &a),
+        Err(error) => {
+            same(rt, "new", error, CoreError::NoMemory);
+            Some(Refused::New)
+        }
+    }
 }
 
 #[test]
@@ -85,24 +156,57 @@ enum Filling {
     Put(usize),
 }
 
-// Each of the names is put, a tick after the one before.
-fn fill(rt: &impl Abort, heap: &Heap) -> Option<Filling> {
-    let Ok(mut cache): Result<Cache, CoreError> = TtlCache::new(heap, NAMES.len(), LAST_STAMP)
-    else {
+// How many values are seen of a cache, whatever its keys and values are.
+fn seen<K, V, A>(cache: &TtlCache<K, V, A>) -> usize
+where
+    K: Eq + Hash + Drop,
+    V: Drop,
+    A: Allocator,
+{
+    cache.seen(0).count()
+}
+
+// The name of that turn is put at that tick. Where it is refused, those of the turns before stay.
+fn puts<A: Allocator + Copy>(
+    rt: &impl Abort,
+    heap: A,
+    cache: &mut Cache<A>,
+    turn: u32,
+    text: &str,
+) -> Option<Filling> {
+    let Ok(name) = key(heap, text) else {
         return Some(Filling::Before);
     };
+    let Some(refused) = put(cache, name, turn, 100, u64::from(turn)) else {
+        return None;
+    };
+    let before = turn as usize;
+    came_back(rt, &refused, text, turn);
+    stands(rt, cache, before, u64::from(turn));
+    same(rt, "seen", seen(cache), before);
+    Some(Filling::Put(before))
+}
+
+// Each of the names is put, a tick after the one before.
+fn puts_all<A: Allocator + Copy>(
+    rt: &impl Abort,
+    heap: A,
+    cache: &mut Cache<A>,
+) -> Option<Filling> {
     for (turn, text) in NAMES.iter().enumerate() {
-        let Ok(name) = key(heap, text) else {
-            return Some(Filling::Before);
-        };
-        if let Err(refused) = cache.put(name, turn as u32, 100, turn as u64) {
-            assert!(rt; came_back(&refused, text, turn as u32));
-            assert_eq!(rt; (cache.len(), cache.moment()), (turn, turn as u64));
-            assert_eq!(rt; cache.seen(0).count(), turn);
-            return Some(Filling::Put(turn));
+        let refused = puts(rt, heap, cache, turn as u32, text);
+        if refused.is_some() {
+            return refused;
         }
     }
     None
+}
+
+fn fill<A: Allocator + Copy>(rt: &impl Abort, heap: A) -> Option<Filling> {
+    match made(heap, NAMES.len()) {
+        Ok(mut cache) => puts_all(rt, heap, &mut cache),
+        Err(_no_memory) => Some(Filling::Before),
+    }
 }
 
 // A put copies its key, and at times the map grows: each of both is refused at a first key and at a later one.

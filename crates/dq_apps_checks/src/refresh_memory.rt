@@ -1,9 +1,10 @@
 //! A refresh, each of whose allocations is refused in turn.
 
 use super::same;
-use crate::refusing::{Heap, each_refused, times};
+use crate::refusing::{each_refused, times};
 use dq_apps::TtlCache;
 use dq_core::CoreError;
+use std::alloc::Allocator;
 use std::process::Abort;
 use std::test::Fail;
 
@@ -16,35 +17,57 @@ enum Refused {
     Refresh,
 }
 
-type Heaped<'heap, 'all> = TtlCache<char, u32, &'heap Heap<'all>>;
+// A cache all of whose memory is of one heap. Its calls are proved once for all heaps, which is quicker than for the
+// refusing one alone.
+type Heaped<A> = TtlCache<char, u32, A>;
 
-fn are_put(cache: &mut Heaped) -> bool {
+fn made<A: Allocator + Clone>(heap: A) -> Result<Heaped<A>, CoreError> {
+    TtlCache::new(heap, 2, 2)
+}
+
+fn is_put<A: Allocator + Clone>(cache: &mut Heaped<A>, key: char, value: u32) -> bool {
+    cache.put(key, value, 10, 0).is_ok()
+}
+
+fn are_put<A: Allocator + Clone>(cache: &mut Heaped<A>) -> bool {
     for (key, value) in &[('a', 1), ('a', 2), ('b', 3)] {
-        if cache.put(*key, *value, 10, 0).is_err() {
+        if !is_put(cache, *key, *value) {
             return false;
         }
     }
     true
 }
 
-fn refreshes(rt: &impl Abort, cache: &mut Heaped) -> Option<Refused> {
-    let refreshed = cache.refresh();
+fn refresh<A: Allocator + Clone>(cache: &mut Heaped<A>) -> Result<(), CoreError> {
+    cache.refresh()
+}
+
+// Both keys are kept, and the first is seen with its later value.
+fn stays<A: Allocator>(rt: &impl Abort, cache: &Heaped<A>) {
     let told = (cache.len(), cache.worn(), cache.next_deadline());
     same(rt, "refresh", told, (2, 0, Some(10)));
     same(rt, "get", cache.get(&'a', 9).copied(), Some(2));
-    let renewed = cache.renew(&'a', 10, 1);
+}
+
+fn renews<A: Allocator>(rt: &impl Abort, cache: &mut Heaped<A>, answer: Result<u64, CoreError>) {
+    same(rt, "renew", cache.renew(&'a', 10, 1), answer);
+}
+
+fn refreshes<A: Allocator + Clone>(rt: &impl Abort, cache: &mut Heaped<A>) -> Option<Refused> {
+    let refreshed = refresh(cache);
+    stays(rt, cache);
     if refreshed.is_ok() {
-        same(rt, "renew", renewed, Ok(11));
+        renews(rt, cache, Ok(11));
         return None;
     }
     same(rt, "refresh", refreshed, Err(CoreError::NoMemory));
-    same(rt, "renew", renewed, Err(CoreError::Worn));
+    renews(rt, cache, Err(CoreError::Worn));
     Some(Refused::Refresh)
 }
 
 // A cache with a slot at its last stamp is refreshed.
-fn walk(rt: &impl Abort, heap: &Heap) -> Option<Refused> {
-    let Ok(mut cache): Result<Heaped, CoreError> = TtlCache::new(heap, 2, 2) else {
+fn walk<A: Allocator + Clone>(rt: &impl Abort, heap: A) -> Option<Refused> {
+    let Ok(mut cache) = made(heap) else {
         return Some(Refused::Before);
     };
     if are_put(&mut cache) {

@@ -1,6 +1,7 @@
 //! Idle sessions: the worked row, and the border of the last tick.
 
-use dq_apps::IdleSessions;
+use super::same;
+use dq_apps::{IdleSessions, Name};
 use dq_core::{CallError, CoreError, Look, Turn};
 use dq_shards::{Handle, QueueConfig, QueueError};
 use dq_ticks::{EntryId, Key};
@@ -20,31 +21,41 @@ pub fn sessions(alloc: Global, idle: u64) -> Result<IdleSessions, QueueError> {
     IdleSessions::new(alloc, QueueConfig::of(1, 4), idle)
 }
 
+// A poll of the one shard. What it promises isn't passed on, here and in the calls below: a test sees for itself.
+fn poll(rt: &impl Wait, sessions: &IdleSessions, now: u64) -> Result<Turn<Name>, QueueError> {
+    sessions.next_idle(rt, 0, now)
+}
+
 /// A poll gives the session of that name, which ended at that tick.
 pub fn ends(rt: &(impl Abort + Wait), sessions: &IdleSessions, now: u64, name: &str, at: u64) {
-    match sessions.next_idle(rt, 0, now) {
-        Ok(Turn::Out(ended)) => {
-            assert_eq!(rt; ended.value.text(), name, "at {now}");
-            assert_eq!(rt; ended.deadline, at, "{name}");
-        }
+    match poll(rt, sessions, now) {
+        Ok(Turn::Out(ended)) => same(rt, now, (ended.value.text(), ended.deadline), (name, at)),
         _ => assert!(rt; false, "{name} didn't come out at {now}"),
     }
 }
 
 /// A poll gives no session, and names the tick to wait for, where there is one.
 pub fn waits(rt: &(impl Abort + Wait), sessions: &IdleSessions, now: u64, answer: Option<u64>) {
-    match sessions.next_idle(rt, 0, now) {
-        Ok(Turn::Waiting { next }) => assert_eq!(rt; Some(next), answer, "at {now}"),
-        Ok(Turn::Idle) => assert_eq!(rt; None, answer, "at {now}"),
+    match poll(rt, sessions, now) {
+        Ok(Turn::Waiting { next }) => same(rt, now, Some(next), answer),
+        Ok(Turn::Idle) => same(rt, now, None, answer),
         _ => assert!(rt; false, "a session came out at {now}"),
     }
 }
 
+fn login(rt: &impl Wait, sessions: &IdleSessions, name: &str, now: u64) -> Result<Key, QueueError> {
+    sessions.login(rt, 0, name, now)
+}
+
 pub fn begins(rt: &impl Wait, sessions: &IdleSessions, name: &str, now: u64) -> Result<Key, Fail> {
-    Ok(sessions.login(rt, 0, name, now)?)
+    Ok(login(rt, sessions, name, now)?)
 }
 
 pub type Answer = Result<u64, CallError>;
+
+fn touch(sessions: &IdleSessions, handle: &mut Handle, key: &Key, now: u64) -> Answer {
+    sessions.touch(handle, key, now)
+}
 
 pub fn touches(
     rt: &impl Abort,
@@ -54,7 +65,7 @@ pub fn touches(
     now: u64,
     answer: Answer,
 ) {
-    assert_eq!(rt; sessions.touch(handle, key, now), answer);
+    same(rt, now, touch(sessions, handle, key, now), answer);
 }
 
 pub fn logs_out(
@@ -64,7 +75,7 @@ pub fn logs_out(
     key: &Key,
     answer: Answer,
 ) {
-    assert_eq!(rt; sessions.logout(handle, key), answer);
+    same(rt, "logout", sessions.logout(handle, key), answer);
 }
 
 fn walk(
@@ -81,7 +92,12 @@ fn walk(
     };
     touches(rt, sessions, handle, &ann, 151, Err(ended));
     let too_far = QueueError::Core(CoreError::TooFar { limit: LAST });
-    assert_eq!(rt; sessions.login(rt, 0, "bob", 4398046511100), Err(too_far));
+    same(
+        rt,
+        "bob",
+        login(rt, sessions, "bob", 4398046511100),
+        Err(too_far),
+    );
     let cy = begins(rt, sessions, "cy", 150)?;
     logs_out(rt, sessions, handle, &cy, Ok(250));
     Ok(())
@@ -99,22 +115,21 @@ fn idles(
     rt: &(impl Abort + Wait),
     sessions: &IdleSessions,
     handle: &mut Handle,
+    row: usize,
     now: u64,
     is_tick: bool,
 ) {
-    let idle = sessions.idle();
-    let answer = sessions.login(rt, 0, "ann", now);
+    let answer = login(rt, sessions, "ann", now);
     let ann = Key::new(EntryId::new(0, 0, 1), 1);
-    let touched = sessions.touch(handle, &ann, now);
+    let touched = touch(sessions, handle, &ann, now);
     if is_tick {
-        assert_eq!(rt; answer, Ok(ann), "idle {idle} at {now}");
-        assert_eq!(rt; touched, Ok(LAST), "idle {idle} at {now}");
+        same(rt, row, answer, Ok(ann));
+        same(rt, row, touched, Ok(LAST));
         ends(rt, sessions, LAST, "ann", LAST);
     } else {
         let too_far = QueueError::Core(CoreError::TooFar { limit: LAST });
-        assert_eq!(rt; answer, Err(too_far), "idle {idle} at {now}");
-        let too_far = CallError::TooFar { limit: LAST };
-        assert_eq!(rt; touched, Err(too_far), "idle {idle} at {now}");
+        same(rt, row, answer, Err(too_far));
+        same(rt, row, touched, Err(CallError::TooFar { limit: LAST }));
         waits(rt, sessions, LAST, None);
     }
 }
@@ -122,7 +137,7 @@ fn idles(
 // A session's deadline may be the last tick and no later one; a sum that has no `u64` is later too.
 #[test]
 fn idle_beyond_the_last_tick(rt: HostRuntime) -> Result<(), Fail> {
-    for (idle, now, is_tick) in [
+    let rows = [
         (IDLE, LAST - IDLE, true),
         (IDLE, LAST - IDLE + 1, false),
         (IDLE, LAST, false),
@@ -136,10 +151,12 @@ fn idle_beyond_the_last_tick(rt: HostRuntime) -> Result<(), Fail> {
         (u64::MAX, 0, false),
         (u64::MAX, 1, false),
         (u64::MAX, u64::MAX, false),
-    ] {
-        let sessions = sessions(rt.alloc(), idle)?;
+    ];
+    for (row, (idle, now, is_tick)) in rows.iter().enumerate() {
+        let sessions = sessions(rt.alloc(), *idle)?;
+        same(&rt, row, sessions.idle(), *idle);
         let mut handle = sessions.handle(&rt)?;
-        idles(&rt, &sessions, &mut handle, now, is_tick);
+        idles(&rt, &sessions, &mut handle, row, *now, *is_tick);
     }
     Ok(())
 }

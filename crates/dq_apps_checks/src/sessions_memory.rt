@@ -1,9 +1,11 @@
 //! Each allocation of sessions is refused in turn.
 
-use crate::refusing::{Heap, each_refused, times};
-use dq_apps::IdleSessions;
+use super::same;
+use crate::refusing::{each_refused, times};
+use dq_apps::{IdleSessions, Name};
 use dq_core::{CoreError, Turn};
 use dq_shards::{QueueConfig, QueueError};
+use dq_ticks::Key;
 use std::alloc::Allocator;
 use std::process::Abort;
 use std::sync::Wait;
@@ -19,16 +21,37 @@ enum Refused {
     Handle,
 }
 
+// What shard 0 tells at a tick. What that promises isn't passed on, nor is it of a login.
+fn poll<R, A>(rt: &R, sessions: &IdleSessions<A>, now: u64) -> Result<Turn<Name<A>>, QueueError>
+where
+    R: Wait,
+    A: Allocator + Drop,
+{
+    sessions.next_idle(rt, 0, now)
+}
+
+fn is_idle<R: Wait, A: Allocator + Drop>(rt: &R, sessions: &IdleSessions<A>, now: u64) -> bool {
+    matches!(poll(rt, sessions, now), Ok(Turn::Idle))
+}
+
 // Whether the session that comes out has this name, and is the only one.
 fn holds_alone<R: Wait, A: Allocator + Drop>(
     rt: &R,
     sessions: &IdleSessions<A>,
     name: &str,
 ) -> bool {
-    let Ok(Turn::Out(ended)) = sessions.next_idle(rt, 0, 10) else {
+    let Ok(Turn::Out(ended)) = poll(rt, sessions, 10) else {
         return false;
     };
-    ended.value.text() == name && matches!(sessions.next_idle(rt, 0, 10), Ok(Turn::Idle))
+    ended.value.text() == name && is_idle(rt, sessions, 10)
+}
+
+fn login<R, A>(rt: &R, sessions: &IdleSessions<A>) -> Result<Key, QueueError>
+where
+    R: Wait,
+    A: Allocator + Clone + Drop,
+{
+    sessions.login(rt, 0, "ann", 0)
 }
 
 // A session begins. A refused login inserts nothing, and is made once more.
@@ -37,12 +60,12 @@ where
     R: Abort + Wait,
     A: Allocator + Clone + Drop,
 {
-    let Err(error) = sessions.login(rt, 0, "ann", 0) else {
+    let Err(error) = login(rt, sessions) else {
         return None;
     };
-    assert_eq!(rt; error, NO_MEMORY);
-    assert!(rt; matches!(sessions.next_idle(rt, 0, 0), Ok(Turn::Idle)));
-    assert!(rt; sessions.login(rt, 0, "ann", 0).is_ok());
+    same(rt, "login", error, NO_MEMORY);
+    same(rt, "next_idle", is_idle(rt, sessions, 0), true);
+    same(rt, "login", login(rt, sessions).is_ok(), true);
     Some(Refused::Login)
 }
 
@@ -54,11 +77,11 @@ where
 {
     match sessions.handle(rt) {
         Ok(handle) => {
-            assert_eq!(rt; handle.give_back(), 0);
+            same(rt, "give_back", handle.give_back(), 0);
             None
         }
         Err(error) => {
-            assert_eq!(rt; error, NO_MEMORY);
+            same(rt, "handle", error, NO_MEMORY);
             Some(Refused::Handle)
         }
     }
@@ -76,11 +99,16 @@ where
     logged_in.or(taken)
 }
 
-fn walk(rt: &(impl Abort + Wait), heap: &Heap) -> Option<Refused> {
+// Proved once for all heaps, which is quicker than for the refusing one alone.
+fn walk<R, A>(rt: &R, heap: A) -> Option<Refused>
+where
+    R: Abort + Wait,
+    A: Allocator + Clone + Drop,
+{
     match IdleSessions::new(heap, QueueConfig::of(2, 1), 10) {
         Ok(sessions) => used(rt, sessions),
         Err(error) => {
-            assert_eq!(rt; error, NO_MEMORY);
+            same(rt, "new", error, NO_MEMORY);
             Some(Refused::New)
         }
     }
