@@ -1,7 +1,8 @@
 //! Idle sessions: the worked row, and the border of the last tick.
 
 use crate::tests::kit::Fail;
-use crate::apps::IdleSessions;
+use super::same;
+use crate::apps::{IdleSessions, Name};
 use crate::core::{CallError, CoreError, Look, Turn};
 use crate::shards::{Handle, QueueConfig, QueueError};
 use crate::ticks::{EntryId, Key};
@@ -16,31 +17,41 @@ pub fn sessions(idle: u64) -> Result<IdleSessions, QueueError> {
     IdleSessions::new(QueueConfig::of(1, 4), idle)
 }
 
+// A poll of the one shard. What it promises isn't passed on, here and in the calls below: a test sees for itself.
+fn poll(sessions: &IdleSessions, now: u64) -> Result<Turn<Name>, QueueError> {
+    sessions.next_idle(0, now)
+}
+
 /// A poll gives the session of that name, which ended at that tick.
 pub fn ends(sessions: &IdleSessions, now: u64, name: &str, at: u64) {
-    match sessions.next_idle(0, now) {
-        Ok(Turn::Out(ended)) => {
-            assert_eq!(ended.value.text(), name, "at {now}");
-            assert_eq!(ended.deadline, at, "{name}");
-        }
+    match poll(sessions, now) {
+        Ok(Turn::Out(ended)) => same(now, (ended.value.text(), ended.deadline), (name, at)),
         _ => assert!(false, "{name} didn't come out at {now}"),
     }
 }
 
 /// A poll gives no session, and names the tick to wait for, where there is one.
 pub fn waits(sessions: &IdleSessions, now: u64, answer: Option<u64>) {
-    match sessions.next_idle(0, now) {
-        Ok(Turn::Waiting { next }) => assert_eq!(Some(next), answer, "at {now}"),
-        Ok(Turn::Idle) => assert_eq!(None, answer, "at {now}"),
+    match poll(sessions, now) {
+        Ok(Turn::Waiting { next }) => same(now, Some(next), answer),
+        Ok(Turn::Idle) => same(now, None, answer),
         _ => assert!(false, "a session came out at {now}"),
     }
 }
 
+fn login(sessions: &IdleSessions, name: &str, now: u64) -> Result<Key, QueueError> {
+    sessions.login(0, name, now)
+}
+
 pub fn begins(sessions: &IdleSessions, name: &str, now: u64) -> Result<Key, Fail> {
-    Ok(sessions.login(0, name, now)?)
+    Ok(login(sessions, name, now)?)
 }
 
 pub type Answer = Result<u64, CallError>;
+
+fn touch(sessions: &IdleSessions, handle: &mut Handle, key: &Key, now: u64) -> Answer {
+    sessions.touch(handle, key, now)
+}
 
 pub fn touches(
     sessions: &IdleSessions,
@@ -49,7 +60,7 @@ pub fn touches(
     now: u64,
     answer: Answer,
 ) {
-    assert_eq!(sessions.touch(handle, key, now), answer);
+    same(now, touch(sessions, handle, key, now), answer);
 }
 
 pub fn logs_out(
@@ -58,7 +69,7 @@ pub fn logs_out(
     key: &Key,
     answer: Answer,
 ) {
-    assert_eq!(sessions.logout(handle, key), answer);
+    same("logout", sessions.logout(handle, key), answer);
 }
 
 fn walk(
@@ -74,7 +85,11 @@ fn walk(
     };
     touches(sessions, handle, &ann, 151, Err(ended));
     let too_far = QueueError::Core(CoreError::TooFar { limit: LAST });
-    assert_eq!(sessions.login(0, "bob", 4398046511100), Err(too_far));
+    same(
+        "bob",
+        login(sessions, "bob", 4398046511100),
+        Err(too_far),
+    );
     let cy = begins(sessions, "cy", 150)?;
     logs_out(sessions, handle, &cy, Ok(250));
     Ok(())
@@ -91,22 +106,21 @@ fn sessions_walk() -> Result<(), Fail> {
 fn idles(
     sessions: &IdleSessions,
     handle: &mut Handle,
+    row: usize,
     now: u64,
     is_tick: bool,
 ) {
-    let idle = sessions.idle();
-    let answer = sessions.login(0, "ann", now);
+    let answer = login(sessions, "ann", now);
     let ann = Key::new(EntryId::new(0, 0, 1), 1);
-    let touched = sessions.touch(handle, &ann, now);
+    let touched = touch(sessions, handle, &ann, now);
     if is_tick {
-        assert_eq!(answer, Ok(ann), "idle {idle} at {now}");
-        assert_eq!(touched, Ok(LAST), "idle {idle} at {now}");
+        same(row, answer, Ok(ann));
+        same(row, touched, Ok(LAST));
         ends(sessions, LAST, "ann", LAST);
     } else {
         let too_far = QueueError::Core(CoreError::TooFar { limit: LAST });
-        assert_eq!(answer, Err(too_far), "idle {idle} at {now}");
-        let too_far = CallError::TooFar { limit: LAST };
-        assert_eq!(touched, Err(too_far), "idle {idle} at {now}");
+        same(row, answer, Err(too_far));
+        same(row, touched, Err(CallError::TooFar { limit: LAST }));
         waits(sessions, LAST, None);
     }
 }
@@ -114,7 +128,7 @@ fn idles(
 // A session's deadline may be the last tick and no later one; a sum that has no `u64` is later too.
 #[test]
 fn idle_beyond_the_last_tick() -> Result<(), Fail> {
-    for (idle, now, is_tick) in [
+    let rows = [
         (IDLE, LAST - IDLE, true),
         (IDLE, LAST - IDLE + 1, false),
         (IDLE, LAST, false),
@@ -128,10 +142,12 @@ fn idle_beyond_the_last_tick() -> Result<(), Fail> {
         (u64::MAX, 0, false),
         (u64::MAX, 1, false),
         (u64::MAX, u64::MAX, false),
-    ] {
-        let sessions = sessions(idle)?;
+    ];
+    for (row, (idle, now, is_tick)) in rows.iter().enumerate() {
+        let sessions = sessions(*idle)?;
+        same(row, sessions.idle(), *idle);
         let mut handle = sessions.handle()?;
-        idles(&sessions, &mut handle, now, is_tick);
+        idles(&sessions, &mut handle, row, *now, *is_tick);
     }
     Ok(())
 }
