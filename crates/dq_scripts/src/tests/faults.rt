@@ -1,8 +1,8 @@
 //! Scripts with a fault, bad capacities, and what is told of each fault.
 
-use super::table::{fault_at, is_text, replay, runs};
+use super::table::{fault_at, is_text, runs};
 use super::writers::Full;
-use dq_replay::{FaultKind, ReplayFault, report};
+use dq_replay::{FaultKind, ReplayFault, report, run};
 use dq_ticks::CAPACITY_LIMIT;
 use std::process::Abort;
 use std::test::Fail;
@@ -69,20 +69,16 @@ fn lines_of_128_bytes_and_more(rt: HostRuntime) -> Result<(), Fail> {
     Ok(())
 }
 
-// A bad capacity is refused, and nothing was read or written.
-fn is_bad<R: Abort + AllocGlobal>(rt: &R, script: &[u8], capacity: usize) {
-    let mut reader = script;
-    let mut written = Vec::new(rt.alloc());
-    let end = replay(rt, &mut reader, &mut written, capacity);
-    assert_eq!(rt; end, Err(ReplayFault::BadConfig));
-    assert!(rt; reader == script);
-    assert!(rt; written.is_empty());
-}
-
 #[test]
 fn bad_capacities(rt: HostRuntime) {
+    let script = b"delay 1\ninsert a 5\n".as_slice();
     for capacity in [0, CAPACITY_LIMIT + 1, usize::MAX] {
-        is_bad(&rt, b"delay 1\ninsert a 5\n", capacity);
+        let mut reader = script;
+        let mut written = Vec::new(rt.alloc());
+        let end = run(rt.alloc(), &mut reader, &mut written, capacity);
+        assert_eq!(rt; end, Err(ReplayFault::BadConfig));
+        assert!(rt; reader == script);
+        assert!(rt; written.is_empty());
     }
 }
 

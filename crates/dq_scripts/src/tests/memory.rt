@@ -5,63 +5,13 @@ use super::table::{Row, joined};
 use dq_replay::{ReplayFault, run};
 use linked_list_allocator::LocalHeap;
 use refusing_heap::RefusingHeap;
-use std::alloc::{Allocator, Global};
+use std::alloc::Global;
 use std::process::Abort;
 use std::test::Fail;
 
-// Replays a script with memory of this heap. It is proved once for all heaps, which is quicker than for the refusing
-// one alone.
-fn replay_in<A: Allocator>(
-    heap: A,
-    script: &[u8],
-    written: &mut Vec<u8>,
-    capacity: usize,
-) -> Result<(), ReplayFault> {
-    let mut reader = script;
-    run(heap, &mut reader, written, capacity)
-}
-
-// A run that was refused memory ends between two answers, and else it writes them all.
-fn ends_so(
-    rt: &impl Abort,
-    end: Result<(), ReplayFault>,
-    written: &[u8],
-    answers: &[u8],
-    was_refused: bool,
-) {
-    assert!(rt; answers.starts_with(written));
-    if was_refused {
-        assert_eq!(rt; end, Err(ReplayFault::NoMemory));
-        assert!(rt; written.is_empty() || written.ends_with(b"\n"));
-    } else {
-        assert_eq!(rt; end, Ok(()));
-        assert!(rt; written.len() == answers.len());
-    }
-}
-
-// Runs a script with the allocation behind so many refused. Answers how much it wrote, and whether it asked for that
-// one.
-fn refuse_allocation(
-    rt: &impl Abort,
-    alloc: Global,
-    capacity: usize,
-    script: &[u8],
-    answers: &[u8],
-    grants: u64,
-) -> Result<(usize, bool), Fail> {
-    let all = LocalHeap::new(alloc, 1 << 16)?;
-    let heap = RefusingHeap::new(&all, grants);
-    let mut written = Vec::new(alloc);
-    let end = replay_in(&heap, script, &mut written, capacity);
-    let was_refused = heap.has_refused();
-    assert_eq!(rt; all.used(), 0);
-    ends_so(rt, end, &written, answers, was_refused);
-    Ok((written.len(), was_refused))
-}
-
-// Runs a script again and again, each time with the next of its allocations refused, until none is. Answers how often
-// a refused run ended later than the run before, the first run counted too, and how many allocations the script
-// makes.
+// Runs a script again and again, each time with the next of its allocations refused, until none is. A refused run
+// ends between two answers; answers how often it ended later than the run before, the first run counted too, and how
+// many allocations the script makes.
 fn refuse_each_allocation(
     rt: &impl Abort,
     alloc: Global,
@@ -72,16 +22,24 @@ fn refuse_each_allocation(
     let mut ends = 0usize;
     let mut answered = 0;
     for grants in 0..1000u64 {
-        let (written, was_refused) = refuse_allocation(
-            rt, alloc, capacity, script, answers, grants,
-        )?;
-        if !was_refused {
+        let all = LocalHeap::new(alloc, 1 << 16)?;
+        let heap = RefusingHeap::new(&all, grants);
+        let mut reader = script;
+        let mut written = Vec::new(alloc);
+        let end = run(&heap, &mut reader, &mut written, capacity);
+        assert_eq!(rt; all.used(), 0);
+        assert!(rt; answers.starts_with(&written));
+        if !heap.has_refused() {
+            assert_eq!(rt; end, Ok(()));
+            assert!(rt; written.len() == answers.len());
             return Ok((ends, grants));
         }
-        if grants == 0 || written > answered {
+        assert_eq!(rt; end, Err(ReplayFault::NoMemory));
+        assert!(rt; written.is_empty() || written.ends_with(b"\n"));
+        if grants == 0 || written.len() > answered {
             ends = ends.saturating_add(1);
         }
-        answered = written;
+        answered = written.len();
     }
     assert!(rt; false, "each run was refused");
     Ok((ends, 0))

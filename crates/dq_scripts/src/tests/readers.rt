@@ -1,9 +1,9 @@
 //! Readers that fail, and readers without an end.
 
 use super::scripts::THREE_NAMES;
-use super::table::{fault_at, is_text, joined, replay};
+use super::table::{fault_at, is_text, joined};
 use super::writers::Count;
-use dq_replay::{FaultKind, ReplayFault};
+use dq_replay::{FaultKind, ReplayFault, run};
 use std::io::Read;
 use std::process::Abort;
 use std::test::Fail;
@@ -42,7 +42,7 @@ fn fails_behind<R: Abort + AllocGlobal>(rt: &R, bytes: &[u8], answers: &str) {
             left: bytes,
             errors: &mut errors,
         };
-        replay(rt, &mut reader, &mut written, 3)
+        run(rt.alloc(), &mut reader, &mut written, 3)
     };
     assert_eq!(rt; end, Err(ReplayFault::Read));
     is_text(rt, &written, answers);
@@ -108,7 +108,7 @@ fn endless_lines(rt: HostRuntime) {
         given: 0,
         end: usize::MAX,
     };
-    let end = replay(&rt, &mut reader, &mut Count(&mut count), 4);
+    let end = run(rt.alloc(), &mut reader, &mut Count(&mut count), 4);
     assert_eq!(rt; end, fault_at(1_000_001, FaultKind::TooManyLines));
     assert_eq!(rt; count, 999_999 * 7);
     assert_eq!(rt; reader.given, 8 + 999_999 * 7 + 1);
@@ -122,7 +122,7 @@ fn greatest_number_of_lines(rt: HostRuntime) {
         given: 0,
         end: 8 + 999_999 * 7,
     };
-    let end = replay(&rt, &mut reader, &mut Count(&mut count), 4);
+    let end = run(rt.alloc(), &mut reader, &mut Count(&mut count), 4);
     assert_eq!(rt; end, Ok(()));
     assert_eq!(rt; count, 999_999 * 7);
 }
@@ -130,7 +130,7 @@ fn greatest_number_of_lines(rt: HostRuntime) {
 #[test]
 fn endless_line(rt: HostRuntime) {
     let mut written = Vec::new(rt.alloc());
-    let end = replay(&rt, &mut io::repeat(b'a'), &mut written, 4);
+    let end = run(rt.alloc(), &mut io::repeat(b'a'), &mut written, 4);
     assert_eq!(rt; end, fault_at(1, FaultKind::LineTooLong));
     assert!(rt; written.is_empty());
 }

@@ -2,7 +2,6 @@
 
 use dq_replay::{FaultKind, ReplayFault, run};
 use std::alloc::{AllocError, Global};
-use std::io::{Read, Write};
 use std::process::Abort;
 use std::str;
 
@@ -31,17 +30,6 @@ pub fn joined(alloc: Global, first: &str, rows: &[Row]) -> Result<(String, Strin
     Ok((script, answers))
 }
 
-/// Replays a script. What that promises isn't passed on, since a test sees for itself what comes of it: so it is
-/// proved once for all readers and writers.
-pub fn replay<R: AllocGlobal>(
-    rt: &R,
-    reader: &mut impl Read,
-    writer: &mut impl Write,
-    capacity: usize,
-) -> Result<(), ReplayFault> {
-    run(rt.alloc(), reader, writer, capacity)
-}
-
 /// A script gets those answers, and ends so.
 pub fn runs<R: Abort + AllocGlobal>(
     rt: &R,
@@ -52,7 +40,7 @@ pub fn runs<R: Abort + AllocGlobal>(
 ) {
     let mut reader = script;
     let mut written = Vec::new(rt.alloc());
-    assert_eq!(rt; replay(rt, &mut reader, &mut written, capacity), end);
+    assert_eq!(rt; run(rt.alloc(), &mut reader, &mut written, capacity), end);
     is_text(rt, &written, answers);
 }
 

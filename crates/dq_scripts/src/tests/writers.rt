@@ -2,8 +2,8 @@
 
 use super::faults::FAULTY;
 use super::scripts::{THREE_NAMES, TWO_NAMES};
-use super::table::{fault_at, is_text, joined, replay};
-use dq_replay::{FaultKind, ReplayFault};
+use super::table::{fault_at, is_text, joined};
+use dq_replay::{FaultKind, ReplayFault, run};
 use std::io::Write;
 use std::process::Abort;
 use std::test::Fail;
@@ -44,7 +44,7 @@ fn zero_byte_write(rt: HostRuntime) -> Result<(), Fail> {
     let (script, _) = joined(rt.alloc(), "delay 1", &TWO_NAMES)?;
     let mut asked = 0;
     let mut reader = script.as_bytes();
-    let end = replay(&rt, &mut reader, &mut Full(&mut asked), 1024);
+    let end = run(rt.alloc(), &mut reader, &mut Full(&mut asked), 1024);
     assert_eq!(rt; end, Err(ReplayFault::Write));
     assert_eq!(rt; asked, 1);
     Ok(())
@@ -90,7 +90,7 @@ fn fails_behind<R: Abort + AllocGlobal>(rt: &R, script: &[u8], written: &[u8]) {
             calls_left: written.len() + 1,
             errors: &mut errors,
         };
-        replay(rt, &mut reader, &mut writer, 3)
+        run(rt.alloc(), &mut reader, &mut writer, 3)
     };
     assert_eq!(rt; end, Err(ReplayFault::Write));
     assert!(rt;
@@ -158,7 +158,7 @@ fn flushes_once<R: Abort + AllocGlobal>(
             flushes: &mut flushes,
             fails,
         };
-        replay(rt, &mut reader, &mut writer, 1024)
+        run(rt.alloc(), &mut reader, &mut writer, 1024)
     };
     assert_eq!(rt; ended, end);
     is_text(rt, &taken, answers);
