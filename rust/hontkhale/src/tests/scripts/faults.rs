@@ -1,9 +1,9 @@
 //! Scripts with a fault, bad capacities, and what is told of each fault.
 
 use crate::tests::kit::Fail;
-use super::table::{fault_at, is_text, replay, runs};
+use super::table::{fault_at, is_text, runs};
 use super::writers::Full;
-use crate::replay::{FaultKind, ReplayFault, report};
+use crate::replay::{FaultKind, ReplayFault, report, run};
 use crate::ticks::CAPACITY_LIMIT;
 
 #[test]
@@ -68,20 +68,16 @@ fn lines_of_128_bytes_and_more() -> Result<(), Fail> {
     Ok(())
 }
 
-// A bad capacity is refused, and nothing was read or written.
-fn is_bad(script: &[u8], capacity: usize) {
-    let mut reader = script;
-    let mut written = Vec::new();
-    let end = replay(&mut reader, &mut written, capacity);
-    assert_eq!(end, Err(ReplayFault::BadConfig));
-    assert!(reader == script);
-    assert!(written.is_empty());
-}
-
 #[test]
 fn bad_capacities() {
+    let script = b"delay 1\ninsert a 5\n".as_slice();
     for capacity in [0, CAPACITY_LIMIT + 1, usize::MAX] {
-        is_bad(b"delay 1\ninsert a 5\n", capacity);
+        let mut reader = script;
+        let mut written = Vec::new();
+        let end = run(&mut reader, &mut written, capacity);
+        assert_eq!(end, Err(ReplayFault::BadConfig));
+        assert!(reader == script);
+        assert!(written.is_empty());
     }
 }
 

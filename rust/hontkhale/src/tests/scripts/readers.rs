@@ -2,9 +2,9 @@
 
 use crate::tests::kit::Fail;
 use super::scripts::THREE_NAMES;
-use super::table::{fault_at, is_text, joined, replay};
+use super::table::{fault_at, is_text, joined};
 use super::writers::Count;
-use crate::replay::{FaultKind, ReplayFault};
+use crate::replay::{FaultKind, ReplayFault, run};
 use std::io::Read;
 use std::{io, str};
 
@@ -40,7 +40,7 @@ fn fails_behind(bytes: &[u8], answers: &str) {
             left: bytes,
             errors: &mut errors,
         };
-        replay(&mut reader, &mut written, 3)
+        run(&mut reader, &mut written, 3)
     };
     assert_eq!(end, Err(ReplayFault::Read));
     is_text(&written, answers);
@@ -105,7 +105,7 @@ fn endless_lines() {
         given: 0,
         end: usize::MAX,
     };
-    let end = replay(&mut reader, &mut Count(&mut count), 4);
+    let end = run(&mut reader, &mut Count(&mut count), 4);
     assert_eq!(end, fault_at(1_000_001, FaultKind::TooManyLines));
     assert_eq!(count, 999_999 * 7);
     assert_eq!(reader.given, 8 + 999_999 * 7 + 1);
@@ -119,7 +119,7 @@ fn greatest_number_of_lines() {
         given: 0,
         end: 8 + 999_999 * 7,
     };
-    let end = replay(&mut reader, &mut Count(&mut count), 4);
+    let end = run(&mut reader, &mut Count(&mut count), 4);
     assert_eq!(end, Ok(()));
     assert_eq!(count, 999_999 * 7);
 }
@@ -127,7 +127,7 @@ fn greatest_number_of_lines() {
 #[test]
 fn endless_line() {
     let mut written = Vec::new();
-    let end = replay(&mut io::repeat(b'a'), &mut written, 4);
+    let end = run(&mut io::repeat(b'a'), &mut written, 4);
     assert_eq!(end, fault_at(1, FaultKind::LineTooLong));
     assert!(written.is_empty());
 }

@@ -2,7 +2,6 @@
 
 use crate::tests::kit::AllocError;
 use crate::replay::{FaultKind, ReplayFault, run};
-use std::io::{Read, Write};
 use std::str;
 
 /// A line and its answer, which has several lines where names expire.
@@ -31,16 +30,6 @@ pub fn joined(first: &str, rows: &[Row]) -> Result<(String, String), AllocError>
     Ok((script, answers))
 }
 
-/// Replays a script. What that promises isn't passed on, since a test sees for itself what comes of it: so it is
-/// proved once for all readers and writers.
-pub fn replay(
-    reader: &mut impl Read,
-    writer: &mut impl Write,
-    capacity: usize,
-) -> Result<(), ReplayFault> {
-    run(reader, writer, capacity)
-}
-
 /// A script gets those answers, and ends so.
 pub fn runs(
     capacity: usize,
@@ -50,7 +39,7 @@ pub fn runs(
 ) {
     let mut reader = script;
     let mut written = Vec::new();
-    assert_eq!(replay(&mut reader, &mut written, capacity), end);
+    assert_eq!(run(&mut reader, &mut written, capacity), end);
     is_text(&written, answers);
 }
 

@@ -3,8 +3,8 @@
 use crate::tests::kit::Fail;
 use super::faults::FAULTY;
 use super::scripts::{THREE_NAMES, TWO_NAMES};
-use super::table::{fault_at, is_text, joined, replay};
-use crate::replay::{FaultKind, ReplayFault};
+use super::table::{fault_at, is_text, joined};
+use crate::replay::{FaultKind, ReplayFault, run};
 use std::io::Write;
 use std::{io, str};
 
@@ -41,7 +41,7 @@ fn zero_byte_write() -> Result<(), Fail> {
     let (script, _) = joined("delay 1", &TWO_NAMES)?;
     let mut asked = 0;
     let mut reader = script.as_bytes();
-    let end = replay(&mut reader, &mut Full(&mut asked), 1024);
+    let end = run(&mut reader, &mut Full(&mut asked), 1024);
     assert_eq!(end, Err(ReplayFault::Write));
     assert_eq!(asked, 1);
     Ok(())
@@ -86,7 +86,7 @@ fn fails_behind(script: &[u8], written: &[u8]) {
             calls_left: written.len() + 1,
             errors: &mut errors,
         };
-        replay(&mut reader, &mut writer, 3)
+        run(&mut reader, &mut writer, 3)
     };
     assert_eq!(end, Err(ReplayFault::Write));
     assert!(
@@ -152,7 +152,7 @@ fn flushes_once(
             flushes: &mut flushes,
             fails,
         };
-        replay(&mut reader, &mut writer, 1024)
+        run(&mut reader, &mut writer, 1024)
     };
     assert_eq!(ended, end);
     is_text(&taken, answers);
