@@ -48,11 +48,11 @@ def tell_times(name, before):
     say(f"-- {name} took {clock:.1f} minutes of the clock and {processor:.1f} of a processor")
 
 
-def shown(words, more=()):
+def shown(words):
     """Runs a part and passes on what it says: its status, and what its last line counts."""
     say(f"== {' '.join(words)}")
     last, before = "", used()
-    with subprocess.Popen(words, stdout=subprocess.PIPE, env={**os.environ, **dict(more)}, **SAID) as ran:
+    with subprocess.Popen(words, stdout=subprocess.PIPE, **SAID) as ran:
         for line in ran.stdout:
             sys.stdout.write(line)
             sys.stdout.flush()
@@ -63,13 +63,11 @@ def shown(words, more=()):
 
 def proved():
     """Runs `rt ci`, and behind it the wrong bodies of all that it proved."""
-    processors = len(os.sched_getaffinity(0))
-    # two jobs of one proof use a seventh more of the processors than two proofs side by side, of which there are enough
-    more = {"RT_JOBS": str(processors)} if processors <= 2 and "RT_JOBS" not in os.environ else {}
-    parts = [shown(["rt", "ci"], more)]
+    parts = [shown(["rt", "ci"])]
     if parts[0][0]:
         say("rt ci failed, so the wrong bodies were not tried")
         return parts
+    processors = len(os.sched_getaffinity(0))
     return [*parts, shown(["python3", "test-edits", "--built", "-j", str(processors)])]
 
 
