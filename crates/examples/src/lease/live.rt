@@ -1,7 +1,7 @@
 //! Leases by the real clock: one is renewed again and again by a thread with a handle, and the other isn't.
 
-use super::{LEASES, end_leases, lease};
-use anyhow::{Result, anyhow};
+use super::{LEASES, end_leases, lease_to_both};
+use anyhow::{Result, bail};
 use dq_core::CallError;
 use dq_shards::{Handle, QueueConfig, SharedDelayQueue};
 use dq_stream::{MillisecondTicks, TickSource};
@@ -28,14 +28,28 @@ where
 {
     let queue = SharedDelayQueue::new(rt.alloc(), QueueConfig::of(4, LEASES))?;
     let start = Instant::now(rt)?;
-    let first = lease(rt, &queue, 7, "ann", TERM)?;
-    lease(rt, &queue, 7, "bob", TERM)?;
+    let first = lease_to_both(rt, &queue, TERM)?;
+    end_beside_renewals(rt, &queue, first, start)
+}
+
+// Renews Ann's lease in a thread of its own while this one ends both.
+fn end_beside_renewals<R>(
+    rt: &R,
+    queue: &SharedDelayQueue<String>,
+    lease: Key,
+    start: Instant,
+) -> Result<()>
+where
+    R: Clock + Print + Threads + Wait + Clone + Drop + Send + 'static,
+{
+    println!(rt; "ann and bob hold leases until {TERM}")?;
     let handle = queue.handle(rt)?;
     let clock = rt.clone()?;
-    println!(rt; "ann and bob hold leases until {TERM}")?;
-    let renewing = thread::spawn(rt, move || renew_often(&clock, start, handle, first));
-    let renewing = renewing.map_err(|_| anyhow!("no thread could be made"))?;
-    let ended = end_all(rt, &queue, first.entry().shard() as usize, start);
+    let renewing = thread::spawn(rt, move || renew_often(&clock, start, handle, lease));
+    let Ok(renewing) = renewing else {
+        bail!("no thread could be made");
+    };
+    let ended = end_all(rt, queue, lease.entry().shard() as usize, start);
     let until = renewing.join(rt)?;
     ended?;
     println!(rt; "ann's last renewal was until {until}")?;
