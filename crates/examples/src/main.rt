@@ -41,14 +41,14 @@ fn walk_all<R>(rt: &R) -> Result<()>
 where
     R: Print + AllocGlobal + RandomSource + Threads + Wait + Clone + Drop + Send + Sync + 'static,
 {
-    rt.println("== wheel")?;
+    println!(rt; "== wheel")?;
     wheel::walk(rt)?;
-    rt.println("== lease")?;
+    println!(rt; "== lease")?;
     lease::walk(rt)?;
-    rt.println("== cache")?;
+    println!(rt; "== cache")?;
     cache::walk::run(rt)?;
-    rt.println("== sessions")?;
+    println!(rt; "== sessions")?;
     sessions::walk::run(rt)?;
-    rt.println("== stream")?;
+    println!(rt; "== stream")?;
     stream::walk(rt)
 }

@@ -7,7 +7,7 @@
 pub mod live;
 
 use anyhow::Result;
-use dq_core::Turn;
+use dq_core::{Expired, Turn};
 use dq_shards::{QueueConfig, SharedDelayQueue};
 use dq_stream::{ExpiredStream, TickSource};
 use dq_ticks::Key;
@@ -17,8 +17,8 @@ use std::random::RandomSource;
 use std::sync::Wait;
 use std::sync::atomic::AtomicU64;
 use std::sync::atomic::Ordering::SeqCst;
-use std::thread;
 use std::thread::Threads;
+use std::{io, thread};
 
 // How many jobs a shard may have at once. All memory but that of names is taken when the queue is made.
 const ROOM: usize = 64;
@@ -55,11 +55,11 @@ where
     R: AllocGlobal + Wait,
 {
     let [mail, backup, report] = until;
-    let mail = put_off(rt, jobs, "the mail", mail)?;
+    let first = put_off(rt, jobs, "the mail", mail)?;
     put_off(rt, jobs, "the backup", backup)?;
     put_off(rt, jobs, "the report", report)?;
     let mut handle = jobs.handle(rt)?; // its calls take no lock: any thread may extend while others poll
-    handle.extend(&mail, once_more)?;
+    handle.extend(&first, once_more)?;
     let _cancels = handle.give_back();
     Ok(())
 }
@@ -83,6 +83,10 @@ where
     let (tried, rung) = thread::join(rt, || try_due(rt, jobs, source), || ring(rt, jobs, &time));
     tried?;
     rung?;
+    tell_total(rt, jobs)
+}
+
+fn tell_total<R: Print + Wait>(rt: &R, jobs: &Jobs) -> Result<()> {
     let totals = jobs.audit(rt)?;
     println!(rt; "{} jobs were tried again", totals.expired)?;
     Ok(())
@@ -106,13 +110,16 @@ where
     S: TickSource,
 {
     for _ in rt.forever() {
-        let Some(job) = block_on(rt, due.next())? else {
-            return Ok(());
-        };
-        let job = job?;
-        println!(rt; "{}: {} is tried again", job.deadline, job.value)?;
+        match block_on(rt, due.next())? {
+            Some(job) => tell_tried(rt, job?)?,
+            None => return Ok(()),
+        }
     }
     unreachable!()
+}
+
+fn tell_tried<R: Print>(rt: &R, job: Expired<String>) -> io::Result<()> {
+    println!(rt; "{}: {} is tried again", job.deadline, job.value)
 }
 
 // Tells the shard the time, second by second: a stream that waits there is woken when its time has come.

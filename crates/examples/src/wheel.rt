@@ -20,18 +20,17 @@ const WAKES: usize = 6 * DUE.len();
 /// Inserts the entries, and prints where each stands at each wake, until all are out.
 pub fn walk<R: Print + AllocGlobal>(rt: &R) -> Result<()> {
     let mut queue = Letters::with_capacity(rt.alloc(), DUE.len())?;
-    let entries = insert_all(rt, &mut queue)?;
-    poll_all(rt, &mut queue, entries.as_slice())
+    walk_through(rt, &mut queue)
 }
 
-// Inserts the entries, and answers by which id each is found.
-fn insert_all(rt: &impl AllocGlobal, queue: &mut Letters) -> Result<Vec<(char, EntryId)>> {
+// The walk of a queue that has no entry yet.
+fn walk_through<R: Print + AllocGlobal>(rt: &R, queue: &mut Letters) -> Result<()> {
     let mut entries = Vec::new(rt.alloc());
     for (letter, when) in DUE {
         let key = queue.insert_or_drop(letter, when)?;
         entries.push((letter, key.entry()))?;
     }
-    Ok(entries)
+    poll_all(rt, queue, entries.as_slice())
 }
 
 // Polls at each wake, and prints where each entry stands before, until all are out.

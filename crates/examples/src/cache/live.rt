@@ -17,21 +17,20 @@ pub fn run<R>(rt: &R) -> Result<()>
 where
     R: Clock + Input + Print + AllocGlobal,
 {
-    let mut ticks = MillisecondTicks::new(rt)?;
     let mut addresses = Addresses::new(rt.alloc(), TIME_TO_LIVE)?;
-    look_up_lines(rt, &mut ticks, &mut addresses)?;
-    forget_all(rt, &mut ticks, &mut addresses)
+    look_up_lines(rt, &mut addresses)
 }
 
-// Looks up the host that each line of standard input names.
-fn look_up_lines<R>(rt: &R, ticks: &mut impl TickSource, addresses: &mut Addresses) -> Result<()>
+// Looks up the host of each line until the input ends, and then forgets all.
+fn look_up_lines<R>(rt: &R, addresses: &mut Addresses) -> Result<()>
 where
-    R: Input + Print + AllocGlobal,
+    R: Clock + Input + Print + AllocGlobal,
 {
+    let mut ticks = MillisecondTicks::new(rt)?;
     for line in rt.lines(rt.alloc()) {
         tell_address(rt, addresses, line?.trim(), ticks.now())?;
     }
-    Ok(())
+    forget_all(rt, &mut ticks, addresses)
 }
 
 // Sleeps until the next address is to be forgotten, and forgets it, until none is left.

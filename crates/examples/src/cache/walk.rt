@@ -10,10 +10,10 @@ const TIME_TO_LIVE: u64 = 30_000;
 /// Looks three hosts up, of which two are remembered at once.
 pub fn run<R: Print + AllocGlobal>(rt: &R) -> Result<()> {
     let mut addresses = Addresses::new(rt.alloc(), TIME_TO_LIVE)?;
-    look_up_all(rt, &mut addresses)?;
-    forget_next(rt, &mut addresses)
+    look_up_all(rt, &mut addresses)
 }
 
+// Looks each host up at its tick, and then forgets what is due next.
 fn look_up_all<R: Print + AllocGlobal>(rt: &R, addresses: &mut Addresses) -> Result<()> {
     for (now, host) in [
         (0, "db"),
@@ -27,10 +27,6 @@ fn look_up_all<R: Print + AllocGlobal>(rt: &R, addresses: &mut Addresses) -> Res
     ] {
         tell_address(rt, addresses, host, now)?;
     }
-    Ok(())
-}
-
-fn forget_next<R: Print>(rt: &R, addresses: &mut Addresses) -> Result<()> {
     match addresses.next_forgotten() {
         Some(next) => forget(rt, addresses, next),
         None => Ok(()),

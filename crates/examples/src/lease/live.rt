@@ -9,7 +9,7 @@ use dq_ticks::Key;
 use std::rt::Clock;
 use std::sync::Wait;
 use std::thread;
-use std::thread::Threads;
+use std::thread::{JoinHandle, Threads};
 use std::time::{Duration, Instant};
 
 // For how many ticks of a millisecond a lease is given, and renewed.
@@ -32,28 +32,42 @@ where
     end_beside_renewals(rt, &queue, first, start)
 }
 
-// Renews Ann's lease in a thread of its own while this one ends both.
+// Ends both leases, while another thread renews Ann's.
 fn end_beside_renewals<R>(
     rt: &R,
     queue: &SharedDelayQueue<String>,
-    lease: Key,
+    first: Key,
     start: Instant,
 ) -> Result<()>
 where
     R: Clock + Print + Threads + Wait + Clone + Drop + Send + 'static,
 {
     println!(rt; "ann and bob hold leases until {TERM}")?;
-    let handle = queue.handle(rt)?;
-    let clock = rt.clone()?;
-    let renewing = thread::spawn(rt, move || renew_often(&clock, start, handle, lease));
-    let Ok(renewing) = renewing else {
-        bail!("no thread could be made");
-    };
-    let ended = end_all(rt, queue, lease.entry().shard() as usize, start);
+    let renewing = spawn_renewals(rt, queue, first, start)?;
+    let ended = end_all(rt, queue, first.entry().shard() as usize, start);
     let until = renewing.join(rt)?;
     ended?;
     println!(rt; "ann's last renewal was until {until}")?;
     Ok(())
+}
+
+// Renews a lease in a thread of its own.
+fn spawn_renewals<R>(
+    rt: &R,
+    queue: &SharedDelayQueue<String>,
+    lease: Key,
+    start: Instant,
+) -> Result<JoinHandle<Result<u64, CallError>>>
+where
+    R: Clock + Threads + Wait + Clone + Drop + Send + 'static,
+{
+    let handle = queue.handle(rt)?;
+    let clock = rt.clone()?;
+    let renewing = thread::spawn(rt, move || renew_often(&clock, start, handle, lease));
+    match renewing {
+        Ok(renewing) => Ok(renewing),
+        Err(_) => bail!("no thread could be made"),
+    }
 }
 
 // Renews a lease, each time for a term from then on, and answers until when it holds in the end. No call takes a
