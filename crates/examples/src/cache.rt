@@ -6,3 +6,27 @@
 mod addresses;
 pub mod live;
 pub mod walk;
+
+use addresses::Addresses;
+use anyhow::Result;
+
+// Prints the address of a host, and how many were remembered and asked for so far.
+fn tell_address<R>(rt: &R, addresses: &mut Addresses, host: &str, now: u64) -> Result<()>
+where
+    R: Print + AllocGlobal,
+{
+    let address = addresses.address(rt.alloc(), host, now)?;
+    let (hits, misses) = (addresses.hits(), addresses.misses());
+    println!(rt; "{now}: {host} is {address} (hits {hits}, misses {misses})")?;
+    Ok(())
+}
+
+// Forgets what is due by now, and prints how many are left.
+fn forget<R: Print>(rt: &R, addresses: &mut Addresses, now: u64) -> Result<()> {
+    let forgotten = addresses.forget(now)?;
+    println!(rt;
+        "{now}: {forgotten} forgotten, {} remembered",
+        addresses.len()
+    )?;
+    Ok(())
+}

@@ -6,7 +6,7 @@
 
 pub mod live;
 
-use anyhow::{Result, anyhow};
+use anyhow::{Result, bail};
 use dq_core::Turn;
 use dq_shards::{Handle, QueueConfig, SharedDelayQueue};
 use dq_ticks::Key;
@@ -29,6 +29,17 @@ fn lease<R: AllocGlobal + Wait>(
     Ok(queue.insert_or_drop(rt, route, holder, until)?)
 }
 
+// Gives Ann and Bob leases of one shard, and answers hers.
+fn lease_to_both<R: AllocGlobal + Wait>(
+    rt: &R,
+    queue: &SharedDelayQueue<String>,
+    until: u64,
+) -> Result<Key> {
+    let first = lease(rt, queue, 7, "ann", until)?;
+    lease(rt, queue, 7, "bob", until)?;
+    Ok(first)
+}
+
 // Renews a lease in a thread of its own: one load, one atomic step, no lock. Answers until when it now holds.
 fn renew<R>(rt: &R, handle: Handle, lease: Key, until: u64) -> Result<u64>
 where
@@ -40,7 +51,9 @@ where
         let _cancels = handle.give_back();
         renewed
     });
-    let renewing = renewing.map_err(|_| anyhow!("no thread could be made"))?;
+    let Ok(renewing) = renewing else {
+        bail!("no thread could be made");
+    };
     Ok(renewing.join(rt)?)
 }
 
@@ -67,12 +80,19 @@ where
     R: Print + AllocGlobal + Threads + Wait + Clone + Drop + Send + 'static,
 {
     let queue = SharedDelayQueue::new(rt.alloc(), QueueConfig::of(4, LEASES))?;
-    let first = lease(rt, &queue, 7, "ann", 30_000)?;
-    lease(rt, &queue, 7, "bob", 30_000)?;
+    let first = lease_to_both(rt, &queue, 30_000)?;
+    renew_and_end(rt, &queue, first)
+}
+
+// Renews Ann's lease beyond the end of Bob's, and ends both.
+fn renew_and_end<R>(rt: &R, queue: &SharedDelayQueue<String>, first: Key) -> Result<()>
+where
+    R: Print + Threads + Wait + Clone + Drop + Send + 'static,
+{
     let handle = queue.handle(rt)?;
     let until = renew(rt, handle, first, 45_000)?;
     println!(rt; "ann holds her lease until {until}")?;
     let shard = first.entry().shard() as usize;
-    end_leases(rt, &queue, shard, 30_000)?;
-    end_leases(rt, &queue, shard, 45_000)
+    end_leases(rt, queue, shard, 30_000)?;
+    end_leases(rt, queue, shard, 45_000)
 }

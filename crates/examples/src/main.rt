@@ -19,19 +19,20 @@ use std::sync::Wait;
 use std::thread::Threads;
 
 fn main(rt: HostRuntime) -> Result<ExitCode> {
-    match asked(&rt)? {
-        Ok(Choice::AllWalks) => walk_all(&rt)?,
-        Ok(Choice::Wheel) => wheel::walk(&rt)?,
-        Ok(Choice::Lease(Mode::Walk)) => lease::walk(&rt)?,
-        Ok(Choice::Lease(Mode::Live)) => lease::live::run(&rt)?,
-        Ok(Choice::Cache(Mode::Walk)) => cache::walk::run(&rt)?,
-        Ok(Choice::Cache(Mode::Live)) => cache::live::run(&rt)?,
-        Ok(Choice::Sessions(Mode::Walk)) => sessions::walk::run(&rt)?,
-        Ok(Choice::Sessions(Mode::Live)) => sessions::live::run(&rt)?,
-        Ok(Choice::Stream(Mode::Walk)) => stream::walk(&rt)?,
-        Ok(Choice::Stream(Mode::Live)) => stream::live::run(&rt)?,
+    let played = match asked(&rt)? {
+        Ok(Choice::AllWalks) => walk_all(&rt),
+        Ok(Choice::Wheel) => wheel::walk(&rt),
+        Ok(Choice::Lease(Mode::Walk)) => lease::walk(&rt),
+        Ok(Choice::Lease(Mode::Live)) => lease::live::run(&rt),
+        Ok(Choice::Cache(Mode::Walk)) => cache::walk::run(&rt),
+        Ok(Choice::Cache(Mode::Live)) => cache::live::run(&rt),
+        Ok(Choice::Sessions(Mode::Walk)) => sessions::walk::run(&rt),
+        Ok(Choice::Sessions(Mode::Live)) => sessions::live::run(&rt),
+        Ok(Choice::Stream(Mode::Walk)) => stream::walk(&rt),
+        Ok(Choice::Stream(Mode::Live)) => stream::live::run(&rt),
         Err(status) => return Ok(status),
-    }
+    };
+    played?;
     Ok(ExitCode::SUCCESS)
 }
 

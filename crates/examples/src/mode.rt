@@ -59,19 +59,25 @@ fn asked_by<R>(rt: &R, words: &[String]) -> io::Result<Result<Choice, ExitCode>>
 where
     R: Print + Eprint,
 {
-    let found = match words {
-        [] => Some(Choice::AllWalks),
+    match words {
         [word] if word.as_str() == "--help" => {
             println!(rt; "{USAGE}")?;
-            return Ok(Err(ExitCode::SUCCESS));
+            Ok(Err(ExitCode::SUCCESS))
         }
+        words => match choice_of(words) {
+            Some(choice) => Ok(Ok(choice)),
+            None => Ok(Err(refuse(rt)?)),
+        },
+    }
+}
+
+// The example that these words name, or all where there are none.
+fn choice_of(words: &[String]) -> Option<Choice> {
+    match words {
+        [] => Some(Choice::AllWalks),
         [name] => named(name.as_str(), Mode::Walk),
         [name, word] if word.as_str() == "live" => named(name.as_str(), Mode::Live),
         _ => None,
-    };
-    match found {
-        Some(asked) => Ok(Ok(asked)),
-        None => Ok(Err(refuse(rt)?)),
     }
 }
 

@@ -7,7 +7,7 @@
 pub mod live;
 
 use anyhow::Result;
-use dq_core::Turn;
+use dq_core::{Expired, Turn};
 use dq_shards::{QueueConfig, SharedDelayQueue};
 use dq_stream::{ExpiredStream, TickSource};
 use dq_ticks::Key;
@@ -17,8 +17,8 @@ use std::random::RandomSource;
 use std::sync::Wait;
 use std::sync::atomic::AtomicU64;
 use std::sync::atomic::Ordering::SeqCst;
-use std::thread;
 use std::thread::Threads;
+use std::{io, thread};
 
 // How many jobs a shard may have at once. All memory but that of names is taken when the queue is made.
 const ROOM: usize = 64;
@@ -45,22 +45,22 @@ where
     R: Print + AllocGlobal + RandomSource + Threads + Wait + Sync,
 {
     let jobs = Jobs::new(rt.alloc(), QueueConfig::of(4, ROOM))?;
-    let mail = put_off(rt, &jobs, "the mail", 5_000)?;
-    put_off(rt, &jobs, "the backup", 20_000)?;
-    put_off(rt, &jobs, "the report", 30_000)?;
+    put_all_off(rt, &jobs, [5_000, 20_000, 30_000], 45_000)?;
+    try_all(rt, &jobs)
+}
+
+// Puts three jobs off until these ticks, and the first of them once more.
+fn put_all_off<R>(rt: &R, jobs: &Jobs, until: [u64; 3], once_more: u64) -> Result<()>
+where
+    R: AllocGlobal + Wait,
+{
+    let [mail, backup, report] = until;
+    let first = put_off(rt, jobs, "the mail", mail)?;
+    put_off(rt, jobs, "the backup", backup)?;
+    put_off(rt, jobs, "the report", report)?;
     let mut handle = jobs.handle(rt)?; // its calls take no lock: any thread may extend while others poll
-    handle.extend(&mail, 45_000)?;
-    if let Turn::Waiting { next } = jobs.poll(rt, SHARD, 5_000)? {
-        println!(rt; "5000: nothing is due before {next}")?;
-    }
-    let time = AtomicU64::new(5_000);
-    let source = TickOf(&time);
-    let (tried, rung) = thread::join(rt, || try_due(rt, &jobs, source), || ring(rt, &jobs, &time));
-    tried?;
-    rung?;
+    handle.extend(&first, once_more)?;
     let _cancels = handle.give_back();
-    let totals = jobs.audit(rt)?;
-    println!(rt; "{} jobs were tried again", totals.expired)?;
     Ok(())
 }
 
@@ -70,22 +70,56 @@ fn put_off<R: AllocGlobal + Wait>(rt: &R, jobs: &Jobs, name: &str, until: u64) -
     Ok(jobs.insert_or_drop(rt, SHARD as u64, name, until)?)
 }
 
+// Tries each job when it is due, while another thread tells the time, and prints how many there were.
+fn try_all<R>(rt: &R, jobs: &Jobs) -> Result<()>
+where
+    R: Print + AllocGlobal + RandomSource + Threads + Wait + Sync,
+{
+    if let Turn::Waiting { next } = jobs.poll(rt, SHARD, 5_000)? {
+        println!(rt; "5000: nothing is due before {next}")?;
+    }
+    let time = AtomicU64::new(5_000);
+    let source = TickOf(&time);
+    let (tried, rung) = thread::join(rt, || try_due(rt, jobs, source), || ring(rt, jobs, &time));
+    tried?;
+    rung?;
+    tell_total(rt, jobs)
+}
+
+fn tell_total<R: Print + Wait>(rt: &R, jobs: &Jobs) -> Result<()> {
+    let totals = jobs.audit(rt)?;
+    println!(rt; "{} jobs were tried again", totals.expired)?;
+    Ok(())
+}
+
 // Tries each job again once it is due, until none is left.
 fn try_due<R, S>(rt: &R, jobs: &Jobs, ticks: S) -> Result<()>
 where
     R: Print + AllocGlobal + RandomSource + Wait,
     S: TickSource,
 {
-    let stream = ExpiredStream::new(rt, jobs, SHARD, ticks);
-    let mut due = stream.map_err(|refused| refused.0)?;
+    match ExpiredStream::new(rt, jobs, SHARD, ticks) {
+        Ok(mut due) => try_each(rt, &mut due),
+        Err((error, _)) => Err(error.into()),
+    }
+}
+
+fn try_each<R, S>(rt: &R, due: &mut ExpiredStream<'_, String, S, R>) -> Result<()>
+where
+    R: Print + AllocGlobal + RandomSource + Wait,
+    S: TickSource,
+{
     for _ in rt.forever() {
-        let Some(job) = block_on(rt, due.next())? else {
-            return Ok(());
-        };
-        let job = job?;
-        println!(rt; "{}: {} is tried again", job.deadline, job.value)?;
+        match block_on(rt, due.next())? {
+            Some(job) => tell_tried(rt, job?)?,
+            None => return Ok(()),
+        }
     }
     unreachable!()
+}
+
+fn tell_tried<R: Print>(rt: &R, job: Expired<String>) -> io::Result<()> {
+    println!(rt; "{}: {} is tried again", job.deadline, job.value)
 }
 
 // Tells the shard the time, second by second: a stream that waits there is woken when its time has come.

@@ -20,14 +20,24 @@ const WAKES: usize = 6 * DUE.len();
 /// Inserts the entries, and prints where each stands at each wake, until all are out.
 pub fn walk<R: Print + AllocGlobal>(rt: &R) -> Result<()> {
     let mut queue = Letters::with_capacity(rt.alloc(), DUE.len())?;
+    walk_through(rt, &mut queue)
+}
+
+// The walk of a queue that has no entry yet.
+fn walk_through<R: Print + AllocGlobal>(rt: &R, queue: &mut Letters) -> Result<()> {
     let mut entries = Vec::new(rt.alloc());
     for (letter, when) in DUE {
         let key = queue.insert_or_drop(letter, when)?;
         entries.push((letter, key.entry()))?;
     }
+    poll_all(rt, queue, entries.as_slice())
+}
+
+// Polls at each wake, and prints where each entry stands before, until all are out.
+fn poll_all<R: Print>(rt: &R, queue: &mut Letters, entries: &[(char, EntryId)]) -> Result<()> {
     let mut now = 0;
     for _ in 0..WAKES {
-        tell_places(rt, now, &queue, entries.as_slice())?;
+        tell_places(rt, now, queue, entries)?;
         let Some(next) = queue.next_wake() else {
             return Ok(());
         };

@@ -1,6 +1,7 @@
 //! Hosts that are looked up by the real clock.
 
 use super::addresses::Addresses;
+use super::{forget, tell_address};
 use anyhow::Result;
 use dq_stream::{MillisecondTicks, TickSource};
 use std::rt::Clock;
@@ -16,16 +17,20 @@ pub fn run<R>(rt: &R) -> Result<()>
 where
     R: Clock + Input + Print + AllocGlobal,
 {
-    let mut ticks = MillisecondTicks::new(rt)?;
     let mut addresses = Addresses::new(rt.alloc(), TIME_TO_LIVE)?;
+    look_up_lines(rt, &mut addresses)
+}
+
+// Looks up the host of each line until the input ends, and then forgets all.
+fn look_up_lines<R>(rt: &R, addresses: &mut Addresses) -> Result<()>
+where
+    R: Clock + Input + Print + AllocGlobal,
+{
+    let mut ticks = MillisecondTicks::new(rt)?;
     for line in rt.lines(rt.alloc()) {
-        let line = line?;
-        let (host, now) = (line.trim(), ticks.now());
-        let address = addresses.address(rt.alloc(), host, now)?;
-        let (hits, misses) = (addresses.hits(), addresses.misses());
-        println!(rt; "{now}: {host} is {address} (hits {hits}, misses {misses})")?;
+        tell_address(rt, addresses, line?.trim(), ticks.now())?;
     }
-    forget_all(rt, &mut ticks, &mut addresses)
+    forget_all(rt, &mut ticks, addresses)
 }
 
 // Sleeps until the next address is to be forgotten, and forgets it, until none is left.
@@ -41,12 +46,7 @@ where
         };
         let now = ticks.now();
         thread::sleep(rt, Duration::from_millis(next.saturating_sub(now)));
-        let now = ticks.now();
-        let forgotten = addresses.forget(now)?;
-        println!(rt;
-            "{now}: {forgotten} forgotten, {} remembered",
-            addresses.len()
-        )?;
+        forget(rt, addresses, ticks.now())?;
     }
     Ok(())
 }

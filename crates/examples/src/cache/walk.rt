@@ -1,6 +1,7 @@
 //! Hosts that are looked up at ticks that are handed in.
 
 use super::addresses::Addresses;
+use super::{forget, tell_address};
 use anyhow::Result;
 
 // How long an address is remembered, in ticks of one millisecond.
@@ -9,6 +10,11 @@ const TIME_TO_LIVE: u64 = 30_000;
 /// Looks three hosts up, of which two are remembered at once.
 pub fn run<R: Print + AllocGlobal>(rt: &R) -> Result<()> {
     let mut addresses = Addresses::new(rt.alloc(), TIME_TO_LIVE)?;
+    look_up_all(rt, &mut addresses)
+}
+
+// Looks each host up at its tick, and then forgets what is due next.
+fn look_up_all<R: Print + AllocGlobal>(rt: &R, addresses: &mut Addresses) -> Result<()> {
     for (now, host) in [
         (0, "db"),
         (1_000, "web"),
@@ -19,16 +25,10 @@ pub fn run<R: Print + AllocGlobal>(rt: &R) -> Result<()> {
         (31_000, "mail"),
         (40_000, "mail"),
     ] {
-        let address = addresses.address(rt.alloc(), host, now)?;
-        let (hits, misses) = (addresses.hits(), addresses.misses());
-        println!(rt; "{now}: {host} is {address} (hits {hits}, misses {misses})")?;
+        tell_address(rt, addresses, host, now)?;
     }
-    if let Some(next) = addresses.next_forgotten() {
-        let forgotten = addresses.forget(next)?;
-        println!(rt;
-            "{next}: {forgotten} forgotten, {} remembered",
-            addresses.len()
-        )?;
+    match addresses.next_forgotten() {
+        Some(next) => forget(rt, addresses, next),
+        None => Ok(()),
     }
-    Ok(())
 }

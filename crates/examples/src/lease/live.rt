@@ -1,7 +1,7 @@
 //! Leases by the real clock: one is renewed again and again by a thread with a handle, and the other isn't.
 
-use super::{LEASES, end_leases, lease};
-use anyhow::{Result, anyhow};
+use super::{LEASES, end_leases, lease_to_both};
+use anyhow::{Result, bail};
 use dq_core::CallError;
 use dq_shards::{Handle, QueueConfig, SharedDelayQueue};
 use dq_stream::{MillisecondTicks, TickSource};
@@ -9,7 +9,7 @@ use dq_ticks::Key;
 use std::rt::Clock;
 use std::sync::Wait;
 use std::thread;
-use std::thread::Threads;
+use std::thread::{JoinHandle, Threads};
 use std::time::{Duration, Instant};
 
 // For how many ticks of a millisecond a lease is given, and renewed.
@@ -28,18 +28,46 @@ where
 {
     let queue = SharedDelayQueue::new(rt.alloc(), QueueConfig::of(4, LEASES))?;
     let start = Instant::now(rt)?;
-    let first = lease(rt, &queue, 7, "ann", TERM)?;
-    lease(rt, &queue, 7, "bob", TERM)?;
-    let handle = queue.handle(rt)?;
-    let clock = rt.clone()?;
+    let first = lease_to_both(rt, &queue, TERM)?;
+    end_beside_renewals(rt, &queue, first, start)
+}
+
+// Ends both leases, while another thread renews Ann's.
+fn end_beside_renewals<R>(
+    rt: &R,
+    queue: &SharedDelayQueue<String>,
+    first: Key,
+    start: Instant,
+) -> Result<()>
+where
+    R: Clock + Print + Threads + Wait + Clone + Drop + Send + 'static,
+{
     println!(rt; "ann and bob hold leases until {TERM}")?;
-    let renewing = thread::spawn(rt, move || renew_often(&clock, start, handle, first));
-    let renewing = renewing.map_err(|_| anyhow!("no thread could be made"))?;
-    let ended = end_all(rt, &queue, first.entry().shard() as usize, start);
+    let renewing = spawn_renewals(rt, queue, first, start)?;
+    let ended = end_all(rt, queue, first.entry().shard() as usize, start);
     let until = renewing.join(rt)?;
     ended?;
     println!(rt; "ann's last renewal was until {until}")?;
     Ok(())
+}
+
+// Renews a lease in a thread of its own.
+fn spawn_renewals<R>(
+    rt: &R,
+    queue: &SharedDelayQueue<String>,
+    lease: Key,
+    start: Instant,
+) -> Result<JoinHandle<Result<u64, CallError>>>
+where
+    R: Clock + Threads + Wait + Clone + Drop + Send + 'static,
+{
+    let handle = queue.handle(rt)?;
+    let clock = rt.clone()?;
+    let renewing = thread::spawn(rt, move || renew_often(&clock, start, handle, lease));
+    match renewing {
+        Ok(renewing) => Ok(renewing),
+        Err(_) => bail!("no thread could be made"),
+    }
 }
 
 // Renews a lease, each time for a term from then on, and answers until when it holds in the end. No call takes a

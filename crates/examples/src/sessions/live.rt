@@ -46,12 +46,19 @@ where
         ended: AtomicBool::new(false),
         rest: Parker::new(),
     };
-    let handle = server.sessions.handle(rt)?;
-    let shared = &server;
-    let (polled, visited) = beside_polls(rt, shared, move || visit_all(rt, shared, handle));
-    visited?;
-    polled?;
+    serve(rt, &server)?;
     tell_audit(rt, server.sessions)
+}
+
+// Visits in this thread and polls in another, until the input ends.
+fn serve<R>(rt: &R, server: &Server) -> Result<()>
+where
+    R: Clock + Input + Print + AllocGlobal + Threads + Wait + Sync,
+{
+    let handle = server.sessions.handle(rt)?;
+    let (polled, visited) = beside_polls(rt, server, move || visit_all(rt, server, handle));
+    visited?;
+    polled
 }
 
 // Polls in a thread of its own while this thread visits.
@@ -108,6 +115,13 @@ where
             return Ok(());
         }
     }
+    log_in(rt, server, keys, name, now)
+}
+
+fn log_in<R>(rt: &R, server: &Server, keys: &mut Keys, name: &str, now: u64) -> Result<()>
+where
+    R: Print + AllocGlobal + Wait,
+{
     let key = server.sessions.login(rt, 0, name, now)?;
     keys.insert(String::from_str(rt.alloc(), name)?, key)?;
     let _line = server.printing.lock(rt);

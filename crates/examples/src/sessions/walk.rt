@@ -19,17 +19,26 @@ where
     R: Print + AllocGlobal + Threads + Wait + Sync,
 {
     let sessions = IdleSessions::new(rt.alloc(), QueueConfig::of(1, SESSIONS), IDLE)?;
+    come_and_go(rt, &sessions)?;
+    tell_audit(rt, sessions)
+}
+
+// Logs three in, of whom one stays and one leaves, and a fourth when they have timed out.
+fn come_and_go<R>(rt: &R, sessions: &IdleSessions) -> Result<()>
+where
+    R: Print + Threads + Wait + Sync,
+{
     let ann = sessions.login(rt, 0, "ann", 0)?;
     sessions.login(rt, 0, "bob", 0)?;
     let cy = sessions.login(rt, 0, "cy", 10_000)?;
     let handle = sessions.handle(rt)?;
-    let until = visit(rt, &sessions, handle, ann, cy)?;
+    let until = visit(rt, sessions, handle, ann, cy)?;
     println!(rt; "ann may be idle until {until}")?;
     for tick in [30_000, 40_000, 55_000] {
-        time_out(rt, &sessions, tick)?;
+        time_out(rt, sessions, tick)?;
     }
     sessions.login(rt, 0, "dan", 55_000)?;
-    tell_audit(rt, sessions)
+    Ok(())
 }
 
 // In a thread of its own one is active at two ticks and another logs out, while this thread polls.

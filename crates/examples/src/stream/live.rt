@@ -1,6 +1,6 @@
 //! Jobs by the real clock: a stream gives each when it is due, while a thread rings every few milliseconds.
 
-use super::{Jobs, ROOM, SHARD, put_off, try_due};
+use super::{Jobs, ROOM, SHARD, put_all_off, try_due};
 use anyhow::Result;
 use dq_shards::QueueConfig;
 use dq_stream::{MillisecondTicks, TickSource};
@@ -23,21 +23,24 @@ where
 {
     let jobs = Jobs::new(rt.alloc(), QueueConfig::of(1, ROOM))?;
     let start = Instant::now(rt)?;
-    let mail = put_off(rt, &jobs, "the mail", 1_000)?;
-    put_off(rt, &jobs, "the backup", 2_000)?;
-    put_off(rt, &jobs, "the report", 3_000)?;
-    let mut handle = jobs.handle(rt)?;
-    handle.extend(&mail, 4_000)?;
-    let _cancels = handle.give_back();
+    put_all_off(rt, &jobs, [1_000, 2_000, 3_000], 4_000)?;
+    try_all(rt, &jobs, start)
+}
+
+// Tries each job when it is due, while another thread rings.
+fn try_all<R>(rt: &R, jobs: &Jobs, start: Instant) -> Result<()>
+where
+    R: Clock + Print + AllocGlobal + RandomSource + Threads + Wait + Sync,
+{
     let is_done = AtomicBool::new(false);
     let (tried, rung) = thread::join(
         rt,
         || {
-            let tried = try_due(rt, &jobs, MillisecondTicks::since(rt, start));
+            let tried = try_due(rt, jobs, MillisecondTicks::since(rt, start));
             is_done.store(true, SeqCst);
             tried
         },
-        || ring_often(rt, &jobs, start, &is_done),
+        || ring_often(rt, jobs, start, &is_done),
     );
     tried?;
     rung
