@@ -119,12 +119,15 @@ fn walk<A: Allocator + Copy>(rt: &impl Abort, heap: A) -> Option<Refused> {
     }
 }
 
+// A copy of what was made, room in the map, a copy of the key; and a copy of what is seen.
+fn all_are_refused(rt: &impl Abort, places: &[Refused]) {
+    same(rt, "made", times(places, Refused::Made) >= 3, true);
+    same(rt, "seen", times(places, Refused::Seen), 1);
+}
+
 #[test]
 fn each_allocation_of_a_memo_is_refused(rt: HostRuntime) -> Result<(), Fail> {
     let places = each_refused(&rt, rt.alloc(), |heap| walk(&rt, heap))?;
-
-    // A copy of what was made, room in the map, a copy of the key; and a copy of what is seen.
-    assert!(rt; times(&places, Refused::Made) >= 3);
-    assert_eq!(rt; times(&places, Refused::Seen), 1);
+    all_are_refused(&rt, &places);
     Ok(())
 }

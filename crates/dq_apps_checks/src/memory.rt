@@ -118,13 +118,10 @@ fn puts_both<A: Allocator + Copy>(
     refused
 }
 
-// Two keys are put. What is owned here is lent to the puts, so that they have little to drop, and little to prove.
-fn walk<A: Allocator + Copy>(rt: &impl Abort, heap: A) -> Option<Refused> {
-    let Ok(a) = key(heap, "a") else {
-        return Some(Refused::Keys);
-    };
+// Two keys are put in a fresh cache, which is lent to the puts, so that they have little to drop, and little to prove.
+fn puts_in_fresh<A: Allocator + Copy>(rt: &impl Abort, heap: A, a: &String<A>) -> Option<Refused> {
     match made(heap, 2) {
-        Ok(mut cache) => puts_both(rt, heap, &mut cache, &a),
+        Ok(mut cache) => puts_both(rt, heap, &mut cache, a),
         Err(error) => {
             same(rt, "new", error, CoreError::NoMemory);
             Some(Refused::New)
@@ -132,14 +129,24 @@ fn walk<A: Allocator + Copy>(rt: &impl Abort, heap: A) -> Option<Refused> {
     }
 }
 
+fn walk<A: Allocator + Copy>(rt: &impl Abort, heap: A) -> Option<Refused> {
+    match key(heap, "a") {
+        Ok(a) => puts_in_fresh(rt, heap, &a),
+        Err(_no_memory) => Some(Refused::Keys),
+    }
+}
+
+// The making takes memory for words, wheel and slots; the first put room in the map and a copy of its key.
+fn all_are_refused(rt: &impl Abort, places: &[Refused]) {
+    same(rt, "new", times(places, Refused::New) >= 3, true);
+    same(rt, "first", times(places, Refused::First) >= 2, true);
+    same(rt, "second", times(places, Refused::Second), 1);
+}
+
 #[test]
 fn cache_put_refused(rt: HostRuntime) -> Result<(), Fail> {
     let places = each_refused(&rt, rt.alloc(), |heap| walk(&rt, heap))?;
-
-    // The making takes memory for words, wheel and slots; the first put room in the map and a copy of its key.
-    assert!(rt; times(&places, Refused::New) >= 3);
-    assert!(rt; times(&places, Refused::First) >= 2);
-    assert_eq!(rt; times(&places, Refused::Second), 1);
+    all_are_refused(&rt, &places);
     Ok(())
 }
 
@@ -210,12 +217,20 @@ fn fill<A: Allocator + Copy>(rt: &impl Abort, heap: A) -> Option<Filling> {
 }
 
 // A put copies its key, and at times the map grows: each of both is refused at a first key and at a later one.
+fn growths_are_refused(rt: &impl Abort, places: &[Filling]) {
+    let mut later = false;
+    for turn in 0..NAMES.len() {
+        let refused = times(places, Filling::Put(turn));
+        same(rt, turn, refused >= 1, true);
+        later |= turn > 0 && refused >= 2;
+    }
+    let first = times(places, Filling::Put(0)) >= 2;
+    same(rt, "growths", (first, later), (true, true));
+}
+
 #[test]
 fn each_growth_of_a_put_is_refused(rt: HostRuntime) -> Result<(), Fail> {
     let places = each_refused(&rt, rt.alloc(), |heap| fill(&rt, heap))?;
-    let puts = |turn: usize| times(&places, Filling::Put(turn));
-    assert!(rt; (0..NAMES.len()).all(|turn| puts(turn) >= 1));
-    assert!(rt; puts(0) >= 2);
-    assert!(rt; (1..NAMES.len()).any(|turn| puts(turn) >= 2));
+    growths_are_refused(&rt, &places);
     Ok(())
 }

@@ -66,14 +66,21 @@ fn refreshes<A: Allocator + Clone>(rt: &impl Abort, cache: &mut Heaped<A>) -> Op
 }
 
 // A cache with a slot at its last stamp is refreshed.
-fn walk<A: Allocator + Clone>(rt: &impl Abort, heap: A) -> Option<Refused> {
-    let Ok(mut cache) = made(heap) else {
-        return Some(Refused::Before);
-    };
-    if are_put(&mut cache) {
-        refreshes(rt, &mut cache)
+fn fills_and_refreshes<A: Allocator + Clone>(
+    rt: &impl Abort,
+    cache: &mut Heaped<A>,
+) -> Option<Refused> {
+    if are_put(cache) {
+        refreshes(rt, cache)
     } else {
         Some(Refused::Before)
+    }
+}
+
+fn walk<A: Allocator + Clone>(rt: &impl Abort, heap: A) -> Option<Refused> {
+    match made(heap) {
+        Ok(mut cache) => fills_and_refreshes(rt, &mut cache),
+        Err(_no_memory) => Some(Refused::Before),
     }
 }
 

@@ -36,11 +36,12 @@ pub fn ends(rt: &(impl Abort + Wait), sessions: &IdleSessions, now: u64, name: &
 
 /// A poll gives no session, and names the tick to wait for, where there is one.
 pub fn waits(rt: &(impl Abort + Wait), sessions: &IdleSessions, now: u64, answer: Option<u64>) {
-    match poll(rt, sessions, now) {
-        Ok(Turn::Waiting { next }) => same(rt, now, Some(next), answer),
-        Ok(Turn::Idle) => same(rt, now, None, answer),
-        _ => assert!(rt; false, "a session came out at {now}"),
-    }
+    let told = match poll(rt, sessions, now) {
+        Ok(Turn::Waiting { next }) => Ok(Some(next)),
+        Ok(Turn::Idle) => Ok(None),
+        _ => Err("a session came out"),
+    };
+    same(rt, now, told, Ok(answer));
 }
 
 fn login(rt: &impl Wait, sessions: &IdleSessions, name: &str, now: u64) -> Result<Key, QueueError> {
@@ -134,6 +135,29 @@ fn idles(
     }
 }
 
+fn idles_by_handle(
+    rt: &(impl Abort + Wait),
+    sessions: &IdleSessions,
+    row: usize,
+    now: u64,
+    is_tick: bool,
+) -> Result<(), QueueError> {
+    let mut handle = sessions.handle(rt)?;
+    idles(rt, sessions, &mut handle, row, now, is_tick);
+    Ok(())
+}
+
+// One row, of sessions that may be idle for so long.
+fn idles_for<R: Abort + Wait + AllocGlobal>(
+    rt: &R,
+    row: usize,
+    (idle, now, is_tick): (u64, u64, bool),
+) -> Result<(), QueueError> {
+    let sessions = sessions(rt.alloc(), idle)?;
+    same(rt, row, sessions.idle(), idle);
+    idles_by_handle(rt, &sessions, row, now, is_tick)
+}
+
 // A session's deadline may be the last tick and no later one; a sum that has no `u64` is later too.
 #[test]
 fn idle_beyond_the_last_tick(rt: HostRuntime) -> Result<(), Fail> {
@@ -152,11 +176,8 @@ fn idle_beyond_the_last_tick(rt: HostRuntime) -> Result<(), Fail> {
         (u64::MAX, 1, false),
         (u64::MAX, u64::MAX, false),
     ];
-    for (row, (idle, now, is_tick)) in rows.iter().enumerate() {
-        let sessions = sessions(rt.alloc(), *idle)?;
-        same(&rt, row, sessions.idle(), *idle);
-        let mut handle = sessions.handle(&rt)?;
-        idles(&rt, &sessions, &mut handle, row, *now, *is_tick);
+    for (row, idling) in rows.iter().enumerate() {
+        idles_for(&rt, row, *idling)?;
     }
     Ok(())
 }

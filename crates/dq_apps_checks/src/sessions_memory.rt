@@ -88,14 +88,14 @@ where
 }
 
 // A session begins, a handle is made, and the session ends.
-fn used<R, A>(rt: &R, sessions: IdleSessions<A>) -> Option<Refused>
+fn used<R, A>(rt: &R, sessions: &IdleSessions<A>) -> Option<Refused>
 where
     R: Abort + Wait,
     A: Allocator + Clone + Drop,
 {
-    let logged_in = log_in(rt, &sessions);
-    let taken = take_handle(rt, &sessions);
-    assert!(rt; holds_alone(rt, &sessions, "ann"));
+    let logged_in = log_in(rt, sessions);
+    let taken = take_handle(rt, sessions);
+    same(rt, "next_idle", holds_alone(rt, sessions, "ann"), true);
     logged_in.or(taken)
 }
 
@@ -106,7 +106,7 @@ where
     A: Allocator + Clone + Drop,
 {
     match IdleSessions::new(heap, QueueConfig::of(2, 1), 10) {
-        Ok(sessions) => used(rt, sessions),
+        Ok(sessions) => used(rt, &sessions),
         Err(error) => {
             same(rt, "new", error, NO_MEMORY);
             Some(Refused::New)
@@ -114,18 +114,17 @@ where
     }
 }
 
+// The rows of shards and of who waits for their locks, and the words, wheel and slots of both; a name; the row of
+// callers.
+fn all_are_refused(rt: &impl Abort, places: &[Refused]) {
+    same(rt, "new", times(places, Refused::New), 18);
+    same(rt, "login", times(places, Refused::Login), 1);
+    same(rt, "handle", times(places, Refused::Handle), 1);
+}
+
 #[test]
 fn each_allocation_of_sessions_is_refused(rt: HostRuntime) -> Result<(), Fail> {
     let places = each_refused(&rt, rt.alloc(), |heap| walk(&rt, heap))?;
-
-    // The rows of shards and of who waits for their locks, and the words, wheel and slots of both; a name; the row of
-    // callers.
-    for (place, allocations) in [
-        (Refused::New, 18),
-        (Refused::Login, 1),
-        (Refused::Handle, 1),
-    ] {
-        assert_eq!(rt; times(&places, place), allocations, "{place:?}");
-    }
+    all_are_refused(&rt, &places);
     Ok(())
 }

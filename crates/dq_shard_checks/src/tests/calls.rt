@@ -37,9 +37,10 @@ pub fn insert<R: Wait>(
     value: char,
     when: u64,
 ) -> Result<Key, QueueError> {
-    queue
-        .insert(rt, route, value, when)
-        .map_err(|refused| refused.0)
+    match queue.insert(rt, route, value, when) {
+        Ok(key) => Ok(key),
+        Err((error, _)) => Err(error),
+    }
 }
 
 /// The one handle that is out is given back, and an audit tells the totals then.

@@ -5,6 +5,7 @@ use super::play::Letters;
 use super::same;
 use dq_core::CoreError;
 use dq_shards::{Handle, HandlesOut, QueueConfig, QueueError, SharedDelayQueue, Totals};
+use dq_words::{Caller, WordsError};
 use std::process::Abort;
 use std::sync::Wait;
 use std::test::Fail;
@@ -127,8 +128,22 @@ fn leave_handles_out<R: Wait>(rt: &R, queue: &Letters, count: u64) -> Result<(),
     Ok(())
 }
 
+// What a shard answers that is asked for a caller.
+fn issued<R: Wait>(
+    rt: &R,
+    queue: &Letters,
+    shard: usize,
+) -> Result<Result<Caller, WordsError>, QueueError> {
+    queue.lend(rt, shard, |state| state.issue())
+}
+
 fn issues_by_lend<R: Abort + Wait>(rt: &R, queue: &Letters) -> Result<(), Fail> {
-    let _caller = queue.lend(rt, 1, |state| state.issue())??;
+    let _caller = issued(rt, queue, 1)??;
+    reaches_the_limit(rt, queue)
+}
+
+// Of two shards, the second of which has one caller out.
+fn reaches_the_limit<R: Abort + Wait>(rt: &R, queue: &Letters) -> Result<(), Fail> {
     leave_handles_out(rt, queue, 1023)?;
     is_at_the_limit(rt, queue);
     same(rt, "out", out(rt, queue, 0), Ok(1023));
@@ -145,15 +160,14 @@ fn issue_by_lend(rt: HostRuntime) -> Result<(), Fail> {
 // Issues so many callers in a shard and gives each back.
 fn issue_callers<R: Wait>(rt: &R, queue: &Letters, shard: usize, count: u64) -> Result<(), Fail> {
     for _ in 0..count {
-        let _cancels = queue.lend(rt, shard, |state| state.issue())??.give_back();
+        let _cancels = issued(rt, queue, shard)??.give_back();
     }
     Ok(())
 }
 
 // Whether a shard issues no caller more.
 fn issues_nothing<R: Wait>(rt: &R, queue: &Letters, shard: usize) -> Result<bool, QueueError> {
-    let refused = queue.lend(rt, shard, |state| state.issue())?;
-    Ok(refused.is_err())
+    Ok(issued(rt, queue, shard)?.is_err())
 }
 
 // Of three shards, each of which has one caller out.
@@ -169,11 +183,11 @@ fn refused_handles_give_back<R: Abort + Wait>(rt: &R, queue: &Letters) {
 
 fn refuses_handles<R: Abort + Wait>(rt: &R, queue: &Letters) -> Result<(), Fail> {
     let handle = queue.handle(rt)?;
-    issue_callers(rt, queue, 2, 1023)?;
+    let filled = issue_callers(rt, queue, 2, 1023);
     refused_handles_give_back(rt, queue);
     same(rt, "give_back", handle.give_back(), 0);
     same(rt, "audit", queue.audit(rt).is_ok(), true);
-    Ok(())
+    filled
 }
 
 // Fails where a refused `handle` keeps what it issued (handle_keeps_what_it_issued): what it issued in the shards

@@ -7,7 +7,7 @@ use dq_wheel::Place;
 use std::alloc::Global;
 
 /// What a key has in place of what it was given with.
-#[derive(Clone, Copy, Debug)]
+#[derive(Clone, Copy)]
 pub enum Part {
     Stamp(u32),
     Index(u32),
@@ -15,7 +15,7 @@ pub enum Part {
 }
 
 /// The key that a call is given: keys count from 0, in the order of inserts and resets.
-#[derive(Clone, Copy, Debug)]
+#[derive(Clone, Copy)]
 pub enum Named {
     Nth(usize),
     /// That key, with another part.
@@ -24,7 +24,7 @@ pub enum Named {
 
 /// A call of a queue of letters, of a handle of it, or of a shard's state alone. A `u64` alone is a tick, a `usize` a
 /// shard.
-#[derive(Clone, Copy, Debug)]
+#[derive(Clone, Copy)]
 pub enum Call {
     /// By a route.
     Insert(u64, char, u64),

@@ -83,8 +83,10 @@ fn inserted<A: Allocator>(
     shard: usize,
     value: char,
 ) -> Result<Key, QueueError> {
-    let inserted = queue.insert(rt, shard as u64, value, 10);
-    inserted.map_err(|refused| refused.0)
+    match queue.insert(rt, shard as u64, value, 10) {
+        Ok(key) => Ok(key),
+        Err((error, _)) => Err(error),
+    }
 }
 
 // What a poll answers: what came out, whether it waits for a later tick, or that nothing is linked.

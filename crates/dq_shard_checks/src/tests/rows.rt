@@ -2,8 +2,9 @@
 
 use super::cases::{BY_HANDLE, Case, OUTS};
 use super::keys::{Answer, Call};
-use super::play::{Play, Way};
-use dq_shards::{HandlesOut, QueueConfig};
+use super::play::{Letters, Play, Way};
+use super::same;
+use dq_shards::{Handle, HandlesOut, QueueConfig, Totals};
 use std::process::Abort;
 use std::sync::Wait;
 use std::test::Fail;
@@ -12,39 +13,57 @@ fn plays<R: Abort + Wait>(rt: &R, play: &mut Play, way: Way, case: &Case) {
     let (name, _, _, calls) = case;
     for (number, (call, answer)) in calls.iter().enumerate() {
         let answered = play.answer(rt, way, *call);
-        assert_eq!(rt;
-            answered,
-            Some(*answer),
-            "{name}: call {number} from 0, {way:?}"
-        );
+        same(rt, *name, (number, answered), (number, Some(*answer)));
     }
 }
 
 // How many inserts, and how many cancels, are accepted.
 fn accepted(case: &Case) -> (u64, u64) {
-    let inserts = case.3.iter().filter(|call| matches!(
-        call,
-        (Call::Insert(..), Answer::Given(..))
-    ));
-    let cancels = case
-        .3
-        .iter()
-        .filter(|call| matches!(call, (Call::Cancel(_), Answer::Until(_))));
-    (inserts.count() as u64, cancels.count() as u64)
+    let (mut inserts, mut cancels) = (0u64, 0u64);
+    for row in case.3 {
+        match row {
+            (Call::Insert(..), Answer::Given(..)) => inserts = inserts.saturating_add(1),
+            (Call::Cancel(_), Answer::Until(_)) => cancels = cancels.saturating_add(1),
+            _ => {}
+        }
+    }
+    (inserts, cancels)
 }
 
-// Behind each case the handle is given back, and the queue's audit tells what was inserted and cancelled.
+// The one handle that is out is given back, and the queue's audit tells so many inserts and cancels.
+fn gives_back<R: Abort + Wait>(
+    rt: &R,
+    queue: &Letters,
+    handle: Handle,
+    (inserts, cancels): (u64, u64),
+) -> Result<(), HandlesOut> {
+    same(rt, "audit", queue.audit(rt), Err(HandlesOut { out: 1 }));
+    let cancelled = (handle.cancels(), handle.give_back());
+    same(rt, "cancels", cancelled, (cancels, cancels));
+    let Totals {
+        inserted,
+        cancelled,
+        ..
+    } = queue.audit(rt)?;
+    same(rt, "totals", (inserted, cancelled), (inserts, cancels));
+    Ok(())
+}
+
+fn ends<R: Abort + Wait>(rt: &R, play: Play, accepted: (u64, u64)) -> Result<(), HandlesOut> {
+    let Play { queue, handle, .. } = play;
+    gives_back(rt, &queue, handle, accepted)
+}
+
+// Behind the case the handle is given back, and the queue's audit tells what was inserted and cancelled.
+fn plays_case<R: Abort + Wait + AllocGlobal>(rt: &R, way: Way, case: &Case) -> Result<(), Fail> {
+    let mut play = Play::new(rt, rt.alloc(), QueueConfig::of(case.1, case.2))?;
+    plays(rt, &mut play, way, case);
+    Ok(ends(rt, play, accepted(case))?)
+}
+
 fn plays_all<R: Abort + Wait + AllocGlobal>(rt: &R, way: Way, cases: &[Case]) -> Result<(), Fail> {
     for case in cases {
-        let config = QueueConfig::of(case.1, case.2);
-        let mut play = Play::new(rt, rt.alloc(), config)?;
-        plays(rt, &mut play, way, case);
-        let (inserts, cancels) = accepted(case);
-        let Play { queue, handle, .. } = play;
-        assert_eq!(rt; queue.audit(rt), Err(HandlesOut { out: 1 }));
-        assert_eq!(rt; (handle.cancels(), handle.give_back()), (cancels, cancels));
-        let totals = queue.audit(rt)?;
-        assert_eq!(rt; (totals.inserted, totals.cancelled), (inserts, cancels));
+        plays_case(rt, way, case)?;
     }
     Ok(())
 }

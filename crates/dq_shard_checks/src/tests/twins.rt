@@ -3,8 +3,9 @@
 
 use super::keys::{Call, Named, Part};
 use super::play::{Letters, Play, Way};
+use super::same;
 use dq_core::Tally;
-use dq_shards::{QueueConfig, QueueError, Totals};
+use dq_shards::{Handle, HandlesOut, QueueConfig, QueueError, Totals};
 use draws::Draw;
 use std::process::Abort;
 use std::sync::Wait;
@@ -13,6 +14,12 @@ use std::test::Fail;
 const SHARDS: usize = 3;
 
 const ROUNDS: u64 = 15;
+
+const CONFIG: QueueConfig = QueueConfig {
+    shards: SHARDS,
+    capacity: 8,
+    last_stamp: 5,
+};
 
 #[derive(Clone, Copy)]
 enum Kind {
@@ -140,10 +147,10 @@ fn seen<R: Wait>(rt: &R, queue: &Letters, shard: usize) -> Result<Seen, QueueErr
 }
 
 fn agree<R: Abort + Wait>(rt: &R, one: &Play, other: &Play, turn: u64) {
-    assert_eq!(rt; one.keys.last(), other.keys.last(), "turn {turn}");
+    same(rt, turn, one.keys.last(), other.keys.last());
     for shard in 0..SHARDS {
         let (left, right) = (seen(rt, &one.queue, shard), seen(rt, &other.queue, shard));
-        assert_eq!(rt; left, right, "turn {turn}, shard {shard}");
+        same(rt, turn, (shard, left), (shard, right));
     }
 }
 
@@ -156,46 +163,71 @@ fn round<R: Abort + Wait>(rt: &R, one: &mut Play, other: &mut Play, calls: &mut 
             one.answer(rt, Way::ByName, call),
             other.answer(rt, Way::ByLend, call),
         );
-        assert_eq!(rt; answers.0, answers.1, "turn {turn}: {call:?}");
+        same(rt, turn, answers.0, answers.1);
         agree(rt, one, other, turn);
         turn = turn.saturating_add(1);
     }
 }
 
-// Gives the handle back, and audits.
-fn end<R: Wait>(rt: &R, play: Play) -> Result<(u64, Totals), Fail> {
-    let Play { queue, handle, .. } = play;
+// The cancels of a handle that was given back, and what an audit tells then.
+type Ended = Result<(u64, Totals), HandlesOut>;
+
+fn give_back<R: Wait>(rt: &R, queue: &Letters, handle: Handle) -> Ended {
     let cancels = handle.give_back();
     Ok((cancels, queue.audit(rt)?))
 }
 
-// Fails where a call by name answers and leaves the shard as it was (call_by_name_leaves_shard), or makes its call
-// and then clears the shard (call_by_name_then_clears).
-#[test]
-fn by_name_and_by_lend_agree(rt: HostRuntime) -> Result<(), Fail> {
-    let config = QueueConfig {
-        shards: SHARDS,
-        capacity: 8,
-        last_stamp: 5,
-    };
-    let mut one = Play::new(&rt, rt.alloc(), config)?;
-    let mut other = Play::new(&rt, rt.alloc(), config)?;
+fn end<R: Wait>(rt: &R, play: Play) -> Ended {
+    let Play { queue, handle, .. } = play;
+    give_back(rt, &queue, handle)
+}
+
+// All rounds of calls on both.
+fn rounds<R: Abort + Wait>(rt: &R, one: &mut Play, other: &mut Play) {
     let mut calls = Calls(Draw::new(7));
     for number in 0..ROUNDS {
-        round(&rt, &mut one, &mut other, &mut calls, number * 20);
+        round(rt, one, other, &mut calls, number * 20);
     }
-    let (ended, twin) = (end(&rt, one)?, end(&rt, other)?);
-    assert_eq!(rt; ended, twin);
+}
+
+// Makes the one by name, and all rounds of calls on both.
+fn play_beside<R>(rt: &R, other: &mut Play) -> Result<Ended, QueueError>
+where
+    R: Abort + Wait + AllocGlobal,
+{
+    let mut one = Play::new(rt, rt.alloc(), CONFIG)?;
+    rounds(rt, &mut one, other);
+    Ok(end(rt, one))
+}
+
+// Makes the other too. Behind all rounds both tell the same, and calls of each kind were accepted.
+fn agree_to_the_end<R: Abort + Wait + AllocGlobal>(rt: &R) -> Result<(), Fail> {
+    let mut other = Play::new(rt, rt.alloc(), CONFIG)?;
+    let (played, twin) = (play_beside(rt, &mut other), end(rt, other));
+    let ended = played?;
+    same(rt, "end", ended, twin);
+    are_many(rt, ended?.1);
+    Ok(())
+}
+
+// Calls of each kind were accepted, so many of them at least.
+fn are_many(rt: &impl Abort, totals: Totals) {
     let Totals {
         inserted,
         expired,
         removed,
         cancelled,
         ..
-    } = ended.1;
+    } = totals;
     assert!(rt;
         inserted >= 50 && expired >= 15 && removed >= 15 && cancelled >= 3,
-        "{ended:?}"
+        "{totals:?}"
     );
-    Ok(())
+}
+
+// Fails where a call by name answers and leaves the shard as it was (call_by_name_leaves_shard), or makes its call
+// and then clears the shard (call_by_name_then_clears).
+#[test]
+fn by_name_and_by_lend_agree(rt: HostRuntime) -> Result<(), Fail> {
+    agree_to_the_end(&rt)
 }

@@ -32,11 +32,12 @@ pub fn ends(sessions: &IdleSessions, now: u64, name: &str, at: u64) {
 
 /// A poll gives no session, and names the tick to wait for, where there is one.
 pub fn waits(sessions: &IdleSessions, now: u64, answer: Option<u64>) {
-    match poll(sessions, now) {
-        Ok(Turn::Waiting { next }) => same(now, Some(next), answer),
-        Ok(Turn::Idle) => same(now, None, answer),
-        _ => assert!(false, "a session came out at {now}"),
-    }
+    let told = match poll(sessions, now) {
+        Ok(Turn::Waiting { next }) => Ok(Some(next)),
+        Ok(Turn::Idle) => Ok(None),
+        _ => Err("a session came out"),
+    };
+    same(now, told, Ok(answer));
 }
 
 fn login(sessions: &IdleSessions, name: &str, now: u64) -> Result<Key, QueueError> {
@@ -125,6 +126,27 @@ fn idles(
     }
 }
 
+fn idles_by_handle(
+    sessions: &IdleSessions,
+    row: usize,
+    now: u64,
+    is_tick: bool,
+) -> Result<(), QueueError> {
+    let mut handle = sessions.handle()?;
+    idles(sessions, &mut handle, row, now, is_tick);
+    Ok(())
+}
+
+// One row, of sessions that may be idle for so long.
+fn idles_for(
+    row: usize,
+    (idle, now, is_tick): (u64, u64, bool),
+) -> Result<(), QueueError> {
+    let sessions = sessions(idle)?;
+    same(row, sessions.idle(), idle);
+    idles_by_handle(&sessions, row, now, is_tick)
+}
+
 // A session's deadline may be the last tick and no later one; a sum that has no `u64` is later too.
 #[test]
 fn idle_beyond_the_last_tick() -> Result<(), Fail> {
@@ -143,11 +165,8 @@ fn idle_beyond_the_last_tick() -> Result<(), Fail> {
         (u64::MAX, 1, false),
         (u64::MAX, u64::MAX, false),
     ];
-    for (row, (idle, now, is_tick)) in rows.iter().enumerate() {
-        let sessions = sessions(*idle)?;
-        same(row, sessions.idle(), *idle);
-        let mut handle = sessions.handle()?;
-        idles(&sessions, &mut handle, row, *now, *is_tick);
+    for (row, idling) in rows.iter().enumerate() {
+        idles_for(row, *idling)?;
     }
     Ok(())
 }

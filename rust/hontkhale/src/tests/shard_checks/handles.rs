@@ -6,6 +6,7 @@ use super::play::Letters;
 use super::same;
 use crate::core::CoreError;
 use crate::shards::{Handle, HandlesOut, QueueConfig, QueueError, SharedDelayQueue, Totals};
+use crate::words::{Caller, WordsError};
 
 // A handle is given back, which made so many cancels, and an audit answers then.
 fn gives_back(
@@ -123,8 +124,21 @@ fn leave_handles_out(queue: &Letters, count: u64) -> Result<(), QueueError> {
     Ok(())
 }
 
+// What a shard answers that is asked for a caller.
+fn issued(
+    queue: &Letters,
+    shard: usize,
+) -> Result<Result<Caller, WordsError>, QueueError> {
+    queue.lend(shard, |state| state.issue())
+}
+
 fn issues_by_lend(queue: &Letters) -> Result<(), Fail> {
-    let _caller = queue.lend(1, |state| state.issue())??;
+    let _caller = issued(queue, 1)??;
+    reaches_the_limit(queue)
+}
+
+// Of two shards, the second of which has one caller out.
+fn reaches_the_limit(queue: &Letters) -> Result<(), Fail> {
     leave_handles_out(queue, 1023)?;
     is_at_the_limit(queue);
     same("out", out(queue, 0), Ok(1023));
@@ -141,15 +155,14 @@ fn issue_by_lend() -> Result<(), Fail> {
 // Issues so many callers in a shard and gives each back.
 fn issue_callers(queue: &Letters, shard: usize, count: u64) -> Result<(), Fail> {
     for _ in 0..count {
-        let _cancels = queue.lend(shard, |state| state.issue())??.give_back();
+        let _cancels = issued(queue, shard)??.give_back();
     }
     Ok(())
 }
 
 // Whether a shard issues no caller more.
 fn issues_nothing(queue: &Letters, shard: usize) -> Result<bool, QueueError> {
-    let refused = queue.lend(shard, |state| state.issue())?;
-    Ok(refused.is_err())
+    Ok(issued(queue, shard)?.is_err())
 }
 
 // Of three shards, each of which has one caller out.
@@ -165,11 +178,11 @@ fn refused_handles_give_back(queue: &Letters) {
 
 fn refuses_handles(queue: &Letters) -> Result<(), Fail> {
     let handle = queue.handle()?;
-    issue_callers(queue, 2, 1023)?;
+    let filled = issue_callers(queue, 2, 1023);
     refused_handles_give_back(queue);
     same("give_back", handle.give_back(), 0);
     same("audit", queue.audit().is_ok(), true);
-    Ok(())
+    filled
 }
 
 // Fails where a refused `handle` keeps what it issued (handle_keeps_what_it_issued): what it issued in the shards

@@ -1,12 +1,13 @@
 //! A queue of letters and a handle of it, which are given calls: the queue by name, or its shards' states by `lend`.
 
 use super::keys::{Answer, Call, Keys};
+use crate::core::{CallError, CoreError};
 use crate::shards::{Handle, QueueConfig, QueueError, ShardState, SharedDelayQueue};
 
 pub type Letters = SharedDelayQueue<char>;
 
 /// How the calls that the queue has by name are made.
-#[derive(Clone, Copy, Debug)]
+#[derive(Clone, Copy)]
 pub enum Way {
     ByName,
     ByLend,
@@ -42,21 +43,22 @@ impl Play {
 
     fn by_handle(&mut self, call: Call) -> Option<Answer> {
         Some(match call {
-            Call::Extend(named, when) => {
-                let key = self.keys.named(named)?;
-                let extended = self.handle.extend(&key, when);
-                extended.map_or_else(Answer::NotDone, Answer::Until)
-            }
-            Call::Cancel(named) => {
-                let cancelled = self.handle.cancel(&self.keys.named(named)?);
-                cancelled.map_or_else(Answer::NotDone, Answer::Until)
-            }
-            Call::LookAt(named) => {
-                let look = self.handle.look(&self.keys.named(named)?);
-                look.map_or_else(Answer::NotDone, Answer::Seen)
-            }
+            Call::Extend(named, when) => until(self.handle.extend(&self.keys.named(named)?, when)),
+            Call::Cancel(named) => until(self.handle.cancel(&self.keys.named(named)?)),
+            Call::LookAt(named) => match self.handle.look(&self.keys.named(named)?) {
+                Ok(look) => Answer::Seen(look),
+                Err(error) => Answer::NotDone(error),
+            },
             _ => return None,
         })
+    }
+}
+
+// The answer of a handle's call that answers a deadline.
+fn until(answer: Result<u64, CallError>) -> Answer {
+    match answer {
+        Ok(deadline) => Answer::Until(deadline),
+        Err(error) => Answer::NotDone(error),
     }
 }
 
@@ -70,10 +72,10 @@ fn by_name(queue: &Letters, keys: &mut Keys, call: Call) -> Option<Answer> {
             keys.given(queue.reset(&entry, when))
         }
         Call::Remove(named) => keys.removed(queue.remove(&keys.entry(named)?)),
-        Call::Deadline(named) => {
-            let deadline = queue.deadline(&keys.entry(named)?);
-            deadline.map_or_else(Answer::Refused, Answer::Until)
-        }
+        Call::Deadline(named) => match queue.deadline(&keys.entry(named)?) {
+            Ok(deadline) => Answer::Until(deadline),
+            Err(error) => Answer::Refused(error),
+        },
         Call::Poll(shard, tick) => keys.turned(queue.poll(shard, tick)),
         _ => tells_by_name(queue, call)?,
     })
@@ -126,6 +128,14 @@ fn by_lend(queue: &Letters, keys: &mut Keys, call: Call) -> Option<Answer> {
     }
 }
 
+// What a state answers, as a call by name does.
+fn of_queue<T>(answer: Result<T, CoreError>) -> Result<T, QueueError> {
+    match answer {
+        Ok(told) => Ok(told),
+        Err(error) => Err(QueueError::Core(error)),
+    }
+}
+
 fn by_state(state: &mut ShardState<char>, keys: &mut Keys, call: Call) -> Option<Answer> {
     Some(match call {
         Call::Insert(_, value, when) => match state.insert(value, when) {
@@ -134,17 +144,14 @@ fn by_state(state: &mut ShardState<char>, keys: &mut Keys, call: Call) -> Option
         },
         Call::Reset(named, when) => {
             let entry = keys.entry(named)?;
-            keys.given(state.reset(&entry, when).map_err(QueueError::Core))
+            keys.given(of_queue(state.reset(&entry, when)))
         }
-        Call::Remove(named) => {
-            let removed = state.remove(&keys.entry(named)?);
-            keys.removed(removed.map_err(QueueError::Core))
-        }
+        Call::Remove(named) => keys.removed(of_queue(state.remove(&keys.entry(named)?))),
         Call::Deadline(named) => match state.deadline(&keys.entry(named)?) {
             Ok(deadline) => Answer::Until(deadline),
             Err(error) => Answer::Refused(QueueError::Core(error)),
         },
-        Call::Poll(_, tick) => keys.turned(state.poll(tick).map_err(QueueError::Core)),
+        Call::Poll(_, tick) => keys.turned(of_queue(state.poll(tick))),
         Call::PlaceOf(named) => Answer::Stands(state.place(&keys.entry(named)?)),
         Call::FiledAt(named) => Answer::Tick(state.filed(&keys.entry(named)?)),
         _ => tells_of_state(state, call)?,

@@ -3,46 +3,64 @@
 use crate::tests::kit::Fail;
 use super::cases::{BY_HANDLE, Case, OUTS};
 use super::keys::{Answer, Call};
-use super::play::{Play, Way};
-use crate::shards::{HandlesOut, QueueConfig};
+use super::play::{Letters, Play, Way};
+use super::same;
+use crate::shards::{Handle, HandlesOut, QueueConfig, Totals};
 
 fn plays(play: &mut Play, way: Way, case: &Case) {
     let (name, _, _, calls) = case;
     for (number, (call, answer)) in calls.iter().enumerate() {
         let answered = play.answer(way, *call);
-        assert_eq!(
-            answered,
-            Some(*answer),
-            "{name}: call {number} from 0, {way:?}"
-        );
+        same(*name, (number, answered), (number, Some(*answer)));
     }
 }
 
 // How many inserts, and how many cancels, are accepted.
 fn accepted(case: &Case) -> (u64, u64) {
-    let inserts = case.3.iter().filter(|call| matches!(
-        call,
-        (Call::Insert(..), Answer::Given(..))
-    ));
-    let cancels = case
-        .3
-        .iter()
-        .filter(|call| matches!(call, (Call::Cancel(_), Answer::Until(_))));
-    (inserts.count() as u64, cancels.count() as u64)
+    let (mut inserts, mut cancels) = (0u64, 0u64);
+    for row in case.3 {
+        match row {
+            (Call::Insert(..), Answer::Given(..)) => inserts = inserts.saturating_add(1),
+            (Call::Cancel(_), Answer::Until(_)) => cancels = cancels.saturating_add(1),
+            _ => {}
+        }
+    }
+    (inserts, cancels)
 }
 
-// Behind each case the handle is given back, and the queue's audit tells what was inserted and cancelled.
+// The one handle that is out is given back, and the queue's audit tells so many inserts and cancels.
+fn gives_back(
+    queue: &Letters,
+    handle: Handle,
+    (inserts, cancels): (u64, u64),
+) -> Result<(), HandlesOut> {
+    same("audit", queue.audit(), Err(HandlesOut { out: 1 }));
+    let cancelled = (handle.cancels(), handle.give_back());
+    same("cancels", cancelled, (cancels, cancels));
+    let Totals {
+        inserted,
+        cancelled,
+        ..
+    } = queue.audit()?;
+    same("totals", (inserted, cancelled), (inserts, cancels));
+    Ok(())
+}
+
+fn ends(play: Play, accepted: (u64, u64)) -> Result<(), HandlesOut> {
+    let Play { queue, handle, .. } = play;
+    gives_back(&queue, handle, accepted)
+}
+
+// Behind the case the handle is given back, and the queue's audit tells what was inserted and cancelled.
+fn plays_case(way: Way, case: &Case) -> Result<(), Fail> {
+    let mut play = Play::new(QueueConfig::of(case.1, case.2))?;
+    plays(&mut play, way, case);
+    Ok(ends(play, accepted(case))?)
+}
+
 fn plays_all(way: Way, cases: &[Case]) -> Result<(), Fail> {
     for case in cases {
-        let config = QueueConfig::of(case.1, case.2);
-        let mut play = Play::new(config)?;
-        plays(&mut play, way, case);
-        let (inserts, cancels) = accepted(case);
-        let Play { queue, handle, .. } = play;
-        assert_eq!(queue.audit(), Err(HandlesOut { out: 1 }));
-        assert_eq!((handle.cancels(), handle.give_back()), (cancels, cancels));
-        let totals = queue.audit()?;
-        assert_eq!((totals.inserted, totals.cancelled), (inserts, cancels));
+        plays_case(way, case)?;
     }
     Ok(())
 }

@@ -4,12 +4,19 @@
 use crate::tests::kit::{Draw, Fail};
 use super::keys::{Call, Named, Part};
 use super::play::{Letters, Play, Way};
+use super::same;
 use crate::core::Tally;
-use crate::shards::{QueueConfig, QueueError, Totals};
+use crate::shards::{Handle, HandlesOut, QueueConfig, QueueError, Totals};
 
 const SHARDS: usize = 3;
 
 const ROUNDS: u64 = 15;
+
+const CONFIG: QueueConfig = QueueConfig {
+    shards: SHARDS,
+    capacity: 8,
+    last_stamp: 5,
+};
 
 #[derive(Clone, Copy)]
 enum Kind {
@@ -136,10 +143,10 @@ fn seen(queue: &Letters, shard: usize) -> Result<Seen, QueueError> {
 }
 
 fn agree(one: &Play, other: &Play, turn: u64) {
-    assert_eq!(one.keys.last(), other.keys.last(), "turn {turn}");
+    same(turn, one.keys.last(), other.keys.last());
     for shard in 0..SHARDS {
         let (left, right) = (seen(&one.queue, shard), seen(&other.queue, shard));
-        assert_eq!(left, right, "turn {turn}, shard {shard}");
+        same(turn, (shard, left), (shard, right));
     }
 }
 
@@ -152,46 +159,68 @@ fn round(one: &mut Play, other: &mut Play, calls: &mut Calls, first: u64) {
             one.answer(Way::ByName, call),
             other.answer(Way::ByLend, call),
         );
-        assert_eq!(answers.0, answers.1, "turn {turn}: {call:?}");
+        same(turn, answers.0, answers.1);
         agree(one, other, turn);
         turn = turn.saturating_add(1);
     }
 }
 
-// Gives the handle back, and audits.
-fn end(play: Play) -> Result<(u64, Totals), Fail> {
-    let Play { queue, handle, .. } = play;
+// The cancels of a handle that was given back, and what an audit tells then.
+type Ended = Result<(u64, Totals), HandlesOut>;
+
+fn give_back(queue: &Letters, handle: Handle) -> Ended {
     let cancels = handle.give_back();
     Ok((cancels, queue.audit()?))
 }
 
-// Fails where a call by name answers and leaves the shard as it was (call_by_name_leaves_shard), or makes its call
-// and then clears the shard (call_by_name_then_clears).
-#[test]
-fn by_name_and_by_lend_agree() -> Result<(), Fail> {
-    let config = QueueConfig {
-        shards: SHARDS,
-        capacity: 8,
-        last_stamp: 5,
-    };
-    let mut one = Play::new(config)?;
-    let mut other = Play::new(config)?;
+fn end(play: Play) -> Ended {
+    let Play { queue, handle, .. } = play;
+    give_back(&queue, handle)
+}
+
+// All rounds of calls on both.
+fn rounds(one: &mut Play, other: &mut Play) {
     let mut calls = Calls(Draw::new(7));
     for number in 0..ROUNDS {
-        round(&mut one, &mut other, &mut calls, number * 20);
+        round(one, other, &mut calls, number * 20);
     }
-    let (ended, twin) = (end(one)?, end(other)?);
-    assert_eq!(ended, twin);
+}
+
+// Makes the one by name, and all rounds of calls on both.
+fn play_beside(other: &mut Play) -> Result<Ended, QueueError> {
+    let mut one = Play::new(CONFIG)?;
+    rounds(&mut one, other);
+    Ok(end(one))
+}
+
+// Makes the other too. Behind all rounds both tell the same, and calls of each kind were accepted.
+fn agree_to_the_end() -> Result<(), Fail> {
+    let mut other = Play::new(CONFIG)?;
+    let (played, twin) = (play_beside(&mut other), end(other));
+    let ended = played?;
+    same("end", ended, twin);
+    are_many(ended?.1);
+    Ok(())
+}
+
+// Calls of each kind were accepted, so many of them at least.
+fn are_many(totals: Totals) {
     let Totals {
         inserted,
         expired,
         removed,
         cancelled,
         ..
-    } = ended.1;
+    } = totals;
     assert!(
         inserted >= 50 && expired >= 15 && removed >= 15 && cancelled >= 3,
-        "{ended:?}"
+        "{totals:?}"
     );
-    Ok(())
+}
+
+// Fails where a call by name answers and leaves the shard as it was (call_by_name_leaves_shard), or makes its call
+// and then clears the shard (call_by_name_then_clears).
+#[test]
+fn by_name_and_by_lend_agree() -> Result<(), Fail> {
+    agree_to_the_end()
 }
