@@ -2,7 +2,7 @@
 
 use super::same;
 use dq_core::{CoreConfig, CoreError, DelayCore, VecWords, Words};
-use std::alloc::{Allocator, Global};
+use std::alloc::Global;
 use std::process::Abort;
 use std::test::Fail;
 
@@ -67,25 +67,13 @@ fn queue_of_one(alloc: Global) -> Result<DelayCore<char, VecWords>, CoreError> {
     DelayCore::new(alloc, config, words).map_err(|refused| refused.0)
 }
 
-fn inserts<W: Words, A: Allocator>(rt: &impl Abort, queue: &mut DelayCore<char, W, A>) {
+fn inserts(rt: &impl Abort, queue: &mut DelayCore<char, VecWords>) {
     same(rt, "insert", queue.insert('v', 0).is_ok(), true);
-}
-
-// That a queue goes is proved once for all words and allocators, which is quicker than for those of the test.
-fn queue_is_send<W: Words + Drop + Send, A: Allocator + Send>(
-    rt: &impl Abort,
-    queue: DelayCore<char, W, A>,
-) {
-    inserts(rt, &mut moved(queue));
-}
-
-fn words_are_send<W: Words + Drop + Send>(rt: &impl Abort, words: W, rows: usize) {
-    same(rt, "rows", moved(words).rows(), rows);
 }
 
 #[test]
 fn queue_and_words_are_send(rt: HostRuntime) -> Result<(), Fail> {
-    queue_is_send(&rt, queue_of_one(rt.alloc())?);
-    words_are_send(&rt, VecWords::new(rt.alloc(), 2)?, 2);
+    inserts(&rt, &mut moved(queue_of_one(rt.alloc())?));
+    same(&rt, "rows", moved(VecWords::new(rt.alloc(), 2)?).rows(), 2);
     Ok(())
 }

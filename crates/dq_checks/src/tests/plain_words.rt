@@ -1,8 +1,5 @@
 //! The row of plain words by itself, without a queue above it.
 
-ghost use Rattle.std.specs.Prelude.{◌≡◌, length};
-ghost use Rattle.dq_core.specs.Words.{AreFresh, expired, word_at};
-
 use super::same;
 use dq_core::{CallError, CoreError, Look, Settled, VecWords, Words};
 use dq_ticks::{EntryId, Key};
@@ -79,59 +76,25 @@ fn plain_words_limits(rt: HostRuntime) -> Result<(), Fail> {
     Ok(())
 }
 
-// A settle wants the word as it stands. So the comparisons stay in the three bodies below, where they tell what the
-// calls before it answered.
-fn expires_later(rt: &impl Abort, words: &mut VecWords)
-    requires fresh { AreFresh words.old.known words.old.counts }
-    requires one { length words.old.known ≡ 1 }
-    ensures one { length words.new.known ≡ 1 }
-    ensures word { word_at words.new.known 0 ≡ expired 1 50 }
-{
-    words.begin(0, 1, 10);
-    assert_eq!(rt; words.extend(&key(0, 1), 50), Ok(50));
-    assert_eq!(rt; words.settle(0, 1, 10), Settled::Later(50));
-    assert_eq!(rt; words.settle(0, 1, 50), Settled::SettledExpired);
-}
-
-// By its first key, which no call changes.
-fn has_expired(rt: &impl Abort, words: &mut VecWords)
-    requires one { length words.old.known ≡ 1 }
-    requires word { word_at words.old.known 0 ≡ expired 1 50 }
-    ensures one { length words.new.known ≡ 1 }
-    ensures word { word_at words.new.known 0 ≡ expired 1 50 }
-{
-    let first = key(0, 1);
-    let how = Look::LookExpired(50);
-    assert_eq!(rt; words.look_key(&first), Ok(how));
-    assert_eq!(rt; words.extend(&first, 60), Err(CallError::Ended { how }));
-    assert_eq!(rt; words.cancel(&first), Err(CallError::Ended { how }));
-}
-
-// Begun once more, by its second key alone.
-fn is_cancelled(rt: &impl Abort, words: &mut VecWords)
-    requires one { length words.old.known ≡ 1 }
-    requires word { word_at words.old.known 0 ≡ expired 1 50 }
-{
-    let first = key(0, 1);
-    words.begin(0, 2, 60);
-    let stale = CallError::Stale { seen: 2 };
-    assert_eq!(rt; words.look_key(&first), Err(stale));
-    assert_eq!(rt; words.cancel(&first), Err(stale));
-    assert_eq!(rt; words.cancel(&key(0, 2)), Ok(60));
-    assert_eq!(rt; words.settle(0, 2, 60), Settled::SettledCancelled);
-}
-
-fn ends_once(rt: &impl Abort, words: &mut VecWords)
-    requires fresh { AreFresh words.old.known words.old.counts }
-    requires one { length words.old.known ≡ 1 }
-{
-    expires_later(rt, words);
-    has_expired(rt, words);
-    is_cancelled(rt, words);
-}
-
+// A settle wants the word as it stands. So the comparisons that tell it stay in this body.
 #[test]
 fn plain_words_end_once(rt: HostRuntime) -> Result<(), Fail> {
-    ends_once(&rt, &mut VecWords::new(rt.alloc(), 1)?);
+    let mut words = VecWords::new(rt.alloc(), 1)?;
+    let first = key(0, 1);
+    words.begin(0, 1, 10);
+    assert_eq!(rt; words.extend(&first, 50), Ok(50));
+    assert_eq!(rt; words.settle(0, 1, 10), Settled::Later(50));
+    assert_eq!(rt; words.settle(0, 1, 50), Settled::SettledExpired);
+    let how = Look::LookExpired(50);
+    let ended = Err(CallError::Ended { how });
+    same(&rt, "look", words.look_key(&first), Ok(how));
+    same(&rt, "extend", words.extend(&first, 60), ended);
+    same(&rt, "cancel", words.cancel(&first), ended);
+    words.begin(0, 2, 60);
+    let stale = CallError::Stale { seen: 2 };
+    same(&rt, "look", words.look_key(&first), Err(stale));
+    same(&rt, "cancel", words.cancel(&first), Err(stale));
+    assert_eq!(rt; words.cancel(&key(0, 2)), Ok(60));
+    assert_eq!(rt; words.settle(0, 2, 60), Settled::SettledCancelled);
     Ok(())
 }

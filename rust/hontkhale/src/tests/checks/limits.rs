@@ -61,24 +61,13 @@ fn queue_of_one() -> Result<DelayCore<char, VecWords>, CoreError> {
     DelayCore::new(config, words).map_err(|refused| refused.0)
 }
 
-fn inserts<W: Words>(queue: &mut DelayCore<char, W>) {
+fn inserts(queue: &mut DelayCore<char, VecWords>) {
     same("insert", queue.insert('v', 0).is_ok(), true);
-}
-
-// That a queue goes is proved once for all words and allocators, which is quicker than for those of the test.
-fn queue_is_send<W: Words + Send>(
-    queue: DelayCore<char, W>,
-) {
-    inserts(&mut moved(queue));
-}
-
-fn words_are_send<W: Words + Send>(words: W, rows: usize) {
-    same("rows", moved(words).rows(), rows);
 }
 
 #[test]
 fn queue_and_words_are_send() -> Result<(), Fail> {
-    queue_is_send(queue_of_one()?);
-    words_are_send(VecWords::new(2)?, 2);
+    inserts(&mut moved(queue_of_one()?));
+    same("rows", moved(VecWords::new(2)?).rows(), 2);
     Ok(())
 }

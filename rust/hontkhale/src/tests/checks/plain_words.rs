@@ -1,8 +1,5 @@
 //! The row of plain words by itself, without a queue above it.
 
-
-
-
 use crate::tests::kit::Fail;
 use super::same;
 use crate::core::{CallError, CoreError, Look, Settled, VecWords, Words};
@@ -73,43 +70,25 @@ fn plain_words_limits() -> Result<(), Fail> {
     Ok(())
 }
 
-// A settle wants the word as it stands. So the comparisons stay in the three bodies below, where they tell what the
-// calls before it answered.
-fn expires_later(words: &mut VecWords) {
-    words.begin(0, 1, 10);
-    assert_eq!(words.extend(&key(0, 1), 50), Ok(50));
-    assert_eq!(words.settle(0, 1, 10), Settled::Later(50));
-    assert_eq!(words.settle(0, 1, 50), Settled::SettledExpired);
-}
-
-// By its first key, which no call changes.
-fn has_expired(words: &mut VecWords) {
-    let first = key(0, 1);
-    let how = Look::LookExpired(50);
-    assert_eq!(words.look_key(&first), Ok(how));
-    assert_eq!(words.extend(&first, 60), Err(CallError::Ended { how }));
-    assert_eq!(words.cancel(&first), Err(CallError::Ended { how }));
-}
-
-// Begun once more, by its second key alone.
-fn is_cancelled(words: &mut VecWords) {
-    let first = key(0, 1);
-    words.begin(0, 2, 60);
-    let stale = CallError::Stale { seen: 2 };
-    assert_eq!(words.look_key(&first), Err(stale));
-    assert_eq!(words.cancel(&first), Err(stale));
-    assert_eq!(words.cancel(&key(0, 2)), Ok(60));
-    assert_eq!(words.settle(0, 2, 60), Settled::SettledCancelled);
-}
-
-fn ends_once(words: &mut VecWords) {
-    expires_later(words);
-    has_expired(words);
-    is_cancelled(words);
-}
-
+// A settle wants the word as it stands. So the comparisons that tell it stay in this body.
 #[test]
 fn plain_words_end_once() -> Result<(), Fail> {
-    ends_once(&mut VecWords::new(1)?);
+    let mut words = VecWords::new(1)?;
+    let first = key(0, 1);
+    words.begin(0, 1, 10);
+    assert_eq!(words.extend(&first, 50), Ok(50));
+    assert_eq!(words.settle(0, 1, 10), Settled::Later(50));
+    assert_eq!(words.settle(0, 1, 50), Settled::SettledExpired);
+    let how = Look::LookExpired(50);
+    let ended = Err(CallError::Ended { how });
+    same("look", words.look_key(&first), Ok(how));
+    same("extend", words.extend(&first, 60), ended);
+    same("cancel", words.cancel(&first), ended);
+    words.begin(0, 2, 60);
+    let stale = CallError::Stale { seen: 2 };
+    same("look", words.look_key(&first), Err(stale));
+    same("cancel", words.cancel(&first), Err(stale));
+    assert_eq!(words.cancel(&key(0, 2)), Ok(60));
+    assert_eq!(words.settle(0, 2, 60), Settled::SettledCancelled);
     Ok(())
 }
