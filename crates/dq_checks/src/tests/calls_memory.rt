@@ -9,9 +9,6 @@ use std::alloc::Allocator;
 use std::process::Abort;
 use std::test::Fail;
 
-// The heap of a test, which refuses one allocation.
-type Heap<'all> = RefusingHeap<&'all LocalHeap>;
-
 // A queue all of whose memory is of one heap. Its calls are proved once for all heaps, which is quicker than for the
 // refusing one alone.
 type Heaped<A> = DelayCore<char, VecWords<A>, A>;
@@ -50,11 +47,17 @@ fn cancels<A: Allocator>(rt: &impl Abort, queue: &mut Heaped<A>, key: &Key, dead
     same(rt, "cancel", queue.cancel(key), Ok(deadline));
 }
 
-fn calls_by_key<A: Allocator>(rt: &impl Abort, queue: &mut Heaped<A>) -> Result<(), Fail> {
+// Leaves an entry that is due at tick 6.
+fn extends_and_resets<A: Allocator>(rt: &impl Abort, queue: &mut Heaped<A>) -> Result<(), Fail> {
     let first = inserted(queue, 'a', 5)?;
     extends(rt, queue, &first, 7);
     tells(rt, queue, &first, 7);
     resets(rt, queue, &first.entry(), 6, 2);
+    Ok(())
+}
+
+// Leaves an entry that is cancelled.
+fn removes_and_cancels<A: Allocator>(rt: &impl Abort, queue: &mut Heaped<A>) -> Result<(), Fail> {
     let second = inserted(queue, 'b', 9)?;
     removes(rt, queue, &second.entry(), 'b');
     let third = inserted(queue, 'c', 20)?;
@@ -129,12 +132,13 @@ fn queue<A: Allocator + Copy>(heap: A) -> Result<Heaped<A>, CoreError> {
 }
 
 fn every_call<A: Allocator>(rt: &impl Abort, queue: &mut Heaped<A>) -> Result<(), Fail> {
-    calls_by_key(rt, queue)?;
+    extends_and_resets(rt, queue)?;
+    removes_and_cancels(rt, queue)?;
     calls_of_the_owner(rt, queue);
     Ok(())
 }
 
-fn calls(rt: &impl Abort, heap: &Heap) -> Result<(), Fail> {
+fn calls<A: Allocator + Copy>(rt: &impl Abort, heap: A) -> Result<(), Fail> {
     every_call(rt, &mut queue(heap)?)
 }
 

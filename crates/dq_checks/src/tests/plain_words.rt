@@ -19,6 +19,10 @@ fn one_word(alloc: Global) -> Result<VecWords, CoreError> {
     Ok(words)
 }
 
+fn looks(rt: &impl Abort, words: &VecWords, key: &Key, answer: Result<Look, CallError>) {
+    same(rt, "look", words.look_key(key), answer);
+}
+
 // No call by a key that was never given out is taken.
 fn refuses_forged(rt: &impl Abort, words: &mut VecWords, forged: &Key) {
     let unknown = CallError::Unknown;
@@ -38,7 +42,7 @@ fn refuses_forged(rt: &impl Abort, words: &mut VecWords, forged: &Key) {
         Err(too_far),
     );
     same(rt, "cancel", words.cancel(forged), Err(unknown));
-    same(rt, "look", words.look_key(forged), Err(unknown));
+    looks(rt, words, forged, Err(unknown));
 }
 
 // A live word is extended to the last tick, and not beyond it.
@@ -59,8 +63,7 @@ fn extends_to_the_last_tick(rt: &impl Abort, words: &mut VecWords) {
         words.extend(&first, 4398046511103),
         Ok(4398046511103),
     );
-    let live = Look::StillLive(4398046511103);
-    same(rt, "look", words.look_key(&first), Ok(live));
+    looks(rt, words, &first, Ok(Look::StillLive(4398046511103)));
 }
 
 fn limits(rt: &impl Abort, words: &mut VecWords) {
@@ -76,25 +79,38 @@ fn plain_words_limits(rt: HostRuntime) -> Result<(), Fail> {
     Ok(())
 }
 
-// A settle wants the word as it stands. So the comparisons stay in this body, where they tell what the calls before
-// it answered.
+// A settle wants the word as it stands. So what an answer tells of it is matched in this body.
 #[test]
 fn plain_words_end_once(rt: HostRuntime) -> Result<(), Fail> {
     let mut words = VecWords::new(rt.alloc(), 1)?;
     let first = key(0, 1);
     words.begin(0, 1, 10);
-    assert_eq!(rt; words.extend(&first, 50), Ok(50));
-    assert_eq!(rt; words.settle(0, 1, 10), Settled::Later(50));
-    assert_eq!(rt; words.settle(0, 1, 50), Settled::SettledExpired);
+    let Ok(until) = words.extend(&first, 50) else {
+        panic!(rt; "it was live")
+    };
+    same(&rt, "extend", until, 50);
+    let Settled::Later(later) = words.settle(0, 1, 10) else {
+        panic!(rt; "the extend was lost")
+    };
+    same(&rt, "settle", later, 50);
+    let Settled::SettledExpired = words.settle(0, 1, 50) else {
+        panic!(rt; "it was due")
+    };
     let how = Look::LookExpired(50);
-    assert_eq!(rt; words.look_key(&first), Ok(how));
-    assert_eq!(rt; words.extend(&first, 60), Err(CallError::Ended { how }));
-    assert_eq!(rt; words.cancel(&first), Err(CallError::Ended { how }));
+    let ended = Err(CallError::Ended { how });
+    looks(&rt, &words, &first, Ok(how));
+    same(&rt, "extend", words.extend(&first, 60), ended);
+    same(&rt, "cancel", words.cancel(&first), ended);
     words.begin(0, 2, 60);
     let stale = CallError::Stale { seen: 2 };
-    assert_eq!(rt; words.look_key(&first), Err(stale));
-    assert_eq!(rt; words.cancel(&first), Err(stale));
-    assert_eq!(rt; words.cancel(&key(0, 2)), Ok(60));
-    assert_eq!(rt; words.settle(0, 2, 60), Settled::SettledCancelled);
+    looks(&rt, &words, &first, Err(stale));
+    same(&rt, "cancel", words.cancel(&first), Err(stale));
+    let Ok(given_up) = words.cancel(&key(0, 2)) else {
+        panic!(rt; "it was live")
+    };
+    same(&rt, "cancel", given_up, 60);
+    let Settled::SettledCancelled = words.settle(0, 2, 60) else {
+        panic!(rt; "it was cancelled")
+    };
     Ok(())
 }

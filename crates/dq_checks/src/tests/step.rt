@@ -57,107 +57,142 @@ pub enum Step {
     Moves(u64),
 }
 
+// The key that a call is given, by the one that was given out.
+fn key_by(named: Named, given: Key) -> Key {
+    let (entry, stamp) = (given.entry(), given.stamp());
+    match named {
+        Named::Given(_) => given,
+        Named::OfStamp(_, stamp) => Key::new(entry, stamp),
+        Named::OfIndex(_, index) => Key::new(EntryId::new(0, index, entry.born()), stamp),
+        Named::OfShard(_, shard) => {
+            Key::new(EntryId::new(shard, entry.index(), entry.born()), stamp)
+        }
+    }
+}
+
 impl<W: Words, C: Calls<W>> Queue<W, C> {
     /// Does a step, and tells whether it answers as it has to. None where no key was given out at the place that it
     /// names.
     pub fn takes(&mut self, step: Step) -> Option<bool> {
+        match step {
+            Step::Extend(named, _, _) | Step::Cancel(named, _) | Step::Look(named, _) => {
+                self.takes_by_key(step, named)
+            }
+            Step::Reset(at, _)
+            | Step::RefuseReset(at, _, _)
+            | Step::RefuseRemove(at, _)
+            | Step::Deadline(at, _) => self.takes_by_name(step, at),
+            Step::Insert(value, when) => Some(self.inserts(value, when)),
+            Step::RefuseInsert(when, error) => {
+                Some(self.core.insert('z', when) == Err((error, 'z')))
+            }
+            Step::Sweep(count) => Some(self.core.sweep() == count),
+            Step::Clear(count) => Some(self.core.clear() == count),
+            _ => self.polls(step),
+        }
+    }
+
+    fn takes_by_key(&mut self, step: Step, named: Named) -> Option<bool> {
+        let key = self.key(named)?;
+        let core = &mut self.core;
         Some(match step {
-            Step::Insert(value, when) => self.inserts(value, when),
-            Step::RefuseInsert(when, error) => self.core.insert('z', when) == Err((error, 'z')),
-            Step::Reset(at, when) => self.resets(&self.entry(at)?, when),
-            Step::RefuseReset(at, when, error) => {
-                let entry = self.entry(at)?;
-                self.core.reset(&entry, when) == Err(error)
-            }
-            Step::RefuseRemove(at, error) => {
-                let entry = self.entry(at)?;
-                match self.core.remove(&entry) {
-                    Ok(_removed) => false,
-                    Err(refusal) => refusal == error,
-                }
-            }
-            Step::Extend(named, when, answer) => {
-                let key = self.key(named)?;
-                self.calls.extend_by(&mut self.core, &key, when) == answer
-            }
-            Step::Cancel(named, answer) => {
-                let key = self.key(named)?;
-                self.calls.cancel_by(&mut self.core, &key) == answer
-            }
-            Step::Look(named, answer) => {
-                let key = self.key(named)?;
-                self.calls.look_by(&mut self.core, &key) == answer
-            }
-            Step::Sweep(count) => self.core.sweep() == count,
-            Step::Clear(count) => self.core.clear() == count,
-            Step::Deadline(at, answer) => {
-                let entry = self.entry(at)?;
-                self.core.deadline(&entry) == answer
-            }
-            _ => self.polls(step)?,
+            Step::Extend(_, when, answer) => self.calls.extend_by(core, &key, when) == answer,
+            Step::Cancel(_, answer) => self.calls.cancel_by(core, &key) == answer,
+            Step::Look(_, answer) => self.calls.look_by(core, &key) == answer,
+            _ => false,
+        })
+    }
+
+    // By the name of the entry whose key was given out at that place.
+    fn takes_by_name(&mut self, step: Step, at: usize) -> Option<bool> {
+        let entry = self.given(at)?.entry();
+        Some(match step {
+            Step::Reset(_, when) => self.resets(&entry, when),
+            Step::RefuseReset(_, when, error) => self.core.reset(&entry, when) == Err(error),
+            Step::RefuseRemove(_, error) => self.refuses_remove(&entry, error),
+            Step::Deadline(_, answer) => self.core.deadline(&entry) == answer,
+            _ => false,
         })
     }
 
     fn polls(&mut self, step: Step) -> Option<bool> {
-        Some(match step {
+        match step {
             Step::Out(tick, at, value, deadline) => {
-                let key = *self.keys.get(at)?;
-                self.gives(tick, deadline) == Some((key, value))
+                let key = self.given(at)?;
+                Some(self.gives(tick, deadline) == Some((key, value)))
             }
-            Step::OutOneOf(tick, values, deadline) => match self.gives(tick, deadline) {
-                Some((_key, value)) => values.contains(&value) && self.is_new(value),
-                None => false,
-            },
+            Step::OutOneOf(tick, values, deadline) => {
+                Some(self.gives_one_of(tick, values, deadline))
+            }
+            Step::Wait(_, _) | Step::Idle(_) | Step::RefusePoll(_, _) => {
+                Some(self.gives_none(step))
+            }
+            Step::Stamps(at, _, _) | Step::Peek(at) | Step::Place(at, _, _) | Step::Filed(at, _) =>
+                self.tells_of(step, at),
+            _ => Some(self.tells(step)),
+        }
+    }
+
+    // A poll at which no entry comes out.
+    fn gives_none(&mut self, step: Step) -> bool {
+        match step {
             Step::Wait(tick, wake) =>
                 matches!(self.core.poll(tick), Ok(Turn::Waiting { next }) if next == wake),
             Step::Idle(tick) => matches!(self.core.poll(tick), Ok(Turn::Idle)),
             Step::RefusePoll(tick, error) =>
                 matches!(self.core.poll(tick), Err(refusal) if refusal == error),
-            _ => self.tells(step)?,
+            _ => false,
+        }
+    }
+
+    // What a reader tells of the entry whose key was given out at that place.
+    fn tells_of(&self, step: Step, at: usize) -> Option<bool> {
+        let key = self.given(at)?;
+        let entry = key.entry();
+        Some(match step {
+            Step::Stamps(_, stamp, born) => {
+                (key.stamp(), entry.born(), entry.shard()) == (stamp, born, 0)
+                    && (entry.index() as usize) < self.core.capacity()
+            }
+            Step::Peek(_) => self.core.peek() == Some(key),
+            Step::Place(_, level, slot) => {
+                self.core.place(&entry) == Some(Place::InSlot { level, slot })
+            }
+            Step::Filed(_, tick) => self.core.filed(&entry) == Some(tick),
+            _ => false,
         })
     }
 
     // What a reader tells.
-    fn tells(&self, step: Step) -> Option<bool> {
-        Some(match step {
-            Step::Stamps(at, stamp, born) => {
-                let (key, entry) = (*self.keys.get(at)?, self.entry(at)?);
-                (key.stamp(), entry.born(), entry.shard()) == (stamp, born, 0)
-                    && (entry.index() as usize) < self.core.capacity()
-            }
-            Step::Peek(at) => self.core.peek() == Some(*self.keys.get(at)?),
-            Step::Place(at, level, slot) => {
-                self.core.place(&self.entry(at)?) == Some(Place::InSlot { level, slot })
-            }
-            Step::Filed(at, tick) => self.core.filed(&self.entry(at)?) == Some(tick),
+    fn tells(&self, step: Step) -> bool {
+        match step {
             Step::NextWake(tick) => self.core.next_wake() == Some(tick),
             Step::Tick(tick) => self.core.tick() == tick,
             Step::Counts(linked, worn) => (self.core.len(), self.core.worn()) == (linked, worn),
             Step::Tallies(tally) => self.core.tally() == tally,
             Step::Moves(moves) => self.core.tally().moves == moves,
             _ => false,
-        })
+        }
     }
 
     fn key(&self, named: Named) -> Option<Key> {
-        Some(match named {
-            Named::Given(at) => *self.keys.get(at)?,
-            Named::OfStamp(at, stamp) => Key::new(self.entry(at)?, stamp),
-            Named::OfIndex(at, index) => {
-                let key = *self.keys.get(at)?;
-                let entry = EntryId::new(0, index, key.entry().born());
-                Key::new(entry, key.stamp())
-            }
-            Named::OfShard(at, shard) => {
-                let key = *self.keys.get(at)?;
-                let entry = EntryId::new(shard, key.entry().index(), key.entry().born());
-                Key::new(entry, key.stamp())
-            }
-        })
+        let (Named::Given(at)
+        | Named::OfStamp(at, _)
+        | Named::OfIndex(at, _)
+        | Named::OfShard(at, _)) = named;
+        let given = self.given(at)?;
+        Some(key_by(named, given))
     }
 
-    fn entry(&self, at: usize) -> Option<EntryId> {
-        Some(self.keys.get(at)?.entry())
+    fn given(&self, at: usize) -> Option<Key> {
+        self.keys.get(at).copied()
+    }
+
+    fn refuses_remove(&mut self, entry: &EntryId, error: CoreError) -> bool {
+        match self.core.remove(entry) {
+            Ok(_removed) => false,
+            Err(refusal) => refusal == error,
+        }
     }
 
     fn inserts(&mut self, value: char, when: u64) -> bool {
@@ -182,6 +217,14 @@ impl<W: Words, C: Calls<W>> Queue<W, C> {
                 Some((out.key, value))
             }
             _ => None,
+        }
+    }
+
+    // A poll at which one of those values comes out that didn't before.
+    fn gives_one_of(&mut self, tick: u64, values: &[char], deadline: u64) -> bool {
+        match self.gives(tick, deadline) {
+            Some((_key, value)) => values.contains(&value) && self.is_new(value),
+            None => false,
         }
     }
 

@@ -1,6 +1,6 @@
 //! Each worked case, over a fresh queue.
 
-use super::cases::{Case, OVER_BOTH_WORDS, OVER_PLAIN_WORDS};
+use super::cases::{Case, OVER_PLAIN_WORDS, over_both_words};
 use super::queues::{Calls, Queue, plain, shared};
 use super::same;
 use super::step::Step;
@@ -18,17 +18,26 @@ fn plays<W: Words, C: Calls<W>>(rt: &impl Abort, queue: &mut Queue<W, C>, case: 
     }
 }
 
-fn plays_over_plain<R: Abort + AllocGlobal>(rt: &R, cases: &[Case]) -> Result<(), Fail> {
+// Likewise, of a queue that goes then. That is proved once for all words, which is quicker than for each.
+fn plays_out<W: Words + Drop, C: Calls<W> + Drop>(
+    rt: &impl Abort,
+    mut queue: Queue<W, C>,
+    case: &Case,
+) {
+    plays(rt, &mut queue, case);
+}
+
+fn all_over_plain<R: Abort + AllocGlobal>(rt: &R, cases: &[Case]) -> Result<(), Fail> {
     for case in cases {
-        plays(rt, &mut plain(rt.alloc(), case.1, case.2)?, case);
+        plays_out(rt, plain(rt.alloc(), case.1, case.2)?, case);
     }
     Ok(())
 }
 
 #[test]
 fn cases_over_plain_words(rt: HostRuntime) -> Result<(), Fail> {
-    plays_over_plain(&rt, OVER_BOTH_WORDS)?;
-    plays_over_plain(&rt, OVER_PLAIN_WORDS)
+    all_over_plain(&rt, over_both_words())?;
+    all_over_plain(&rt, OVER_PLAIN_WORDS)
 }
 
 // How many cancels of a case are accepted.
@@ -58,21 +67,24 @@ fn gives_back(rt: &impl Abort, core: &mut DelayCore<char, Keeper>, caller: Calle
     );
 }
 
-fn plays_over_shared<R: Abort + AllocGlobal>(rt: &R, cases: &[Case]) -> Result<(), Fail> {
+fn plays_and_gives_back(rt: &impl Abort, mut queue: Queue<Keeper, Caller>, case: &Case) {
+    plays(rt, &mut queue, case);
+    let Queue {
+        mut core,
+        calls,
+        ..
+    } = queue;
+    gives_back(rt, &mut core, calls, case);
+}
+
+fn all_over_shared<R: Abort + AllocGlobal>(rt: &R, cases: &[Case]) -> Result<(), Fail> {
     for case in cases {
-        let mut queue = shared(rt.alloc(), case.1, case.2)?;
-        plays(rt, &mut queue, case);
-        let Queue {
-            mut core,
-            calls,
-            ..
-        } = queue;
-        gives_back(rt, &mut core, calls, case);
+        plays_and_gives_back(rt, shared(rt.alloc(), case.1, case.2)?, case);
     }
     Ok(())
 }
 
 #[test]
 fn cases_over_shared_words(rt: HostRuntime) -> Result<(), Fail> {
-    plays_over_shared(&rt, OVER_BOTH_WORDS)
+    all_over_shared(&rt, over_both_words())
 }

@@ -21,7 +21,11 @@ const STALE: CallError = CallError::Stale { seen: 2 };
 const CANCELLED: CallError = CallError::Ended { how: LookCancelled };
 
 /// Over plain words and over shared ones, where a caller makes the calls by key.
-pub const OVER_BOTH_WORDS: &[Case] = &[
+pub fn over_both_words() -> &'static [Case] {
+    OVER_BOTH_WORDS
+}
+
+const OVER_BOTH_WORDS: &[Case] = &[
     (
         "due_at_once",
         4,

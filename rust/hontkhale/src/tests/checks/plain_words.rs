@@ -17,6 +17,10 @@ fn one_word() -> Result<VecWords, CoreError> {
     Ok(words)
 }
 
+fn looks(words: &VecWords, key: &Key, answer: Result<Look, CallError>) {
+    same("look", words.look_key(key), answer);
+}
+
 // No call by a key that was never given out is taken.
 fn refuses_forged(words: &mut VecWords, forged: &Key) {
     let unknown = CallError::Unknown;
@@ -34,7 +38,7 @@ fn refuses_forged(words: &mut VecWords, forged: &Key) {
         Err(too_far),
     );
     same("cancel", words.cancel(forged), Err(unknown));
-    same("look", words.look_key(forged), Err(unknown));
+    looks(words, forged, Err(unknown));
 }
 
 // A live word is extended to the last tick, and not beyond it.
@@ -53,8 +57,7 @@ fn extends_to_the_last_tick(words: &mut VecWords) {
         words.extend(&first, 4398046511103),
         Ok(4398046511103),
     );
-    let live = Look::StillLive(4398046511103);
-    same("look", words.look_key(&first), Ok(live));
+    looks(words, &first, Ok(Look::StillLive(4398046511103)));
 }
 
 fn limits(words: &mut VecWords) {
@@ -70,25 +73,38 @@ fn plain_words_limits() -> Result<(), Fail> {
     Ok(())
 }
 
-// A settle wants the word as it stands. So the comparisons stay in this body, where they tell what the calls before
-// it answered.
+// A settle wants the word as it stands. So what an answer tells of it is matched in this body.
 #[test]
 fn plain_words_end_once() -> Result<(), Fail> {
     let mut words = VecWords::new(1)?;
     let first = key(0, 1);
     words.begin(0, 1, 10);
-    assert_eq!(words.extend(&first, 50), Ok(50));
-    assert_eq!(words.settle(0, 1, 10), Settled::Later(50));
-    assert_eq!(words.settle(0, 1, 50), Settled::SettledExpired);
+    let Ok(until) = words.extend(&first, 50) else {
+        panic!("it was live")
+    };
+    same("extend", until, 50);
+    let Settled::Later(later) = words.settle(0, 1, 10) else {
+        panic!("the extend was lost")
+    };
+    same("settle", later, 50);
+    let Settled::SettledExpired = words.settle(0, 1, 50) else {
+        panic!("it was due")
+    };
     let how = Look::LookExpired(50);
-    assert_eq!(words.look_key(&first), Ok(how));
-    assert_eq!(words.extend(&first, 60), Err(CallError::Ended { how }));
-    assert_eq!(words.cancel(&first), Err(CallError::Ended { how }));
+    let ended = Err(CallError::Ended { how });
+    looks(&words, &first, Ok(how));
+    same("extend", words.extend(&first, 60), ended);
+    same("cancel", words.cancel(&first), ended);
     words.begin(0, 2, 60);
     let stale = CallError::Stale { seen: 2 };
-    assert_eq!(words.look_key(&first), Err(stale));
-    assert_eq!(words.cancel(&first), Err(stale));
-    assert_eq!(words.cancel(&key(0, 2)), Ok(60));
-    assert_eq!(words.settle(0, 2, 60), Settled::SettledCancelled);
+    looks(&words, &first, Err(stale));
+    same("cancel", words.cancel(&first), Err(stale));
+    let Ok(given_up) = words.cancel(&key(0, 2)) else {
+        panic!("it was live")
+    };
+    same("cancel", given_up, 60);
+    let Settled::SettledCancelled = words.settle(0, 2, 60) else {
+        panic!("it was cancelled")
+    };
     Ok(())
 }

@@ -1,7 +1,7 @@
 //! Each worked case, over a fresh queue.
 
 use crate::tests::kit::Fail;
-use super::cases::{Case, OVER_BOTH_WORDS, OVER_PLAIN_WORDS};
+use super::cases::{Case, OVER_PLAIN_WORDS, over_both_words};
 use super::queues::{Calls, Queue, plain, shared};
 use super::same;
 use super::step::Step;
@@ -17,17 +17,25 @@ fn plays<W: Words, C: Calls<W>>(queue: &mut Queue<W, C>, case: &Case) {
     }
 }
 
-fn plays_over_plain(cases: &[Case]) -> Result<(), Fail> {
+// Likewise, of a queue that goes then. That is proved once for all words, which is quicker than for each.
+fn plays_out<W: Words, C: Calls<W>>(
+    mut queue: Queue<W, C>,
+    case: &Case,
+) {
+    plays(&mut queue, case);
+}
+
+fn all_over_plain(cases: &[Case]) -> Result<(), Fail> {
     for case in cases {
-        plays(&mut plain(case.1, case.2)?, case);
+        plays_out(plain(case.1, case.2)?, case);
     }
     Ok(())
 }
 
 #[test]
 fn cases_over_plain_words() -> Result<(), Fail> {
-    plays_over_plain(OVER_BOTH_WORDS)?;
-    plays_over_plain(OVER_PLAIN_WORDS)
+    all_over_plain(over_both_words())?;
+    all_over_plain(OVER_PLAIN_WORDS)
 }
 
 // How many cancels of a case are accepted.
@@ -56,21 +64,24 @@ fn gives_back(core: &mut DelayCore<char, Keeper>, caller: Caller, case: &Case) {
     );
 }
 
-fn plays_over_shared(cases: &[Case]) -> Result<(), Fail> {
+fn plays_and_gives_back(mut queue: Queue<Keeper, Caller>, case: &Case) {
+    plays(&mut queue, case);
+    let Queue {
+        mut core,
+        calls,
+        ..
+    } = queue;
+    gives_back(&mut core, calls, case);
+}
+
+fn all_over_shared(cases: &[Case]) -> Result<(), Fail> {
     for case in cases {
-        let mut queue = shared(case.1, case.2)?;
-        plays(&mut queue, case);
-        let Queue {
-            mut core,
-            calls,
-            ..
-        } = queue;
-        gives_back(&mut core, calls, case);
+        plays_and_gives_back(shared(case.1, case.2)?, case);
     }
     Ok(())
 }
 
 #[test]
 fn cases_over_shared_words() -> Result<(), Fail> {
-    plays_over_shared(OVER_BOTH_WORDS)
+    all_over_shared(over_both_words())
 }
