@@ -305,6 +305,14 @@ def gate_parts():
     return "\n".join(lines)
 
 
+def forms():
+    """What a proof of a crate took of a processor before and after it got new forms, in seconds."""
+    noted = runs.noted("forms")
+    lines = [row("Crate", "Before", "After"), "|---|--:|--:|"]
+    crates = dict.fromkeys(name for name, _ in noted)
+    return "\n".join([*lines, *(row(f"`{it}`", *(noted[it, when] for when in ("before", "after"))) for it in crates)])
+
+
 # The rows of the table of sizes: the crates of a role together.
 ROLES = {"queue": "what a user runs", "tests": "the tests' crates", "bench": "the bench's load", "example": "the examples"}
 
@@ -481,6 +489,7 @@ TABLES = {
     "life-standing": life_standing,
     "gate": gate,
     "gate-parts": gate_parts,
+    "forms": forms,
     "sizes": sizes,
     "instructions": instructions,
     "edit": edit,
