@@ -2,8 +2,8 @@
 """The gate: what the pages say, the C file's hashes, the tests of the plain Rust, `rt ci`, and the wrong bodies.
 
 The first two take seconds, and nothing else is tried where one of them fails. `test-edits` comes behind `rt ci`, if
-that passed, with a check for each processor. The tests of the plain Rust run beside the two where there are more than
-two processors, and what they said is told whole at the end. The last line counts what passed and what failed in all.
+that passed, with a check for each processor. The tests of the plain Rust run beside the two where there is more than
+one processor, and what they said is told whole at the end. The last line counts what passed and what failed in all.
 The status is that of `rt ci`, or 1 where only another part failed.
 """
 
@@ -48,11 +48,11 @@ def tell_times(name, before):
     say(f"-- {name} took {clock:.1f} minutes of the clock and {processor:.1f} of a processor")
 
 
-def shown(words):
-    """Runs a part and passes on what it says: its status, and what its last line counts."""
+def shown(words, **more):
+    """Runs a part, with more in its environment, and passes on what it says: its status, and what its last line counts."""
     say(f"== {' '.join(words)}")
     last, before = "", used()
-    with subprocess.Popen(words, stdout=subprocess.PIPE, **SAID) as ran:
+    with subprocess.Popen(words, stdout=subprocess.PIPE, env={**os.environ, **more}, **SAID) as ran:
         for line in ran.stdout:
             sys.stdout.write(line)
             sys.stdout.flush()
@@ -63,11 +63,13 @@ def shown(words):
 
 def proved():
     """Runs `rt ci`, and behind it the wrong bodies of all that it proved."""
-    parts = [shown(["rt", "ci"])]
+    processors = len(os.sched_getaffinity(0))
+    # two jobs of one proof take more of a processor than one: where there are two, other work takes the second
+    jobs = {"RT_JOBS": "2"} if processors == 2 else {}
+    parts = [shown(["rt", "ci"], **jobs)]
     if parts[0][0]:
         say("rt ci failed, so the wrong bodies were not tried")
         return parts
-    processors = len(os.sched_getaffinity(0))
     return [*parts, shown(["python3", "test-edits", "--built", "-j", str(processors)])]
 
 
@@ -108,7 +110,7 @@ def main():
         return 1
     tests = Tests() if TESTS.exists() else None
     try:
-        if tests and len(os.sched_getaffinity(0)) > 2:
+        if tests and len(os.sched_getaffinity(0)) > 1:
             tests.begin()
         parts = [*proved(), *([tests.end()] if tests else [])]
     finally:

@@ -42,6 +42,9 @@ EDITS = {
 }
 # What the files of two say of the goals that aren't proved, both wrongly: their first goal there isn't one.
 FAILS = {"take_by_way_of_a_name": "idle::Idle::take no_goal returns", "put_hands_back_with_room": "idle::Idle::put no_goal returns"}
+# A wrong body of a crate one of whose functions isn't proved as it stands, and the file of an edit that asks for both.
+LEN = ("src/idle.rt", "self.handles.len()\n", "self.most\n")
+BESIDE = f"asks: Idle::put Idle::len\nfile: src/idle.rt\nold: {PUT}\nnew: if self.handles.len() != self.most {{\n"
 
 
 def script(path, says, status):
@@ -118,7 +121,20 @@ def try_edits():
         print(f"edits: with those planted: {'; '.join(every) or 'as it has to be'}", flush=True)
         one = edits(folder, ["dq_pool/put_hands_back_with_room"], {"put_hands_back_with_room": None})
         print(f"edits: one by its name: {'; '.join(one) or 'as it has to be'}", flush=True)
-    return bool(every) + bool(one)
+        built = edits(folder, ["--built", "-j", "2"], {**its, **{it: how for it, (_, how) in EDITS.items()}})
+        print(f"edits: with those planted, as in the gate: {'; '.join(built) or 'as it has to be'}", flush=True)
+        plant_wrong_len(folder / "crates" / "dq_pool")
+        beside = edits(folder, ["--built", "dq_pool/put_beside_a_wrong_len"], {"put_beside_a_wrong_len": "REFUSED ELSEWHERE"})
+        print(f"edits: beside a function that isn't proved: {'; '.join(beside) or 'as it has to be'}", flush=True)
+    return sum(map(bool, (every, one, built, beside)))
+
+
+def plant_wrong_len(crate):
+    """A body that isn't proved, as the crate stands, and an edit that asks for that function too."""
+    path, old, new = LEN
+    text = (crate / path).read_text(encoding="utf-8")
+    (crate / path).write_text(text.replace(old, new), encoding="utf-8")
+    (crate / "edits" / "put_beside_a_wrong_len.edit").write_text(BESIDE, encoding="utf-8")
 
 
 def main():
