@@ -276,12 +276,17 @@ def life_standing():
     return "\n".join(lines)
 
 
+# The crates that a stored run has by the names of its day, by the one that they are now.
+ONCE = {"dq_queue_checks": ("dq_shard_checks", "dq_stream_checks", "dq_apps_checks", "dq_lasting_checks")}
+
+
 def gate():
     """What the crates take in the gate: each that a user runs, and the others together by their role."""
     noted, sums = runs.noted("gate"), {}
     for crate in (it for it in tree.crates() if it.role != "bench"):
         name = f"`{crate.name}`" if crate.role == "queue" else ROLES[crate.role]
-        took = [float(noted.get((crate.name, it), 0)) for it in ("proof", "again", "edits")]
+        names = (crate.name, *ONCE.get(crate.name, ()))
+        took = [sum(float(noted.get((its, it), 0)) for its in names) for it in ("proof", "again", "edits")]
         took.insert(1, len(crate.edits()))
         sums[name] = [one + other for one, other in zip(sums.get(name, (0, 0, 0, 0)), took)]
     lines = [row("Crate", "Proof, tests and programs", "Edits", "Proved again for them", "Their checks"), "|---" + "|--:" * 4 + "|"]

@@ -1,7 +1,7 @@
 //! Each allocation of a cache is refused in turn.
 
 use super::same;
-use crate::refusing::{each_refused, times};
+use crate::apps::refusing::{each_refused, times};
 use dq_apps::TtlCache;
 use dq_core::CoreError;
 use dq_ticks::LAST_STAMP;

@@ -1,7 +1,7 @@
 //! A refresh, each of whose allocations is refused in turn.
 
 use super::same;
-use crate::refusing::{each_refused, times};
+use crate::apps::refusing::{each_refused, times};
 use dq_apps::TtlCache;
 use dq_core::CoreError;
 use std::alloc::Allocator;

@@ -1,8 +1,8 @@
 //! The worked rows.
 
 use super::same;
-use crate::calls::Call::{Get, Len, Moment, NextDeadline, Purge, Put, Renew, Take};
-use crate::calls::{Letters, each_answers, plays_up_to};
+use crate::apps::calls::Call::{Get, Len, Moment, NextDeadline, Purge, Put, Renew, Take};
+use crate::apps::calls::{Letters, each_answers, plays_up_to};
 use dq_apps::TtlCache;
 use dq_core::CoreError;
 use dq_ticks::LAST_STAMP;

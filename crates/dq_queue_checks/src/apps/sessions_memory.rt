@@ -1,7 +1,7 @@
 //! Each allocation of sessions is refused in turn.
 
 use super::same;
-use crate::refusing::{each_refused, times};
+use crate::apps::refusing::{each_refused, times};
 use dq_apps::{IdleSessions, Name};
 use dq_core::{CoreError, Turn};
 use dq_shards::{QueueConfig, QueueError};

@@ -1,7 +1,7 @@
 //! A cache as a memo, whose every copy and growth is refused in turn.
 
 use super::same;
-use crate::refusing::{each_refused, times};
+use crate::apps::refusing::{each_refused, times};
 use dq_apps::{MemoAnswer, TtlCache};
 use dq_core::CoreError;
 use dq_ticks::LAST_STAMP;

@@ -1,23 +1,16 @@
-//! Tests of the expiring cache and of idle sessions: the worked rows, and refused memory. They stand in a crate of
-//! their own, so that the two are proved once.
+//! Tests of the queues that many threads share: of the locked shards and their handles, of the stream of a shard's
+//! expired entries, of the cache and the sessions over them, and of the lasting queue. They stand in a crate of their
+//! own, since a crate is proved once more with its tests, and in one, since each crate of tests costs the gate.
 #![tactic(auto)]
 
 #[cfg(test)]
-mod calls;
+mod apps;
 #[cfg(test)]
-mod memo_memory;
+mod lasting;
 #[cfg(test)]
-mod memory;
+mod shards;
 #[cfg(test)]
-mod refresh_memory;
-#[cfg(test)]
-mod refusing;
-#[cfg(test)]
-mod rows;
-#[cfg(test)]
-mod sessions;
-#[cfg(test)]
-mod sessions_memory;
+mod stream;
 
 #[cfg(test)]
 use std::fmt::{Debug, Display};

@@ -1,5 +1,0 @@
-//! Tests alone. They stand in a crate of their own, since a crate is proved once more with its tests.
-#![tactic(auto)]
-
-#[cfg(test)]
-mod tests;
