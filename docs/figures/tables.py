@@ -125,6 +125,7 @@ FIGURES = {
     "by-hand": lambda value, *_: float(value),
     "script": runs.script,
     "stored": runs.stored,
+    "gate-over": lambda file: runs.stored("gate", "whole", "processor") / runs.stored(file, "whole", "processor"),
     "edits": tree.edits,
     "lines": tree.lines,
     "lines-over-code": lambda kinds, which="queue": tree.lines(kinds, which) / tree.lines("code", "queue"),
@@ -276,27 +277,25 @@ def life_standing():
     return "\n".join(lines)
 
 
-# The crates that a stored run has by the names of its day, by the one that they are now.
-ONCE = {"dq_queue_checks": ("dq_shard_checks", "dq_stream_checks", "dq_apps_checks", "dq_lasting_checks")}
-
-
 def gate():
     """What the crates take in the gate: each that a user runs, and the others together by their role."""
     noted, sums = runs.noted("gate"), {}
     for crate in (it for it in tree.crates() if it.role != "bench"):
         name = f"`{crate.name}`" if crate.role == "queue" else ROLES[crate.role]
-        names = (crate.name, *ONCE.get(crate.name, ()))
-        took = [sum(float(noted.get((its, it), 0)) for its in names) for it in ("proof", "again", "edits")]
-        took.insert(1, len(crate.edits()))
-        sums[name] = [one + other for one, other in zip(sums.get(name, (0, 0, 0, 0)), took)]
-    lines = [row("Crate", "Proof, tests and programs", "Edits", "Proved again for them", "Their checks"), "|---" + "|--:" * 4 + "|"]
+        proof, edits = (float(noted.get((crate.name, it), 0)) for it in ("proof", "edits"))
+        took = (proof, len(crate.edits()), edits)
+        sums[name] = [one + other for one, other in zip(sums.get(name, (0, 0, 0)), took)]
+    lines = [row("Crate", "Proof, tests and programs", "Edits", "Their checks"), "|---" + "|--:" * 3 + "|"]
     told = ((name, *(f"{it:.1f}" if isinstance(it, float) and it else str(it or "") for it in its)) for name, its in sums.items())
     return "\n".join([*lines, *(row(*it) for it in told)])
 
 
 PARTS = {"rt-ci": "`rt ci`", "test-edits": "`./test-edits`", "rust-test": "`rust/test`, behind the others", "whole": "the whole gate"}
 SUMS = {"queue": "proofs and tests of what a user runs", "tests": "the tests' crates", "example": "the examples", "bench": "the bench's load",
-        "plain_rust": "cargo's tests", "all-again": "second proofs, for the edits", "all-edits": "checks with edits in them"}
+        "plain_rust": "cargo's tests", "all-edits": "checks with edits in them"}
+# What earlier runs of the gate were, by the file of each.
+RUNS = {"gate_on_two_cores": "one by one, by `rt ci`", "gate_in_pieces": "one by one, by `rt ci`, which tried few of them",
+        "gate_on_four_cores": "many in one check", "gate": "many in one check, which leaves out more"}
 
 
 def gate_parts():
@@ -307,6 +306,17 @@ def gate_parts():
     lines = [row("Part", "Clock", "Processor"), "|---|--:|--:|"]
     lines += [row(words, *(f"{float(noted[part, it]):.1f}" for it in ("clock", "processor"))) for part, words in PARTS.items() if (part, "clock") in noted]
     lines += [row(f"of it {words}", "", f"{float(noted[name, 'minutes']):.1f}") for name, words in SUMS.items() if (name, "minutes") in noted]
+    return "\n".join(lines)
+
+
+def gate_runs():
+    """What whole runs of the gate took, the first one first."""
+    lines = [row("Day", "Cores", "Wrong bodies", "How they were tried", "Clock", "Processor"), "|---|--:|--:|---|--:|--:|"]
+    for file, words in RUNS.items():
+        noted = runs.noted(file)
+        day, cores, edits = (noted.get(("whole", it), "") for it in ("day", "cores", "edits"))
+        clock, processor = (f"{float(it):.0f}" if it else "" for it in (noted.get(("whole", it)) for it in ("clock", "processor")))
+        lines.append(row(day, cores, edits, words, clock, processor))
     return "\n".join(lines)
 
 
@@ -495,6 +505,7 @@ TABLES = {
     "gate": gate,
     "gate-parts": gate_parts,
     "forms": forms,
+    "gate-runs": gate_runs,
     "sizes": sizes,
     "instructions": instructions,
     "edit": edit,
