@@ -42,9 +42,10 @@ EDITS = {
 }
 # What the files of two say of the goals that aren't proved, both wrongly: their first goal there isn't one.
 FAILS = {"take_by_way_of_a_name": "idle::Idle::take no_goal returns", "put_hands_back_with_room": "idle::Idle::put no_goal returns"}
-# A wrong body of a crate one of whose functions isn't proved as it stands, and the file of an edit that asks for both.
-LEN = ("src/idle.rt", "self.handles.len()\n", "self.most\n")
-BESIDE = f"asks: Idle::put Idle::len\nfile: src/idle.rt\nold: {PUT}\nnew: if self.handles.len() != self.most {{\n"
+# A function that isn't proved as the crate stands, and the file of an edit of it.
+LEN = ("src/idle.rt", "self.handles.len()\n", "let most = self.most; most\n")
+OF_LEN = "file: src/idle.rt\nold: let most = self.most; most\nnew: let most = self.most; most / 2\n"
+REFUSED_TOO = "test-edits: dq_pool: a right body is refused too, as idle::Idle::len_right: nothing is known of its edits"
 
 
 def script(path, says, status):
@@ -98,14 +99,14 @@ def lay_out(folder):
         (folder / "crates" / "dq_pool" / "edits" / f"{name}.edit").write_text("".join(lines), encoding="utf-8")
 
 
-def edits(folder, words, told):
-    """What went wrong where test-edits tries these: of each edit what it has to tell, and the counts."""
+def edits(folder, words, told, line="test-edits: "):
+    """What went wrong where test-edits tries these: of each edit what it has to tell, a line that it has, the counts."""
     ran = subprocess.run(["python3", "test-edits", *words], cwd=folder, **SAID)
     lost = {it: how for it, how in told.items() if how}
     last = f"{len(told) - len(lost)} passed, {len(lost)} failed"
     wrong = [f"no line tells {how} of {it}" for it, how in lost.items() if f"test-edits: {how}: dq_pool/{it}:" not in ran.stdout]
     named = [it for it, how in told.items() if not how and f": dq_pool/{it}:" in ran.stdout]
-    wrong += [f"{it} counts as failed" for it in named]
+    wrong += [f"{it} counts as failed" for it in named] + [f"no line is {line}"] * (line not in ran.stdout)
     wrong += [f"the last line doesn't count {last}"] * (not ran.stdout.rstrip().endswith(f": {last}"))
     wrong += [f"the status is {ran.returncode}"] * (ran.returncode != bool(lost))
     return wrong + ([f"it said:\n{ran.stdout}"] if wrong else [])
@@ -124,17 +125,17 @@ def try_edits():
         built = edits(folder, ["--built", "-j", "2"], {**its, **{it: how for it, (_, how) in EDITS.items()}})
         print(f"edits: with those planted, as in the gate: {'; '.join(built) or 'as it has to be'}", flush=True)
         plant_wrong_len(folder / "crates" / "dq_pool")
-        beside = edits(folder, ["--built", "dq_pool/put_beside_a_wrong_len"], {"put_beside_a_wrong_len": "REFUSED ELSEWHERE"})
-        print(f"edits: beside a function that isn't proved: {'; '.join(beside) or 'as it has to be'}", flush=True)
-    return sum(map(bool, (every, one, built, beside)))
+        too = edits(folder, ["--built", "dq_pool/len_of_half"], {"len_of_half": "NOT TRIED"}, REFUSED_TOO)
+        print(f"edits: of a function that isn't proved as it stands: {'; '.join(too) or 'as it has to be'}", flush=True)
+    return sum(map(bool, (every, one, built, too)))
 
 
 def plant_wrong_len(crate):
-    """A body that isn't proved, as the crate stands, and an edit that asks for that function too."""
+    """A body that isn't proved, as the crate stands, and an edit of it."""
     path, old, new = LEN
     text = (crate / path).read_text(encoding="utf-8")
     (crate / path).write_text(text.replace(old, new), encoding="utf-8")
-    (crate / "edits" / "put_beside_a_wrong_len.edit").write_text(BESIDE, encoding="utf-8")
+    (crate / "edits" / "len_of_half.edit").write_text(OF_LEN, encoding="utf-8")
 
 
 def main():
