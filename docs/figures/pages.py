@@ -104,6 +104,8 @@ def bad_paths(page):
 
 
 IDENTIFIER = re.compile(r"`([A-Za-z_]\w*(?:(?:::|\.)[A-Za-z_]\w*)*)`")
+# The name of a commit, which isn't one of the code.
+COMMIT = re.compile(r"(?=[a-f]*\d)[0-9a-f]{7,40}\Z")
 
 
 @functools.lru_cache(maxsize=None)
@@ -121,7 +123,7 @@ def unknown_names(text):
     """The names of the code that a page speaks of, and that no source has; nor does the page say that they are others'."""
     others = {it for listed in OTHERS.findall(text) for it in listed.split()}
     text = re.sub(r"(?ms)^```.*?^```", "", text)
-    parts = {it: re.split(r"::|\.", it) for it in IDENTIFIER.findall(text)}
+    parts = {it: re.split(r"::|\.", it) for it in IDENTIFIER.findall(text) if not COMMIT.match(it)}
     return sorted(name for name, its in parts.items() if name not in others and not set(its) <= words_of_the_code())
 
 

@@ -295,7 +295,8 @@ SUMS = {"queue": "proofs and tests of what a user runs", "tests": "the tests' cr
         "plain_rust": "cargo's tests", "all-edits": "checks with edits in them"}
 # What earlier runs of the gate were, by the file of each.
 RUNS = {"gate_on_two_cores": "one by one, by `rt ci`", "gate_in_pieces": "one by one, by `rt ci`, which tried few of them",
-        "gate_on_four_cores": "many in one check", "gate": "many in one check, which leaves out more"}
+        "gate_on_four_cores": "many in one check", "gate_with_callees": "many in one check, which looks for one goal of each",
+        "gate": "many in one check, which takes what `rt ci` proved"}
 
 
 def gate_parts():
