@@ -249,7 +249,7 @@ FAULTS = [
         "let mut shard = self.lock(place);\n"
         "        let issued",
         "let mut shard = self.lock(place);\n"
-        "        let _taken = shard.parked.take();\n"
+        "        let _taken = shard.take_parked();\n"
         "        let issued",
     ),
     (
