@@ -42,9 +42,10 @@ EDITS = {
 }
 # What the files of two say of the goals that aren't proved, both wrongly: their first goal there isn't one.
 FAILS = {"take_by_way_of_a_name": "idle::Idle::take no_goal returns", "put_hands_back_with_room": "idle::Idle::put no_goal returns"}
-# A function that isn't proved as the crate stands, and the file of an edit of it.
+# A function that isn't proved as the crate stands, the file of an edit of it, and that of one that asks for it too.
 LEN = ("src/idle.rt", "self.handles.len()\n", "let most = self.most; most\n")
 OF_LEN = "file: src/idle.rt\nold: let most = self.most; most\nnew: let most = self.most; most / 2\n"
+BESIDE = f"asks: Idle::put Idle::len\nfile: src/idle.rt\nold: {PUT}\nnew: if self.handles.len() != self.most {{\n"
 REFUSED_TOO = "test-edits: dq_pool: a right body is refused too, as idle::Idle::len_right: nothing is known of its edits"
 
 
@@ -127,15 +128,18 @@ def try_edits():
         plant_wrong_len(folder / "crates" / "dq_pool")
         too = edits(folder, ["--built", "dq_pool/len_of_half"], {"len_of_half": "NOT TRIED"}, REFUSED_TOO)
         print(f"edits: of a function that isn't proved as it stands: {'; '.join(too) or 'as it has to be'}", flush=True)
-    return sum(map(bool, (every, one, built, too)))
+        beside = edits(folder, ["--built", "dq_pool/put_beside_a_wrong_len"], {"put_beside_a_wrong_len": "REFUSED ELSEWHERE"})
+        print(f"edits: beside a function that isn't proved: {'; '.join(beside) or 'as it has to be'}", flush=True)
+    return sum(map(bool, (every, one, built, too, beside)))
 
 
 def plant_wrong_len(crate):
-    """A body that isn't proved, as the crate stands, and an edit of it."""
+    """A body that isn't proved, as the crate stands, an edit of it, and one of another function beside it."""
     path, old, new = LEN
     text = (crate / path).read_text(encoding="utf-8")
     (crate / path).write_text(text.replace(old, new), encoding="utf-8")
-    (crate / "edits" / "len_of_half.edit").write_text(OF_LEN, encoding="utf-8")
+    for name, text in (("len_of_half", OF_LEN), ("put_beside_a_wrong_len", BESIDE)):
+        (crate / "edits" / f"{name}.edit").write_text(text, encoding="utf-8")
 
 
 def main():
