@@ -1,6 +1,7 @@
 """The figures that a mark can name, and the tables that the pages have made for them."""
 
 import itertools
+import math
 import re
 import statistics
 import textwrap
@@ -104,6 +105,9 @@ FIGURES = {
     "times": runs.times,
     "least": runs.least,
     "most": runs.most,
+    "at-least": lambda *which: math.floor(runs.least(*which) * 10) / 10,
+    "whole-least": lambda *which: math.floor(runs.least(*which)),
+    "at-most": lambda *which: math.ceil(runs.most(*which) * 10) / 10,
     "longest": runs.longest,
     "longest-us": lambda *which: runs.longest(*which) / 1000,
     "lost": lost,
@@ -366,16 +370,19 @@ def instructions():
     return "\n".join(lines)
 
 
-HEAPS = ("heap-best-locked", "heap-note-locked", "heap-push-locked")
+def with_best(name, peer, entries, threads):
+    """The median of a cell, and its best run in brackets."""
+    return f"{ns_text(runs.ns(name, peer, entries, threads))} ({ns_text(runs.bench(min)[peer, name, entries, threads])})"
 
 
 def headline():
-    """An extend beside its floor and beside locked queues."""
-    peers = (("ours",), ("fetch-max",), HEAPS, ("delay-queue-locked",))
-    lines = [row("An extend, in ns", "Hontkhale", "a bare `fetch_max`", "the fastest heap in a `Mutex`", "`Mutex<DelayQueue>` of tokio_util"), "|---|--:|--:|--:|--:|"]
+    """An extend of what a reader links by default, beside its floor and beside locked queues."""
+    peers = {"`hontkhale`": "rust-checked", "the drop-in, by a handle": "adapter-handle", "a bare `fetch_max`": "fetch-max",
+             "best heap in a `Mutex`": "heap-best-locked", "lazy heap in a `Mutex`": "heap-note-locked",
+             "`Mutex<DelayQueue>` of tokio-util": "delay-queue-locked"}
+    lines = [row("An extend, in ns", *peers), "|---" + "|--:" * len(peers) + "|"]
     for threads, words in ((1, "one thread"), (4, "four threads")):
-        cells = (ns_text(min(runs.ns("callers", it, 10000, threads) for it in its)) for its in peers)
-        lines.append(row(f"{words} beside the owner's polls", *cells))
+        lines.append(row(f"{words} beside the owner's polls", *(with_best("callers", it, 10000, threads) for it in peers.values())))
     return "\n".join(lines)
 
 
