@@ -1,14 +1,11 @@
-"""The marks of a page, its links, and the numbers that no mark explains.
+"""The marks of a page, and its links.
 
 A mark is a comment that a reader of the page does not see:
 
-    24<!--=ns insert ours 10000-->      the number before it is that figure, told to as many places as it has
     <!-- table NAME --> .. <!-- end --> all between is made by the script
     <!-- from FILE: NAME -->            the fenced block below is that definition (`NAME CLAUSE`: one clause of it;
                                         `fn NAME..`: functions); with `FILE` alone it stands in the file as it is
     <!-- carried by FILE: FUNCTION -->  the contract of that function cites the statement above, or leads to it
-    <!-- as in PATH: 14 15 -->          these numbers of the page are constants that stand in files at that path
-    <!-- no figures: 1987 0.7.3 -->     these are years, versions and the like
     <!-- names of others: Stream -->    these names in code font, and files, are none of this repository
 """
 
@@ -18,26 +15,11 @@ import re
 import tree
 from tree import TOP, text_of
 
-FIGURE = re.compile(r"(\d[\d,]*(?:\.\d+)?)(x?)<!--=([^>]*)-->")
 TABLE = re.compile(r"(<!-- table ([^>]*?) -->\n).*?(<!-- end -->)", re.S)
 QUOTE = re.compile(r"(<!-- from ([^>]*?) -->\n+```[a-z]*\n)((?:(?!```).*\n)*)(```)")
 CARRIER = re.compile(r"<!-- carried by (\S+): (\w+) -->")
-AS_IN = re.compile(r"<!-- as in (\S+): ([^>]*?) -->")
-NO_FIGURES = re.compile(r"<!-- no figures: ([^>]*?) -->")
 OTHERS = re.compile(r"<!-- names of others: ([^>]*?) -->")
 LINK = re.compile(r"\[[^\]]*\]\(([^)\s]+)\)")
-NUMBER = re.compile(r"(?<![\w.])\d[\d,]*(?:\.\d+)*")
-# What needs no source: a count of a few things, told in a sentence.
-FEW = 12
-# A constant of this size is no other number by chance.
-LARGE = 1000
-
-
-def shown(value, like):
-    """A number written as the one that stands there: with as many places, and with commas where it is long or that has them."""
-    places = len(like.partition(".")[2])
-    text = f"{value:,.{places}f}"
-    return text if "," in like or value >= 10000 else text.replace(",", "")
 
 
 def slug(heading):
@@ -127,62 +109,8 @@ def unknown_names(text):
     return sorted(name for name, its in parts.items() if name not in others and not set(its) <= words_of_the_code())
 
 
-def values(text):
-    """The values of numbers as a text writes them: 65,536 and 65_536 are 65536."""
-    return {it.replace(",", "").replace("_", "").rstrip(".") for it in re.findall(r"(?<![\w.])\d[\d,_]*(?:\.\d+)*", text)}
-
-
-def plain(text):
-    """A page without what is code, made, marked or hidden."""
-    text = TABLE.sub("", QUOTE.sub("", text))
-    text = FIGURE.sub("", text)
-    text = re.sub(r"(?ms)^```.*?^```", "", text)
-    text = re.sub(r"(?m)^    .*$", "", text)
-    text = re.sub(r"<!--.*?-->", "", text, flags=re.S)
-    text = re.sub(r"`[^`\n]*`", "", text)
-    return LINK.sub(lambda it: it[0].split("](")[0], text)
-
-
 def word_count(text):
     """The words of a page beside its code, its tables and what a reader doesn't see."""
     text = re.sub(r"(?ms)^```.*?^```", "", TABLE.sub("", text))
     text = re.sub(r"<!--.*?-->", "", text, flags=re.S)
     return len(re.sub(r"(?m)^(?:\||    ).*$", "", text).split())
-
-
-def power(base, to, less):
-    return str(int(base) ** int(to) - bool(less))
-
-
-def excused(text):
-    """The numbers that a page says are no figures, and those constants that don't stand where it says."""
-    numbers, missing = set(), []
-    for listed in NO_FIGURES.findall(text):
-        numbers |= {it.replace(",", "") for it in listed.split()}
-    for path, listed in AS_IN.findall(text):
-        at = TOP / path
-        if not at.exists():
-            missing.append(f"{path}, which isn't there")
-            continue
-        sources = [at] if at.is_file() else tree.files(at, ".rt", ".antt", ".rs", ".tsv", ".md", "")
-        stand = set().union(*(values(text_of(it)) for it in sources)) if sources else set()
-        for number in listed.split():
-            if number.replace(",", "") not in stand:
-                missing.append(f"{number}, which no file at {path} has")
-        numbers |= {it.replace(",", "") for it in listed.split()}
-    return numbers, missing
-
-
-def unexplained(text):
-    """The numbers of a page that have no source: no mark, no constant of the code, no word that they are none."""
-    known = {str(it) for each in tree.constants().values() for it in each if it >= LARGE}
-    numbers, missing = excused(text)
-    text = plain(text)
-    left = re.sub(r"\b2\^(\d+)( - 1)?", lambda it: "" if power(2, it[1], it[2]) in known or power(2, it[1], "-") in known else it[0], text)
-    found = []
-    for token in NUMBER.findall(left):
-        number = token.replace(",", "").rstrip(".")
-        is_few = "." not in number and int(number) <= FEW
-        if not is_few and number not in known and number not in numbers:
-            found.append(token)
-    return found, missing

@@ -101,38 +101,10 @@ def lost_life_cells(peer, call=""):
     return sum(lives()[it] < lives()[("rust-shards", *it[1:])] for it in life_cells(peer, call))
 
 
-def peer_cells(*peers):
-    """How many cells the stored run has of some peers."""
-    return sum(it[0] in peers for it in bench())
-
-
-PACES = {"runs": 0, "fast": 1, "anew": 2, "stand": 3}
-
-
-def pace(kind, what):
-    """Of the runs of one thread or of several: how many there were, and how many stand though a processor had slowed down."""
-    line = re.search(rf"- Pace: of .* runs of {kind} threads?\b.*", text_of(RESULTS / "latest.md"))
-    if not line:
-        raise LookupError(f"results/latest.md tells no pace of {kind}")
-    return [int(it) for it in re.findall(r"\d+", line[0])][PACES[what]]
-
-
 def entry_bytes(name):
     """The bytes of an entry beside its value, as the load's stored run prints them."""
     text = text_of(TOP / "bench" / "load" / "stdout")
     return int(re.search(rf"\b{re.escape(name)} (\d+)(?:,|$)", text.splitlines()[-1])[1])
-
-
-SCRIPT_COLUMNS = {"median": 3, "best": 4, "processor": 5, "memory": 6}
-
-
-def script(lines, column):
-    """A column of the stored run of long scripts, for the script of that many lines."""
-    for row in text_of(RESULTS / "script.md").splitlines():
-        cells = [it.strip() for it in row.split("|")]
-        if len(cells) > 6 and cells[2].replace(",", "") == lines:
-            return float(cells[SCRIPT_COLUMNS[column]])
-    raise LookupError(f"results/script.md has no script of {lines} lines")
 
 
 def rows_of(name):

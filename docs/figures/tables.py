@@ -1,4 +1,4 @@
-"""The figures that a mark can name, and the tables that the pages have made for them."""
+"""The tables that the pages have made for them, of the tree and of stored runs."""
 
 import itertools
 import math
@@ -48,35 +48,6 @@ def drawn_calls(build="debug"):
     return release if build == "release" else debug
 
 
-def model_calls():
-    """Calls that are made beside the slow model in a debug build: so many to each queue."""
-    return model_queues() * drawn_calls()
-
-
-def more(row, one, other, entries):
-    """How many nanoseconds an operation one peer takes more than another."""
-    return runs.ns(row, one, entries) - runs.ns(row, other, entries)
-
-
-def behind(*which):
-    """How many times as long as a peer ours takes, at the most."""
-    return 1 / runs.least(*which)
-
-
-def lost(row, peer, ours, entries, threads=1):
-    """A ratio below 1, of a cell in which a peer is told to be the faster one."""
-    ratio = runs.times(row, peer, ours, entries, threads)
-    if ratio >= 1:
-        raise LookupError(f"{row} at {entries} is not lost to {peer} any more: {ratio:.2f}x")
-    return ratio
-
-
-def through_times(than, pace, size="65536"):
-    """How many times as long as another way of polling by name `poll_through` takes, beside such a thread."""
-    took = {it[0]: float(it[-1]) for it in runs.rows_of("fair") if it[1:3] == [f"fair-name-{pace}", size]}
-    return took["through"] / took[than]
-
-
 # Rows in which a peer pays for all that its calls leave behind.
 WHOLE = ("cancel", "poll", "mixed", "insert+poll", "reset+poll", "remove+poll", "churn", "heartbeat")
 
@@ -84,69 +55,6 @@ WHOLE = ("cancel", "poll", "mixed", "insert+poll", "reset+poll", "remove+poll", 
 def lost_cells(peer, ours, rows):
     """In how many cells of one thread a peer is the faster one."""
     return sum(runs.times(row, peer, ours, size) < 1 for row in rows for size in SIZES)
-
-
-# Figures of the tests, by the place in their code that has them.
-FROM_TESTS = {
-    "model-calls": model_calls,
-    "model-queues": model_queues,
-    "drawn-calls": drawn_calls,
-    "cache-calls": lambda: drawn_calls() // tree.found("rust/hontkhale/tests/slow/cache_calls.rs", r"calls\(\) / (\d+)")[0],
-    "plain-tests": lambda: len(tree.plain_test_names()),
-    "owned-tests": lambda: len(tree.plain_test_names([tree.OWNED])),
-    "read-faults": lambda: text_bytes(["delay 1", *table(SCRIPTS, "const THREE_NAMES")[0]]) + 1,
-    "write-faults": lambda: text_bytes(table(SCRIPTS, "const THREE_NAMES")[1]),
-    "refused-ends": lambda: len(table(REFUSED, r"fn refused_memory\b")[0]) + 2 * len(table(SCRIPTS, "const EVERY_COMMAND")[0]),
-    "racing-entries": lambda: tree.found("rust/hontkhale/src/tests/owned/checks/race.rs", r"const ENTRIES: usize = (\d+)")[0],
-}
-
-FIGURES = {
-    "ns": runs.ns,
-    "times": runs.times,
-    "least": runs.least,
-    "most": runs.most,
-    "at-least": lambda *which: math.floor(runs.least(*which) * 10) / 10,
-    "whole-least": lambda *which: math.floor(runs.least(*which)),
-    "at-most": lambda *which: math.ceil(runs.most(*which) * 10) / 10,
-    "longest": runs.longest,
-    "longest-us": lambda *which: runs.longest(*which) / 1000,
-    "lost": lost,
-    "lost-whole-cells": lambda peer, ours: lost_cells(peer, ours, WHOLE),
-    "whole-cells": lambda: len(WHOLE) * len(SIZES),
-    "more": more,
-    "behind": behind,
-    "over": lambda row, peer, other, floor, size: runs.ns(row, peer, size) / runs.ns(other, floor, size),
-    "bytes": runs.entry_bytes,
-    "shard-cells": lambda *which: len(runs.shard_cells(*which)),
-    "lost-shard-cells": runs.lost_shard_cells,
-    "life-cells": lambda *which: len(runs.life_cells(*which)),
-    "lost-life-cells": runs.lost_life_cells,
-    "peer-cells": runs.peer_cells,
-    "pace": runs.pace,
-    "pieces-least": lambda: min(pieces_sums()),
-    "pieces-most": lambda: max(pieces_sums()),
-    "through-times": through_times,
-    "by-hand": lambda value, *_: float(value),
-    "script": runs.script,
-    "stored": runs.stored,
-    "gate-over": lambda file: runs.stored("gate", "whole", "processor") / runs.stored(file, "whole", "processor"),
-    "edits": tree.edits,
-    "lines": tree.lines,
-    "lines-over-code": lambda kinds, which="queue": tree.lines(kinds, which) / tree.lines("code", "queue"),
-    "functions": tree.functions,
-    "public-functions": tree.public_functions,
-    "definitions": tree.definitions,
-    "tests": tree.tests,
-    "constant": tree.constant,
-    "in-source": lambda path, name: tree.found(path, rf"const {name}: \w+ = ([0-9_]+);")[0],
-    **FROM_TESTS,
-}
-
-
-def figure(expression):
-    """The value of a figure by the words of its mark."""
-    name, *arguments = expression.split()
-    return FIGURES[name](*arguments)
 
 
 def row(*cells):
@@ -333,6 +241,63 @@ def forms():
     return "\n".join([*lines, *(row(f"`{it}`", *(noted[it, when] for when in ("before", "after"))) for it in crates)])
 
 
+def first_answer():
+    """What a fresh clone takes until the README's script is answered."""
+    ways = {"`./delay-replay --unproved`": ("unproved", "s"), "`./delay-replay`": ("proved", "min")}
+    lines = [row("How", "Clock", "Processor"), "|---|--:|--:|"]
+    for words, (way, unit) in ways.items():
+        lines.append(row(words, *(f"{runs.stored('first_answer', way, it):.0f} {unit}" for it in ("clock", "processor"))))
+    return "\n".join(lines)
+
+
+def evidence():
+    """What stands behind the claims, in numbers."""
+    code, proofs, tests = tree.lines("code", "queue"), tree.lines("proofs+specs+contract", "queue"), tree.lines("test", "all")
+    planted = [f"{runs.stored('plant', 'all', *it.split()):,.0f}" for it in ("refused", "let through", "not judged")]
+    plain, owned = len(tree.plain_test_names()), len(tree.plain_test_names([tree.OWNED]))
+    reads = text_bytes(["delay 1", *table(SCRIPTS, "const THREE_NAMES")[0]]) + 1
+    ends = len(table(REFUSED, r"fn refused_memory\b")[0]) + 2 * len(table(SCRIPTS, "const EVERY_COMMAND")[0])
+    told = {
+        "Lines of code that a user runs, each function proved safe, total and true to its contract":
+            f"{code:,} in {tree.functions('queue'):,} functions, {tree.public_functions('queue'):,} of them public",
+        "Lines of proofs, definitions and contracts about them": f"{proofs:,}, {proofs / code:.1f} to a line of code",
+        "Definitions, which a reader has to believe in": f"{tree.definitions('queue'):,}",
+        "Lines of tests in Rattle, proved safe too": f"{tests:,} in {tree.tests('all'):,} functions",
+        "Tests in plain Rust over the erased crate that the gate runs by name": f"{plain:,}, {owned:,} of them once erased from tests in Rattle",
+        "Mutations, each named for its bug, that each gate tries and the prover refuses": f"{tree.edits('all'):,}",
+        "Bodies planted by `rt plant`": f"{planted[0]} refused, {planted[1]} let through and seen by a test, {planted[2]} not judged (the tactics met a limit)",
+        "Calls beside a slow model, every answer and count compared": f"{model_queues() * drawn_calls():,}; five times as many in a release build",
+        "Faults at each byte of a script and of its answers": f"{reads} of reading, {text_bytes(table(SCRIPTS, 'const THREE_NAMES')[1])} of writing",
+        "Places at which a refused allocation ends a run": f"{ends}",
+        "Compilers of each program": "2; what both print is compared with what is stored",
+    }
+    return "\n".join([row("What", "How many"), "|---|---|", *(row(*it) for it in told.items())])
+
+
+# The constants that a change meets: where each stands, and what rests on it.
+CONSTANTS = {
+    "LEVELS": ("crates/dq_ticks/src/lib.rt", "384 lists; an entry moves at most five times a schedule; a `u16` for a list"),
+    "SLOTS": ("crates/dq_ticks/src/lib.rt", "the same"),
+    "LAST_TICK": ("crates/dq_ticks/src/lib.rt", "seven digits; the field's 42 bits"),
+    "LAST_STAMP": ("crates/dq_ticks/src/lib.rt", "the stamp's 20 bits; `most_begins`; a script's lines"),
+    "REACH": ("crates/dq_ticks/src/lib.rt", "six levels; a later deadline is scheduled again there"),
+    "CAPACITY_LIMIT": ("crates/dq_ticks/src/lib.rt", "free slots in two bytes; links in four; `most_begins`"),
+    "HANDLE_LIMIT": ("crates/dq_words/src/keeper.rt", "the return word: below twice as many callers are told from cancels"),
+    "ONE_CANCEL": ("crates/dq_words/src/parts.rt", "more than `HANDLE_LIMIT`; times `most_begins` it is below 2^64"),
+    "LAST_LINE": ("crates/dq_replay/src/line.rt", "less than `LAST_STAMP`, so no script meets a used-up slot"),
+    "LINE_LIMIT": ("crates/dq_replay/src/line.rt", "a name of 32 bytes and a number of 20 digits"),
+}
+
+
+def constants():
+    """The constants, and what rests on each."""
+    lines = [row("Constant", "Value", "Where", "What rests on it"), "|---|--:|---|---|"]
+    for name, (path, rests) in CONSTANTS.items():
+        value = tree.found(path, rf"const {name}: \w+ = ([0-9_]+);")[0]
+        lines.append(row(f"`{name}`", f"{value:,}", f"`{path.removeprefix('crates/')}`", rests))
+    return "\n".join(lines)
+
+
 # The rows of the table of sizes: the crates of a role together.
 ROLES = {"queue": "what a user runs", "tests": "the tests' crates", "bench": "the bench's load", "example": "the examples"}
 
@@ -373,6 +338,34 @@ def instructions():
 def with_best(name, peer, entries, threads):
     """The median of a cell, and its best run in brackets."""
     return f"{ns_text(runs.ns(name, peer, entries, threads))} ({ns_text(runs.bench(min)[peer, name, entries, threads])})"
+
+
+# What a reader links, by its name in the stored run.
+PRODUCTS = {"`hontkhale`": "rust-checked", "the same without bounds checks": "rust", "the drop-in": "adapter", "the drop-in, by a handle": "adapter-handle"}
+
+
+def beside_delay_queue():
+    """How many times as fast as tokio-util's queue each product is: the least of three sizes rounded down, and the most rounded up."""
+    calls = {"insert": "insert", "reset": "reset", "remove": "remove", "poll": "poll", "extend": "extend", "cancel": "cancel, with its freeing",
+             "mixed": "idle timeouts"}
+    lines = [row("", *calls.values()), "|---" + "|--:" * len(calls) + "|"]
+    for words, ours in PRODUCTS.items():
+        ends = ((runs.least(it, "delay-queue", ours), runs.most(it, "delay-queue", ours)) for it in calls)
+        lines.append(row(words, *(f"{math.floor(least * 10) / 10:.1f} to {math.ceil(most * 10) / 10:.1f}" for least, most in ends)))
+    return "\n".join(lines)
+
+
+def losses():
+    """In how many rows the best heap in a `Mutex` is faster than the crate's shards, and the longest polls of each."""
+    heap, us = "heap-best-locked", lambda peer: f"{runs.longest('longest-cancel', 'poll', peer, '65536') / 1000:,.0f} µs"
+    lost = lambda lost, cells: f"{lost} of {len(cells)}"
+    cells = (lost(runs.lost_shard_cells(heap), runs.shard_cells(heap)), lost(runs.lost_shard_cells(heap, "extend"), runs.shard_cells(heap, "extend")),
+             lost(runs.lost_life_cells(heap), runs.life_cells(heap)))
+    lines = [row("The best heap in a `Mutex` is faster in", "its share"), "|---|--:|"]
+    lines += [row(*it) for it in zip(("calls by name", "of them extends, which take no lock", "whole lives of entries, beside the build without bounds checks"), cells)]
+    lines += ["", row("The poll that frees 65,536 cancelled entries", "takes"), "|---|--:|"]
+    polls = {"a shard's, under its lock": "ours-shards", "through the drop-in, with a handle": "adapter-handle", "the best heap's": "heap-best"}
+    return "\n".join([*lines, *(row(words, us(peer)) for words, peer in polls.items())])
 
 
 def headline():
@@ -433,12 +426,6 @@ def pieces():
             its = [found[way, f"pieces-{call}", size] for way in PIECE_WAYS]
             lines.append(row(f"{call}s", f"{int(size):,}", *(ns_text(float(it[9])) for it in its)))
     return "\n".join(lines)
-
-
-def pieces_sums():
-    """What all the pieces take beside the whole polls, over every row."""
-    sums = {(it[0], it[1], it[2]): float(it[10]) for it in pieces_rows() if it[1].startswith("pieces-") and it[3] == "poll"}
-    return [took / sums["whole", kind, size] for (way, kind, size), took in sums.items() if way in PIECE_WAYS[1:]]
 
 
 def beside():
@@ -504,6 +491,11 @@ TABLES = {
     "fair": fair,
     "renewing": renewing,
     "headline": headline,
+    "beside-delay-queue": beside_delay_queue,
+    "losses": losses,
+    "evidence": evidence,
+    "constants": constants,
+    "first-answer": first_answer,
     "speed": speed,
     "shared-speed": shared_speed,
     "longest": longest,
