@@ -8,7 +8,7 @@ use std::marker::Model;
 const HALF_UNIT: u64 = 4294967296;
 
 /// An entry: its shard, its index there, and the stamp of its birth.
-#[derive(Clone, Copy, PartialEq, Eq)]
+#[derive(Clone, Copy, PartialEq, Eq, PartialOrd, Ord, Hash)]
 pub struct EntryId {
     // Shard and index share a number, so that an id fits two registers.
     place: u64,
@@ -91,7 +91,7 @@ impl Debug for EntryId {
 
 /// A key: an entry, and the stamp at which it is meant. A reset gives the entry a new stamp, and its old keys are
 /// stale.
-#[derive(Clone, Copy, PartialEq, Eq)]
+#[derive(Clone, Copy, PartialEq, Eq, PartialOrd, Ord, Hash)]
 pub struct Key {
     // Shard and index share a number, and so do birth and stamp, so that a key fits two registers.
     place: u64,

@@ -16,7 +16,7 @@ const HALF_UNIT: u64 = 4294967296;
 /// assert_eq!(queue.get(&key.entry()), Some(&"value"));
 /// # Ok::<(), hontkhale::CoreError>(())
 /// ```
-#[derive(Clone, Copy, PartialEq, Eq)]
+#[derive(Clone, Copy, PartialEq, Eq, PartialOrd, Ord, Hash)]
 pub struct EntryId {
     // Shard and index share a number, so that an id fits two registers.
     place: u64,
@@ -82,7 +82,7 @@ impl Debug for EntryId {
 /// assert_eq!(queue.extend(&old, 20), Err(CallError::Stale { seen: new.stamp() }));
 /// # Ok::<(), hontkhale::CoreError>(())
 /// ```
-#[derive(Clone, Copy, PartialEq, Eq)]
+#[derive(Clone, Copy, PartialEq, Eq, PartialOrd, Ord, Hash)]
 pub struct Key {
     // Shard and index share a number, and so do birth and stamp, so that a key fits two registers.
     place: u64,

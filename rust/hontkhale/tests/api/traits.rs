@@ -62,3 +62,15 @@ fn what_is_shared() {
     shares::<WordsError>();
     shares::<MillisecondTicks>();
 }
+
+// A map from keys to connections, and a set in order.
+#[test]
+fn keys_stand_in_maps() -> Result<(), QueueError> {
+    let queue = SharedDelayQueue::new(QueueConfig::of(1, 2))?;
+    let keys = [queue.insert_or_drop(0, 'a', 10)?, queue.insert_or_drop(0, 'b', 5)?];
+    let connections: std::collections::HashMap<Key, &str> = keys.into_iter().zip(["ann", "bea"]).collect();
+    assert_eq!(connections.get(&keys[1]), Some(&"bea"));
+    let entries: std::collections::BTreeSet<EntryId> = keys.iter().map(Key::entry).collect();
+    assert_eq!(entries.len(), 2);
+    Ok(())
+}
