@@ -13,8 +13,11 @@
  *    atomic for it. By C11's rules any hand-over suffices that releases and acquires, as a channel's. An owner and callers,
  *    with handles of their own, need no such order.
  *  - Each pointer that is passed points to a struct that is alive and written, and no two of a call's pointers overlap.
- *  - malloc, realloc and free come from one allocator. No call is made from a signal handler, or in the child of a process
- *    with threads that forked.
+ *  - malloc, realloc and free come from one allocator. They are the only code of the program that runs inside a call: there
+ *    are no callbacks, and a value is a number that nobody drops. So they must return: none of them calls this library,
+ *    throws an exception, or leaves a call by longjmp, nor does a signal handler leave one so. A queue or a caller whose
+ *    call was left may not be used again, not even to free it.
+ *  - No call is made from a signal handler, or in the child of a process with threads that forked.
  *
  * A handle that was freed or given back is empty: each further call on it answers DQ_EMPTY, and reads nothing.
  * A call that is refused changes nothing, but that the owner may learn what callers did meanwhile.
