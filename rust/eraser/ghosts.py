@@ -71,9 +71,20 @@ def tactic(tokens, at):
 RULES = (ghost, clause, model, tactic)
 
 
+def required(tokens, at, behind):
+    """What a clause requires, as a comment of one line; none for any other clause."""
+    if tokens[at].text != "requires":
+        return None
+    opening = next(index for index in range(at, behind) if tokens[index].text == "{")
+    said = "".join(token.before + token.text for token in tokens[opening + 1:behind - 1])
+    return f"\n// requires {' '.join(said.split())}"
+
+
 def erased(tokens, rules=RULES):
     kept = []
     at = 0
+    # what a function requires, until its body begins
+    requires = []
     while at < len(tokens):
         for rule in rules:
             behind = rule(tokens, at)
@@ -81,9 +92,15 @@ def erased(tokens, rules=RULES):
                 if rule is ghost or rule is model:
                     while kept and kept[-1].kind == "doc" and kept[-1].text.startswith("///"):
                         kept.pop()
+                if rule is clause:
+                    requires.append(required(tokens, at, behind))
                 at = behind
                 break
         else:
             kept.append(tokens[at])
             at += 1
+            if requires and kept[-1].text == "{":
+                told, before = "".join(filter(None, requires)), tokens[at].before
+                tokens[at].before = told + (before if before.startswith("\n") or not told else "\n" + before)
+            requires = [] if kept[-1].text in "{;" else requires
     return kept

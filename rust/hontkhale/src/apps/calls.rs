@@ -25,6 +25,7 @@ impl<K: Eq + Hash, V, S: BuildHasher> TtlCache<K, V, S> {
     where
         K: Clone,
     {
+        // requires (k : K) → K.is_clone key k → K.eq key k ≡ true
         if now > LAST_TICK {
             return Err((CoreError::TickTooLarge { limit: LAST_TICK }, key, value));
         }

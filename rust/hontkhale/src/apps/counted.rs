@@ -72,6 +72,8 @@ impl<K: Eq + Hash, V, S: BuildHasher> CountedCache<K, V, S> {
         K: Clone,
         V: Clone,
     {
+        // requires (k : K) → K.is_clone key k → K.eq key k ≡ true
+        // requires F.pre make
         self.sees(&key, now);
         self.cache.get_or_insert_with(key, ttl, now, make)
     }

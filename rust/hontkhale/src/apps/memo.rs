@@ -25,6 +25,8 @@ where
         K: Clone,
         V: Clone,
     {
+        // requires (k : K) → K.is_clone key k → K.eq key k ≡ true
+        // requires F.pre make
         if let Some(value) = self.get(&key, now) {
             return Ok(value.clone());
         }

@@ -7,6 +7,9 @@ use core::hash::{BuildHasher, Hash};
 
 // Sets a timer of a key that is there, at its deadline.
 fn start_at<K: Eq + Hash, V, S: BuildHasher>(stock: &mut Stock<K, V, S>, timers: &mut Timers<K>, key: K) {
+    // requires IsSome (lookup (K.eq key) stock.old.entries)
+    // requires (s : Kept V) → lookup (K.eq key) stock.old.entries ≡ Some s → (timers.old.noted ≤ s.deadline) × (s.deadline ≤ LAST_TICK)
+    // requires HasRoom timers.old
     if let Some(kept) = stock.get_mut(&key) {
         kept.key = timers.start(key, kept.deadline);
     }
@@ -18,6 +21,7 @@ fn move_one<K: Eq + Hash, V, S: BuildHasher>(
     worn: &mut Timers<K>,
     fresh: &mut Timers<K>,
 ) -> bool {
+    // requires AreMoving K.eq stock.old.entries worn.old.slots fresh.old
     let Some(key) = worn.stop_due(LAST_TICK) else {
         return false;
     };
@@ -31,5 +35,6 @@ pub(crate) fn move_all<K: Eq + Hash, V, S: BuildHasher>(
     worn: &mut Timers<K>,
     fresh: &mut Timers<K>,
 ) {
+    // requires AreMoving K.eq stock.old.entries worn.old.slots fresh.old
     while move_one(stock, worn, fresh) {}
 }

@@ -63,6 +63,7 @@ where
     where
         K: Clone,
     {
+        // requires (k : K) → K.is_clone key k → K.eq key k ≡ true
         let (error, key, value) = match self.put(key, value, ttl, now) {
             Ok(old) => return Ok(old),
             Err(back) => back,

@@ -10,6 +10,8 @@ use std::collections::hash_map::Entry;
 impl<K: Eq + Hash, V, S: BuildHasher> TtlCache<K, V, S> {
     // Sets the moment.
     pub(crate) fn pass(&mut self, moment: u64) {
+        // requires self.old.moment ≤ moment
+        // requires moment ≤ LAST_TICK
         self.moment = moment;
     }
 
@@ -40,6 +42,9 @@ impl<K: Eq + Hash, V, S: BuildHasher> TtlCache<K, V, S> {
 
     // Puts a value at a key that is kept; hands it back where the slot has no stamp left.
     pub(crate) fn replace(&mut self, key: &K, value: V, when: u64) -> Result<V, V> {
+        // requires IsKept K.eq self.old key.now
+        // requires self.old.moment ≤ when
+        // requires when ≤ LAST_TICK
         let Some(kept) = self.stock.get_mut(key) else {
             unreachable!();
         };
@@ -54,6 +59,10 @@ impl<K: Eq + Hash, V, S: BuildHasher> TtlCache<K, V, S> {
     where
         K: Clone,
     {
+        // requires IsAbsent K.eq self.old key
+        // requires (k : K) → K.is_clone key k → K.eq key k ≡ true
+        // requires self.old.moment ≤ when
+        // requires when ≤ LAST_TICK
         let (linked, worn) = (self.timers.len(), self.timers.worn());
         if linked + worn == self.timers.capacity() {
             return Err((CoreError::Full { linked, worn }, key, value));

@@ -81,6 +81,8 @@ impl<K> Timers<K> {
 
     // Stops one timer that is due at `now`, and answers its key; none where none is due.
     pub(crate) fn stop_due(&mut self, now: u64) -> Option<K> {
+        // requires now ≤ LAST_TICK
+        // requires self.old.noted ≤ now
         let Ok(turn) = self.queue.poll(now) else {
             unreachable!();
         };
@@ -93,6 +95,9 @@ impl<K> Timers<K> {
 
     // Sets a timer at a free slot.
     pub(crate) fn start(&mut self, key: K, when: u64) -> Key {
+        // requires when ≤ LAST_TICK
+        // requires self.old.noted ≤ when
+        // requires HasRoom self.old
         match self.queue.insert(key, when) {
             Ok(key) => key,
             Err(_) => unreachable!(),
@@ -102,6 +107,9 @@ impl<K> Timers<K> {
     // Gives a timer another deadline, and its slot's next stamp; none where the slot has none left. A reset is
     // refused for nothing else: the timer is there, and nobody cancels it.
     pub(crate) fn restart(&mut self, key: &Key, when: u64) -> Option<Key> {
+        // requires when ≤ LAST_TICK
+        // requires self.old.noted ≤ when
+        // requires IsTimer self.old.slots key.now
         match self.queue.reset(&key.entry(), when) {
             Ok(next) => Some(next),
             Err(_) => None,
@@ -110,6 +118,7 @@ impl<K> Timers<K> {
 
     // Stops a timer.
     pub(crate) fn stop(&mut self, key: &Key) {
+        // requires IsTimer self.old.slots key.now
         match self.queue.remove(&key.entry()) {
             Ok(_) => (),
             Err(_) => unreachable!(),

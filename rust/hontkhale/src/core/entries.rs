@@ -45,6 +45,7 @@ impl<T, W: Words> DelayCore<T, W> {
 impl<T> DelayCore<T, VecWords> {
     // The live entry at a slot.
     fn entry_at(&self, slot: usize) -> Option<LiveEntry<'_, T>> {
+        // requires slot < length self.now.slots.rows
         let held = self.slots.held(slot)?;
         let word = self.words.word(slot);
         let Mark::LiveMark = word.mark else {

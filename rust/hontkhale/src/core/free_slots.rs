@@ -40,6 +40,7 @@ fn lowest_bit(word: u64) -> Option<usize> {
 // Called once a word, so it stays out of its callers' loops.
 #[inline(never)]
 fn next_word(summary: &Summary, from: usize) -> Option<usize> {
+    // requires from < 1024
     let group = from / BITS;
     if let Some(ahead) = lowest_bit(*nth(summary, group) >> (from % BITS)) {
         return Some(from + ahead);
@@ -56,6 +57,9 @@ fn next_word(summary: &Summary, from: usize) -> Option<usize> {
 // A word of bits that isn't 0: the one that gave the last index, or the next that the summary knows.
 #[inline]
 fn filled_word(bits: &[u64], summary: &Summary, last: usize) -> Option<usize> {
+    // requires last < length bits.now
+    // requires length bits.now ≤ 1024
+    // requires IsSummed bits.now summary.now
     if *nth(bits, last) != 0 {
         Some(last)
     } else {
@@ -66,6 +70,9 @@ fn filled_word(bits: &[u64], summary: &Summary, last: usize) -> Option<usize> {
 // Sets the bit of an index, and its word's in the summary where it is the word's first.
 #[inline]
 fn set_bit(bits: &mut [u64], summary: &mut Summary, index: usize) {
+    // requires index < 64 * length bits.old
+    // requires length bits.old ≤ 1024
+    // requires IsSummed bits.old summary.old
     let word = index / BITS;
     let held = *nth(bits, word);
     *nth_mut(bits, word) = held | 1 << (index % BITS);
@@ -77,6 +84,10 @@ fn set_bit(bits: &mut [u64], summary: &mut Summary, index: usize) {
 // Clears the lowest bit of a word that isn't 0, and the word's bit in the summary where it was its only one.
 #[inline]
 fn take_bit(bits: &mut [u64], summary: &mut Summary, word: usize) -> usize {
+    // requires word < length bits.old
+    // requires length bits.old ≤ 1024
+    // requires 0 < slice_index bits.old word
+    // requires IsSummed bits.old summary.old
     let held = *nth(bits, word);
     let bit = held.trailing_zeros() as usize;
     let left = held & !(1 << bit);
@@ -90,6 +101,7 @@ fn take_bit(bits: &mut [u64], summary: &mut Summary, word: usize) -> usize {
 impl FreeSlots {
     /// Room for the indexes below `capacity`, of which none is free.
     pub fn new(capacity: usize) -> Result<FreeSlots, AllocError> {
+        // requires capacity ≤ CAPACITY_LIMIT
         let recent = room_for(RECENT)?;
         let words = capacity.saturating_sub(1) / BITS + 1;
         let bits = filled(0, words)?;
@@ -105,12 +117,16 @@ impl FreeSlots {
 impl FreeSlots {
     /// Frees an index, to be given in its order.
     pub fn set(&mut self, index: usize) {
+        // requires index < room_of self.old
+        // requires free_times self.old index ≡ 0
         set_bit(self.bits.as_mut_slice(), &mut self.summary, index);
     }
 
     /// Frees an index, to be given soon.
     #[inline]
     pub fn give(&mut self, index: usize) {
+        // requires index < room_of self.old
+        // requires free_times self.old index ≡ 0
         if self.recent.len() < RECENT {
             self.recent.push(index as u16);
         } else {

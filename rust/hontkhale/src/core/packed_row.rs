@@ -26,18 +26,24 @@ impl PackedRow {
     /// The parts of a word.
     #[inline]
     pub fn get(&self, index: usize) -> Parts {
+        // requires index < length self.now
         unpack(*nth(&self.words, index))
     }
 
     /// Writes the word of parts.
     #[inline]
     pub fn set(&mut self, index: usize, parts: Parts) {
+        // requires index < length self.old
+        // requires parts.stamp ≤ LAST_STAMP
+        // requires parts.field ≤ LAST_TICK
         *nth_mut(&mut self.words, index) = pack(parts);
     }
 
     /// The deadline of a word that is live at a stamp.
     #[inline]
     pub fn live_at(&self, index: usize, stamp: u32) -> Option<u64> {
+        // requires index < length self.now
+        // requires stamp ≤ LAST_STAMP
         live_at(*nth(&self.words, index), stamp)
     }
 }

@@ -50,6 +50,7 @@ impl<T, W: Words> DelayCore<T, W> {
     // was filed at just that tick, so a look would mostly be made for nothing.
     #[inline(always)]
     fn look_then_step(&mut self, left: u32) -> (Progress<T>, u32) {
+        // requires 0 < left
         if W::FENCED && 2 <= left {
             if let Some(index) = self.wheel.first_open() {
                 if self.settle_by_look(index) {
@@ -66,6 +67,8 @@ impl<T, W: Words> DelayCore<T, W> {
     // until a step of its word ends it.
     #[inline(always)]
     fn settle_by_look(&mut self, index: usize) -> bool {
+        // requires index < length self.old.wheel.filing.filed
+        // requires filed_at self.old.wheel.filing.filed index ≡ Some self.old.wheel.filing.tick
         let word = self.words.look(index);
         let Mark::LiveMark = word.mark else {
             self.wheel.unlink(index);

@@ -33,6 +33,7 @@ pub enum PlainTurn<T> {
 
 // The index and the deadline of an entry of least deadline.
 fn soonest<T>(entries: &[Pending<T>]) -> (usize, u64) {
+    // requires 0 < length entries.now
     let mut first = 0;
     let mut deadline = entries[0].deadline;
     for (index, entry) in entries.iter().enumerate() {

@@ -54,6 +54,10 @@ fn is_config(config: &CoreConfig, rows: usize) -> bool {
 
 // The rows that a queue takes memory for: its wheel and its slots.
 fn wheel_and_slots<T>(capacity: usize, last: u32) -> Result<(Wheel, Slots<T>), AllocError> {
+    // requires 0 < capacity
+    // requires capacity ≤ CAPACITY_LIMIT
+    // requires 0 < last
+    // requires last ≤ LAST_STAMP
     let slots = Slots::new(capacity, last)?;
     match Wheel::new(capacity) {
         Ok(wheel) => Ok((wheel, slots)),
@@ -64,6 +68,8 @@ fn wheel_and_slots<T>(capacity: usize, last: u32) -> Result<(Wheel, Slots<T>), A
 // Where a deadline is filed at a tick.
 #[inline]
 pub(crate) fn filing_tick(tick: u64, deadline: u64) -> u64 {
+    // requires tick ≤ LAST_TICK
+    // requires deadline ≤ LAST_TICK
     deadline.min(tick + REACH)
 }
 
@@ -71,6 +77,8 @@ pub(crate) fn filing_tick(tick: u64, deadline: u64) -> u64 {
 // stamp, so where it is a fence it waits for these reads together with its own, and not for each behind it.
 #[inline(always)]
 fn once_near<W: Words>(wheel: &Wheel, index: usize, stamp: u32) -> u32 {
+    // requires index < length wheel.now.filing.filed
+    // requires filed_at wheel.now.filing.filed index ≢ None
     if W::FENCED {
         wheel.once_near(index, stamp)
     } else {
@@ -83,6 +91,7 @@ impl<T, W: Words> DelayCore<T, W> {
     /// [`CAPACITY_LIMIT`], the last stamp isn't 1 to [`LAST_STAMP`], or the words aren't as many as the slots, and
     /// else as NoMemory; the words come back.
     pub fn new(config: CoreConfig, words: W) -> Result<DelayCore<T, W>, (CoreError, W)> {
+        // requires AreFresh (W.known words) (W.counts words)
         let mut words = words;
         assert!(
             are_fresh(&mut words),
@@ -211,6 +220,7 @@ impl<T, W: Words> DelayCore<T, W> {
 
     // Notes a tick.
     pub(crate) fn note(&mut self, tick: u64) {
+        // requires tick ≤ LAST_TICK
         self.noted = self.noted.max(tick);
     }
 

@@ -58,6 +58,7 @@ impl<T, W: Words> FreshRows<T, W> {
     /// BadConfig where the words aren't 1 to [`CAPACITY_LIMIT`] or the last stamp isn't 1 to [`LAST_STAMP`], and else
     /// NoMemory. The words come back then.
     pub fn new(words: W, last_stamp: u32) -> Result<FreshRows<T, W>, (CoreError, W)> {
+        // requires AreFresh (W.known words) (W.counts words)
         let capacity = words.rows();
         if capacity == 0 || capacity > CAPACITY_LIMIT || last_stamp == 0 || last_stamp > LAST_STAMP {
             return Err((CoreError::BadConfig, words));
@@ -110,6 +111,7 @@ impl<T, W: Words> DelayCore<T, W> {
     /// # }
     /// ```
     pub fn renew(&mut self, shard: u32, words: W) -> Result<W, (RenewError, W)> {
+        // requires AreFresh (W.known words) (W.counts words)
         let mut words = words;
         assert!(
             are_fresh(&mut words),

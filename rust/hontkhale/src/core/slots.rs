@@ -51,6 +51,7 @@ impl<T> Cell<T> {
     // know: it keeps the read.
     #[inline(always)]
     fn once_read(&self, number: u64) -> u64 {
+        // requires self.now.stamp ≤ LAST_STAMP
         number + (self.stamp / (LAST_STAMP + 1)) as u64
     }
 
@@ -82,6 +83,7 @@ impl<T> Cell<T> {
     // Puts a value in, and answers the one that was set aside here.
     #[inline]
     fn fill(&mut self, value: T) -> Option<T> {
+        // requires self.old.stamp + 1 < 2 ^ 32
         self.stamp += 1;
         self.born = self.stamp;
         // A value without a drop is never set aside.
@@ -94,6 +96,7 @@ impl<T> Cell<T> {
 
     #[inline]
     fn vacate(&mut self) -> Held<T> {
+        // requires is_held self.old ≡ true
         let value = self.value.take().unwrap();
         let born = self.born;
         self.born = 0;
@@ -135,6 +138,7 @@ impl<T> Cell<T> {
 
     #[inline]
     fn raise(&mut self) {
+        // requires self.old.stamp + 1 < 2 ^ 32
         self.stamp += 1;
     }
 }
@@ -153,6 +157,9 @@ pub struct Slots<T> {
 impl<T> Slots<T> {
     /// A row of slots that were never used.
     pub fn new(capacity: usize, last: u32) -> Result<Slots<T>, AllocError> {
+        // requires capacity ≤ CAPACITY_LIMIT
+        // requires 0 < last
+        // requires last ≤ LAST_STAMP
         let mut cells = room_for(capacity)?;
         let mut free = FreeSlots::new(capacity)?;
         for index in 0..capacity {
@@ -223,6 +230,7 @@ impl<T> Slots<T> {
     /// The present stamp of a slot.
     #[inline]
     pub fn stamp(&self, index: usize) -> u32 {
+        // requires index < length self.now.rows
         let cell = nth(&self.cells, index);
         cell.stamp()
     }
@@ -230,6 +238,7 @@ impl<T> Slots<T> {
     /// Whether a slot holds a value.
     #[inline]
     pub fn is_held(&self, index: usize) -> bool {
+        // requires index < length self.now.rows
         let cell = nth(&self.cells, index);
         cell.is_held()
     }
@@ -237,6 +246,7 @@ impl<T> Slots<T> {
     /// The birth stamp of what a slot holds.
     #[inline]
     pub fn born(&self, index: usize) -> Option<u32> {
+        // requires index < length self.now.rows
         let cell = nth(&self.cells, index);
         cell.born()
     }
@@ -244,6 +254,7 @@ impl<T> Slots<T> {
     /// What a slot holds: its birth stamp, and a reference to the value.
     #[inline]
     pub fn held(&self, index: usize) -> Option<(u32, &T)> {
+        // requires index < length self.now.rows
         let cell = nth(&self.cells, index);
         cell.held()
     }
@@ -266,6 +277,7 @@ impl<T> Slots<T> {
     /// Takes out what a slot holds.
     #[inline]
     pub fn vacate(&mut self, index: usize) -> Held<T> {
+        // requires is_held (row_at self.old.rows index) ≡ true
         let cell = nth_mut(&mut self.cells, index);
         let held = cell.vacate();
         if cell.stamp() < self.last {
@@ -280,6 +292,7 @@ impl<T> Slots<T> {
     /// does so.
     #[inline]
     pub fn let_go(&mut self, index: usize) {
+        // requires is_held (row_at self.old.rows index) ≡ true
         if !self.aside.keeps::<T>() {
             self.vacate(index);
             return;
@@ -371,12 +384,16 @@ impl<T> Slots<T> {
     /// Gives what a slot holds its next stamp.
     #[inline]
     pub fn raise(&mut self, index: usize) {
+        // requires is_held (row_at self.old.rows index) ≡ true
+        // requires (row_at self.old.rows index).stamp < self.old.last_stamp
         let cell = nth_mut(&mut self.cells, index);
         cell.raise();
     }
 
     // Makes a slot that holds nothing as if it had never been used.
     fn forget_at(&mut self, index: usize) {
+        // requires index < length self.old.rows
+        // requires is_held (row_at self.old.rows index) ≡ false
         let cell = nth_mut(&mut self.cells, index);
         let was_worn = cell.stamp() >= self.last;
         cell.forget();
@@ -388,6 +405,7 @@ impl<T> Slots<T> {
 
     /// Makes each slot of a row that holds nothing as if it had never been used. It goes over every slot.
     pub fn forget(&mut self) {
+        // requires count_by is_held self.old.rows ≡ 0
         for index in 0..self.cells.len() {
             self.forget_at(index);
         }

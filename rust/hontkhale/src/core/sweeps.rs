@@ -21,6 +21,7 @@ fn going_on(end: usize, capacity: usize) -> Option<usize> {
 impl<T, W: Words> DelayCore<T, W> {
     // Reaps the entry at a slot where it is found cancelled.
     fn reap_at(&mut self, index: usize) -> bool {
+        // requires index < length self.old.slots.rows
         if !self.slots.is_held(index) {
             return false;
         }
@@ -82,6 +83,7 @@ impl<T, W: Words> DelayCore<T, W> {
 
     // Ends the entry at a slot: as removed where it is live, and else it is reaped.
     fn clear_at(&mut self, index: usize) -> bool {
+        // requires index < length self.old.slots.rows
         if !self.slots.is_held(index) {
             return false;
         }

@@ -31,6 +31,7 @@ impl VecWords {
     // A word.
     #[inline]
     pub(crate) fn word(&self, index: usize) -> Parts {
+        // requires index < length self.now.known
         self.row.get(index)
     }
 
@@ -65,6 +66,7 @@ impl VecWords {
 
     // Why a call by a key is refused.
     fn refusal(&self, key: &Key) -> CallError {
+        // requires ¬ IsCallable self.now.known key.now
         match self.named(key) {
             Err(refused) => refused,
             Ok(word) => CallError::Ended {

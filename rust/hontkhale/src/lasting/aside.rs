@@ -33,6 +33,7 @@ impl<T> LastingQueue<T> {
     // Drops a value that is set aside in the shard at a place, once its lock is free. False where there is none.
     #[inline(never)]
     fn drop_one_aside(&self, place: usize) -> bool {
+        // requires place < self.now.shards
         let mut shard = self.lock(place);
         let aside = shard.attended.core.take_aside();
         drop(shard);

@@ -13,6 +13,8 @@ const NOTHING: LastingTotals = LastingTotals {
 
 // The totals of some shards with those of one more.
 fn one_more(totals: LastingTotals, tally: LastingTally) -> LastingTotals {
+    // requires AllAddUp totals × TallyAddsUp tally
+    // requires FewEverInserted SHARD_LIMIT totals
     let (past, present) = (tally.past, tally.present);
     LastingTotals {
         inserted: totals.inserted + u128::from(past.inserted) + u128::from(present.inserted),

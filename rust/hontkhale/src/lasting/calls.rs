@@ -28,6 +28,7 @@ fn first_told(told: LastingError, error: LastingError) -> LastingError {
 // The place of a route's try at a turn: each place as often as any other.
 #[inline]
 fn drawn(route: u64, turn: usize, shards: usize) -> usize {
+    // requires 0 < shards
     let mixed = (route ^ (turn as u64).wrapping_add(1).wrapping_mul(DRAWS)).wrapping_mul(DRAWS);
     ((mixed >> 32) % shards as u64) as usize
 }
@@ -41,6 +42,7 @@ impl<T> LastingQueue<T> {
 
     // An insert at a place.
     fn insert_at(&self, place: usize, value: T, when: u64) -> Result<Key, (LastingError, T)> {
+        // requires place < self.now.shards
         let mut shard = self.lock(place);
         // It is dropped behind the lock, where this ends.
         let _crowded = shard.attended.core.take_crowded();
@@ -51,6 +53,7 @@ impl<T> LastingQueue<T> {
 
     // The same at each place in turn from one on, until one takes it or refuses it for more than want of room.
     fn insert_in_turn(&self, from: usize, value: T, when: u64) -> Result<Key, (LastingError, T)> {
+        // requires from < self.now.shards
         let shards = self.shards();
         let mut told = LastingError::Closed;
         let mut value = value;

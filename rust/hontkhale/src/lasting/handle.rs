@@ -85,6 +85,8 @@ impl LastingHandle {
 
     // Takes the caller of the shard at a place on, where that was renewed; tells whether it was.
     fn renew_at<T>(&mut self, queue: &LastingQueue<T>, place: usize) -> Result<bool, HandleError> {
+        // requires place < length self.old.callers
+        // requires length self.old.callers ≡ queue.now.shards
         if nth(&self.callers, place).number() == queue.number_at(place) {
             return Ok(false);
         }
@@ -127,6 +129,7 @@ impl LastingHandle {
 
 // Gives back callers, and answers the number of their accepted cancels.
 fn give_back_all(mut callers: Vec<NumberedCaller>) -> u64 {
+    // requires vec_len callers ≤ SHARD_LIMIT
     let mut cancels = 0;
     while let Some(caller) = callers.pop() {
         let given = caller.give_back();
@@ -137,6 +140,7 @@ fn give_back_all(mut callers: Vec<NumberedCaller>) -> u64 {
 
 // Why no handle is made.
 fn refused(refusal: WordsError) -> HandleError {
+    // requires refusal ≢ BadConfig
     match refusal {
         WordsError::TooManyHandles { limit } => HandleError::TooManyHandles { limit },
         WordsError::NoMemory => HandleError::NoMemory,
@@ -147,11 +151,13 @@ fn refused(refusal: WordsError) -> HandleError {
 impl<T> LastingQueue<T> {
     // The number of the shard at a place.
     pub(crate) fn number_at(&self, place: usize) -> u32 {
+        // requires place < self.now.shards
         self.lock(place).number()
     }
 
     // One caller more of the shard at a place.
     pub(crate) fn issue_at(&self, place: usize) -> Result<NumberedCaller, HandleError> {
+        // requires place < self.now.shards
         let mut shard = self.lock(place);
         let issued = shard.issue();
         match issued {

@@ -47,6 +47,7 @@ impl<T> LastingQueue<T> {
 
     // Whether the shard at a place takes entries.
     fn takes_at(&self, place: usize) -> bool {
+        // requires place < self.now.shards
         self.lock(place).takes()
     }
 
@@ -72,6 +73,7 @@ impl<T> LastingQueue<T> {
 
     // Whether the shard at a place can be opened again.
     fn is_drained_at(&self, place: usize) -> bool {
+        // requires place < self.now.shards
         self.lock(place).is_drained()
     }
 
@@ -87,6 +89,7 @@ impl<T> LastingQueue<T> {
 
     // Closes the shard at a place, where it takes entries and three quarters of its slots are worn.
     fn close_far_worn(&self, place: usize) -> bool {
+        // requires place < self.now.shards
         let mut shard = self.lock(place);
         let (is_closed, leaver) = shard.close_far_worn();
         unlock(shard, leaver);
@@ -108,6 +111,7 @@ impl<T> LastingQueue<T> {
 
     // Closes the shard at a place, where it takes entries and half of its slots are worn.
     fn close_worn(&self, place: usize) -> bool {
+        // requires place < self.now.shards
         let mut shard = self.lock(place);
         let (is_closed, leaver) = shard.close_worn();
         unlock(shard, leaver);
@@ -118,6 +122,9 @@ impl<T> LastingQueue<T> {
 impl<T> LastingQueue<T> {
     // The step beside a shard that drains, where none could be opened.
     fn drain_on(&self, place: usize) -> Result<Kept, ReopenError> {
+        // requires place < self.now.shards
+        // requires AtPlace {T = T} self.now.shards place TellsTakes false
+        // requires AtEach {T = T} self.now.shards self.now.shards TellsDrained false
         if let Some(worn) = self.close_beside() {
             return Ok(Kept::Closed { place: worn });
         }

@@ -66,6 +66,7 @@ impl<T> LastingShard<T> {
 
     // The step of one that isn't drained.
     fn drain_on(&mut self, place: usize) -> (Kept, Leaver<Option<u64>>) {
+        // requires ¬ IsDrained self.old
         if self.takes {
             return nobody(Kept::Fine);
         }
@@ -84,6 +85,7 @@ impl<T> LastingShard<T> {
 
     // The number of the next generation, and what has ended before it; none where there is no such number.
     fn next_generation(&self, by: u32) -> Option<(u32, Ended)> {
+        // requires count_by is_held self.now.core.slots.rows ≡ 0
         let number = self.attended.core.shard().checked_add(by)?;
         let tally = self.attended.core.tally();
         match with_ended(&self.past, &tally) {
@@ -106,6 +108,9 @@ impl<T> LastingShard<T> {
 
     // Goes on over other rows under the number that is higher by so much.
     fn open_over(&mut self, rows: Rows<T>, by: u32) -> (Result<(), ReopenError>, Leaver<Option<u64>>, LeftOver<T>) {
+        // requires 0 < by
+        // requires count_by is_held self.old.core.slots.rows ≡ 0
+        // requires FitsShard self.old rows
         let Some((number, past)) = self.next_generation(by) else {
             let (answer, leaver) = nobody(Err(ReopenError::NumbersSpent));
             return (answer, leaver, LeftOver::Unwanted(rows));
@@ -129,6 +134,8 @@ impl<T> LastingShard<T> {
         place: usize,
         by: u32,
     ) -> (Result<Kept, ReopenError>, Leaver<Option<u64>>, LeftOver<T>) {
+        // requires 0 < by
+        // requires FitsShard self.old rows
         if !self.is_drained() {
             let (kept, leaver) = self.drain_on(place);
             return (Ok(kept), leaver, LeftOver::Unwanted(rows));
@@ -144,6 +151,7 @@ impl<T> LastingShard<T> {
 impl<T> LastingQueue<T> {
     // The first of the two locks.
     fn begin_at(&self, place: usize) -> Begun {
+        // requires place < self.now.shards
         let shards = self.shards() as u32;
         let mut shard = self.lock(place);
         let (begun, leaver) = shard.begin(place, shards);
@@ -154,6 +162,7 @@ impl<T> LastingQueue<T> {
 
     // As `lock`. The size is compared once: no call changes it.
     fn lock_of_size(&self, place: usize, size: ShardSize) -> MutexGuard<'_, LastingShard<T>> {
+        // requires place < self.now.shards
         let shard = self.lock(place);
         let found = shard.size();
         if found.capacity != size.capacity || found.last_stamp != size.last_stamp {
@@ -164,6 +173,8 @@ impl<T> LastingQueue<T> {
 
     // The second of the two locks.
     fn end_at(&self, place: usize, size: ShardSize, rows: Rows<T>) -> Result<Kept, ReopenError> {
+        // requires place < self.now.shards
+        // requires AreFreshRows size rows
         let shards = self.shards() as u32;
         let mut shard = self.lock_of_size(place, size);
         let (answer, leaver, left) = shard.end(rows, place, shards);
@@ -177,6 +188,7 @@ impl<T> LastingQueue<T> {
 impl<T> LastingQueue<T> {
     // Opens the shard at a place again where it is drained, and else sweeps the next few slots of a closed one.
     pub(crate) fn go_on(&self, place: usize) -> Result<Kept, ReopenError> {
+        // requires place < self.now.shards
         match self.begin_at(place) {
             Begun::Answered(answer) => answer,
             Begun::Opens(size) => match fresh_rows(size) {

@@ -17,6 +17,7 @@ impl<T> LastingShard<T> {
 
     // Parks a poller, in the place of one that was parked before, which isn't woken.
     fn park(&mut self, next: Option<u64>, waker: Waker) {
+        // requires TellsWake self.old.core next
         let_sleep(self.take_parked());
         self.attended.parked = Some(Parked { next, waker });
     }
@@ -24,6 +25,7 @@ impl<T> LastingShard<T> {
     // Registers with the context and parks its task. The name stands for the shard, as a source that fires where it
     // wakes its poller.
     pub(crate) fn wait(&mut self, next: Option<u64>, cx: &mut Context<'_>) -> Poll<Result<Expired<T>, LastingError>> {
+        // requires TellsWake self.old.core next
         let Some(waker) = register(cx) else {
             return Poll::Ready(Err(LastingError::Core(CoreError::NoMemory)));
         };

@@ -101,6 +101,7 @@ impl<T> LastingQueue<T> {
     // The shard at a place, with its lock held. The number is compared once: no call makes it another place's.
     #[inline]
     pub(crate) fn lock(&self, place: usize) -> MutexGuard<'_, LastingShard<T>> {
+        // requires place < self.now.shards
         let waiting = nth(&self.waiting, place);
         let shard = waiting.taken(nth(&self.shards, place));
         if shard.number() as usize % self.shards.len() != place {

@@ -65,6 +65,7 @@ impl<T> LastingShard<T> {
 impl<T> LastingShard<T> {
     // As `reopen`.
     pub(crate) fn reopen_quietly(&mut self, by: u32) -> (Result<(), ReopenError>, Leaver<Option<u64>>) {
+        // requires 0 < by
         let linked = self.attended.core.len();
         if linked > 0 {
             return nobody(Err(ReopenError::StillLinked { linked }));

@@ -23,6 +23,8 @@ pub struct LastingShard<T> {
 
 // The entries of earlier generations with those of one of which none is linked; none where they are too many to count.
 pub(crate) fn with_ended(past: &Ended, tally: &Tally) -> Option<Ended> {
+    // requires AddsUp past.now
+    // requires tally.now.inserted ≡ tally.now.expired + tally.now.removed + tally.now.cancelled
     let inserted = past.inserted.checked_add(tally.inserted)?;
     Some(Ended {
         inserted,
@@ -224,6 +226,7 @@ impl<T> LastingShard<T> {
     /// StillLinked while an entry is linked, NumbersSpent where no such number is left, and NoMemory. Nothing changes
     /// then.
     pub fn reopen(&mut self, by: u32) -> Result<(), ReopenError> {
+        // requires 0 < by
         let (answer, leaver) = self.reopen_quietly(by);
         leaver.wake();
         answer

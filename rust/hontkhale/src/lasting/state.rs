@@ -58,6 +58,7 @@ impl<T> LastingQueue<T> {
 
     // The same of a place that is in range.
     fn state_at(&self, place: usize) -> PlaceState {
+        // requires place < self.now.shards
         self.lock(place).state()
     }
 

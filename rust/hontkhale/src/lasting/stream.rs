@@ -41,6 +41,7 @@ impl<'q, T, S> LastingStream<'q, T, S> {
 
 // Why a stream gives no entry, where a poll of its place that parks is refused.
 pub(crate) fn fault_of(error: LastingError) -> StreamFault {
+    // requires (error ≡ Core (TickTooLarge LAST_TICK)) ⊎ (error ≡ no_memory)
     match error {
         LastingError::Core(CoreError::TickTooLarge { limit }) => StreamFault::TickTooLarge { limit },
         LastingError::Core(CoreError::NoMemory) => StreamFault::NoMemory,

@@ -32,6 +32,7 @@ impl<T, N: Until> Attended<T, N> {
     /// As [`DelayCore::insert`]. Refused, nothing changes.
     #[inline(always)]
     pub fn insert(&mut self, value: T, when: u64) -> (Result<Key, (CoreError, T)>, Leaver<N>) {
+        // requires MayWait N.lasts self.old.core self.old.parked
         match self.core.insert(value, when) {
             Ok(key) => (Ok(key), keep_or_leave(&self.core, &mut self.parked)),
             Err(refused) => (Err(refused), Leaver { poller: None }),

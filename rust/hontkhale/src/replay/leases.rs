@@ -19,6 +19,7 @@ type Queue = DelayCore<Name, VecWords>;
 
 // Sweeps a queue that is full, though fewer names are live than it has slots.
 fn make_room(queue: &mut Queue) {
+    // requires length (live_of (machine queue.old).table) < length queue.old.slots.rows
     if queue.len() == queue.capacity() {
         queue.sweep();
     }
@@ -26,6 +27,9 @@ fn make_room(queue: &mut Queue) {
 
 // Links a new name where there is room.
 fn link(queue: &mut Queue, name: Name, when: u64) -> Key {
+    // requires count_by is_held queue.old.slots.rows < length queue.old.slots.rows
+    // requires (i : ℕ) → (table_at (machine queue.old) i).stamp < queue.old.slots.last_stamp
+    // requires when ≤ LAST_TICK
     match queue.insert(name, when) {
         Ok(key) => key,
         Err(_) => unreachable!(),
@@ -33,6 +37,9 @@ fn link(queue: &mut Queue, name: Name, when: u64) -> Key {
 }
 
 fn reset_at(queue: &mut Queue, key: &Key, when: u64) -> Key {
+    // requires IsSomeKey queue.old key.now
+    // requires (i : ℕ) → (table_at (machine queue.old) i).stamp < queue.old.slots.last_stamp
+    // requires when ≤ LAST_TICK
     match queue.reset(&key.entry(), when) {
         Ok(key) => key,
         Err(_) => unreachable!(),
@@ -40,6 +47,8 @@ fn reset_at(queue: &mut Queue, key: &Key, when: u64) -> Key {
 }
 
 fn extend_at(queue: &mut Queue, key: &Key, when: u64) -> u64 {
+    // requires IsSomeKey queue.old key.now
+    // requires when ≤ LAST_TICK
     match queue.extend(key, when) {
         Ok(deadline) => deadline,
         Err(_) => unreachable!(),
@@ -47,6 +56,7 @@ fn extend_at(queue: &mut Queue, key: &Key, when: u64) -> u64 {
 }
 
 fn cancel_at(queue: &mut Queue, key: &Key) -> u64 {
+    // requires IsSomeKey queue.old key.now
     match queue.cancel(key) {
         Ok(deadline) => deadline,
         Err(_) => unreachable!(),
@@ -54,6 +64,7 @@ fn cancel_at(queue: &mut Queue, key: &Key) -> u64 {
 }
 
 fn remove_at(queue: &mut Queue, key: &Key) -> u64 {
+    // requires IsSomeKey queue.old key.now
     match queue.remove(&key.entry()) {
         Ok(removed) => removed.deadline,
         Err(_) => unreachable!(),
@@ -68,6 +79,7 @@ pub enum Ending {
 }
 
 fn end_at(queue: &mut Queue, key: &Key, ending: Ending) -> u64 {
+    // requires IsSomeKey queue.old key.now
     match ending {
         Ending::Cancelled => cancel_at(queue, key),
         Ending::Removed => remove_at(queue, key),
@@ -75,6 +87,7 @@ fn end_at(queue: &mut Queue, key: &Key, ending: Ending) -> u64 {
 }
 
 fn deadline_at(queue: &mut Queue, key: &Key) -> u64 {
+    // requires IsSomeKey queue.old key.now
     match queue.deadline(&key.entry()) {
         Ok(deadline) => deadline,
         Err(_) => unreachable!(),
@@ -83,6 +96,8 @@ fn deadline_at(queue: &mut Queue, key: &Key) -> u64 {
 
 // One poll: a name that is due at `now` leaves the queue, or none is due.
 fn expire_one(queue: &mut Queue, now: u64) -> Option<Lease> {
+    // requires now ≤ LAST_TICK
+    // requires queue.old.noted ≤ now
     match queue.poll(now) {
         Ok(Turn::Out(expired)) => Some(Lease {
             name: expired.value,
@@ -120,6 +135,8 @@ pub struct Leases {
 impl Leases {
     /// No live names, and room for so many.
     pub fn new(capacity: usize) -> Result<Leases, AllocError> {
+        // requires 0 < capacity
+        // requires capacity ≤ CAPACITY_LIMIT
         let Ok(words) = VecWords::new(capacity) else {
             return Err(AllocError);
         };
@@ -159,6 +176,10 @@ impl Leases {
 
     /// Makes a new name live, and answers its deadline: the greater of what is asked and the tick.
     pub fn insert(&mut self, name: Name, when: u64) -> Result<u64, AllocError> {
+        // requires has_name name self.old.live ≡ false
+        // requires length self.old.live < self.old.capacity
+        // requires when ≤ LAST_TICK
+        // requires self.old.given < LAST_STAMP
         self.names.make_room()?;
         make_room(&mut self.queue);
         let deadline = when.max(self.queue.tick());
@@ -171,6 +192,8 @@ impl Leases {
 
     /// Gives a live name another deadline: the greater of what is asked, at most the limit, and the noted tick.
     pub fn reset(&mut self, name: &Name, when: u64, limit: u64) -> Result<u64, Refusal> {
+        // requires limit ≤ LAST_TICK
+        // requires self.old.given < LAST_STAMP
         let key = key_within(&self.names, name, when, limit)?;
         let deadline = when.max(self.queue.noted());
         let next = reset_at(&mut self.queue, &key, deadline);
@@ -181,6 +204,7 @@ impl Leases {
 
     /// Raises a live name's deadline to what is asked, at most the limit.
     pub fn extend(&mut self, name: &Name, when: u64, limit: u64) -> Result<u64, Refusal> {
+        // requires limit ≤ LAST_TICK
         let key = key_within(&self.names, name, when, limit)?;
         Ok(extend_at(&mut self.queue, &key, when))
     }
@@ -222,6 +246,8 @@ impl Leases {
 
     // One name that is due at `now` expires, or none is due.
     fn expire(&mut self, now: u64) -> Option<Lease> {
+        // requires now ≤ LAST_TICK
+        // requires self.old.noted ≤ now
         let lease = expire_one(&mut self.queue, now)?;
         self.names.remove(&lease.name);
         Some(lease)
@@ -229,6 +255,8 @@ impl Leases {
 
     /// The names that are due at `now` expire, and come in order.
     pub fn tick(&mut self, now: u64) -> Result<Vec<Lease>, AllocError> {
+        // requires now ≤ LAST_TICK
+        // requires self.old.noted ≤ now
         let mut due = Vec::new();
         while let Some(lease) = self.expire(now) {
             due.try_push(lease)?;

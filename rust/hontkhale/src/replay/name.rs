@@ -83,5 +83,6 @@ fn is_name_byte(byte: u8) -> bool {
 
 // A name's bytes as text.
 fn as_text(token: &[u8]) -> &str {
+    // requires list_all is_name_byte token.now ≡ true
     str::from_utf8(token).unwrap()
 }

@@ -31,6 +31,7 @@ impl Names {
 
     /// Gives a name a key, for which there is room or which has one.
     pub fn put(&mut self, name: Name, key: Key) {
+        // requires (0 < self.old.spare) ⊎ IsSome (found_in self.old name)
         self.keys.insert(name, key);
     }
 

@@ -46,6 +46,8 @@ fn flush<W: Write>(writer: &mut W) -> Result<(), ReplayFault> {
 }
 
 fn replay<R: Read, W: Write>(reader: &mut R, writer: &mut W, capacity: usize) -> Result<(), ReplayFault> {
+    // requires 0 < capacity
+    // requires capacity ≤ CAPACITY_LIMIT
     let mut session = Session::new(capacity)?;
     let mut line = Vec::new();
     for number in 1..LAST_LINE + 1 {
@@ -67,6 +69,8 @@ fn replay_line<R: Read, W: Write>(
     line: &mut Vec<u8>,
     number: u32,
 ) -> Result<bool, ReplayFault> {
+    // requires number ≤ LAST_LINE
+    // requires session.old.given < number
     match next_line(reader, line)? {
         LineEnd::Whole => {
             let text = answer(session, number, line)?;
@@ -82,6 +86,9 @@ fn replay_line<R: Read, W: Write>(
 
 // Does what one whole line says, and gives the text of its answer.
 fn answer(session: &mut Session, number: u32, line: &[u8]) -> Result<String, ReplayFault> {
+    // requires number ≤ LAST_LINE
+    // requires length line.now ≤ LINE_LIMIT
+    // requires session.old.given < number
     if number == 1 {
         let Some(limit) = limit_of(line) else {
             return Err(script_fault(number, FaultKind::BadHeader));

@@ -23,6 +23,8 @@ pub struct Session {
 
 impl Session {
     pub fn new(capacity: usize) -> Result<Session, AllocError> {
+        // requires 0 < capacity
+        // requires capacity ≤ CAPACITY_LIMIT
         Ok(Session {
             limit: FIRST_EDITION_LIMIT,
             leases: Leases::new(capacity)?,
@@ -31,11 +33,13 @@ impl Session {
 
     /// Sets the last tick that the script's edition knows.
     pub fn set_limit(&mut self, limit: u64) {
+        // requires limit ≤ LAST_TICK
         self.limit = limit;
     }
 
     /// Does a command, and gives the text of its answer.
     pub fn answer(&mut self, command: Command) -> Result<String, AllocError> {
+        // requires self.old.given < LAST_STAMP
         match command {
             Command::Insert { name, when } => self.insert(name, when),
             Command::Reset { name, when } => self.reset(&name, when),
@@ -50,6 +54,7 @@ impl Session {
     }
 
     fn insert(&mut self, name: Name, when: u64) -> Result<String, AllocError> {
+        // requires self.old.given < LAST_STAMP
         if self.leases.is_live(&name) {
             return refusal_text("name-taken");
         }
@@ -66,6 +71,7 @@ impl Session {
     }
 
     fn reset(&mut self, name: &Name, when: u64) -> Result<String, AllocError> {
+        // requires self.old.given < LAST_STAMP
         match self.leases.reset(name, when, self.limit) {
             Ok(deadline) => at_text(name, deadline),
             Err(Refusal::Missing) => refusal_text("missing"),

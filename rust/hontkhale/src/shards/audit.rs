@@ -14,6 +14,8 @@ const NOTHING: Totals = Totals {
 };
 
 fn sum(one: &Totals, other: &Totals) -> Totals {
+    // requires AddUp one.now × AddUp other.now
+    // requires (one.now.inserted ≤ SHARD_LIMIT * most_begins) × FewInserted other.now
     Totals {
         inserted: one.inserted + other.inserted,
         expired: one.expired + other.expired,
@@ -25,6 +27,7 @@ fn sum(one: &Totals, other: &Totals) -> Totals {
 
 // The totals of a shard's tally, where callers accepted so many cancels.
 fn totals_of(tally: &Tally, cancelled: u64) -> Totals {
+    // requires EndsAreBegun tally.now cancelled
     Totals {
         inserted: tally.inserted,
         expired: tally.expired,
@@ -49,6 +52,7 @@ impl<T> ShardState<T> {
 impl<T> SharedDelayQueue<T> {
     // The totals of one shard.
     fn audit_of(&self, shard: usize) -> Result<Totals, HandlesOut> {
+        // requires shard < self.now
         let Ok(mut shard) = self.read(shard) else {
             unreachable!()
         };

@@ -9,6 +9,7 @@ use crate::ticks::{EntryId, Key};
 // The shard of a route. A route that is a shard's number is spared the division.
 #[inline]
 fn routed_shard(route: u64, shards: u64) -> u64 {
+    // requires 0 < shards
     if route < shards {
         route
     } else {

@@ -88,6 +88,7 @@ fn cancels_of(caller: &Caller) -> u64 {
 
 // Gives back callers, and answers the number of their accepted cancels.
 fn give_back_all(mut callers: Vec<Caller>) -> u64 {
+    // requires vec_len callers ≤ SHARD_LIMIT
     let mut cancels = 0;
     while let Some(caller) = callers.pop() {
         let given = caller.give_back();
@@ -98,6 +99,7 @@ fn give_back_all(mut callers: Vec<Caller>) -> u64 {
 
 // Why no handle is made.
 fn refused(refusal: WordsError) -> QueueError {
+    // requires refusal ≢ BadConfig
     match refusal {
         WordsError::TooManyHandles { limit } => QueueError::TooManyHandles { limit },
         WordsError::NoMemory => QueueError::Core(CoreError::NoMemory),
@@ -108,6 +110,7 @@ fn refused(refusal: WordsError) -> QueueError {
 impl<T> SharedDelayQueue<T> {
     // One caller more of a shard.
     fn issue_of(&self, shard: usize) -> Result<Caller, WordsError> {
+        // requires shard < self.now
         let mut shard = self.lock(shard);
         shard.issue()
     }

@@ -84,6 +84,7 @@ impl<'q, T> LockedShard<'q, T> {
 
     /// As [`ShardState::park`].
     pub fn park(&mut self, next: u64, waker: Waker) {
+        // requires IsParked self.old.core (Some (poller next waker))
         assert!(
             matches!(self.next_wake(), Some(wake) if next <= wake),
             "a poller is parked after the next wake"

@@ -16,6 +16,7 @@ impl<T> ShardState<T> {
     /// Parks a poller until `next`, a tick of one millisecond that is not after the next wake: nobody may park where
     /// nothing is linked. It takes the place of one that was parked before, which is not woken.
     pub fn park(&mut self, next: u64, waker: Waker) {
+        // requires IsParked self.old.core (Some (poller next waker))
         assert!(
             matches!(self.next_wake(), Some(wake) if next <= wake),
             "a poller is parked after the next wake"

@@ -108,6 +108,7 @@ impl<T> SharedDelayQueue<T> {
 
     #[inline(always)]
     pub(crate) fn lock(&self, shard: usize) -> LockedShard<'_, T> {
+        // requires shard < self.now
         let waiting = nth(&self.waiting, shard);
         let locked = LockedShard {
             state: waiting.taken(nth(&self.shards, shard)),
@@ -134,6 +135,7 @@ impl<T> SharedDelayQueue<T> {
     /// clears is dropped behind the lock; but of values that wait an insert drops one where it finds no other slot
     /// for it.
     pub fn lend<O, F: FnOnce(&mut ShardState<T>) -> O>(&self, shard: usize, f: F) -> Result<O, QueueError> {
+        // requires F.IsAlwaysCallable f
         let mut locked = self.enter(shard)?;
         let answer = f(&mut locked.state);
         let aside = locked.state.aside();

@@ -7,6 +7,7 @@ use core::task::{Context, Waker};
 // Registers with the context, and parks its task at the next wake. The name stands for the shard, as a source that
 // fires where it wakes its poller.
 pub(crate) fn wait<T>(shard: &mut LockedShard<'_, T>, next: u64, cx: &mut Context<'_>) -> Result<(), StreamFault> {
+    // requires TellsWake shard.old.core (Some next)
     let slot = register(cx);
     park_with(shard, next, slot)
 }
@@ -15,6 +16,7 @@ pub(crate) fn wait<T>(shard: &mut LockedShard<'_, T>, next: u64, cx: &mut Contex
 /// parked before, which is not woken. Refused as NoMemory where the registration left none; the shard stays as it was
 /// then. A future of your own over a locked shard may use it.
 pub fn park_with<T>(shard: &mut LockedShard<'_, T>, next: u64, slot: Option<Waker>) -> Result<(), StreamFault> {
+    // requires TellsWake shard.old.core (Some next)
     let Some(waker) = slot else {
         return Err(StreamFault::NoMemory);
     };

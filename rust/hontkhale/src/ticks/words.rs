@@ -39,6 +39,7 @@ fn number_of(mark: Mark) -> u64 {
 }
 
 fn mark_at(number: u64) -> Mark {
+    // requires number < 4
     match number {
         0 => Mark::LiveMark,
         1 => Mark::CancelledMark,
@@ -50,6 +51,8 @@ fn mark_at(number: u64) -> Mark {
 /// The word of its parts: 20 bits of stamp, 2 of mark, 42 of field.
 #[inline]
 pub fn pack(parts: Parts) -> u64 {
+    // requires parts.stamp ≤ LAST_STAMP
+    // requires parts.field ≤ LAST_FIELD
     u64::from(parts.stamp) * STAMP_UNIT + number_of(parts.mark) * MARK_UNIT + parts.field
 }
 
@@ -85,6 +88,7 @@ pub fn is_live(word: u64) -> bool {
 /// are one run of numbers, in the order of their deadlines: so it takes one subtraction and one comparison.
 #[inline]
 pub fn live_at(word: u64, stamp: u32) -> Option<u64> {
+    // requires stamp ≤ LAST_STAMP
     let deadline = word.wrapping_sub(u64::from(stamp) * STAMP_UNIT);
     if deadline > LAST_FIELD {
         return None;

@@ -7,6 +7,10 @@ use crate::wheel::row::{put_last, row_at, set_moves, take_off, Row};
 /// Places each index of a list again by the new tick, and gives how many of them aren't due yet. Meanwhile the list's
 /// bit stays, and what waits in it is linked only forward.
 pub fn scatter(rows: &mut [Row], capacity: usize, maps: &mut Maps, list: usize, tick: u64) -> u64 {
+    // requires AreCircles capacity rows.old
+    // requires list < LISTS
+    // requires IsOccupied maps.old (entry_homes capacity rows.old)
+    // requires (i : ℕ) → StandsIn (entry_homes capacity rows.old) list i → CanGo tick list (slice_index (entry_filed capacity rows.old) i) (slice_index (entry_moves capacity rows.old) i)
     let mut made = 0;
     let mut index = take_off(rows, capacity, list);
     while index < capacity {

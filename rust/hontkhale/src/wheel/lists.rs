@@ -19,6 +19,9 @@ pub struct Lists {
 
 // Clears the bit of a list where its last index has left it.
 fn clear_if_empty(circles: &Circles, maps: &mut Maps, list: usize) {
+    // requires list < LISTS
+    // requires IsOccupiedBut list maps.old circles.now.homes
+    // requires bit_of maps.old list ≡ 1
     match circles.first(list) {
         Some(_) => {}
         None => clear_bit(maps, list),
@@ -28,6 +31,7 @@ fn clear_if_empty(circles: &Circles, maps: &mut Maps, list: usize) {
 impl Lists {
     /// No index stands in a list.
     pub fn new(capacity: usize) -> Result<Lists, AllocError> {
+        // requires capacity ≤ CAPACITY_LIMIT
         let circles = Circles::new(capacity)?;
         Ok(Lists {
             circles,
@@ -42,21 +46,25 @@ impl Lists {
 
     /// The list of an index, and one more, or 0.
     pub fn home(&self, index: usize) -> u16 {
+        // requires index < length self.now.homes
         self.circles.home(index)
     }
 
     /// The number that says where an index is filed.
     pub fn filed(&self, index: usize) -> u64 {
+        // requires index < length self.now.homes
         self.circles.filed(index)
     }
 
     /// How often an index moved.
     pub fn moves(&self, index: usize) -> u8 {
+        // requires index < length self.now.homes
         self.circles.moves(index)
     }
 
     /// The first index of a list.
     pub fn first(&self, list: usize) -> Option<usize> {
+        // requires list < LISTS
         match self.circles.first(list) {
             Some(first) => Some(first),
             None => None,
@@ -66,6 +74,7 @@ impl Lists {
     /// The first index of a list while a slot is open, or none, which tells nothing.
     #[inline]
     pub fn first_open(&self, list: usize) -> Option<usize> {
+        // requires list < LISTS
         match self.circles.first_open(list) {
             Some(first) => Some(first),
             None => None,
@@ -74,11 +83,14 @@ impl Lists {
 
     /// An index of a list that is filed least there.
     pub fn least_in(&self, list: usize) -> Option<usize> {
+        // requires list < LISTS
         self.circles.least_in(list)
     }
 
     /// The occupancy map of a level, in which a list shows as empty.
     pub fn map_without(&self, level: usize, list: usize) -> u64 {
+        // requires level < LEVELS
+        // requires list < LISTS
         let mut maps = self.maps;
         clear_bit(&mut maps, list);
         *nth(&maps, level)
@@ -86,6 +98,7 @@ impl Lists {
 
     /// The filled list of the lowest level that has one, there the first after the own one.
     pub fn first_filled(&self, own: usize) -> Option<usize> {
+        // requires own < 64
         match first_list(&self.maps, own) {
             Some(list) => Some(list),
             None => None,
@@ -94,6 +107,8 @@ impl Lists {
 
     /// Puts a loose index at the end of a list, filed at a tick.
     pub fn link(&mut self, index: usize, list: usize, filed: u64) {
+        // requires IsLoose self.old.homes index
+        // requires TakesMore self.old.opened list
         self.circles.link(index, list, filed);
         set_bit(&mut self.maps, list);
     }
@@ -101,11 +116,15 @@ impl Lists {
     /// The number, once the rows were read that an unlink of the index writes.
     #[inline]
     pub fn once_near(&self, index: usize, number: u32) -> u32 {
+        // requires index < length self.now.homes
+        // requires 0 < slice_index self.now.homes index
         self.circles.once_near(index, number)
     }
 
     /// Takes an index out of its list.
     pub fn unlink(&mut self, index: usize) {
+        // requires index < length self.old.homes
+        // requires 0 < slice_index self.old.homes index
         let list = self.circles.home(index) as usize - 1;
         self.circles.unlink(index);
         clear_if_empty(&self.circles, &mut self.maps, list);
@@ -113,6 +132,7 @@ impl Lists {
 
     /// Takes the first index out of a list.
     pub fn take_first(&mut self, list: usize) -> Option<usize> {
+        // requires list < LISTS
         let first = self.circles.first(list)?;
         self.circles.unlink_first(list, first);
         clear_if_empty(&self.circles, &mut self.maps, list);
@@ -121,6 +141,7 @@ impl Lists {
 
     /// The number, once what lies beside the indexes of a list was read, where they are many, and due next: of level 1.
     pub fn once_read<B: Beside>(&self, list: usize, beside: &B, number: u64) -> u64 {
+        // requires list < LISTS
         if list >= 2 * SLOTS || self.circles.capacity() <= CACHED {
             return number;
         }
@@ -129,6 +150,9 @@ impl Lists {
 
     /// Opens a list: each of its indexes is placed again by the new tick. Gives how many of them aren't due yet.
     pub fn open(&mut self, list: usize, tick: u64) -> u64 {
+        // requires list < LISTS
+        // requires IsListEmpty self.old.homes 0
+        // requires (i : ℕ) → StandsIn self.old.homes list i → CanGo tick list (slice_index self.old.filed i) (slice_index self.old.moves i)
         self.circles.close();
         self.circles.open(&mut self.maps, list, tick)
     }
@@ -136,6 +160,10 @@ impl Lists {
     /// Opens a list as it is: its circle hangs on the head of list 0, where none stands. From now on its indexes are seen
     /// there, filed at the tick.
     pub fn hang(&mut self, list: usize, tick: u64) {
+        // requires list < LISTS
+        // requires 0 < list
+        // requires IsListEmpty self.old.homes 0
+        // requires IsListFilled self.old.homes list
         self.circles.close();
         self.circles.hang(list, tick);
         set_bit(&mut self.maps, 0);
@@ -144,6 +172,7 @@ impl Lists {
 
     /// Ends the opening, once all of its indexes have left. Nothing is seen to change.
     pub fn close(&mut self) {
+        // requires IsListEmpty self.old.homes 0
         self.circles.close();
     }
 }

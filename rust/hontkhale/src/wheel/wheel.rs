@@ -69,6 +69,8 @@ fn filed_of(number: u64) -> Option<u64> {
 
 // The place that a home stands for.
 fn place_of(tick: u64, home: u16) -> Place {
+    // requires tick ≤ LAST_TICK
+    // requires home ≤ LISTS
     if home == 0 {
         return Place::Loose;
     }
@@ -110,21 +112,25 @@ impl Wheel {
 
     /// The tick at which an index is filed, if it is linked.
     pub fn filed(&self, index: usize) -> Option<u64> {
+        // requires index < length self.now.filing.filed
         filed_of(self.lists.filed(index))
     }
 
     /// The place of an index.
     pub fn place(&self, index: usize) -> Place {
+        // requires index < length self.now.filing.filed
         place_of(self.tick, self.lists.home(index))
     }
 
     /// The occupancy map of a level: bit k is 1 exactly where its slot k isn't empty.
     pub fn occupancy(&self, level: usize) -> u64 {
+        // requires level < LEVELS
         self.lists.map_without(level, due_list(self.tick))
     }
 
     /// How often an index went from a level to a lower one since it was linked.
     pub fn moves(&self, index: usize) -> u8 {
+        // requires index < length self.now.filing.filed
         self.lists.moves(index)
     }
 
@@ -167,6 +173,11 @@ impl Wheel {
     ///
     /// [`REACH`]: crate::REACH
     pub fn link(&mut self, index: usize, filed: u64) {
+        // requires index < length self.old.filing.filed
+        // requires filed_at self.old.filing.filed index ≡ None
+        // requires self.old.filing.tick ≤ filed
+        // requires filed ≤ LAST_TICK
+        // requires filed ≤ self.old.filing.tick + REACH
         let list = list_of(self.tick, filed);
         self.lists.link(index, list, filed);
     }
@@ -175,11 +186,15 @@ impl Wheel {
     /// which is a fence, these reads go out before it, together with those of the step: after it each would wait alone.
     #[inline]
     pub fn once_near(&self, index: usize, number: u32) -> u32 {
+        // requires index < length self.now.filing.filed
+        // requires filed_at self.now.filing.filed index ≢ None
         self.lists.once_near(index, number)
     }
 
     /// Takes a linked index out, wherever it stands.
     pub fn unlink(&mut self, index: usize) {
+        // requires index < length self.old.filing.filed
+        // requires filed_at self.old.filing.filed index ≢ None
         self.lists.unlink(index);
     }
 
@@ -192,12 +207,18 @@ impl Wheel {
     /// Goes on to the next wake, but not past the limit, once nothing is due. True where the wake was reached: its list
     /// is opened, and each of its indexes goes down to a lower level or is due. A way to a lower level is a move.
     pub fn advance(&mut self, limit: u64) -> bool {
+        // requires NoneFiledAt self.old.filing.filed self.old.filing.tick
+        // requires self.old.filing.tick ≤ limit
+        // requires limit ≤ LAST_TICK
         self.advance_reading(limit, &Nothing)
     }
 
     /// Goes on as [`Self::advance`] does. Where it opens a list of level 1 in a large wheel it reads what lies beside its
     /// indexes, so that whoever takes them off soon doesn't wait for memory.
     pub fn advance_reading<B: Beside>(&mut self, limit: u64, beside: &B) -> bool {
+        // requires NoneFiledAt self.old.filing.filed self.old.filing.tick
+        // requires self.old.filing.tick ≤ limit
+        // requires limit ≤ LAST_TICK
         let own = digit(self.tick, LEVELS - 1) as usize;
         let Some(list) = self.lists.first_filled(own) else {
             self.tick = limit;
@@ -225,6 +246,9 @@ impl Wheel {
     /// Goes on as [`Self::advance`] does, in constant time. Where the wake was reached each index of its slot counts from
     /// now on as filed at that tick, so it is due, and none is moved.
     pub fn arrive(&mut self, limit: u64) -> bool {
+        // requires NoneFiledAt self.old.filing.filed self.old.filing.tick
+        // requires self.old.filing.tick ≤ limit
+        // requires limit ≤ LAST_TICK
         let own = digit(self.tick, LEVELS - 1) as usize;
         let Some(list) = self.lists.first_filled(own) else {
             self.lists.close();

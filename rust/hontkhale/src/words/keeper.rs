@@ -104,23 +104,40 @@ impl Words for Keeper {
     }
 
     fn begin(&mut self, index: usize, stamp: u32, when: u64) {
+        // requires index < length (known_of self.old)
+        // requires IsOver (known_word self.old index)
+        // requires stamp ≡ (known_word self.old index).stamp + 1
+        // requires stamp ≤ LAST_STAMP
+        // requires when ≤ LAST_TICK
         self.seat.begin(index, live_word(stamp, when));
     }
 
     #[inline]
     fn look(&mut self, index: usize) -> Parts {
+        // requires index < length (known_of self.old)
         unpack(self.seat.keeper_load(index))
     }
 
     fn settle(&mut self, index: usize, stamp: u32, at: u64) -> Settled {
+        // requires index < length (known_of self.old)
+        // requires IsInForce stamp at (known_word self.old index)
+        // requires stamp ≤ LAST_STAMP
+        // requires at ≤ LAST_TICK
         tries::settle(&mut self.seat, index, stamp, at)
     }
 
     fn renew(&mut self, index: usize, stamp: u32, when: u64) -> Option<u64> {
+        // requires index < length (known_of self.old)
+        // requires IsInForce stamp 0 (known_word self.old index)
+        // requires stamp < LAST_STAMP
+        // requires when ≤ LAST_TICK
         tries::renew(&mut self.seat, index, stamp, when)
     }
 
     fn finish(&mut self, index: usize, stamp: u32) -> Option<u64> {
+        // requires index < length (known_of self.old)
+        // requires IsInForce stamp 0 (known_word self.old index)
+        // requires stamp ≤ LAST_STAMP
         tries::finish(&mut self.seat, index, stamp)
     }
 }

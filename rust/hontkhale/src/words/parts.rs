@@ -6,6 +6,8 @@ use crate::ticks::{pack, Mark, Parts};
 pub(crate) const ONE_CANCEL: u64 = 2048;
 
 pub(crate) fn live_word(stamp: u32, field: u64) -> u64 {
+    // requires stamp ≤ LAST_STAMP
+    // requires field ≤ LAST_TICK
     pack(Parts {
         stamp,
         mark: Mark::LiveMark,
@@ -14,6 +16,7 @@ pub(crate) fn live_word(stamp: u32, field: u64) -> u64 {
 }
 
 pub(crate) fn cancelled_word(stamp: u32) -> u64 {
+    // requires stamp ≤ LAST_STAMP
     pack(Parts {
         stamp,
         mark: Mark::CancelledMark,
@@ -22,6 +25,8 @@ pub(crate) fn cancelled_word(stamp: u32) -> u64 {
 }
 
 pub(crate) fn expired_word(stamp: u32, field: u64) -> u64 {
+    // requires stamp ≤ LAST_STAMP
+    // requires field ≤ LAST_TICK
     pack(Parts {
         stamp,
         mark: Mark::ExpiredMark,
@@ -30,6 +35,8 @@ pub(crate) fn expired_word(stamp: u32, field: u64) -> u64 {
 }
 
 pub(crate) fn removed_word(stamp: u32, field: u64) -> u64 {
+    // requires stamp ≤ LAST_STAMP
+    // requires field ≤ LAST_TICK
     pack(Parts {
         stamp,
         mark: Mark::RemovedMark,

@@ -8,6 +8,11 @@ use crate::words::seated::Seated;
 
 // Ends the word that is live at exactly `at` by one try: a word that isn't is live at a later deadline or cancelled.
 pub(crate) fn settle(seat: &mut Seated, index: usize, stamp: u32, at: u64) -> Settled {
+    // requires index < length seat.old.view.seen
+    // requires seat.old.view.keeps ≡ true
+    // requires IsOpenFrom (slice_index seat.old.view.seen index) stamp at
+    // requires stamp ≤ LAST_STAMP
+    // requires at ≤ LAST_TICK
     let old = live_word(stamp, at);
     let found = seat.settle(index, old, expired_word(stamp, at));
     if found == old {
@@ -21,6 +26,11 @@ pub(crate) fn settle(seat: &mut Seated, index: usize, stamp: u32, at: u64) -> Se
 
 // Each try that fails shows a greater word.
 pub(crate) fn renew(seat: &mut Seated, index: usize, stamp: u32, when: u64) -> Option<u64> {
+    // requires index < length seat.old.view.seen
+    // requires seat.old.view.keeps ≡ true
+    // requires IsOpen (slice_index seat.old.view.seen index) stamp
+    // requires stamp < LAST_STAMP
+    // requires when ≤ LAST_TICK
     let new = live_word(stamp + 1, when);
     let mut seen = seat.keeper_load(index);
     while is_live(seen) {
@@ -35,6 +45,10 @@ pub(crate) fn renew(seat: &mut Seated, index: usize, stamp: u32, when: u64) -> O
 
 // Each try that fails shows a greater word.
 pub(crate) fn finish(seat: &mut Seated, index: usize, stamp: u32) -> Option<u64> {
+    // requires index < length seat.old.view.seen
+    // requires seat.old.view.keeps ≡ true
+    // requires IsOpen (slice_index seat.old.view.seen index) stamp
+    // requires stamp ≤ LAST_STAMP
     let mut seen = seat.keeper_load(index);
     while is_live(seen) {
         let deadline = field(seen);
