@@ -1,11 +1,13 @@
 -- Each given stamp, and each inserted entry, ends exactly once or is still queued.
 use Rattle.std.proofs.Common.{◌≡◌, ◌≢◌, ℕ, suc, ◌+◌, ◌<◌, ◌≤◌, eqb, ◌&&◌, if◌then◌else◌, Bool, true, false, List, [], ◌∷◌, length, get_or, sym, refl, ap, ◌∙◌, subst, inl, inr, ⊎_elim, eq-eqb, ne_eqb, arith}
 use Rattle.dq_ticks.specs.Word.{word, stamp_of, mark_of}
-use Rattle.dq_words.specs.Word.{Left}
+use Rattle.dq_words.specs.Keeping.{IsEnded}
+use Rattle.dq_words.specs.Word.{Left, LearnedWord}
 use Rattle.dq_words.specs.Files.{File, file, blank, IsIn, IsDeadline}
 use Rattle.dq_words.specs.Rule.{UnbornStamp, LivingStamp, CancelledStamp, EndedStamp, Law}
-use Rattle.dq_words.specs.Endings.{lives_at, closed_in, StampsEndOnce, OthersAreBlank, EndsAreInForce}
+use Rattle.dq_words.specs.Endings.{lives_at, closed_in, StampsEndOnce, OthersAreBlank, EndsAreInForce, EndedWordsStay}
 use Rattle.dq_words.proofs.Advances.{by_order}
+use Rattle.dq_words.proofs.Keepings.{Grown}
 use Rattle.dq_words.proofs.Steps.{law_beyond}
 
 lives_here : (n s : ℕ) → mark_of n ≡ 0 → stamp_of n ≡ s → lives_at n s ≡ 1
@@ -78,3 +80,16 @@ ends rows t r i s = by_order rows i _
     (λ inside. by_order 1 s _ (λ pos. in_force (get_or t.words i 0) s (file i s t.views) (r.kept.cells i s inside pos)) (λ zeroth. nothing (r.kept.outside i s (inr (omega arith))))) where
       nothing : file i s t.views ≡ blank → ((e : ℕ × ℕ) → IsIn (file i s t.views).ends e → IsDeadline (file i s t.views) e.1) × ((d : ℕ) → IsIn (file i s t.views).cancels d → IsDeadline (file i s t.views) d)
       nothing e = ((λ x h. absurd (none_of (file i s t.views).ends x (ap (λ (g : File). g.ends) e) h)), λ d h. absurd (none_of (file i s t.views).cancels d (ap (λ (g : File). g.cancels) e) h))
+
+-- a word that was seen ended is still ended
+still_ended : (x n : ℕ) → LearnedWord x n → IsEnded x → IsEnded n
+still_ended x n h over = ⊎_elim
+    (λ (e : n ≡ x). let P : ℕ → Type 0 = λ y. IsEnded y in subst P (sym e) over)
+    (λ (l : Grown x n). let a = l.2 in let b = l.3 in let c = l.4 in absurd (over (omega arith) (omega arith)))
+    h
+
+pub ended_stay : EndedWordsStay
+ended_stay rows t r v is none i inside =
+    let seen = r.kept.sees 0 v is in
+    let row = seen.row in
+    still_ended (get_or v.seen i 0) (get_or t.words i 0) (seen.learns seen.role.0 i inside) (none i (omega arith))

@@ -2,11 +2,14 @@
 use Rattle.std.specs.Prelude.{◌≡◌, ◌⊎◌, ℕ, zero, suc, ◌+◌, ◌<◌, ◌≤◌, ◌==◌, ◌&&◌, nat_le}
 use Rattle.std.specs.Prelude.{if◌then◌else◌, List, [], ◌∷◌, length, slice_index}
 use Rattle.atomic_table.specs.Table.{State}
+use mathlib.Core.Option.{some}
+use lib.ListN.{get_elem?}
 use Rattle.dq_ticks.specs.Word.{stamp_of, mark_of}
 use Rattle.dq_words.specs.declared.views.View.{View}
 use Rattle.dq_words.specs.declared.views.Write.{Write}
 use Rattle.dq_words.specs.declared.views.Write.TheVariants.{Begin, Expired, Renewed, Removed}
 use Rattle.dq_words.specs.Files.{File, file, blank, keeper_writes, IsIn, IsDeadline}
+use Rattle.dq_words.specs.Keeping.{IsEnded, NoneLive}
 use Rattle.dq_words.specs.Rule.{Ruled}
 
 -- the word of the slot i
@@ -88,3 +91,10 @@ EntriesEndOnce =
     (rows : ℕ) (t : State ℕ View) → Ruled rows t
     → (i b base : ℕ) → IsIn (keeper_writes t.views) (Begin i b base)
     → over_life (λ s. fates_at i s t) i b (keeper_writes t.views) (stamp_of (word_in t i)) ≡ 1
+
+-- Where the keeper saw no word live, none is live, whatever callers did since.
+abbrev pub EndedWordsStay : Type 0
+EndedWordsStay =
+    (rows : ℕ) (t : State ℕ View) → Ruled rows t
+    → (v : View) → get_elem? t.views 0 ≡ some v → NoneLive v
+    → (i : ℕ) → i < rows → IsEnded (word_in t i)

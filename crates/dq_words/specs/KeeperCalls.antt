@@ -95,6 +95,10 @@ KeeperFinishes v i s (Some d) w =
     × ((n : ℕ) × (w ≡ finishing (after_failures v i (word s 0 d) n) i (word s 0 d) (word s 3 d)))
 KeeperFinishes v i s None w = FindsCancelled v i s w
 
+-- of what was begun nothing more expired, and nothing more was begun
+abbrev pub OnlyRemoves : Counts → Counts → Type 0
+OnlyRemoves a b = (b.begins ≡ a.begins) × (b.expiries ≡ a.expiries) × (a.removals ≤ b.removals)
+
 -- a keeper is made exactly within the limits, but where memory is refused
 abbrev pub KeeperIsMade : ℕ → Result Sat WordsError → Type 0
 KeeperIsMade capacity (Ok k) =

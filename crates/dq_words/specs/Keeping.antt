@@ -1,5 +1,5 @@
 -- What the keeper's writes count, and what it may ask of a packed word.
-use Rattle.std.specs.Prelude.{◌≡◌, ◌≢◌, ◌⊎◌, ℕ, ◌<◌, ◌≤◌, true, false, List, length}
+use Rattle.std.specs.Prelude.{◌≡◌, ◌≢◌, ◌⊎◌, ℕ, ◌<◌, ◌≤◌, true, false, List, length, slice_index}
 use mathlib.Core.Option.{some}
 use lib.ListN.{get_elem?}
 use Rattle.atomic_table.specs.Table.{State}
@@ -35,6 +35,14 @@ counts_of ws =
 -- a slot that was never used, or a word that ended
 abbrev pub IsFree : ℕ → Type 0
 IsFree n = (n ≡ 0) ⊎ (mark_of n ≢ 0)
+
+-- no entry is live by the word: its slot was never used, or its entry has ended
+abbrev pub IsEnded : ℕ → Type 0
+IsEnded n = 0 < stamp_of n → mark_of n ≢ 0
+
+-- the keeper saw each word ended
+abbrev pub NoneLive : View → Type 0
+NoneLive v = (i : ℕ) → i < length v.seen → IsEnded (slice_index v.seen i)
 
 -- a given stamp whose word is live or cancelled
 abbrev pub IsOpen : ℕ → ℕ → Type 0

@@ -21,7 +21,8 @@ use std::marker::Model;
 /// what it knows: the words that it saw and its accepted calls.
 ///
 /// Each call takes one load and at most one atomic step, waits for nobody and takes no memory. A caller that is
-/// dropped counts as out for good.
+/// dropped counts as out for good. It may outlive its queue: what was live when the queue was dropped is then refused
+/// as Ended, and a look shows it as removed.
 #[derive(Drop)]
 pub struct Caller<A: Allocator = Global> {
     seat: Seated<A>,

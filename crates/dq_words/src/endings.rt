@@ -1,6 +1,6 @@
 //! The headline of the words: each given stamp, and each inserted entry, ends exactly once or is still queued.
 ghost use Rattle.dq_words.specs.Endings.{StampsEndOnce, OthersAreBlank, EndsAreInForce};
-ghost use Rattle.dq_words.specs.Endings.{EntriesEndOnce};
+ghost use Rattle.dq_words.specs.Endings.{EntriesEndOnce, EndedWordsStay};
 
 /// Between any two steps of the keeper and its callers, each stamp that a slot was given was given once, and was
 /// ended once by the keeper, or cancelled once by a caller, or its word is live; no other stamp has a call or a
@@ -20,4 +20,9 @@ pub fn ends_are_in_force()
 /// or is still queued.
 pub fn entries_end_once()
     ensures { EntriesEndOnce }
+{}
+
+/// Once the keeper has seen no word live, none is live, whatever its callers do.
+pub fn ended_words_stay()
+    ensures { EndedWordsStay }
 {}

@@ -8,8 +8,8 @@ ghost use Rattle.dq_words.specs.AtTheCall.{KnowsNothing, NoCallerAfter, NoKeeper
 ghost use Rattle.dq_words.specs.KeeperCalls.{known_of, known_word, counts_by, EndsFit, HasBegun};
 ghost use Rattle.dq_words.specs.KeeperCalls.{KeeperIsMade, KeeperBegins, KeeperLooks};
 ghost use Rattle.dq_words.specs.KeeperCalls.{KeeperSettles, KeeperRenews, KeeperFinishes, Issues};
-ghost use Rattle.dq_words.specs.KeeperCalls.{Tells, Returns, Accounts};
-ghost use Rattle.dq_words.specs.Keeping.{IsKeeper, Stood};
+ghost use Rattle.dq_words.specs.KeeperCalls.{Tells, Returns, Accounts, OnlyRemoves};
+ghost use Rattle.dq_words.specs.Keeping.{IsKeeper, NoneLive, Stood};
 
 use crate::caller::Caller;
 use crate::parts::{ONE_CANCEL, live_word};
@@ -44,7 +44,9 @@ pub enum WordsError {
 /// Begins and ends the entries of a row of words, and issues the callers that extend and cancel them. To a contract
 /// it is the table that it sits at and what it knows: the words that it saw, its own writes, and how many callers it
 /// issued.
-#[derive(Drop)]
+///
+/// Where it is dropped, what is live by its words is ended as removed, and its callers are refused from then on. That
+/// takes a load a slot, and two atomic steps or more for each live one.
 pub struct Keeper<A: Allocator = Global> {
     seat: Seated<A>,
     issued: u64,
@@ -168,6 +170,32 @@ impl<A: Allocator> Keeper<A> {
             return Err(out);
         }
         Ok(word / ONE_CANCEL)
+    }
+
+    // Ends each word that is live, as removed. From then on every extend and cancel of a caller is refused, and a
+    // look shows the end. What was accepted before a word was ended stands. One load a word, and a load and an
+    // exchange or more for each live one.
+    fn end_all(&mut self)
+        // No word is live, nor will one be: callers make none live.
+        ensures ended { NoneLive self.new.view }
+
+        // What was live is removed: nothing is begun, and nothing expires.
+        ensures removes { OnlyRemoves (counts_by self.old) (counts_by self.new) }
+        ensures begun { StillBegun HasBegun self.old self.new }
+        ensures row { length self.new.view.seen ≡ length self.old.view.seen }
+        ensures issued { self.new.view.issued ≡ self.old.view.issued }
+        ensures table { self.new.table ≡ self.old.table }
+    {
+        for index in 0..self.seat.rows() {
+            tries::end(&mut self.seat, index);
+        }
+    }
+}
+
+impl<A: Allocator> Drop for Keeper<A> {
+    fn drop(mut self) {
+        self.end_all();
+        let Keeper { seat: _, issued: _ } = self;
     }
 }
 

@@ -1,15 +1,16 @@
 //! What the keeper does to a word that callers may change at any moment: it tries, and what it finds tells it how to
 //! go on.
-ghost use Rattle.std.specs.Prelude.{◌≡◌, ◌<◌, ◌≤◌, length, true, slice_index};
+ghost use Rattle.std.specs.Prelude.{◌≡◌, ◌<◌, ◌≤◌, length, true, slice_index, slice_set};
 ghost use Rattle.dq_ticks.specs.declared.TheConstants.{LAST_TICK, LAST_STAMP};
-ghost use Rattle.dq_words.specs.KeeperCalls.{KeeperSettles, KeeperRenews, KeeperFinishes};
-ghost use Rattle.dq_words.specs.Keeping.{IsOpen, IsOpenFrom};
+ghost use Rattle.dq_words.specs.Endings.{WritesStay};
+ghost use Rattle.dq_words.specs.KeeperCalls.{KeeperSettles, KeeperRenews, KeeperFinishes, OnlyRemoves};
+ghost use Rattle.dq_words.specs.Keeping.{counts_of, IsEnded, IsOpen, IsOpenFrom};
 ghost use Rattle.dq_words.specs.Plays.{SeatGoesOn};
 
 use crate::parts::{expired_word, live_word, removed_word};
 use crate::seated::Seated;
 use dq_core::Settled;
-use dq_ticks::{field, is_live};
+use dq_ticks::{field, is_live, stamp};
 use std::alloc::Allocator;
 
 // Ends the word that is live at exactly `at` by one try: a word that isn't is live at a later deadline or cancelled.
@@ -87,4 +88,22 @@ pub(crate) fn finish<A: Allocator>(seat: &mut Seated<A>, index: usize, stamp: u3
         seen = found;
     }
     None
+}
+
+// Ends the word of a slot as removed, where it is live.
+pub(crate) fn end<A: Allocator>(seat: &mut Seated<A>, index: usize)
+    requires inside { index < length seat.old.view.seen }
+    requires keeper { seat.old.view.keeps ≡ true }
+    ensures ended { IsEnded (slice_index seat.new.view.seen index) }
+    ensures only { seat.new.view.seen
+        ≡ slice_set seat.old.view.seen index (slice_index seat.new.view.seen index) }
+    ensures removes { OnlyRemoves (counts_of seat.old.view.writes) (counts_of seat.new.view.writes) }
+    ensures begun { WritesStay seat.old.view seat.new.view }
+    ensures table { seat.new.table ≡ seat.old.table }
+    ensures seat { SeatGoesOn seat.old.view seat.new.view }
+{
+    let seen = seat.keeper_load(index);
+    if is_live(seen) && stamp(seen) > 0 {
+        let _ended = finish(seat, index, stamp(seen));
+    }
 }

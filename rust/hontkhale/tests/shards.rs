@@ -180,16 +180,15 @@ fn a_handle_outlives_its_queue() {
     let queue = queue(2, 4);
     let keys = [0, 1].map(|shard| queue.insert_or_drop(shard, "a".into(), 10).unwrap());
     let mut handle = queue.handle().unwrap();
-    queue.clear(1).unwrap();
+    assert_eq!(handle.extend(&keys[0], 20), Ok(20));
     drop(queue);
-    assert_eq!(
-        handle.extend(&keys[1], 20),
-        Err(CallError::Ended {
-            how: Look::LookRemoved(10)
-        })
-    );
-    // A queue that is dropped as it is tells nobody.
-    assert_eq!((handle.extend(&keys[0], 20), handle.give_back()), (Ok(20), 0));
+    for (key, deadline) in keys.iter().zip([20, 10]) {
+        let how = Look::LookRemoved(deadline);
+        assert_eq!(handle.look(key), Ok(how));
+        assert_eq!(handle.extend(key, 30), Err(CallError::Ended { how }));
+        assert_eq!(handle.cancel(key), Err(CallError::Ended { how }));
+    }
+    assert_eq!(handle.give_back(), 0);
 }
 
 #[test]

@@ -3,7 +3,11 @@
 // The tests ask for a newer Rust than the crate, and an error is shown without the value that came back.
 #![allow(clippy::incompatible_msrv, clippy::ok_expect)]
 
-use hontkhale::{shared_queue, CallError, Caller, DelayCore, Key, Look, Turn, LAST_TICK};
+use hontkhale::{
+    shared_queue, CallError, Caller, DelayCore, Handle, Key, LastingConfig, LastingHandle, LastingQueue, Look,
+    QueueConfig, SharedDelayQueue, Turn, LAST_TICK,
+};
+use std::sync::atomic::{AtomicBool, Ordering::SeqCst};
 use std::sync::{mpsc, Arc, Barrier, Mutex};
 use std::thread;
 
@@ -116,7 +120,7 @@ fn calls(caller: &mut Caller, keys: &[Key], thread: u64) {
                     answer,
                     Ok(_)
                         | Err(CallError::Ended {
-                            how: Look::LookCancelled
+                            how: Look::LookCancelled | Look::LookRemoved(_)
                         })
                 ),
                 "{answer:?}"
@@ -125,7 +129,7 @@ fn calls(caller: &mut Caller, keys: &[Key], thread: u64) {
     }
 }
 
-/// The words live as long as somebody has them. Where a queue was dropped, and not cleared, its callers aren't told.
+/// The words live as long as somebody has them.
 #[test]
 fn eight_threads_call_on_while_and_after_the_queue_ends() {
     for round in 0..20 {
@@ -148,28 +152,126 @@ fn eight_threads_call_on_while_and_after_the_queue_ends() {
         (0..round).for_each(|_| thread::yield_now());
         drop(queue);
         let mut callers: Vec<Caller> = threads.into_iter().map(|thread| thread.join().unwrap()).collect();
-        let ended = Err(CallError::Ended {
-            how: Look::LookCancelled,
-        });
-        assert!(callers
-            .iter_mut()
-            .all(|caller| keys.iter().all(|key| caller.extend(key, LAST_TICK) == ended)));
-        assert_eq!(callers.iter().map(Caller::cancels).sum::<u64>(), 256);
+        let cancelled = keys
+            .iter()
+            .filter(|key| callers[0].look(key) == Ok(Look::LookCancelled))
+            .count();
+        assert!(callers.iter_mut().all(|caller| keys.iter().all(|key| matches!(
+            caller.extend(key, LAST_TICK),
+            Err(CallError::Ended {
+                how: Look::LookCancelled | Look::LookRemoved(_)
+            })
+        ))));
+        assert_eq!(callers.iter().map(Caller::cancels).sum::<u64>(), cancelled as u64);
     }
 }
 
-/// Who wants callers to be told clears the queue before it goes.
+type ExtendBy<H> = fn(&mut H, &Key, u64) -> Result<u64, CallError>;
+
+/// Extends each entry by a tick, again and again until the queue has ended, and tells the latest deadlines that it was
+/// told.
+fn extends_to_the_end<H>(handle: &mut H, keys: &[Key], extend: ExtendBy<H>, ended: &AtomicBool) -> Promised {
+    let mut promised = vec![0; keys.len()];
+    for when in 101.. {
+        let ended = ended.load(SeqCst);
+        for (key, promised) in keys.iter().zip(&mut promised) {
+            match extend(handle, key, when) {
+                Ok(deadline) => {
+                    assert!(!ended, "an extend was accepted of what never comes out");
+                    *promised = deadline;
+                }
+                Err(CallError::Ended {
+                    how: Look::LookRemoved(deadline),
+                }) => assert!(*promised <= deadline, "an extend that was accepted is lost"),
+                Err(refused) => panic!("{refused}"),
+            }
+        }
+        if ended {
+            break;
+        }
+    }
+    promised
+}
+
+/// The queue is dropped beside those who extend its entries: each entry ends at the latest deadline that one of them was
+/// told, and they are refused from then on.
+fn ends_beside_extends<Q, H: Send>(queue: Q, keys: &[Key], handles: Vec<H>, extend: ExtendBy<H>) {
+    let (start, ended) = (Barrier::new(handles.len() + 1), AtomicBool::new(false));
+    let told: Vec<(H, Promised)> = thread::scope(|scope| {
+        let threads: Vec<_> = handles
+            .into_iter()
+            .map(|mut handle| {
+                let (start, ended) = (&start, &ended);
+                scope.spawn(move || {
+                    start.wait();
+                    let promised = extends_to_the_end(&mut handle, keys, extend, ended);
+                    (handle, promised)
+                })
+            })
+            .collect();
+        start.wait();
+        thread::yield_now();
+        drop(queue);
+        ended.store(true, SeqCst);
+        threads.into_iter().map(|thread| thread.join().unwrap()).collect()
+    });
+    let latest: Promised = (0..keys.len())
+        .map(|entry| told.iter().map(|(_, promised)| promised[entry].max(100)).max().unwrap())
+        .collect();
+    for (mut handle, _) in told {
+        for (key, deadline) in keys.iter().zip(&latest) {
+            let how = Look::LookRemoved(*deadline);
+            assert_eq!(extend(&mut handle, key, LAST_TICK), Err(CallError::Ended { how }));
+        }
+    }
+}
+
+#[test]
+fn a_queue_of_one_owner_ends_beside_extends() {
+    for _round in 0..50 {
+        let mut queue = shared_queue(64).unwrap();
+        let keys: Vec<Key> = (0..64).map(|entry| queue.insert_or_drop(entry, 100).unwrap()).collect();
+        let callers = (0..CALLERS).map(|_| queue.issue().unwrap()).collect();
+        ends_beside_extends(queue, &keys, callers, Caller::extend);
+    }
+}
+
+#[test]
+fn a_queue_of_shards_ends_beside_extends() {
+    for _round in 0..50 {
+        let queue = SharedDelayQueue::new(QueueConfig::of(4, 16)).unwrap();
+        let keys: Vec<Key> = (0..64)
+            .map(|entry| queue.insert_or_drop(entry % 4, entry, 100).unwrap())
+            .collect();
+        let handles = (0..CALLERS).map(|_| queue.handle().unwrap()).collect();
+        ends_beside_extends(queue, &keys, handles, Handle::extend);
+    }
+}
+
+#[test]
+fn a_lasting_queue_ends_beside_extends() {
+    for _round in 0..50 {
+        let queue = LastingQueue::new(LastingConfig::of(4, 16)).unwrap();
+        let keys: Vec<Key> = (0..64)
+            .map(|entry| queue.insert_or_drop(entry, entry, 100).unwrap())
+            .collect();
+        let handles = (0..CALLERS).map(|_| queue.handle().unwrap()).collect();
+        ends_beside_extends(queue, &keys, handles, LastingHandle::extend);
+    }
+}
+
 #[test]
 fn a_cleared_queue_is_closed_for_its_callers() {
     let mut queue = shared_queue(2).unwrap();
     let key = queue.insert_or_drop("v", 10).unwrap();
     let mut caller = queue.issue().unwrap();
     queue.clear();
-    drop(queue);
-    let ended = CallError::Ended {
-        how: Look::LookRemoved(10),
-    };
-    assert_eq!((caller.extend(&key, 20), caller.cancel(&key)), (Err(ended), Err(ended)));
+    let how = Look::LookRemoved(10);
+    let ended = CallError::Ended { how };
+    assert_eq!(
+        (caller.look(&key), caller.extend(&key, 20), caller.cancel(&key)),
+        (Ok(how), Err(ended), Err(ended))
+    );
     assert_eq!(caller.give_back(), 0);
 }
 

@@ -26,7 +26,8 @@ use crate::words::seated::Seated;
 /// ```
 ///
 /// Each call takes one load and at most one atomic step, waits for nobody and takes no memory. A caller that is
-/// dropped counts as out for good.
+/// dropped counts as out for good. It may outlive its queue: what was live when the queue was dropped is then refused
+/// as Ended, and a look shows it as removed.
 pub struct Caller {
     seat: Seated,
     cancels: u64,

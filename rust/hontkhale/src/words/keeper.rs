@@ -41,6 +41,9 @@ impl std::error::Error for WordsError {}
 
 /// Begins and ends the entries of a row of words, and issues the callers that extend and cancel them. A queue that
 /// [`shared_queue`](crate::shared_queue) makes has one.
+///
+/// Where it is dropped, what is live by its words is ended as removed, and its callers are refused from then on. That
+/// takes a load a slot, and two atomic steps or more for each live one.
 pub struct Keeper {
     seat: Seated,
     issued: u64,
@@ -90,6 +93,21 @@ impl Keeper {
             return Err(out);
         }
         Ok(word / ONE_CANCEL)
+    }
+
+    // Ends each word that is live, as removed. From then on every extend and cancel of a caller is refused, and a
+    // look shows the end. What was accepted before a word was ended stands. One load a word, and a load and an
+    // exchange or more for each live one.
+    fn end_all(&mut self) {
+        for index in 0..self.seat.rows() {
+            tries::end(&mut self.seat, index);
+        }
+    }
+}
+
+impl Drop for Keeper {
+    fn drop(&mut self) {
+        self.end_all();
     }
 }
 

@@ -2,7 +2,7 @@
 //! go on.
 
 use crate::core::Settled;
-use crate::ticks::{field, is_live};
+use crate::ticks::{field, is_live, stamp};
 use crate::words::parts::{expired_word, live_word, removed_word};
 use crate::words::seated::Seated;
 
@@ -59,4 +59,14 @@ pub(crate) fn finish(seat: &mut Seated, index: usize, stamp: u32) -> Option<u64>
         seen = found;
     }
     None
+}
+
+// Ends the word of a slot as removed, where it is live.
+pub(crate) fn end(seat: &mut Seated, index: usize) {
+    // requires index < length seat.old.view.seen
+    // requires seat.old.view.keeps ≡ true
+    let seen = seat.keeper_load(index);
+    if is_live(seen) && stamp(seen) > 0 {
+        let _ended = finish(seat, index, stamp(seen));
+    }
 }
