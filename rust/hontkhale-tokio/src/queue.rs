@@ -189,6 +189,7 @@ impl<T> DelayQueue<T> {
             match self.parts.poll(self.reached, &mut budget) {
                 Found::Out(out) => {
                     self.armed = 0;
+                    self.timer.leave();
                     self.latest.note(out.deadline, self.reached, &self.parts.shared().clock);
                     return Poll::Ready(Some(self.expired(out)));
                 }
@@ -224,6 +225,9 @@ impl<T> DelayQueue<T> {
     /// Sleeps until a tick. Ready where it is reached.
     fn poll_sleep(&mut self, wake: u64, cx: &mut Context<'_>) -> Poll<()> {
         let moment = self.parts.shared().clock.moment(wake);
+        if !self.waits_as(cx.waker()) {
+            self.timer.leave();
+        }
         if self.timer.poll_until(moment, cx).is_ready() {
             self.reached = wake;
             return Poll::Ready(());
@@ -237,10 +241,15 @@ impl<T> DelayQueue<T> {
         self.armed = wake;
         self.has_resets = false;
         self.has_looked = false;
-        match &mut self.waker {
-            Some(waker) if waker.will_wake(cx.waker()) => {}
-            waker => *waker = Some(cx.waker().clone()),
+        if !self.waits_as(cx.waker()) {
+            self.waker = Some(cx.waker().clone());
         }
+    }
+
+    /// Whether that task waited last.
+    #[inline]
+    fn waits_as(&self, waker: &Waker) -> bool {
+        self.waker.as_ref().is_some_and(|task| task.will_wake(waker))
     }
 
     /// Wakes the task if it waits for a later tick.
