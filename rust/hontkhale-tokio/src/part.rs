@@ -98,6 +98,11 @@ impl<T> Part<T> {
         self.queue.len()
     }
 
+    /// The cancelled entries whose places were freed since the part was made.
+    pub fn reaped(&self) -> usize {
+        self.queue.tally().cancelled as usize
+    }
+
     /// Whether an entry more would have no room.
     pub fn is_full(&self) -> bool {
         self.queue.len() == self.queue.capacity()
@@ -183,11 +188,10 @@ impl<T> Part<T> {
     }
 
     /// The same of those that handles noted since, at most so many. Answers how many it looked at.
-    pub fn reap(&mut self, most: u32, shared: &Shared) -> u32 {
+    pub fn reap(&mut self, most: u32) -> u32 {
         self.is_stale = true;
         let queue = &mut self.queue;
         self.link.take_cancelled(most, |slot| {
-            shared.count_heeded();
             queue.sweep_some(slot, 1);
         })
     }

@@ -39,6 +39,8 @@ pub(crate) struct Parts<T> {
     last_stamp: u32,
     /// Whether there was ever a handle.
     has_handles: bool,
+    /// The cancelled entries that were reaped in the parts that went, or went with them.
+    reaped_of_gone: usize,
     /// The key of what comes out next, since it was asked for, and its deadline: 0 where nobody asked.
     peeked: Mutex<Option<Key>>,
     peeked_at: AtomicU64,
@@ -104,6 +106,7 @@ impl<T> Parts<T> {
             last_stamp,
             shared: Owner(Arc::new(shared)),
             has_handles: false,
+            reaped_of_gone: 0,
             peeked: Mutex::default(),
             peeked_at: AtomicU64::new(0),
         };
@@ -226,6 +229,7 @@ impl<T> Parts<T> {
         if self.has_handles {
             self.shared.close(spot);
         }
+        self.reaped_of_gone += part.as_ref().map_or(0, |part| part.reaped() + part.len());
         part
     }
 
@@ -395,7 +399,7 @@ impl<T> Parts<T> {
                 let Some(most) = budget.piece() else {
                     return false;
                 };
-                let reaped = part.reap(most, again.0);
+                let reaped = part.reap(most);
                 budget.give_back(most - reaped);
             }
         }
@@ -514,9 +518,15 @@ impl<T> Parts<T> {
         self.len() == 0
     }
 
+    /// The entries that handles cancelled and that weren't reaped yet.
+    pub fn cancelled(&self) -> usize {
+        let reaped = self.reaped_of_gone + self.parts().map(Part::reaped).sum::<usize>();
+        self.shared.cancels().saturating_sub(reaped).min(self.len())
+    }
+
     /// Whether nothing is left but what handles cancelled.
     pub fn holds_none_live(&self) -> bool {
-        self.len() <= self.shared.cancels()
+        self.len() <= self.cancelled()
     }
 
     /// The slots that aren't worn.

@@ -498,7 +498,7 @@ impl<T> DelayQueue<T> {
     /// ```
     pub fn numbers(&self) -> Numbers {
         let clock = &self.parts.shared().clock;
-        let cancelled = self.parts.shared().cancels().min(self.len());
+        let cancelled = self.parts.cancelled();
         let late = self.parts.least().map_or(0, |deadline| clock.tick_over().saturating_sub(deadline));
         self.latest.note_late(late);
         Numbers {
