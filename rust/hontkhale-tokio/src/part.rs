@@ -103,9 +103,10 @@ impl<T> Part<T> {
         self.queue.tally().cancelled as usize
     }
 
-    /// Whether an entry more would have no room.
-    pub fn is_full(&self) -> bool {
-        self.queue.len() == self.queue.capacity()
+    /// Whether less than a quarter of the slots have an entry. The notes of where moved entries are take more memory than the
+    /// free slots of a fuller part.
+    pub fn is_sparse(&self) -> bool {
+        4 * self.queue.len() < self.queue.capacity()
     }
 
     /// Puts a value in, or gives it back where no slot is free.

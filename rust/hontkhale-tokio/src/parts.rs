@@ -240,7 +240,7 @@ impl<T> Parts<T> {
         self.leave_parts(worn)
     }
 
-    /// Moves every entry of these parts to others, and takes the parts out.
+    /// Moves every entry of these parts to others, and takes the parts out. Those come back that cancelled entries are left in.
     #[must_use]
     fn leave_parts(&mut self, spots: Vec<usize>) -> Vec<Part<T>> {
         for &spot in &spots {
@@ -248,14 +248,14 @@ impl<T> Parts<T> {
                 part.is_left = true;
             }
         }
-        let mut gone = Vec::with_capacity(spots.len());
+        let mut gone = Vec::new();
         for spot in spots {
             let places: Vec<Key> = self.row[spot].iter().flat_map(Part::places).collect();
             for place in places {
                 // A handle may have cancelled it meanwhile.
                 let _ = self.carry(place, None);
             }
-            gone.extend(self.take_part(spot));
+            gone.extend(self.take_part(spot).filter(|part| part.len() > 0));
         }
         gone
     }
@@ -572,13 +572,15 @@ impl<T> Parts<T> {
         self.moves.shrink_to_fit();
     }
 
-    /// Moves the entries of parts that aren't full together, so that no slot is free.
+    /// Moves the entries of sparse parts to free slots of others, or to parts of no more slots than they need.
     pub fn compact(&mut self) {
         // The values of cancelled entries are dropped first, while nothing else is under way.
         self.row.iter_mut().flatten().for_each(Part::sweep);
-        let left: Vec<usize> = self.parts().filter(|part| !part.is_full()).map(|part| part.spot).collect();
-        let entries = left.iter().filter_map(|&spot| self.row[spot].as_ref()).map(Part::len).sum();
-        self.add_slots(entries);
+        let (left, stay): (Vec<&Part<T>>, Vec<&Part<T>>) = self.parts().partition(|part| part.is_sparse());
+        let entries: usize = left.iter().map(|part| part.len()).sum();
+        let free: usize = stay.iter().map(|part| part.free()).sum();
+        let left: Vec<usize> = left.iter().map(|part| part.spot).collect();
+        self.add_slots(entries.saturating_sub(free));
         let gone = self.leave_parts(left);
         self.cut_row();
         self.forget_the_ended();

@@ -455,7 +455,9 @@ impl<T> DelayQueue<T> {
         self.parts.reserve(additional);
     }
 
-    /// Moves entries together so that no room is left over, under the keys that they have. It goes over every entry.
+    /// Moves the entries of parts of the queue that are less than a quarter full together, under the keys that they have, and
+    /// lets those parts go: so there is room for at most four times as many entries as there are. It goes over every slot. A
+    /// moved entry takes 150 bytes more until it ends, 230 where there is a [`Handle`]; those of fuller parts stay.
     ///
     /// ```
     /// # #[tokio::main(flavor = "current_thread")]

@@ -176,7 +176,7 @@ impl Twin {
             (80..=94, _) => self.poll(),
             (95, _) => {
                 self.parts.compact();
-                assert_eq!(self.parts.capacity(), self.row.len());
+                assert!(self.parts.capacity() <= 4 * self.row.len());
             }
             (96, _) => self.parts.shrink_to_fit(),
             (97, _) => self.parts.reserve(self.next as usize % 100),
