@@ -33,6 +33,8 @@ pub(crate) struct Parts<T> {
     open: usize,
     /// The part that an entry left last.
     left: usize,
+    /// The slots that are asked for and not yet in a part.
+    promised: usize,
     moves: Moves,
     /// What is put in comes out no earlier: the deadline of what came out last, or the tick up to which nothing was left.
     tick: u64,
@@ -101,6 +103,7 @@ impl<T> Parts<T> {
             wakes: Vec::new(),
             open: 0,
             left: 0,
+            promised: 0,
             moves: Moves::default(),
             tick: 0,
             last_stamp,
@@ -187,7 +190,13 @@ impl<T> Parts<T> {
         let roomy = self.parts().filter(|part| !part.is_left).map(|part| (part.free(), part.spot));
         match roomy.filter(|it| it.0 > 0).max() {
             Some((_, spot)) => spot,
-            None => self.add_part(self.next_slots()),
+            None if self.promised == 0 => self.add_part(self.next_slots()),
+            None => {
+                let slots = self.promised.min(CAPACITY_LIMIT);
+                let spot = self.add_part(slots);
+                self.promised -= slots;
+                spot
+            }
         }
     }
 
@@ -196,13 +205,21 @@ impl<T> Parts<T> {
         (self.len() + 1).next_power_of_two().clamp(FIRST_SLOTS, CAPACITY_LIMIT)
     }
 
-    /// Adds parts of so many slots together.
+    /// Adds a part for the first of so many slots, and notes the others: their parts are added as they are needed.
+    ///
+    /// # Panics
+    /// Where there can't be so many, before any memory is taken; where memory is refused.
     fn add_slots(&mut self, slots: usize) {
-        let mut left = slots;
-        while left > 0 {
-            let next = left.min(CAPACITY_LIMIT);
-            self.add_part(next);
-            left -= next;
+        let most = (PARTS_LIMIT - self.parts().count()).saturating_mul(CAPACITY_LIMIT);
+        assert!(self.promised <= most && slots <= most - self.promised, "capacity overflow");
+        let first = slots.min(CAPACITY_LIMIT);
+        if first < slots {
+            // It is given back untouched: what the others will take can be had now.
+            Vec::<(T, [u64; 6])>::new().try_reserve_exact(slots).expect("memory for more entries");
+        }
+        if first > 0 {
+            self.add_part(first);
+            self.promised += slots - first;
         }
     }
 
@@ -529,9 +546,9 @@ impl<T> Parts<T> {
         self.len() <= self.cancelled()
     }
 
-    /// The slots that aren't worn.
+    /// The slots that aren't worn, those among them whose parts are yet to be added.
     pub fn capacity(&self) -> usize {
-        self.parts().map(Part::slots).sum()
+        self.promised + self.parts().map(Part::slots).sum::<usize>()
     }
 
     /// The worn slots.
@@ -541,7 +558,7 @@ impl<T> Parts<T> {
 
     /// Makes room for so many more entries.
     pub fn reserve(&mut self, additional: usize) {
-        let free: usize = self.parts().map(Part::free).sum();
+        let free = self.promised + self.parts().map(Part::free).sum::<usize>();
         if free < additional {
             self.add_slots((additional - free).max(self.next_slots()));
         }
@@ -563,6 +580,7 @@ impl<T> Parts<T> {
 
     /// Lets the empty parts go.
     pub fn shrink_to_fit(&mut self) {
+        self.promised = 0;
         for spot in 0..self.row.len() {
             if self.row[spot].as_ref().is_some_and(|part| part.len() == 0) {
                 drop(self.take_part(spot));
@@ -576,11 +594,17 @@ impl<T> Parts<T> {
     pub fn compact(&mut self) {
         // The values of cancelled entries are dropped first, while nothing else is under way.
         self.row.iter_mut().flatten().for_each(Part::sweep);
+        self.promised = 0;
         let (left, stay): (Vec<&Part<T>>, Vec<&Part<T>>) = self.parts().partition(|part| part.is_sparse());
         let entries: usize = left.iter().map(|part| part.len()).sum();
         let free: usize = stay.iter().map(|part| part.free()).sum();
         let left: Vec<usize> = left.iter().map(|part| part.spot).collect();
-        self.add_slots(entries.saturating_sub(free));
+        let mut wanted = entries.saturating_sub(free);
+        while wanted > 0 {
+            let slots = wanted.min(CAPACITY_LIMIT);
+            self.add_part(slots);
+            wanted -= slots;
+        }
         let gone = self.leave_parts(left);
         self.cut_row();
         self.forget_the_ended();

@@ -74,10 +74,11 @@ impl<T> DelayQueue<T> {
         DelayQueue::with_capacity(0)
     }
 
-    /// An empty queue with room for so many entries.
+    /// An empty queue with room for so many entries. It takes memory for 65,536 of them at most, and for as many more each
+    /// time that these are full.
     ///
     /// # Panics
-    /// Where memory is refused.
+    /// Where that is more than 2³² entries, before any memory is taken; where memory is refused.
     ///
     /// ```
     /// # #[tokio::main(flavor = "current_thread")]
@@ -437,10 +438,11 @@ impl<T> DelayQueue<T> {
         self.parts.is_empty()
     }
 
-    /// Makes room for at least so many more entries, in one part of the queue or several. No entry is moved.
+    /// Makes room for at least so many more entries, in one part of the queue or several, for which memory is taken as in
+    /// [`with_capacity`](DelayQueue::with_capacity). No entry is moved.
     ///
     /// # Panics
-    /// Where memory is refused.
+    /// Where the queue would have room for more than 2³² entries, before any memory is taken; where memory is refused.
     ///
     /// ```
     /// # #[tokio::main(flavor = "current_thread")]

@@ -89,3 +89,51 @@ fn compact_gives_memory_back_where_much_is_free() {
 fn compact_beside_a_handle_gives_memory_back_where_much_is_free() {
     alone("compact_beside_a_handle_gives_memory_back_where_much_is_free", || gives_back(true));
 }
+
+/// Room for a million entries, of which three are put in: the pages of one part are touched.
+#[test]
+fn room_that_no_entry_needs_yet_is_not_resident() {
+    alone("room_that_no_entry_needs_yet_is_not_resident", || {
+        paused().block_on(async {
+            let before = resident("VmHWM:");
+            let mut queue = DelayQueue::with_capacity(1_048_576);
+            let mut other = DelayQueue::new();
+            other.reserve(1_048_576);
+            assert!(queue.capacity() >= 1_048_576 && other.capacity() >= 1_048_576);
+            for at in 0..3 {
+                queue.insert(at, ms(10));
+                other.insert(at, ms(10));
+            }
+            let taken = resident("VmHWM:") - before;
+            println!("{taken} KiB for two queues of three entries");
+            assert!(taken < 12_000, "{taken} KiB");
+            for at in 3..1_048_576 {
+                queue.insert(at, ms(10));
+            }
+            assert_eq!((queue.len(), queue.capacity()), (1_048_576, 1_048_576));
+        });
+    });
+}
+
+/// What no memory holds is refused before any is taken.
+#[test]
+fn room_that_cannot_be_is_refused_at_once() {
+    alone("room_that_cannot_be_is_refused_at_once", || {
+        paused().block_on(async {
+            std::panic::set_hook(Box::new(|_| {}));
+            let before = resident("VmHWM:");
+            for many in [usize::MAX, usize::MAX / 2, 1 << 40, (1 << 32) + 1] {
+                let made = std::panic::catch_unwind(|| DelayQueue::<u64>::with_capacity(many).capacity());
+                let why = made.expect_err("more than there is");
+                assert_eq!(why.downcast_ref::<&str>(), Some(&"capacity overflow"));
+                let mut queue = DelayQueue::new();
+                let key = queue.insert(7, ms(10));
+                let reserve = std::panic::AssertUnwindSafe(|| queue.reserve(many));
+                assert!(std::panic::catch_unwind(reserve).is_err());
+                assert!(queue.capacity() < 1_000 && queue.remove(&key).into_inner() == 7);
+            }
+            let taken = resident("VmHWM:") - before;
+            assert!(taken < 8_000, "{taken} KiB");
+        });
+    });
+}
