@@ -129,14 +129,16 @@ impl Bells {
         self.rung.swap(0, SeqCst)
     }
 
-    /// From here on a bell wakes that task, once. The stream has one owner, so nobody else puts a waker there meanwhile.
-    pub fn listen(&self, waker: &Waker) {
+    /// From here on a bell wakes that task, once. The stream has one owner, so nobody else puts a waker there meanwhile. False
+    /// where it is another task than before, or that one was woken.
+    pub fn listen(&self, waker: &Waker) -> bool {
         if matches!(&*self.task(), Some(task) if task.will_wake(waker)) {
-            return;
+            return true;
         }
         let waker = waker.clone();
         let before = self.task().replace(waker);
         drop(before);
+        false
     }
 
     /// The task, which isn't woken any more.

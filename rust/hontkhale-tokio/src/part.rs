@@ -98,9 +98,15 @@ impl<T> Part<T> {
         self.queue.len()
     }
 
-    /// Whether an entry more would have no room.
-    pub fn is_full(&self) -> bool {
-        self.queue.len() == self.queue.capacity()
+    /// The cancelled entries whose places were freed since the part was made.
+    pub fn reaped(&self) -> usize {
+        self.queue.tally().cancelled as usize
+    }
+
+    /// Whether less than a quarter of the slots have an entry. The notes of where moved entries are take more memory than the
+    /// free slots of a fuller part.
+    pub fn is_sparse(&self) -> bool {
+        4 * self.queue.len() < self.queue.capacity()
     }
 
     /// Puts a value in, or gives it back where no slot is free.
@@ -183,11 +189,10 @@ impl<T> Part<T> {
     }
 
     /// The same of those that handles noted since, at most so many. Answers how many it looked at.
-    pub fn reap(&mut self, most: u32, shared: &Shared) -> u32 {
+    pub fn reap(&mut self, most: u32) -> u32 {
         self.is_stale = true;
         let queue = &mut self.queue;
         self.link.take_cancelled(most, |slot| {
-            shared.count_heeded();
             queue.sweep_some(slot, 1);
         })
     }

@@ -33,12 +33,16 @@ pub(crate) struct Parts<T> {
     open: usize,
     /// The part that an entry left last.
     left: usize,
+    /// The slots that are asked for and not yet in a part.
+    promised: usize,
     moves: Moves,
     /// What is put in comes out no earlier: the deadline of what came out last, or the tick up to which nothing was left.
     tick: u64,
     last_stamp: u32,
     /// Whether there was ever a handle.
     has_handles: bool,
+    /// The cancelled entries that were reaped in the parts that went, or went with them.
+    reaped_of_gone: usize,
     /// The key of what comes out next, since it was asked for, and its deadline: 0 where nobody asked.
     peeked: Mutex<Option<Key>>,
     peeked_at: AtomicU64,
@@ -99,11 +103,13 @@ impl<T> Parts<T> {
             wakes: Vec::new(),
             open: 0,
             left: 0,
+            promised: 0,
             moves: Moves::default(),
             tick: 0,
             last_stamp,
             shared: Owner(Arc::new(shared)),
             has_handles: false,
+            reaped_of_gone: 0,
             peeked: Mutex::default(),
             peeked_at: AtomicU64::new(0),
         };
@@ -184,7 +190,13 @@ impl<T> Parts<T> {
         let roomy = self.parts().filter(|part| !part.is_left).map(|part| (part.free(), part.spot));
         match roomy.filter(|it| it.0 > 0).max() {
             Some((_, spot)) => spot,
-            None => self.add_part(self.next_slots()),
+            None if self.promised == 0 => self.add_part(self.next_slots()),
+            None => {
+                let slots = self.promised.min(CAPACITY_LIMIT);
+                let spot = self.add_part(slots);
+                self.promised -= slots;
+                spot
+            }
         }
     }
 
@@ -193,13 +205,21 @@ impl<T> Parts<T> {
         (self.len() + 1).next_power_of_two().clamp(FIRST_SLOTS, CAPACITY_LIMIT)
     }
 
-    /// Adds parts of so many slots together.
+    /// Adds a part for the first of so many slots, and notes the others: their parts are added as they are needed.
+    ///
+    /// # Panics
+    /// Where there can't be so many, before any memory is taken; where memory is refused.
     fn add_slots(&mut self, slots: usize) {
-        let mut left = slots;
-        while left > 0 {
-            let next = left.min(CAPACITY_LIMIT);
-            self.add_part(next);
-            left -= next;
+        let most = (PARTS_LIMIT - self.parts().count()).saturating_mul(CAPACITY_LIMIT);
+        assert!(self.promised <= most && slots <= most - self.promised, "capacity overflow");
+        let first = slots.min(CAPACITY_LIMIT);
+        if first < slots {
+            // It is given back untouched: what the others will take can be had now.
+            Vec::<(T, [u64; 6])>::new().try_reserve_exact(slots).expect("memory for more entries");
+        }
+        if first > 0 {
+            self.add_part(first);
+            self.promised += slots - first;
         }
     }
 
@@ -226,6 +246,7 @@ impl<T> Parts<T> {
         if self.has_handles {
             self.shared.close(spot);
         }
+        self.reaped_of_gone += part.as_ref().map_or(0, |part| part.reaped() + part.len());
         part
     }
 
@@ -236,7 +257,7 @@ impl<T> Parts<T> {
         self.leave_parts(worn)
     }
 
-    /// Moves every entry of these parts to others, and takes the parts out.
+    /// Moves every entry of these parts to others, and takes the parts out. Those come back that cancelled entries are left in.
     #[must_use]
     fn leave_parts(&mut self, spots: Vec<usize>) -> Vec<Part<T>> {
         for &spot in &spots {
@@ -244,14 +265,14 @@ impl<T> Parts<T> {
                 part.is_left = true;
             }
         }
-        let mut gone = Vec::with_capacity(spots.len());
+        let mut gone = Vec::new();
         for spot in spots {
             let places: Vec<Key> = self.row[spot].iter().flat_map(Part::places).collect();
             for place in places {
                 // A handle may have cancelled it meanwhile.
                 let _ = self.carry(place, None);
             }
-            gone.extend(self.take_part(spot));
+            gone.extend(self.take_part(spot).filter(|part| part.len() > 0));
         }
         gone
     }
@@ -395,7 +416,7 @@ impl<T> Parts<T> {
                 let Some(most) = budget.piece() else {
                     return false;
                 };
-                let reaped = part.reap(most, again.0);
+                let reaped = part.reap(most);
                 budget.give_back(most - reaped);
             }
         }
@@ -514,14 +535,20 @@ impl<T> Parts<T> {
         self.len() == 0
     }
 
-    /// Whether nothing is left but what handles cancelled.
-    pub fn holds_none_live(&self) -> bool {
-        self.len() <= self.shared.cancels()
+    /// The entries that handles cancelled and that weren't reaped yet.
+    pub fn cancelled(&self) -> usize {
+        let reaped = self.reaped_of_gone + self.parts().map(Part::reaped).sum::<usize>();
+        self.shared.cancels().saturating_sub(reaped).min(self.len())
     }
 
-    /// The slots that aren't worn.
+    /// Whether nothing is left but what handles cancelled.
+    pub fn holds_none_live(&self) -> bool {
+        self.len() <= self.cancelled()
+    }
+
+    /// The slots that aren't worn, those among them whose parts are yet to be added.
     pub fn capacity(&self) -> usize {
-        self.parts().map(Part::slots).sum()
+        self.promised + self.parts().map(Part::slots).sum::<usize>()
     }
 
     /// The worn slots.
@@ -531,7 +558,7 @@ impl<T> Parts<T> {
 
     /// Makes room for so many more entries.
     pub fn reserve(&mut self, additional: usize) {
-        let free: usize = self.parts().map(Part::free).sum();
+        let free = self.promised + self.parts().map(Part::free).sum::<usize>();
         if free < additional {
             self.add_slots((additional - free).max(self.next_slots()));
         }
@@ -553,6 +580,7 @@ impl<T> Parts<T> {
 
     /// Lets the empty parts go.
     pub fn shrink_to_fit(&mut self) {
+        self.promised = 0;
         for spot in 0..self.row.len() {
             if self.row[spot].as_ref().is_some_and(|part| part.len() == 0) {
                 drop(self.take_part(spot));
@@ -562,13 +590,21 @@ impl<T> Parts<T> {
         self.moves.shrink_to_fit();
     }
 
-    /// Moves the entries of parts that aren't full together, so that no slot is free.
+    /// Moves the entries of sparse parts to free slots of others, or to parts of no more slots than they need.
     pub fn compact(&mut self) {
         // The values of cancelled entries are dropped first, while nothing else is under way.
         self.row.iter_mut().flatten().for_each(Part::sweep);
-        let left: Vec<usize> = self.parts().filter(|part| !part.is_full()).map(|part| part.spot).collect();
-        let entries = left.iter().filter_map(|&spot| self.row[spot].as_ref()).map(Part::len).sum();
-        self.add_slots(entries);
+        self.promised = 0;
+        let (left, stay): (Vec<&Part<T>>, Vec<&Part<T>>) = self.parts().partition(|part| part.is_sparse());
+        let entries: usize = left.iter().map(|part| part.len()).sum();
+        let free: usize = stay.iter().map(|part| part.free()).sum();
+        let left: Vec<usize> = left.iter().map(|part| part.spot).collect();
+        let mut wanted = entries.saturating_sub(free);
+        while wanted > 0 {
+            let slots = wanted.min(CAPACITY_LIMIT);
+            self.add_part(slots);
+            wanted -= slots;
+        }
         let gone = self.leave_parts(left);
         self.cut_row();
         self.forget_the_ended();

@@ -74,10 +74,11 @@ impl<T> DelayQueue<T> {
         DelayQueue::with_capacity(0)
     }
 
-    /// An empty queue with room for so many entries.
+    /// An empty queue with room for so many entries. It takes memory for 65,536 of them at most, and for as many more each
+    /// time that these are full.
     ///
     /// # Panics
-    /// Where memory is refused.
+    /// Where that is more than 2³² entries, before any memory is taken; where memory is refused.
     ///
     /// ```
     /// # #[tokio::main(flavor = "current_thread")]
@@ -189,6 +190,7 @@ impl<T> DelayQueue<T> {
             match self.parts.poll(self.reached, &mut budget) {
                 Found::Out(out) => {
                     self.armed = 0;
+                    self.timer.leave();
                     self.latest.note(out.deadline, self.reached, &self.parts.shared().clock);
                     return Poll::Ready(Some(self.expired(out)));
                 }
@@ -224,6 +226,9 @@ impl<T> DelayQueue<T> {
     /// Sleeps until a tick. Ready where it is reached.
     fn poll_sleep(&mut self, wake: u64, cx: &mut Context<'_>) -> Poll<()> {
         let moment = self.parts.shared().clock.moment(wake);
+        if !self.waits_as(cx.waker()) {
+            self.timer.leave();
+        }
         if self.timer.poll_until(moment, cx).is_ready() {
             self.reached = wake;
             return Poll::Ready(());
@@ -237,10 +242,15 @@ impl<T> DelayQueue<T> {
         self.armed = wake;
         self.has_resets = false;
         self.has_looked = false;
-        match &mut self.waker {
-            Some(waker) if waker.will_wake(cx.waker()) => {}
-            waker => *waker = Some(cx.waker().clone()),
+        if !self.waits_as(cx.waker()) {
+            self.waker = Some(cx.waker().clone());
         }
+    }
+
+    /// Whether that task waited last.
+    #[inline]
+    fn waits_as(&self, waker: &Waker) -> bool {
+        self.waker.as_ref().is_some_and(|task| task.will_wake(waker))
     }
 
     /// Wakes the task if it waits for a later tick.
@@ -428,10 +438,11 @@ impl<T> DelayQueue<T> {
         self.parts.is_empty()
     }
 
-    /// Makes room for at least so many more entries, in one part of the queue or several. No entry is moved.
+    /// Makes room for at least so many more entries, in one part of the queue or several, for which memory is taken as in
+    /// [`with_capacity`](DelayQueue::with_capacity). No entry is moved.
     ///
     /// # Panics
-    /// Where memory is refused.
+    /// Where the queue would have room for more than 2³² entries, before any memory is taken; where memory is refused.
     ///
     /// ```
     /// # #[tokio::main(flavor = "current_thread")]
@@ -446,7 +457,9 @@ impl<T> DelayQueue<T> {
         self.parts.reserve(additional);
     }
 
-    /// Moves entries together so that no room is left over, under the keys that they have. It goes over every entry.
+    /// Moves the entries of parts of the queue that are less than a quarter full together, under the keys that they have, and
+    /// lets those parts go: so there is room for at most four times as many entries as there are. It goes over every slot. A
+    /// moved entry takes 150 bytes more until it ends, 230 where there is a [`Handle`]; those of fuller parts stay.
     ///
     /// ```
     /// # #[tokio::main(flavor = "current_thread")]
@@ -489,7 +502,7 @@ impl<T> DelayQueue<T> {
     /// ```
     pub fn numbers(&self) -> Numbers {
         let clock = &self.parts.shared().clock;
-        let cancelled = self.parts.shared().cancels().min(self.len());
+        let cancelled = self.parts.cancelled();
         let late = self.parts.least().map_or(0, |deadline| clock.tick_over().saturating_sub(deadline));
         self.latest.note_late(late);
         Numbers {

@@ -6,7 +6,7 @@ use crate::key::Key;
 use crate::link::{Link, Refusal, Step};
 use crate::seats::{Seat, Seats, ROWS};
 use std::collections::HashMap;
-use std::sync::atomic::{AtomicBool, AtomicIsize, AtomicUsize, Ordering};
+use std::sync::atomic::{AtomicBool, AtomicUsize, Ordering};
 use std::sync::{Arc, Mutex, MutexGuard, PoisonError};
 
 /// The callers that a part has at first.
@@ -20,9 +20,8 @@ pub(crate) struct Shared {
     links: Mutex<Links>,
     /// Whether a part has something for the owner to heed.
     has_news: AtomicBool,
-    /// The cancels of handles that the owner hasn't heeded yet. It heeds one as soon as its bit is set, which is before it is
-    /// counted here: so there may be fewer than none for a moment.
-    cancels: AtomicIsize,
+    /// The cancels of handles that were accepted.
+    cancels: AtomicUsize,
     /// How many callers each part should have.
     callers: AtomicUsize,
 }
@@ -41,7 +40,7 @@ impl Shared {
             seats: Seats::default(),
             links: Mutex::default(),
             has_news: AtomicBool::new(false),
-            cancels: AtomicIsize::new(0),
+            cancels: AtomicUsize::new(0),
             callers: AtomicUsize::new(FIRST_CALLERS),
         }
     }
@@ -100,14 +99,9 @@ impl Shared {
         self.tell();
     }
 
-    /// The owner's note that it heeds a cancel.
-    pub fn count_heeded(&self) {
-        self.cancels.fetch_sub(1, Ordering::SeqCst);
-    }
-
-    /// The cancels that the owner hasn't heeded.
+    /// The cancels that were accepted. One is counted after it is made, so the owner may have freed its place before.
     pub fn cancels(&self) -> usize {
-        self.cancels.load(Ordering::SeqCst).max(0) as usize
+        self.cancels.load(Ordering::SeqCst)
     }
 
     /// How many callers each part should have.

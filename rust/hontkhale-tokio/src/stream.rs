@@ -92,12 +92,17 @@ impl<T> ExpiredStream<T> {
     /// Takes out the entry whose deadline is reached first. Pending where none is, and the task is woken for the next, and
     /// where the [budget](ExpiredStream::set_budget) is spent, and the task is woken at once; none where nothing comes any more.
     pub fn poll_expired(&mut self, cx: &mut Context<'_>) -> Poll<Option<Expired<T>>> {
-        self.bells.listen(cx.waker());
+        if !self.bells.listen(cx.waker()) {
+            self.timer.leave();
+        }
         let mut has_looked = false;
         let mut budget = Budget::of(self.budget);
         loop {
             match self.turn(&mut budget) {
-                Found::Out(out) => return Poll::Ready(Some(out)),
+                Found::Out(out) => {
+                    self.timer.leave();
+                    return Poll::Ready(Some(out));
+                }
                 Found::Waiting(wake) => {
                     if !has_looked {
                         has_looked = true;

@@ -1,4 +1,7 @@
-//! One timer of tokio's, which is set anew for each moment and serves as long as its runtime.
+//! One timer of tokio's, which is set anew for each moment.
+//!
+//! A timer belongs to the runtime in which it was made, and stands still while that one isn't driven. So it is made anew, in
+//! its place, where the next wait may be in another runtime.
 
 use std::future::Future;
 use std::pin::Pin;
@@ -8,24 +11,34 @@ use tokio::time::{sleep_until, Instant, Sleep};
 #[derive(Default)]
 pub(crate) struct Timer {
     sleep: Option<Pin<Box<Sleep>>>,
+    /// Whether the next wait may be in another runtime than the last.
+    is_left: bool,
 }
 
 impl Timer {
+    /// The next wait may be in another runtime.
+    #[inline]
+    pub fn leave(&mut self) {
+        self.is_left = true;
+    }
+
     /// Sleeps until a moment: ready where it is reached.
     #[inline]
     pub fn poll_until(&mut self, moment: Instant, cx: &mut Context<'_>) -> Poll<()> {
         let sleep = self.sleep.get_or_insert_with(|| new_sleep(moment));
-        if sleep.deadline() != moment {
+        if sleep.is_elapsed() {
+            if sleep.deadline() == moment && moment <= Instant::now() {
+                return Poll::Ready(());
+            }
+            // It has fired, or its runtime has gone: polled again, it would panic then.
+            renew(sleep.as_mut(), moment);
+        } else if self.is_left {
+            renew(sleep.as_mut(), moment);
+        } else if sleep.deadline() != moment {
             sleep.as_mut().reset(moment);
         }
-        if !sleep.is_elapsed() {
-            return sleep.as_mut().poll(cx);
-        }
-        if moment <= Instant::now() {
-            return Poll::Ready(());
-        }
-        // It elapsed before its moment: its runtime has gone, with all of its timers. Polled again, it would panic.
-        self.sleep.insert(new_sleep(moment)).as_mut().poll(cx)
+        self.is_left = false;
+        sleep.as_mut().poll(cx)
     }
 }
 
@@ -34,4 +47,10 @@ impl Timer {
 #[inline(never)]
 fn new_sleep(moment: Instant) -> Pin<Box<Sleep>> {
     Box::pin(sleep_until(moment))
+}
+
+/// The timer of the present runtime, in the place of another.
+#[inline(never)]
+fn renew(mut sleep: Pin<&mut Sleep>, moment: Instant) {
+    sleep.set(sleep_until(moment));
 }

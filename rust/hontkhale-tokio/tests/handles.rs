@@ -119,7 +119,7 @@ fn handles_serve_parts_that_came_later_and_moved_entries() {
             for key in &keys {
                 assert!(handle.extend_at(key, far).unwrap() >= far);
             }
-            for key in keys.iter().filter(|key| keys[0] != **key).step_by(2) {
+            for (_, key) in keys.iter().enumerate().filter(|it| it.0 % 8 > 0) {
                 queue.remove(key);
             }
             queue.compact();

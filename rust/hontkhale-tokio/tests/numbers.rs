@@ -155,6 +155,48 @@ fn the_numbers_of_a_queue_are_exact() {
     });
 }
 
+/// Of ten entries handles cancel four, and what frees their places is no poll: `free` does it and leaves the six.
+fn counted_after(free: fn(&mut DelayQueue<usize>)) -> (String, usize) {
+    paused().block_on(async {
+        let mut queue = DelayQueue::new();
+        let handle = queue.handle();
+        let wakes = Arc::<Wakes>::default();
+        for _ in 0..1_000 {
+            let keys: Vec<Key> = (0..10).map(|at| queue.insert(at, ms(60_000))).collect();
+            keys[..4].iter().for_each(|key| assert!(handle.cancel(key).is_ok()));
+            free(&mut queue);
+            keys[4..].iter().for_each(|key| drop(queue.try_remove(key)));
+        }
+        let keys: Vec<Key> = (0..500).map(|at| queue.insert(at, ms(60_000))).collect();
+        let shown = queue.numbers().to_string();
+        let mut woken = 0;
+        for key in &keys[..400] {
+            assert!(queue.poll_expired(&mut Context::from_waker(&Waker::from(wakes.clone()))).is_pending());
+            wakes.take();
+            queue.remove(key);
+            woken += wakes.take();
+        }
+        (shown, woken)
+    })
+}
+
+const CLEAR_AND_SHRINK: fn(&mut DelayQueue<usize>) = |queue| {
+    queue.clear();
+    queue.shrink_to_fit();
+};
+
+/// A count that is wrong for good tells a queue of live entries to be one of cancelled ones, and each remove wakes the task.
+#[test]
+fn what_is_freed_without_a_poll_counts_no_more() {
+    ends(|| {
+        let compact: fn(&mut DelayQueue<usize>) = |queue| queue.compact();
+        for free in [compact, |queue| queue.clear(), CLEAR_AND_SHRINK] {
+            let shown = "500 waiting, 0 cancelled, 0 slots worn, 1 handles, 0.000 s late, at most 0.000 s";
+            assert_eq!(counted_after(free), (shown.to_string(), 0));
+        }
+    });
+}
+
 /// Of a shared queue no entry is later than is told, and where a stream has taken out what was due nothing is late.
 #[test]
 fn the_numbers_of_a_shared_queue_bound_what_is_late() {

@@ -1,12 +1,13 @@
-//! A queue that outlives its runtime goes on in the next one.
+//! A queue that outlives its runtime goes on in the next one, and in a second one while the first isn't driven.
 
 mod common;
 
-use common::{ends, ms, paused};
+use common::{ends, ms, paused, Dice};
 use hontkhale_tokio::{DelayQueue, SharedDelayQueue};
+use std::collections::BTreeMap;
 use std::future::poll_fn;
 use tokio::runtime::Runtime;
-use tokio::time::timeout;
+use tokio::time::{timeout, Instant};
 
 /// The next value in a runtime.
 fn next(runtime: &Runtime, queue: &mut DelayQueue<&'static str>) -> Option<&'static str> {
@@ -99,6 +100,172 @@ fn a_stream_outlives_its_runtime() {
             assert_eq!(stream.next().await.unwrap().into_inner(), "c");
             assert!(stream.next().await.is_none());
         });
+    });
+}
+
+async fn waits(queue: &mut DelayQueue<&'static str>) {
+    assert!(timeout(ms(5), poll_fn(|cx| queue.poll_expired(cx))).await.is_err());
+}
+
+/// How a queue is left in its first runtime.
+#[derive(Clone, Copy, Debug)]
+enum Left {
+    Emptied,
+    OneTakenOut,
+    OneRemoved,
+    WokenAndRemoved,
+    Waiting,
+}
+
+/// `a` is the first of the first runtime, which stays and isn't driven any more; the second waits for `c` alone.
+fn c_comes_out_in_a_second_runtime(left: Left) {
+    let (first, second) = (paused(), paused());
+    let mut queue = made(&first);
+    first.block_on(async {
+        let a = queue.insert("a", ms(10));
+        match left {
+            Left::Emptied => {
+                assert!(poll_fn(|cx| queue.poll_expired(cx)).await.is_some());
+                assert!(poll_fn(|cx| queue.poll_expired(cx)).await.is_none());
+            }
+            Left::OneTakenOut => {
+                queue.insert("c", ms(300));
+                assert!(poll_fn(|cx| queue.poll_expired(cx)).await.is_some());
+            }
+            Left::OneRemoved => {
+                waits(&mut queue).await;
+                queue.remove(&a);
+            }
+            Left::WokenAndRemoved => {
+                waits(&mut queue).await;
+                let sooner = queue.insert("b", ms(1));
+                queue.remove(&a);
+                queue.remove(&sooner);
+            }
+            Left::Waiting => {
+                queue.reset(&a, ms(400));
+                waits(&mut queue).await;
+                queue.insert("c", ms(300));
+            }
+        }
+    });
+    if !matches!(left, Left::OneTakenOut | Left::Waiting) {
+        second.block_on(async { queue.insert("c", ms(300)) });
+    }
+    assert_eq!(next(&second, &mut queue), Some("c"), "{left:?}");
+    drop(first);
+}
+
+#[test]
+fn a_queue_goes_on_in_a_second_runtime_while_the_first_is_not_driven() {
+    for left in [Left::Emptied, Left::OneTakenOut, Left::OneRemoved, Left::WokenAndRemoved, Left::Waiting] {
+        ends(move || c_comes_out_in_a_second_runtime(left));
+    }
+}
+
+#[test]
+fn a_stream_goes_on_in_a_second_runtime_while_the_first_is_not_driven() {
+    for has_waited in [false, true] {
+        ends(move || {
+            let (first, second) = (paused(), paused());
+            let queue = first.block_on(async { SharedDelayQueue::new(2, 10).unwrap() });
+            let mut stream = queue.stream();
+            first.block_on(async {
+                queue.insert(0, "a", ms(10)).unwrap();
+                queue.insert(1, "c", ms(300)).unwrap();
+                assert_eq!(stream.next().await.unwrap().into_inner(), "a");
+                assert!(!has_waited || timeout(ms(5), stream.next()).await.is_err());
+            });
+            second.block_on(async { assert_eq!(stream.next().await.unwrap().into_inner(), "c") });
+            first.block_on(async { queue.insert(0, "d", ms(10)).unwrap() });
+            first.block_on(async { assert_eq!(stream.next().await.unwrap().into_inner(), "d") });
+            drop(second);
+        });
+    }
+}
+
+/// This queue and tokio_util's, with the keys of both by the value.
+struct Both {
+    ours: DelayQueue<u64>,
+    peers: tokio_util::time::DelayQueue<u64>,
+    keys: BTreeMap<u64, (hontkhale_tokio::delay_queue::Key, tokio_util::time::delay_queue::Key)>,
+    outs: usize,
+    outs_of_peer: usize,
+}
+
+impl Both {
+    fn new() -> Both {
+        let (ours, peers) = (DelayQueue::new(), tokio_util::time::DelayQueue::new());
+        Both { ours, peers, keys: BTreeMap::new(), outs: 0, outs_of_peer: 0 }
+    }
+
+    fn call(&mut self, dice: &mut Dice, value: u64) {
+        let at = dice.below(self.keys.len() as u64 + 1) as usize;
+        let drawn = self.keys.keys().nth(at).copied();
+        match (dice.below(8), drawn) {
+            (0..=3, _) => {
+                let ahead = ms(dice.below(200));
+                self.keys.insert(value, (self.ours.insert(value, ahead), self.peers.insert(value, ahead)));
+            }
+            (4..=6, Some(value)) => {
+                let (ours, peers) = self.keys.remove(&value).expect("a value that is in");
+                assert_eq!(self.ours.remove(&ours).into_inner(), self.peers.remove(&peers).into_inner());
+            }
+            (7, _) if dice.below(4) == 0 => {
+                self.ours.clear();
+                self.peers.clear();
+                self.keys.clear();
+            }
+            _ => {}
+        }
+    }
+
+    /// Waits on both for a while. Where the peer gives one that is due, ours gives one: the clocks of two runtimes
+    /// differ, since each stands while the other is driven.
+    async fn wait(&mut self, most: u64) {
+        let Both { ours, peers, .. } = self;
+        let (ours, peers) = tokio::join!(
+            timeout(ms(most), poll_fn(|cx| ours.poll_expired(cx))),
+            timeout(ms(most), poll_fn(|cx| peers.poll_expired(cx))),
+        );
+        let (ours, peers) = (ours.ok().flatten(), peers.ok().flatten());
+        if let Some(peers) = peers.as_ref().filter(|out| out.deadline() <= Instant::now()) {
+            assert!(ours.is_some(), "the peer gives {}, and ours waits", peers.get_ref());
+        }
+        self.outs += usize::from(ours.is_some());
+        self.outs_of_peer += usize::from(peers.is_some());
+        let (ours, peers) = (ours.map(|out| out.into_inner()), peers.map(|out| out.into_inner()));
+        if ours == peers {
+            ours.map(|value| self.keys.remove(&value));
+            return;
+        }
+        // Each gives up what the other one gave.
+        ours.map(|value| self.peers.remove(&self.keys.remove(&value).expect("a value that is in").1));
+        peers.map(|value| self.ours.remove(&self.keys.remove(&value).expect("a value that is in").0));
+    }
+}
+
+/// One of both is driven at a time, while the other stays.
+#[test]
+fn what_the_peer_gives_in_either_of_two_runtimes_ours_gives() {
+    ends(|| {
+        let (mut outs, mut outs_of_peer) = (0, 0);
+        for seed in 1..=200 {
+            let mut dice = Dice(seed << 32 | 0x9e37_79b9);
+            let runtimes = [paused(), paused()];
+            let mut both = runtimes[0].block_on(async { Both::new() });
+            for value in 0..200 {
+                let runtime = &runtimes[dice.below(2) as usize];
+                runtime.block_on(async {
+                    (0..dice.below(4)).for_each(|at| both.call(&mut dice, 4 * value + at));
+                    both.wait(dice.below(100)).await;
+                });
+            }
+            outs += both.outs;
+            outs_of_peer += both.outs_of_peer;
+        }
+        println!("{outs} entries came out, {outs_of_peer} of the peer");
+        assert!(outs_of_peer > 1_000 && outs >= outs_of_peer);
     });
 }
 
