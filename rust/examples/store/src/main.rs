@@ -17,7 +17,6 @@ mod tests;
 use hontkhale::LAST_TICK;
 use keyspace::Keyspace;
 use seats::Seats;
-use std::fs;
 use std::io::{self, Write};
 use std::net::{IpAddr, Ipv4Addr, TcpListener};
 use std::ops::RangeInclusive;
@@ -90,22 +89,18 @@ fn options(mut args: impl Iterator<Item = String>) -> Result<Option<Options>, St
     Ok(Some(options))
 }
 
-/// How many files the process may have open, where the machine says so.
-fn most_files() -> Option<usize> {
-    let limits = fs::read_to_string("/proc/self/limits").ok()?;
-    let line = limits.lines().find_map(|line| line.strip_prefix("Max open files"))?;
-    line.split_whitespace().next()?.parse().ok()
+/// For how many clients there are files, after the process's limit is raised as far as the machine allows.
+fn clients_with_files(wanted: usize) -> Result<usize, Box<dyn std::error::Error>> {
+    let needed = wanted + OWN_FILES;
+    let files = rlimit::increase_nofile_limit(needed as u64)?;
+    match wanted.min((files as usize).saturating_sub(OWN_FILES)) {
+        0 => Err(format!("this process may have {files} open files and needs more than {OWN_FILES}").into()),
+        clients => Ok(clients),
+    }
 }
 
 fn run(options: &Options) -> Result<(), Box<dyn std::error::Error>> {
-    let needed = options.clients + OWN_FILES;
-    if let Some(files) = most_files().filter(|it| *it < needed) {
-        return Err(format!(
-            "{} clients need {needed} open files, this process may have {files}: ulimit -n {needed}",
-            options.clients
-        )
-        .into());
-    }
+    let clients = clients_with_files(options.clients)?;
     let memory = options.memory << 20;
     let keyspace = Arc::new(Keyspace::new(options.keys, memory - memory / PARTS)?);
     if keyspace.clock.now() > LAST_TICK {
@@ -114,9 +109,14 @@ fn run(options: &Options) -> Result<(), Box<dyn std::error::Error>> {
     let at = (options.bind, options.port);
     let listener = TcpListener::bind(at).map_err(|error| format!("{}:{} can't be listened at: {error}", at.0, at.1))?;
     let at = listener.local_addr()?;
+    let fewer = match clients {
+        all if all == options.clients => String::new(),
+        fewer => format!("; {fewer} clients in place of {}, for lack of open files", options.clients),
+    };
     // Whoever started it may have closed its output.
-    let _ = writeln!(io::stdout(), "store: {at}, without passwords: whoever reaches it reads and changes every key");
-    let seats = Arc::new(Seats::new(options.clients, memory / PARTS));
+    let _ =
+        writeln!(io::stdout(), "store: {at}, without passwords: whoever reaches it reads and changes every key{fewer}");
+    let seats = Arc::new(Seats::new(clients, memory / PARTS));
     server::serve(listener, &keyspace, &seats, options.threads)?;
     let _ = writeln!(io::stdout(), "store: ended, as it was told to; {} connections are left", seats.taken());
     Ok(())

@@ -10,19 +10,32 @@ use std::time::{Duration, Instant};
 struct Store {
     child: Child,
     said: BufReader<ChildStdout>,
+    /// The line that it starts with.
+    first: String,
     address: String,
 }
 
 impl Store {
     fn new(options: &[&str]) -> Store {
-        let mut command = Command::new(env!("CARGO_BIN_EXE_store"));
-        command.args(["--port", "0"]).args(options).stdout(Stdio::piped()).stderr(Stdio::piped());
+        Store::by(Command::new(env!("CARGO_BIN_EXE_store")).args(options))
+    }
+
+    /// One that a shell starts, which has limited its open files before.
+    fn with_files(limit: &str, options: &[&str]) -> Store {
+        let start = format!("ulimit {limit} && exec \"$0\" \"$@\"");
+        Store::by(Command::new("sh").args(["-c", &start, env!("CARGO_BIN_EXE_store")]).args(options))
+    }
+
+    fn by(command: &mut Command) -> Store {
+        // The tests' own sockets are more than a shell's limit too.
+        rlimit::increase_nofile_limit(u64::MAX).unwrap();
+        let command = command.args(["--port", "0"]).stdout(Stdio::piped()).stderr(Stdio::piped());
         let mut child = command.spawn().unwrap();
         let (mut said, mut first) = (BufReader::new(child.stdout.take().unwrap()), String::new());
         said.read_line(&mut first).unwrap();
         assert!(first.contains("without passwords"), "{first}");
         let address = first.split([' ', ',']).find(|it| it.starts_with("127.0.0.1:")).unwrap().to_string();
-        Store { child, said, address }
+        Store { child, said, first, address }
     }
 
     /// Asks it to end, which it has to do in order: what it says then, and what it warned of before.
@@ -249,6 +262,23 @@ fn a_thousand_connections_are_served_and_the_next_is_refused_by_name() {
         assert!(begun.elapsed() < Duration::from_secs(20), "seats aren't given back");
     }
     store.is_well();
+}
+
+#[test]
+fn the_soft_limit_of_open_files_is_raised() {
+    let store = Store::with_files("-Sn 100", &["--clients", "300"]);
+    let mut clients: Vec<TcpStream> = (0..300).map(|_| store.connect()).collect();
+    clients.iter_mut().for_each(|it| assert_eq!(ask(it, &[b"PING"]), "+PONG\r\n"));
+    assert!(store.first.ends_with("every key\n"), "{}", store.first);
+}
+
+#[test]
+fn fewer_clients_are_served_where_files_are_lacking() {
+    let store = Store::with_files("-n 200", &[]);
+    assert!(store.first.ends_with("; 136 clients in place of 1000, for lack of open files\n"), "{}", store.first);
+    let mut clients: Vec<TcpStream> = (0..136).map(|_| store.connect()).collect();
+    clients.iter_mut().for_each(|it| assert_eq!(ask(it, &[b"PING"]), "+PONG\r\n"));
+    assert_eq!(store.ends_with(b""), "-ERR max number of clients reached\r\n");
 }
 
 #[test]
