@@ -12,8 +12,8 @@ import sys
 import tempfile
 
 HERE = pathlib.Path(__file__).resolve().parent
-KEYSPACE, COMMAND, KEYS, EXPIRY, ASKED, SCAN, KEEPER, RESP, OUTPUT, SEATS, CONNECTION, LOOP = FILES = [f"src/{it}.rs" for it in (
-    "keyspace", "command", "command/keys", "command/expiry", "command/connection", "command/scan", "keeper", "resp", "output",
+KEYSPACE, SHARD, PLACE, WALK, ROOM, COMMAND, KEYS, EXPIRY, ASKED, SCAN, KEEPER, RESP, OUTPUT, SEATS, CONNECTION, LOOP = FILES = [
+    f"src/{it}.rs" for it in ("keyspace", "keyspace/shard", "keyspace/place", "keyspace/walk", "room", "command", "command/keys", "command/expiry", "command/connection", "command/scan", "keeper", "resp", "output",
     "seats", "connection", "event_loop")]
 # The bug, the file, what stands there, what is put in its place, and the test that sees it.
 BODIES = [
@@ -40,8 +40,8 @@ BODIES = [
      "        if let Some(is_done) = extend_entry(desk, &entry, when) {\n            return is_done;\n        }\n        desk.known",
      "        return extend_entry(desk, &entry, when).unwrap_or(false);\n        #[allow(unreachable_code)]\n        desk.known",
      "a_remembered_extend_reaches_no_other_key"),
-    ("seen_at_its_deadline", KEYSPACE, "if now < deadline => Some", "if now <= deadline => Some", "no_key_is_seen_at_its_deadline"),
-    ("gone_before_its_deadline", KEYSPACE, "        let entry = match old {\n            // An extend",
+    ("seen_at_its_deadline", SHARD, "if now < deadline => Some", "if now <= deadline => Some", "no_key_is_seen_at_its_deadline"),
+    ("gone_before_its_deadline", PLACE, "        let entry = match old {\n            // An extend",
      "        let when = when - 1;\n        let entry = match old {\n            // An extend", "no_key_is_seen_at_its_deadline"),
     ("reader_sees_what_is_over", KEYSPACE, "        if let Some(life) = record.life(handle, now) {\n            return Some(read(record, life));",
      "        if let Some(life) = record.life(handle, 0) {\n            return Some(read(record, life));", "no_command_sees_a_key_that_is_over"),
@@ -52,32 +52,33 @@ BODIES = [
     ("a_reader_tells_gone_before_it_came_out", KEYSPACE, "        drop(names);\n        let names = self.write_now(shard, now, handle, name);",
      "        if handle.look(&record.entry?).is_ok() {\n            return None;\n        }\n        drop(names);\n"
      "        let names = self.write_now(shard, now, handle, name);", "no_command_sees_a_key_that_is_over"),
-    ("each_deadline_wears_its_slot", KEYSPACE, "Some(old) if self.handle.extend(&old, when) == Ok(when) => return Ok(old),", "",
+    ("each_deadline_wears_its_slot", PLACE, "Some(old) if self.handle.extend(&old, when) == Ok(when) => return Ok(old),", "",
      "a_later_deadline_wears_no_slot"),
-    ("an_earlier_deadline_is_taken_for_an_extend", KEYSPACE, "extend(&old, when) == Ok(when)", "extend(&old, when).is_ok()",
+    ("an_earlier_deadline_is_taken_for_an_extend", PLACE, "extend(&old, when) == Ok(when)", "extend(&old, when).is_ok()",
      "expire_changes_what_its_conditions_allow"),
-    ("past_deadline_keeps_the_key", KEYSPACE, "        if when <= self.now {\n            self.remove();\n        } else if",
+    ("past_deadline_keeps_the_key", PLACE, "        if when <= self.now {\n            self.remove();\n        } else if",
      "        if when <= self.now {\n        } else if", "a_deadline_that_is_over_takes_the_key_off"),
-    ("past_set_keeps_the_key", KEYSPACE, "if when <= self.now) {\n            self.remove();", "if when <= self.now) {",
+    ("past_set_keeps_the_key", PLACE, "if when <= self.now) {\n            self.remove();", "if when <= self.now) {",
      "a_deadline_that_is_over_takes_the_key_off"),
-    ("dbsize_counts_what_is_over", KEYSPACE, "            self.take_out(shard, now);\n            self.read(shard).records.len()",
-     "            let _ = now;\n            self.read(shard).records.len()", "no_command_sees_a_key_that_is_over"),
-    ("info_takes_out", KEYSPACE, "            let names = self.read(shard);\n            let queue",
-     "            self.take_out(shard, self.clock.now());\n            let names = self.read(shard);\n            let queue",
+    ("dbsize_counts_what_is_over", WALK, "        if self.shards[shard].is_due(now) {", "        if now == 0 {", "no_command_sees_a_key_that_is_over"),
+    ("dbsize_takes_locks", WALK, "        if self.shards[shard].is_due(now) {", "        if now > 0 {",
+     "the_number_of_keys_takes_no_lock_where_none_is_over"),
+    ("info_takes_out", WALK, "            let names = self.shards[shard].read();\n            let queue",
+     "            self.take_out(shard, self.clock.now());\n            let names = self.shards[shard].read();\n            let queue",
      "no_command_sees_a_key_that_is_over"),
     ("flushall_leaves_a_shard", KEYSPACE, "let mut all: Vec<_> = (0..SHARDS)", "let mut all: Vec<_> = (1..SHARDS)", "flushall_leaves_nothing"),
-    ("flushall_leaves_deadlines", KEYSPACE, "        self.queue.clear();\n", "",
+    ("flushall_leaves_deadlines", SHARD, "        self.queue.clear();\n", "",
      "flushall_leaves_nothing"),
-    ("persist_of_no_deadline_answers_1", KEYSPACE, "        entry.is_some()\n", "        entry.is_some() || self.life.is_some()\n",
+    ("persist_of_no_deadline_answers_1", PLACE, "        entry.is_some()\n", "        entry.is_some() || self.life.is_some()\n",
      "persist_takes_a_deadline_off_where_there_is_one"),
-    ("persist_leaves_the_deadline", KEYSPACE, "        self.drop_entry(entry);\n        entry.is_some()", "        entry.is_some()",
+    ("persist_leaves_the_deadline", PLACE, "        self.drop_entry(entry);\n        entry.is_some()", "        entry.is_some()",
      "persist_takes_a_deadline_off_where_there_is_one"),
-    ("set_leaves_the_old_deadline", KEYSPACE, "                self.drop_entry(old);\n                None", "                None",
+    ("set_leaves_the_old_deadline", PLACE, "                self.drop_entry(old);\n                None", "                None",
      "set_does_what_its_options_say"),
-    ("bytes_are_never_given_back", KEYSPACE, "        self.bytes -= size(&out.value, &record.value);", "",
-     "memory_is_counted_back_to_nothing"),
-    ("a_table_keeps_its_room", KEYSPACE, "self.records.shrink_to(2 * count);", "", "the_room_of_what_is_gone_is_given_back"),
-    ("no_alarm_for_an_earlier_deadline", KEYSPACE, "self.keyspace.alarm(self.shard % KEEPERS).ring_before(when);", "",
+    ("bytes_are_never_given_back", SHARD, "        self.bytes -= bytes;\n", "", "memory_is_counted_back_to_nothing"),
+    ("the_room_is_never_given_back", SHARD, "        self.room.give_back(bytes);\n", "", "memory_is_counted_back_to_nothing"),
+    ("a_table_keeps_its_room", SHARD, "self.records.shrink_to(2 * count);", "", "the_room_of_what_is_gone_is_given_back"),
+    ("no_alarm_for_an_earlier_deadline", PLACE, "self.keyspace.alarm(self.shard % KEEPERS).ring_before(when);", "",
      "keepers_give_back_what_nobody_asks_for"),
     ("what_is_over_waits_to_be_asked_for", KEEPER, "filter_map(|shard| keyspace.take_out(shard, now))",
      "filter_map(|shard| keyspace.take_out(shard, 0 * now))", "keepers_give_back_what_nobody_asks_for"),
@@ -108,18 +109,22 @@ BODIES = [
     ("getdel_leaves_the_key", KEYS, "        let value = place.value().cloned();\n        place.remove();", "        let value = place.value().cloned();",
      "set_and_get_take_a_time_of_their_own"),
     ("decrby_goes_up", KEYS, "by.checked_neg().ok_or(Refusal::DecrOverflow)?", "by", "numbers_go_up_and_down"),
-    ("a_scan_loses_a_name_a_call", KEYSPACE, "filter(|it| it.0 >= position)", "filter(|it| it.0 > position)",
+    ("a_scan_loses_a_name_a_call", WALK, "                    return ((shard as u64) << PLACE_BITS | place as u64, told);",
+     "                    return ((shard as u64) << PLACE_BITS | place.saturating_sub(1) as u64, told);", "a_scan_tells_each_name_that_stays"),
+    ("a_scan_goes_up", WALK, "names.records.get_index(place - 1)", "names.records.get_index(names.records.len() - place)",
      "a_scan_tells_each_name_that_stays"),
-    ("a_scan_tells_what_is_over", KEYSPACE, "            self.take_out(shard, now);\n            let names = self.read(shard);\n            let placed",
-     "            let _ = now;\n            let names = self.read(shard);\n            let placed", "a_scan_tells_what_its_pattern_fits"),
+    ("a_scan_tells_a_shard", WALK, "if told.len() == count ||", "if told.len() >= count && place == names.records.len() ||",
+     "a_scan_tells_each_name_that_stays"),
+    ("a_scan_tells_what_is_over", WALK, "let names = self.present(shard, now).read();", "let names = self.shards[shard].read();",
+     "a_scan_tells_what_its_pattern_fits"),
     ("a_star_takes_nothing", SCAN, "                    (rest, left) = (after, others);", "                    return false;",
      "a_scan_tells_what_its_pattern_fits"),
-    ("a_renewal_leaves_the_deadline", KEYSPACE, "                record.entry = Some(entry);", "                let _ = entry;",
+    ("a_renewal_leaves_the_deadline", SHARD, "                record.entry = Some(entry);", "                let _ = entry;",
      "a_worn_queue_is_renewed"),
-    ("no_queue_is_renewed", KEYSPACE, "self.queue.worn() >= self.queue.capacity().div_ceil(2)", "self.queue.worn() > usize::MAX - 1",
+    ("no_queue_is_renewed", SHARD, "self.queue.worn() >= self.queue.capacity().div_ceil(2)", "self.queue.worn() > usize::MAX - 1",
      "a_worn_queue_is_renewed"),
-    ("info_tells_no_lateness", KEYSPACE, "late: sum.queue.late.max(late)", "late: sum.queue.late.min(late)", "info_tells_what_the_queue_holds"),
-    ("a_refused_deadline_loses_the_value", KEYSPACE, "Lifetime::Until(when) => Some(self.entry_until(name.clone(), old, when)?),",
+    ("info_tells_no_lateness", WALK, "late: sum.queue.late.max(late)", "late: sum.queue.late.min(late)", "info_tells_what_the_queue_holds"),
+    ("a_refused_deadline_loses_the_value", PLACE, "Lifetime::Until(when) => Some(self.entry_until(name.clone(), old, when)?),",
      "Lifetime::Until(when) => self.entry_until(name.clone(), old, when).ok(),", "no_room_is_an_error_by_name"),
     ("unread_values_count_for_nothing", OUTPUT, "self.long.as_ref().map_or(0, |(value, _)| value.len())", "0",
      "unread_values_hold_no_more_than_the_memory"),
@@ -128,13 +133,16 @@ BODIES = [
      "what_was_asked_for_is_sent_at_the_end"),
     ("short_replies_are_held_back_whole", OUTPUT, "self.long.is_some() || self.bytes.len() - self.sent >= ENOUGH", "self.long.is_some()",
      "many_short_replies_are_held_a_few_at_a_time"),
-    ("memory_without_end", KEYSPACE, "if bytes > self.keyspace.room {", "if bytes > usize::MAX - 1 {", "no_room_is_an_error_by_name"),
+    ("memory_without_end", ROOM, "new <= old || *it <= self.most", "*it < usize::MAX", "no_room_is_an_error_by_name"),
+    ("an_empty_store_takes_nothing", ROOM, "if !is_little && ", "if ", "a_process_that_is_too_large_takes_little"),
+    ("a_process_without_end", ROOM, "            read + bytes <= most\n", "            read + bytes > 0\n",
+     "values_whose_sizes_change_hold_no_more"),
 ]
 # What is changed elsewhere too.
 FURTHER = {
     "mget_sees_what_is_over": (KEYSPACE, "#[cfg(test)]\nimpl Keyspace {", """impl Keyspace {
     pub fn value_whenever(&self, name: &[u8]) -> crate::resp::Reply {
-        let names = self.read(self.shard_of(name));
+        let names = self.shards[self.shard_of(name)].read();
         names.records.get(name).map_or(crate::resp::Reply::Nil, |it| crate::resp::Reply::Bulk(it.value.clone()))
     }
 }

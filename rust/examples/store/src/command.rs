@@ -133,6 +133,7 @@ enum Refusal {
     Password,
     HelloOption(String),
     Memory,
+    Process,
     Deadlines,
 }
 
@@ -164,6 +165,7 @@ impl Refusal {
             Refusal::Password => "WRONGPASS invalid username-password pair or user is disabled.".into(),
             Refusal::HelloOption(text) => format!("ERR Syntax error in HELLO option '{text}'"),
             Refusal::Memory => "OOM command not allowed when used memory > 'maxmemory'.".into(),
+            Refusal::Process => "OOM the process holds as much memory as it may".into(),
             Refusal::Deadlines => "OOM no room for another key that expires".into(),
         })
     }
@@ -173,6 +175,7 @@ impl From<NoRoom> for Refusal {
     fn from(no_room: NoRoom) -> Refusal {
         match no_room {
             NoRoom::Memory => Refusal::Memory,
+            NoRoom::Process => Refusal::Process,
             NoRoom::Deadlines => Refusal::Deadlines,
         }
     }

@@ -5,6 +5,7 @@ use crate::keeper::keep;
 use crate::keyspace::{Keyspace, KEEPERS};
 use crate::output::Output;
 use crate::resp::{integer, Broken, Parser, Protocol, Reply};
+use crate::room::Room;
 use crate::seats::Seats;
 use std::sync::atomic::{AtomicBool, Ordering::SeqCst};
 use std::sync::{mpsc, Arc};
@@ -14,7 +15,7 @@ use std::time::{Duration, Instant};
 mod commands;
 
 fn keyspace() -> Arc<Keyspace> {
-    Arc::new(Keyspace::new(10_000, 64 << 20).unwrap())
+    Arc::new(Keyspace::new(10_000, Room::new(64 << 20)).unwrap())
 }
 
 /// A client with a desk of its own, as if it had a thread for itself.
@@ -50,6 +51,20 @@ fn a_later_deadline_takes_no_lock() {
         });
         let answers = heard.recv_timeout(Duration::from_secs(20));
         assert_eq!(answers, Ok((Reply::Integer(1), Reply::Integer(0))), "an extend waits for a lock");
+    });
+}
+
+/// Nor does it wait for a shard that somebody changes.
+#[test]
+fn the_number_of_keys_takes_no_lock_where_none_is_over() {
+    let keyspace = keyspace();
+    let mut client = client(&keyspace);
+    is_ok(&mut client, "SET a 1 PX 60000");
+    is_ok(&mut client, "SET b 1");
+    let (told, heard) = mpsc::channel();
+    keyspace.while_held(b"a", || {
+        thread::spawn(move || told.send(ask(&mut client, "DBSIZE")));
+        assert_eq!(heard.recv_timeout(Duration::from_secs(20)), Ok(Reply::Integer(2)), "DBSIZE waits for a lock");
     });
 }
 
@@ -154,6 +169,7 @@ fn memory_is_counted_back_to_nothing() {
     thread::sleep(Duration::from_millis(30));
     (0..50).for_each(|at| drop(ask(&mut client, &format!("DEL key:{at} count:{at}"))));
     assert_eq!((ask(&mut client, "DBSIZE"), keyspace.held().bytes), (Reply::Integer(0), 0));
+    assert!(keyspace.room().take(0, 64 << 20).is_ok(), "all of the room is free");
 }
 
 /// The requests of these bytes that come in pieces of a size.

@@ -10,19 +10,32 @@ use std::time::{Duration, Instant};
 struct Store {
     child: Child,
     said: BufReader<ChildStdout>,
+    /// The line that it starts with.
+    first: String,
     address: String,
 }
 
 impl Store {
     fn new(options: &[&str]) -> Store {
-        let mut command = Command::new(env!("CARGO_BIN_EXE_store"));
-        command.args(["--port", "0"]).args(options).stdout(Stdio::piped()).stderr(Stdio::piped());
+        Store::by(Command::new(env!("CARGO_BIN_EXE_store")).args(options))
+    }
+
+    /// One that a shell starts, which has limited its open files before.
+    fn with_files(limit: &str, options: &[&str]) -> Store {
+        let start = format!("ulimit {limit} && exec \"$0\" \"$@\"");
+        Store::by(Command::new("sh").args(["-c", &start, env!("CARGO_BIN_EXE_store")]).args(options))
+    }
+
+    fn by(command: &mut Command) -> Store {
+        // The tests' own sockets are more than a shell's limit too.
+        rlimit::increase_nofile_limit(u64::MAX).unwrap();
+        let command = command.args(["--port", "0"]).stdout(Stdio::piped()).stderr(Stdio::piped());
         let mut child = command.spawn().unwrap();
         let (mut said, mut first) = (BufReader::new(child.stdout.take().unwrap()), String::new());
         said.read_line(&mut first).unwrap();
         assert!(first.contains("without passwords"), "{first}");
         let address = first.split([' ', ',']).find(|it| it.starts_with("127.0.0.1:")).unwrap().to_string();
-        Store { child, said, address }
+        Store { child, said, first, address }
     }
 
     /// Asks it to end, which it has to do in order: what it says then, and what it warned of before.
@@ -99,6 +112,12 @@ fn answer(stream: &mut TcpStream) -> String {
         line.push_str(&String::from_utf8_lossy(&content));
     }
     line
+}
+
+/// The answers of a line each to requests that are sent in one piece.
+fn ask_all(stream: &mut TcpStream, requests: &[Vec<u8>]) -> Vec<String> {
+    stream.write_all(&requests.concat()).unwrap();
+    BufReader::new(&*stream).lines().take(requests.len()).map(Result::unwrap).collect()
 }
 
 #[test]
@@ -252,6 +271,23 @@ fn a_thousand_connections_are_served_and_the_next_is_refused_by_name() {
 }
 
 #[test]
+fn the_soft_limit_of_open_files_is_raised() {
+    let store = Store::with_files("-Sn 100", &["--clients", "300"]);
+    let mut clients: Vec<TcpStream> = (0..300).map(|_| store.connect()).collect();
+    clients.iter_mut().for_each(|it| assert_eq!(ask(it, &[b"PING"]), "+PONG\r\n"));
+    assert!(store.first.ends_with("every key\n"), "{}", store.first);
+}
+
+#[test]
+fn fewer_clients_are_served_where_files_are_lacking() {
+    let store = Store::with_files("-n 200", &[]);
+    assert!(store.first.ends_with("; 136 clients in place of 1000, for lack of open files\n"), "{}", store.first);
+    let mut clients: Vec<TcpStream> = (0..136).map(|_| store.connect()).collect();
+    clients.iter_mut().for_each(|it| assert_eq!(ask(it, &[b"PING"]), "+PONG\r\n"));
+    assert_eq!(store.ends_with(b""), "-ERR max number of clients reached\r\n");
+}
+
+#[test]
 fn no_room_is_an_error_by_name_and_nothing_is_lost() {
     let store = Store::new(&["--keys", "0", "--memory", "64"]);
     let mut stream = store.connect();
@@ -270,8 +306,11 @@ fn no_room_is_an_error_by_name_and_nothing_is_lost() {
     assert_eq!(ask(&mut stream, &[b"SET", b"without", b"v"]), "+OK\r\n");
     assert_eq!(ask(&mut stream, &[b"PEXPIRE", b"without", b"1000"]), "-OOM no room for another key that expires\r\n");
     assert_eq!(ask(&mut stream, &[b"TTL", b"without"]), ":-1\r\n");
-    // A shard has a MiB, its keys take some of it.
+    // 48 MiB are for keys and values, in whatever shard they are: the value of a MiB that doesn't go in is the 47th.
     let value = vec![b'v'; 1 << 20];
+    for at in 0..46 {
+        assert_eq!(ask(&mut stream, &[b"SET", format!("long:{at}").as_bytes(), &value]), "+OK\r\n", "{at}");
+    }
     let told = "-OOM command not allowed when used memory > 'maxmemory'.\r\n";
     assert_eq!(ask(&mut stream, &[b"SET", b"without", &value]), told);
     assert_eq!(ask(&mut stream, &[b"GET", b"without"]), "$1\r\nv\r\n");
@@ -322,7 +361,7 @@ fn half_commands_hold_no_more_than_the_memory_that_was_given() {
         let mut told = String::new();
         let _ = BufReader::new(stream).read_line(&mut told);
         match &told[..] {
-            "-OOM command not allowed when used memory > 'maxmemory'.\r\n" => kept += 1,
+            "+OK\r\n" => kept += 1,
             "-OOM the memory for connections is used up\r\n" => refused += 1,
             other => panic!("{other:?}"),
         }
@@ -331,6 +370,34 @@ fn half_commands_hold_no_more_than_the_memory_that_was_given() {
     // What they held is given back.
     assert_eq!(ask(&mut honest, &[b"SET", b"large", &[b'v'; 500_000]]), "+OK\r\n");
     assert_eq!(ask(&mut honest, &[b"GET", b"large"]).len(), 500_011);
+    store.is_well();
+}
+
+/// Values of one size after another, of which each twentieth stays, so that what goes leaves holes too small for the next.
+#[test]
+fn values_whose_sizes_change_hold_no_more_than_the_process_may() {
+    let store = Store::new(&["--memory", "64", "--keys", "10000", "--most", "97"]);
+    let (mut stream, mut refused) = (store.connect(), 0);
+    for size in [100, 400, 1_600, 6_400, 25_600, 102_400, 409_600] {
+        let (at_once, value, mut set) = ((400_000 / size).clamp(1, 500), vec![b'v'; size], 0);
+        let told = loop {
+            let names = (set..set + at_once).map(|at| format!("{size}:{at}"));
+            let told =
+                ask_all(&mut stream, &names.map(|it| request(&[b"SET", it.as_bytes(), &value])).collect::<Vec<_>>());
+            assert!(store.held() < 97 << 10, "{} KiB are held", store.held());
+            set += told.iter().filter(|it| *it == "+OK").count();
+            if let Some(told) = told.into_iter().find(|it| it != "+OK") {
+                break told;
+            }
+        };
+        refused += usize::from(told == "-OOM the process holds as much memory as it may");
+        let gone: Vec<_> = (0..set).filter(|at| at % 20 > 0).map(|at| format!("{size}:{at}")).collect();
+        for names in gone.chunks(500) {
+            ask_all(&mut stream, &names.iter().map(|it| request(&[b"DEL", it.as_bytes()])).collect::<Vec<_>>());
+        }
+    }
+    assert!(refused > 0, "the holes aren't as large as the test wants them");
+    assert_eq!(ask(&mut stream, &[b"FLUSHALL"]), "+OK\r\n");
     store.is_well();
 }
 

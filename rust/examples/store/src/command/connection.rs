@@ -120,7 +120,7 @@ pub fn config(client: &mut Client<'_>, words: Words<'_>) -> Answer {
     if words.len() < 3 {
         return Err(Refusal::PartWordCount("config", "get"));
     }
-    let bytes = client.desk.keyspace.room() + client.desk.seats.room();
+    let bytes = client.desk.keyspace.room().most() + client.desk.seats.room();
     let settings = [
         ("appendonly", "no".into()),
         ("databases", "1".into()),
@@ -154,13 +154,13 @@ pub fn command(_: &mut Client<'_>, words: Words<'_>) -> Answer {
 pub fn info(client: &mut Client<'_>, _: Words<'_>) -> Answer {
     let (keyspace, seats) = (&client.desk.keyspace, &client.desk.seats);
     let Held { keys, expires, bytes, expired, queue } = keyspace.held();
-    let (version, held, room) = (env!("CARGO_PKG_VERSION"), seats.bytes(), keyspace.room() + seats.room());
-    let clients = seats.taken();
+    let (version, held, room) = (env!("CARGO_PKG_VERSION"), seats.bytes(), keyspace.room().most() + seats.room());
+    let (clients, resident) = (seats.taken(), keyspace.room().resident().unwrap_or(0));
     Ok(Reply::Text(format!(
         "# Server\r\nredis_version:{REDIS_VERSION}\r\nstore_version:{version}\r\nredis_mode:standalone\r\n\r\n\
          # Clients\r\nconnected_clients:{clients}\r\n\r\n\
          # Memory\r\nused_memory:{}\r\nused_memory_keys:{bytes}\r\nused_memory_clients:{held}\r\n\
-         maxmemory:{room}\r\n\r\n\
+         used_memory_rss:{resident}\r\nmaxmemory:{room}\r\n\r\n\
          # Stats\r\nexpired_keys:{expired}\r\n\r\n\
          # Replication\r\nrole:master\r\n\r\n\
          # Queue\r\nwaiting:{}\r\ncancelled_not_freed:0\r\nslots_worn:{}\r\nlate_ms:{}\r\n\r\n\

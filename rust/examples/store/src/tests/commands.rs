@@ -6,6 +6,8 @@ use crate::command::Client;
 use crate::keyspace::{Keyspace, SHARDS, SMALL_TABLE};
 use crate::output::Output;
 use crate::resp::Reply;
+use crate::room::{Resident, Room};
+use crate::seats::Seats;
 use std::collections::HashSet;
 use std::sync::Arc;
 use std::thread;
@@ -258,6 +260,21 @@ fn the_room_of_what_is_gone_is_given_back() {
     says(&mut client, "GET key => $5 value");
 }
 
+/// A process that is larger than it may be from the first on.
+#[test]
+fn a_process_that_is_too_large_takes_little_and_never_nothing() {
+    let resident = Resident::new(0, Arc::new(Seats::new(10, 1 << 20))).unwrap();
+    let keyspace = Arc::new(Keyspace::new(100, Room::new(1 << 20).within(resident)).unwrap());
+    let (mut client, value) = (client(&keyspace), "v".repeat(10_000));
+    let refused = Reply::Error("OOM the process holds as much memory as it may".into());
+    for _ in 0..2 {
+        (0..6).for_each(|at| is_ok(&mut client, &format!("SET key:{at} {value} PX 60000")));
+        assert_eq!(ask(&mut client, &format!("SET key:6 {value}")), refused);
+        assert_eq!(ask(&mut client, &format!("SET key:0 {value}")), refused);
+        says(&mut client, "GET key:6 => $-1\nTTL key:0 => :60\nDEL key:0 key:1 key:2 key:3 key:4 key:5 => :6");
+    }
+}
+
 #[test]
 fn set_and_get_take_a_time_of_their_own() {
     let mut client = client(&keyspace());
@@ -352,11 +369,16 @@ fn scanned(client: &mut Asker, line: &str) -> (String, Vec<String>) {
 fn a_scan_tells_each_name_that_stays() {
     let keyspace = keyspace();
     let mut client = client(&keyspace);
-    (0..5_000).for_each(|at| is_ok(&mut client, &format!("SET key:{at} 1")));
+    for at in 0..5_000 {
+        is_ok(&mut client, &format!("SET gone:{at} 1"));
+        is_ok(&mut client, &format!("SET key:{at} 1"));
+    }
     let (mut cursor, mut seen, mut calls) = ("0".to_string(), HashSet::new(), 0);
     loop {
         let (next, names) = scanned(&mut client, &format!("SCAN {cursor} COUNT 7"));
-        // Others come and go meanwhile.
+        assert!(names.len() <= 7, "a call tells no more than it is asked for");
+        // Others come and go meanwhile, and the last of a shard moves to the place of what goes.
+        (5 * calls..5 * calls + 5).for_each(|at| drop(ask(&mut client, &format!("DEL gone:{at}"))));
         is_ok(&mut client, &format!("SET other:{calls} 1 PX {}", 1 + calls % 3));
         ask(&mut client, &format!("DEL other:{}", calls / 2));
         seen.extend(names.into_iter().filter(|it| it.starts_with("key:")));
@@ -415,7 +437,7 @@ fn info_tells_what_the_queue_holds() {
 /// Slots of few stamps, so that a queue is worn again and again: one name that comes and goes, and others that stay.
 #[test]
 fn a_worn_queue_is_renewed_while_it_serves() {
-    let keyspace = Arc::new(Keyspace::of(0, 64 << 20, 3).unwrap());
+    let keyspace = Arc::new(Keyspace::of(0, Room::new(64 << 20), 3).unwrap());
     let (mut writer, mut other) = (client(&keyspace), client(&keyspace));
     for at in 0..500 {
         is_ok(&mut writer, &format!("SET stays:{at} 1 PX 600000"));
