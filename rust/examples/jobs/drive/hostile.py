@@ -223,6 +223,19 @@ def bad_job(it):
     print("hostile: 10 bad jobs among 990 good ones are dead after 2 attempts, and the good ones done once", flush=True)
 
 
+def selected_effect(it):
+    """An effect that is a SELECT of a function, by a worker and by a poller."""
+    it.sql("CREATE FUNCTION did(job bigint) RETURNS void BEGIN ATOMIC INSERT INTO effects (job) VALUES (job); END")
+    for words in (["worker"], ["poller", "--every", "50"]):
+        empty(it)
+        process = it.spawn(*words, "--effect", "SELECT did(id) FROM taken")
+        it.jobs("enqueue", "100")
+        exactly_once(it, 100)
+        process.terminate()
+        assert process.wait(30) == 0
+    print("hostile: an effect that is a SELECT was had of 100 jobs, by a worker and by a poller", flush=True)
+
+
 def memory(process):
     """The most memory that a process had, in MiB."""
     with open(f"/proc/{process.pid}/status") as it:
@@ -272,7 +285,7 @@ def full_table(it, count):
 
 def main(quick):
     with cluster() as it:
-        for case in [one_name, wrong_clock, great_payload, lost_lock, flood, bad_job]:
+        for case in [one_name, wrong_clock, great_payload, lost_lock, flood, bad_job, selected_effect]:
             case(it)
         full_table(it, 100_000 if quick else 1_000_000)
 

@@ -2,7 +2,7 @@
 
 use crate::metrics::Metrics;
 use std::collections::HashMap;
-use std::future::poll_fn;
+use std::future::{poll_fn, Future};
 use std::sync::atomic::{AtomicBool, Ordering::SeqCst};
 use std::sync::{Arc, Mutex, PoisonError};
 use std::time::Duration;
@@ -164,11 +164,28 @@ impl Links {
         answer
     }
 
+    /// Has the database read a statement, without running it.
+    async fn prepare(&self, sql: &str) -> Result<(), Error> {
+        self.session().await?.prepare(sql).await.map(drop)
+    }
+
+    /// Tries again until the statement is prepared, or refused by an error that doesn't pass.
+    pub async fn insist_to_prepare(&self, sql: &str) -> Result<(), Error> {
+        self.until_it_passes(|| self.prepare(sql)).await
+    }
+
     /// Tries again until the answer is rows or an error that doesn't pass. The statement must bear to be run twice.
     pub async fn insist(&self, sql: &str, params: &[Param<'_>]) -> Result<Vec<Row>, Error> {
+        self.until_it_passes(|| self.query(sql, params)).await
+    }
+
+    async fn until_it_passes<T, F>(&self, mut ask: impl FnMut() -> F) -> Result<T, Error>
+    where
+        F: Future<Output = Result<T, Error>>,
+    {
         let mut delay = Delay::new();
         loop {
-            match self.query(sql, params).await {
+            match ask().await {
                 Err(error) if is_passing(&error) && !self.is_ending.load(SeqCst) => {
                     let waited = delay.wait().await;
                     tell(format_args!("tried again after {waited:?}: {}", reason(&error)));

@@ -1,26 +1,32 @@
 //! Jobs that the worker does itself: a job is taken, its effect had, and the job done by one statement.
 
-use crate::db::{is_passing, reason, tell};
+use crate::db::{is_passing, reason, tell, Links};
 use crate::sql;
 use crate::worker::Worker;
 use std::sync::Arc;
 use std::time::SystemTime;
 use tokio::sync::mpsc::UnboundedReceiver;
 use tokio::sync::{OwnedSemaphorePermit, Semaphore};
+use tokio_postgres::error::SqlState;
 use tokio_postgres::{Error, Row};
 
 /// The most jobs of a statement.
 const BATCH: usize = 500;
 
-/// The statement that takes jobs and has this effect of them.
-pub fn statement(effect: &str) -> String {
-    format!("{}{effect}{}", sql::BEGIN_EFFECT, sql::END_EFFECT)
+/// The statement that begins so, takes jobs and has this effect of them.
+pub async fn statement(links: &Links, begin: &str, effect: &str) -> Result<String, Error> {
+    let reading = format!("{begin}{effect}{}", sql::END_EFFECT);
+    match links.insist_to_prepare(&reading).await {
+        Err(error) if error.code() == Some(&SqlState::FEATURE_NOT_SUPPORTED) => {
+            Ok(format!("{begin}{effect}{}", sql::END_EFFECT_WITHOUT_ROWS))
+        }
+        answer => answer.map(|_| reading),
+    }
 }
 
 /// Does what comes out of the index until the keeper has ended: what came while a statement was under way by the next,
 /// and as many statements at a time as there are sessions.
-pub async fn run(worker: Arc<Worker>, mut jobs: UnboundedReceiver<Vec<i64>>) {
-    let statement: Arc<str> = statement(worker.options.effect.as_deref().unwrap_or("SELECT")).into();
+pub async fn run(worker: Arc<Worker>, statement: Arc<str>, mut jobs: UnboundedReceiver<Vec<i64>>) {
     let sessions = worker.links.count();
     let free = Arc::new(Semaphore::new(sessions));
     let mut left = Vec::new();

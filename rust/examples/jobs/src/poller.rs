@@ -1,9 +1,9 @@
 //! What people do without an index: each of some workers asks the table every so often for what is due, and locks it.
 
 use crate::db::{is_passing, reason, tell, Links};
+use crate::effect::statement;
 use crate::metrics::Metrics;
 use crate::options::PollerOptions;
-use crate::sql;
 use std::error::Error;
 use std::sync::Arc;
 use tokio::signal::unix::{signal, SignalKind};
@@ -12,22 +12,17 @@ use tokio::time::MissedTickBehavior;
 /// The most jobs of a statement.
 const BATCH: i64 = 500;
 
-fn statement(effect: &str) -> String {
-    format!(
-        "WITH taken AS (
-            UPDATE jobs SET state = 'done', attempt = attempt + 1, started = clock_timestamp(),
-                ended = clock_timestamp()
-            WHERE id IN (SELECT id FROM jobs WHERE state = 'waiting' AND due <= now() ORDER BY due
-                FOR UPDATE SKIP LOCKED LIMIT $1::bigint)
-            RETURNING id, due, payload, attempt, started
-        ), effect AS ({effect}{}",
-        sql::END_EFFECT
-    )
-}
+const BEGIN_EFFECT: &str = "
+WITH taken AS (
+    UPDATE jobs SET state = 'done', attempt = attempt + 1, started = clock_timestamp(), ended = clock_timestamp()
+    WHERE id IN (SELECT id FROM jobs WHERE state = 'waiting' AND due <= now() ORDER BY due
+        FOR UPDATE SKIP LOCKED LIMIT $1::bigint)
+    RETURNING id, due, payload, attempt, started
+), effect AS MATERIALIZED (";
 
 pub async fn run(options: &PollerOptions) -> Result<(), Box<dyn Error>> {
     let links = Links::new(options.config.clone(), Arc::new(Metrics::default()), 1);
-    let statement = statement(&options.effect);
+    let statement = statement(&links, BEGIN_EFFECT, &options.effect).await.map_err(|error| reason(&error))?;
     let mut term = signal(SignalKind::terminate())?;
     let mut interval = tokio::time::interval(options.every);
     interval.set_missed_tick_behavior(MissedTickBehavior::Delay);

@@ -51,8 +51,11 @@ WITH taken AS (
     UPDATE jobs SET state = 'done', attempt = attempt + 1, started = clock_timestamp(), ended = clock_timestamp()
     WHERE id = ANY($1::bigint[]) AND state = 'waiting' AND due <= now()
     RETURNING id, due, payload, attempt, started
-), effect AS (";
-pub const END_EFFECT: &str = ") SELECT started, due, attempt FROM taken";
+), effect AS MATERIALIZED (";
+/// Ends it. The rows of the effect are counted, since a SELECT within WITH that nobody reads isn't run.
+pub const END_EFFECT: &str = ") SELECT started, due, attempt FROM taken, (SELECT count(*) FROM effect) it";
+/// Ends it where the effect has no rows to read: an INSERT, UPDATE or DELETE without RETURNING is run anyway.
+pub const END_EFFECT_WITHOUT_ROWS: &str = ") SELECT started, due, attempt FROM taken";
 
 /// An attempt of a job that waits has failed: it waits longer each time, and after the last attempt it is dead.
 pub const FAIL_WAITING: &str = "

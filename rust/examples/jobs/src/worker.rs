@@ -1,7 +1,7 @@
 //! What the tasks of a worker share, and how it begins and ends.
 
 use crate::clock::Clock;
-use crate::db::{tell, Links};
+use crate::db::{reason, tell, Links};
 use crate::effect;
 use crate::expiry;
 use crate::index::{Due, Handle, Index};
@@ -11,7 +11,7 @@ use crate::owner;
 use crate::partitions::{Partitions, Standing, LEASE_ROOM, WAITING_ROOM};
 use crate::ready::Ready;
 use crate::redirect::Redirects;
-use crate::{leases, scrape, server};
+use crate::{leases, scrape, server, sql};
 use std::error::Error;
 use std::sync::atomic::{AtomicBool, AtomicU64, Ordering::SeqCst};
 use std::sync::{Arc, Mutex, PoisonError};
@@ -164,7 +164,11 @@ pub async fn run(options: WorkerOptions) -> Result<(), Box<dyn Error>> {
     if let Some(listener) = scraped {
         tokio::spawn(scrape::serve(worker.clone(), listener));
     }
-    let tasks = begin(&worker, listener);
+    let statement = match &worker.options.effect {
+        Some(effect) => effect::statement(&worker.links, sql::BEGIN_EFFECT, effect).await.map_err(|it| reason(&it))?,
+        None => String::new(),
+    };
+    let tasks = begin(&worker, listener, statement.into());
     told_to_end().await?;
     tell(format_args!("worker {} drains", worker.options.name));
     end.send(true)?;
@@ -181,7 +185,7 @@ struct Tasks {
     owner: tokio::task::JoinHandle<()>,
 }
 
-fn begin(worker: &Arc<Worker>, listener: Option<TcpListener>) -> Tasks {
+fn begin(worker: &Arc<Worker>, listener: Option<TcpListener>, effect: Arc<str>) -> Tasks {
     let (due, jobs) = unbounded_channel();
     let (ended, leases_ended) = unbounded_channel();
     let kept = worker.clone();
@@ -191,7 +195,7 @@ fn begin(worker: &Arc<Worker>, listener: Option<TcpListener>) -> Tasks {
             tokio::spawn(server::serve(worker.clone(), listener));
             tokio::spawn(crate::ready::fill(worker.clone(), jobs))
         }
-        None => tokio::spawn(effect::run(worker.clone(), jobs)),
+        None => tokio::spawn(effect::run(worker.clone(), effect, jobs)),
     };
     let expiry = tokio::spawn(expiry::run(worker.clone(), leases_ended));
     tokio::spawn(leases::write_on(worker.clone()));
