@@ -95,13 +95,8 @@ impl Circles {
     /// The first index of a list while a slot is open, or none, which tells nothing.
     #[inline]
     pub fn first_open(&self, list: usize) -> Option<usize> {
-        if self.opened.is_none() {
-            return None;
-        }
-        match self.first(list) {
-            Some(first) => Some(first),
-            None => None,
-        }
+        let _opened = self.opened?;
+        self.first(list)
     }
 
     /// An index of a list that is filed least there.

@@ -9,10 +9,7 @@ pub fn due_list(tick: u64) -> usize {
 
 /// The list in which an index stands that is filed at `when`: list `64 * level + slot` is that slot.
 pub fn list_of(tick: u64, when: u64) -> usize {
-    let level = match level_of(tick, when) {
-        Some(level) => level,
-        None => 0,
-    };
+    let level = level_of(tick, when).unwrap_or(0);
     SLOTS * level + digit(when, level) as usize
 }
 
