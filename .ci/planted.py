@@ -32,20 +32,24 @@ GATES = [
     ({"c/check": ("a hash differs", 1)}, "0 passed, 1 failed", 1, "a hash differs"),
 ]
 PUT = "if self.handles.len() == self.most {"
-# Edits of dq_pool: the pairs of each, and how the run has to tell of it; none where it has to be refused.
+# Edits of `src/idle.rt` of dq_pool: the function, the old and the new text of each, and how the run has to tell of it; none
+# where it has to be refused.
 EDITS = {
-    "take_by_way_of_a_name": ([("src/idle.rt", "self.handles.pop()", "let last = self.handles.pop(); last")], "NOT REFUSED"),
-    "put_where_no_field_is": ([("src/idle.rt", PUT, "if self.handles.len() == self.least {")], "BAD EDIT"),
-    "put_of_a_text_that_is_gone": ([("src/idle.rt", "self.handles.push_back(handle);", "let _ = handle;")], "BAD EDIT"),
-    "len_promises_nothing": ([("src/idle.rt", "result ≡ length self.now.handles", "result ≡ result")], "NOT REFUSED"),
-    "put_hands_back_with_room": ([("src/idle.rt", PUT, "if self.handles.len() != self.most {")], None),
+    "take_by_way_of_a_name": ("Idle::take", "self.handles.pop()", "let last = self.handles.pop(); last", "NOT REFUSED"),
+    "put_where_no_field_is": ("Idle::put", PUT, "if self.handles.len() == self.least {", "BAD EDIT"),
+    "put_of_a_text_that_is_gone": ("Idle::put", "self.handles.push_back(handle);", "let _ = handle;", "BAD EDIT"),
+    "put_of_another_functions_text": ("Idle::put", "self.handles.pop()", "self.handles.pop().or(None)", "BAD EDIT"),
+    "push_that_is_no_function": ("Idle::push", PUT, "if self.handles.len() != self.most {", "BAD EDIT"),
+    "len_of_a_text_that_put_has_too": ("Idle::len", "self.handles.len()", "self.most", None),
+    "len_promises_nothing": ("Idle::len", "result ≡ length self.now.handles", "result ≡ result", "NOT REFUSED"),
+    "put_hands_back_with_room": ("Idle::put", PUT, "if self.handles.len() != self.most {", None),
 }
 # What the files of two say of the goals that aren't proved, both wrongly: their first goal there isn't one.
 FAILS = {"take_by_way_of_a_name": "idle::Idle::take no_goal returns", "put_hands_back_with_room": "idle::Idle::put no_goal returns"}
 # A function that isn't proved as the crate stands, the file of an edit of it, and that of one that asks for it too.
 LEN = ("src/idle.rt", "self.handles.len()\n", "let most = self.most; most\n")
-OF_LEN = "file: src/idle.rt\nold: let most = self.most; most\nnew: let most = self.most; most / 2\n"
-BESIDE = f"asks: Idle::put Idle::len\nfile: src/idle.rt\nold: {PUT}\nnew: if self.handles.len() != self.most {{\n"
+OF_LEN = "file: src/idle.rt\nin: Idle::len\nold: let most = self.most; most\nnew: let most = self.most; most / 2\n"
+BESIDE = f"asks: Idle::put Idle::len\nfile: src/idle.rt\nin: Idle::put\nold: {PUT}\nnew: if self.handles.len() != self.most {{\n"
 REFUSED_TOO = "test-edits: dq_pool: a right body is refused too, as idle::Idle::len_right: nothing is known of its edits"
 
 
@@ -94,9 +98,9 @@ def lay_out(folder):
     shutil.copy(TOP / "HANDLES", folder)
     (folder / "crates.txt").write_text("dq_pool:\n", encoding="utf-8")
     shutil.copytree(TOP / "crates" / "dq_pool", folder / "crates" / "dq_pool")
-    for name, (pairs, _) in EDITS.items():
+    for name, (function, old, new, _) in EDITS.items():
         lines = [f"fails: {FAILS[name]}\n"] if name in FAILS else []
-        lines += [f"file: {file}\nold: {old}\nnew: {new}\n" for file, old, new in pairs]
+        lines += [f"file: src/idle.rt\nin: {function}\nold: {old}\nnew: {new}\n"]
         (folder / "crates" / "dq_pool" / "edits" / f"{name}.edit").write_text("".join(lines), encoding="utf-8")
 
 
@@ -119,11 +123,11 @@ def try_edits():
     with tempfile.TemporaryDirectory(prefix="planted-") as room:
         folder = pathlib.Path(room)
         lay_out(folder)
-        every = edits(folder, ["-j", "2"], {**its, **{it: how for it, (_, how) in EDITS.items()}})
+        every = edits(folder, ["-j", "2"], {**its, **{it: how for it, (*_, how) in EDITS.items()}})
         print(f"edits: with those planted: {'; '.join(every) or 'as it has to be'}", flush=True)
         one = edits(folder, ["dq_pool/put_hands_back_with_room"], {"put_hands_back_with_room": None})
         print(f"edits: one by its name: {'; '.join(one) or 'as it has to be'}", flush=True)
-        built = edits(folder, ["--built", "-j", "2"], {**its, **{it: how for it, (_, how) in EDITS.items()}})
+        built = edits(folder, ["--built", "-j", "2"], {**its, **{it: how for it, (*_, how) in EDITS.items()}})
         print(f"edits: with those planted, as in the gate: {'; '.join(built) or 'as it has to be'}", flush=True)
         plant_wrong_len(folder / "crates" / "dq_pool")
         too = edits(folder, ["--built", "dq_pool/len_of_half"], {"len_of_half": "NOT TRIED"}, REFUSED_TOO)

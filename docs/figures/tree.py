@@ -2,6 +2,8 @@
 
 import collections
 import functools
+import importlib.machinery
+import importlib.util
 import pathlib
 import re
 
@@ -152,23 +154,26 @@ class Crate:
 
     def stale_edits(self):
         """The edits that can't be applied, which is told here in seconds."""
-        return [it.stem for it in files(self.folder / "edits", ".edit") if not self.applies(text_of(it))]
+        return [it.stem for it in files(self.folder / "edits", ".edit") if not self.applies(it)]
 
     def applies(self, edit):
-        """Whether each old text of an edit stands once in its file, after the pairs before it."""
-        texts, path, old = {}, None, None
-        for line in edit.splitlines():
-            kind, _, rest = line.partition(": ")
-            if kind == "file":
-                path = rest.strip()
-                texts.setdefault(path, text_of(self.folder / path))
-            elif kind == "old":
-                old = rest
-                if texts[path].count(old) != 1:
-                    return False
-            elif line.startswith("new:"):
-                texts[path] = texts[path].replace(old, rest)
-        return old is not None
+        """Whether an edit can be applied, as `test-edits` reads it."""
+        pairs = test_edits().pairs_of(edit)
+        paths = {it[0] for it in pairs if (self.folder / it[0]).is_file()}
+        try:
+            test_edits().applied(pairs, {it: text_of(self.folder / it) for it in paths})
+        except test_edits().Fault:
+            return False
+        return bool(pairs)
+
+
+@functools.lru_cache(maxsize=None)
+def test_edits():
+    """The script `test-edits`, as a module."""
+    loader = importlib.machinery.SourceFileLoader("test_edits", str(TOP / "test-edits"))
+    module = importlib.util.module_from_spec(importlib.util.spec_from_loader("test_edits", loader))
+    loader.exec_module(module)
+    return module
 
 
 @functools.lru_cache(maxsize=None)

@@ -29,8 +29,7 @@ use Rattle.dq_lasting.specs.declared.ended.LastingTally.{LastingTally}
 use Rattle.dq_lasting.specs.declared.errors.LastingError.{LastingError}
 use Rattle.dq_lasting.specs.declared.errors.LastingError.TheVariants.{Core, Closed, Unknown}
 use Rattle.dq_lasting.specs.declared.errors.ReopenError.{ReopenError}
-use Rattle.dq_lasting.specs.declared.errors.ReopenError.TheVariants.{StillLinked, NumbersSpent}
-use Rattle.dq_lasting.specs.declared.errors.ReopenError.TheVariants.{NoMemory}
+use Rattle.dq_lasting.specs.declared.errors.ReopenError.TheVariants.{NumbersSpent, NoMemory}
 use Rattle.dq_lasting.specs.Parking.{WaitsOnOrWakes}
 use Rattle.dq_lasting.specs.Shard.{LastingView, AddsUp}
 
@@ -170,8 +169,6 @@ module _ {T : Type 0} where
       new.core.words)
       × AreFresh new.core.known new.core.counts × KnowsNothing new.core.words
       × (new.takes ≡ true) × IsEndedBefore old new.past × (new.parked ≡ None)
-  Reopens old by (Err (StillLinked linked)) new =
-      (linked ≡ count_by is_held old.core.slots.rows) × (0 < linked) × (new ≡ old)
   Reopens old by (Err NumbersSpent) new =
       (count_by is_held old.core.slots.rows ≡ 0) × NumbersAreSpent old by × (new ≡ old)
   Reopens old by (Err NoMemory) new = (count_by is_held old.core.slots.rows ≡ 0) × (new ≡ old)

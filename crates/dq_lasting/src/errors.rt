@@ -20,12 +20,6 @@ pub enum LastingError {
 /// Why a shard isn't opened again.
 #[derive(Clone, Copy, Debug, PartialEq, Eq, Error)]
 pub enum ReopenError {
-    /// Entries are linked, live or cancelled and not yet reaped.
-    #[error("{linked} entries are still linked")]
-    StillLinked {
-        /// How many.
-        linked: usize,
-    },
     /// No higher number is left, or more entries were inserted than a tally counts.
     #[error("the shard has no number left")]
     NumbersSpent,

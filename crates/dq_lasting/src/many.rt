@@ -1,5 +1,5 @@
 //! A poll that takes out many entries under one lock.
-ghost use Rattle.std.specs.Prelude.{◌≡◌, ◌<◌, ◌≤◌, ◌↔◌, vec_capacity, IsErr, IsErrOf, OnErr};
+ghost use Rattle.std.specs.Prelude.{◌≡◌, ◌<◌, ◌≤◌, ◌↔◌, vec_capacity, IsErrOf, OnErr};
 ghost use Rattle.dq_ticks.specs.declared.TheConstants.{LAST_TICK};
 ghost use Rattle.dq_core.specs.declared.errors.CoreError.TheVariants.{TickTooLarge};
 ghost use Rattle.dq_lasting.specs.declared.errors.LastingError.TheVariants.{Core, Unknown};
@@ -9,38 +9,10 @@ ghost use Rattle.dq_lasting.specs.Many.{LastingPollsMany};
 use crate::errors::LastingError;
 use crate::queue::LastingQueue;
 use crate::quiet::unlock;
-use crate::shard::LastingShard;
-use dq_core::{CoreError, Expired};
+use dq_core::Expired;
 use dq_words::ManyTurn;
 use std::alloc::Allocator;
 use std::sync::Wait;
-
-impl<T: Drop, A: Allocator> LastingShard<T, A> {
-    /// As [`LastingQueue::poll_many`], of a shard in hand.
-    ///
-    /// # Errors
-    /// TickTooLarge beyond the last tick. Nothing changes then.
-    pub fn poll_many(
-        &mut self,
-        tick: u64,
-        row: &mut Vec<Expired<T>, A>,
-    ) -> Result<ManyTurn, CoreError>
-        // A tick is refused exactly beyond the last one, and then the row stays.
-        ensures refused { IsErr result ↔ (LAST_TICK < tick) }
-        ensures kept { OnErr result (row.new ≡ row.old) }
-
-        // The row has the room that it had: no memory was taken.
-        ensures room { vec_capacity row.new ≡ vec_capacity row.old }
-
-        // All that it does.
-        ensures polls { LastingPollsMany self.old tick (vec_capacity row.old) row.old.items
-            row.new.items result self.new }
-    {
-        let (answer, leaver) = self.attended.poll_many(tick, row);
-        leaver.wake();
-        answer
-    }
-}
 
 impl<T: Drop, A: Allocator> LastingQueue<T, A> {
     /// Polls the shard at a place under one lock until the caller's own row is full, or nothing is due: the entries stand

@@ -1,9 +1,10 @@
 //! A shard is opened in two short steps. Under its first lock it is seen to be drained; then words and slots that were
 //! never used are made while the lock is free; under the second lock they take the place of the old ones, in constant
 //! time. What is left over is dropped behind the lock.
-ghost use Rattle.std.specs.Prelude.{◌≡◌, ◌+◌, ◌<◌, ◌≤◌, IfSome, None, length};
+ghost use Rattle.std.specs.Prelude.{◌≡◌, ◌+◌, ◌<◌, ◌≤◌, true, IfSome, None, OnOk, OnErr, length};
 ghost use Rattle.std.specs.List.{count_by};
 ghost use Rattle.std.specs.Sync.Mutex.{mutex_guard_value};
+ghost use Rattle.dq_core.specs.Renewals.{OldAreMissing};
 ghost use Rattle.dq_core.specs.Slots.{is_held};
 ghost use Rattle.dq_parking.specs.Parking.{Leaves};
 ghost use Rattle.dq_lasting.specs.Answers.{AtPlace, IsOfPlace};
@@ -45,11 +46,7 @@ pub(crate) enum Begun {
 pub(crate) type Rows<T, A> = FreshRows<T, Keeper<A>, A>;
 
 // What is dropped once the lock is free: the rows that a shard had, or those that it didn't want any more.
-#[derive(Drop)]
-pub(crate) enum LeftOver<T, A: Allocator> {
-    Old(Keeper<A>, Slots<T, A>),
-    Unwanted(Rows<T, A>),
-}
+pub(crate) type LeftOver<T, A> = Result<(Keeper<A>, Slots<T, A>), Rows<T, A>>;
 
 // Rows that were never used; none where memory is refused.
 fn fresh_rows<T: Drop, A: Allocator + Clone + Drop>(alloc: A, size: ShardSize) -> Option<Rows<T, A>>
@@ -148,27 +145,34 @@ impl<T: Drop, A: Allocator> LastingShard<T, A> {
         requires by { 0 < by }
         requires empty { count_by is_held self.old.core.slots.rows ≡ 0 }
         requires fits { FitsShard self.old rows }
+        // Its number rises, so each entry from before is missing for good, and it takes entries again.
+        ensures rises { OnOk result.0 (self.new.core.shard ≡ self.old.core.shard + by) }
+        ensures stale { OnOk result.0 (OldAreMissing self.old.core self.new.core) }
+        ensures opened { OnOk result.0 (self.new.takes ≡ true) }
+        ensures refused { OnErr result.0 (self.new ≡ self.old) }
+
+        // All that it does.
         ensures reopens { Reopens self.old by result.0 self.new }
         ensures leaves { Leaves self.old.parked result.1.poller self.new.parked }
     {
         let Some((number, past)) = self.next_generation(by) else {
             let (answer, leaver) = nobody(Err(ReopenError::NumbersSpent));
-            return (answer, leaver, LeftOver::Unwanted(rows));
+            return (answer, leaver, Err(rows));
         };
         match self.attended.core.renew_with(number, rows) {
-            Ok((words, slots)) => {
+            Ok(old) => {
                 self.takes = true;
                 self.past = past;
                 self.sweep_from = 0;
                 let leaver = take(&mut self.attended.parked);
-                (Ok(()), leaver, LeftOver::Old(words, slots))
+                (Ok(()), leaver, Ok(old))
             }
             Err(_refused) => unreachable!(),
         }
     }
 
     // Under the second lock: one that is still drained goes on over the rows. Any other makes its step, and wants none.
-    fn end(
+    pub(crate) fn end(
         &mut self,
         rows: Rows<T, A>,
         place: usize,
@@ -185,7 +189,7 @@ impl<T: Drop, A: Allocator> LastingShard<T, A> {
     {
         if !self.is_drained() {
             let (kept, leaver) = self.drain_on(place);
-            return (Ok(kept), leaver, LeftOver::Unwanted(rows));
+            return (Ok(kept), leaver, Err(rows));
         }
         let (answer, leaver, left) = self.open_over(rows, by);
         match answer {

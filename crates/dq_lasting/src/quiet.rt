@@ -1,18 +1,17 @@
 //! The calls of a shard that wake nobody while its lock is held: who leaves is handed over, and woken once the lock is
 //! free.
-ghost use Rattle.std.specs.Prelude.{◌≡◌, ◌<◌, None};
+ghost use Rattle.std.specs.Prelude.{◌≡◌, None};
 ghost use Rattle.std.specs.Sync.Mutex.{mutex_guard_value};
 ghost use Rattle.dq_parking.specs.Parking.{Leaves};
 ghost use Rattle.dq_lasting.specs.Shard.{IsLasting};
-ghost use Rattle.dq_lasting.specs.Changes.{LastingInserts, LastingDeadline, Closes, Reopens};
+ghost use Rattle.dq_lasting.specs.Changes.{LastingInserts, LastingDeadline, Closes};
 ghost use Rattle.dq_lasting.specs.Polling.{RingsParked};
 
-use crate::errors::{LastingError, ReopenError};
-use crate::shard::{LastingShard, with_ended};
+use crate::errors::LastingError;
+use crate::shard::LastingShard;
 use dq_core::CoreError;
 use dq_parking::{Leaver, keep_or_leave, ring, take};
 use dq_ticks::{EntryId, Key};
-use dq_words::Keeper;
 use std::alloc::Allocator;
 use std::sync::MutexGuard;
 
@@ -40,6 +39,9 @@ pub(crate) fn nobody<R>(answer: R) -> (R, Leaver<Option<u64>>)
     (answer, Leaver { poller: None })
 }
 
+// What an insert came to; refused, the value comes back.
+pub(crate) type Inserted<T> = Result<Key, (LastingError, T)>;
+
 impl<T: Drop, A: Allocator> LastingShard<T, A> {
     // As `insert`.
     #[inline]
@@ -47,7 +49,7 @@ impl<T: Drop, A: Allocator> LastingShard<T, A> {
         &mut self,
         value: T,
         when: u64,
-    ) -> (Result<Key, (LastingError, T)>, Leaver<Option<u64>>)
+    ) -> (Inserted<T>, Leaver<Option<u64>>)
         ensures inserts { LastingInserts self.old value when result.0 self.new }
         ensures leaves { Leaves self.old.parked result.1.poller self.new.parked }
     {
@@ -93,41 +95,5 @@ impl<T: Drop, A: Allocator> LastingShard<T, A> {
     {
         let rung = ring(&mut self.attended.parked, tick);
         (rung.is_some(), rung)
-    }
-}
-
-impl<T: Drop, A: Allocator + Clone + Drop> LastingShard<T, A> {
-    // As `reopen`.
-    pub(crate) fn reopen_quietly(
-        &mut self,
-        alloc: A,
-        by: u32,
-    ) -> (Result<(), ReopenError>, Leaver<Option<u64>>)
-        requires { 0 < by }
-        ensures reopens { Reopens self.old by result.0 self.new }
-        ensures leaves { Leaves self.old.parked result.1.poller self.new.parked }
-    {
-        let linked = self.attended.core.len();
-        if linked > 0 {
-            return nobody(Err(ReopenError::StillLinked { linked }));
-        }
-        let Some(number) = self.attended.core.shard().checked_add(by) else {
-            return nobody(Err(ReopenError::NumbersSpent));
-        };
-        let tally = self.attended.core.tally();
-        let Some(past) = with_ended(&self.past, &tally) else {
-            return nobody(Err(ReopenError::NumbersSpent));
-        };
-        let Ok(keeper) = Keeper::new(alloc, self.attended.core.capacity()) else {
-            return nobody(Err(ReopenError::NoMemory));
-        };
-        match self.attended.core.renew(number, keeper) {
-            Ok(_old) => {
-                self.takes = true;
-                self.past = past;
-                (Ok(()), take(&mut self.attended.parked))
-            }
-            Err(_refused) => unreachable!(),
-        }
     }
 }

@@ -2,19 +2,18 @@
 ghost use Rattle.std.specs.Prelude.{◌≡◌, ◌↔◌, ◌+◌, ◌<◌, ◌≤◌, true, false, None, OnOk, OnErr, IfErr, IfSome, IsErrAnd, length};
 ghost use Rattle.std.specs.List.{count_by};
 ghost use Rattle.dq_core.specs.Calls.{TellsWake};
-ghost use Rattle.dq_core.specs.Renewals.{OldAreMissing};
 ghost use Rattle.dq_core.specs.Slots.{is_held, is_worn};
 ghost use Rattle.dq_parking.specs.Parking.{Leaves};
 ghost use Rattle.dq_lasting.specs.declared.errors.LastingError.TheVariants.{Closed};
 ghost use Rattle.dq_lasting.specs.Shard.{IsLasting, AddsUp};
-ghost use Rattle.dq_lasting.specs.Changes.{LastingInserts, LastingResets, LastingRemoves, Reopens};
+ghost use Rattle.dq_lasting.specs.Changes.{LastingInserts, LastingResets, LastingRemoves};
 ghost use Rattle.dq_lasting.specs.Changes.{LastingDeadline, LastingPolls, LastingSweeps, Closes};
 ghost use Rattle.dq_lasting.specs.Changes.{LastingClears, LastingTells, LastingIssues, IsWith};
 ghost use Rattle.dq_lasting.specs.Changes.{count_end};
 ghost use Rattle.dq_lasting.specs.Keeping.{ClosesWorn, ClosesFarWorn, TellsDrained};
 
 use crate::ended::{Ended, LastingTally};
-use crate::errors::{LastingError, ReopenError};
+use crate::errors::LastingError;
 use crate::numbered::NumberedCaller;
 use dq_core::{CoreError, DelayCore, Removed, Tally, Turn};
 use dq_parking::{Attended, Leaver};
@@ -288,7 +287,7 @@ impl<T: Drop, A: Allocator> LastingShard<T, A> {
     {
         let worn = self.attended.core.worn();
         let half = self.attended.core.capacity() / 2;
-        if self.attended.core.len() > 0 {
+        if !self.attended.core.is_empty() {
             return false;
         }
         if !self.takes {
@@ -312,32 +311,5 @@ impl<T: Drop, A: Allocator> LastingShard<T, A> {
             Ok(caller) => Ok(NumberedCaller::of(number, caller)),
             Err(refusal) => Err(refusal),
         }
-    }
-}
-
-impl<T: Drop, A: Allocator + Clone + Drop> LastingShard<T, A> {
-    /// Goes on with fresh words under a number that is higher by `by`, and takes entries. The tally of this generation
-    /// goes to the past, and a poller that is parked is woken. No slot is worn then, and every key from before is
-    /// refused for good. The old words live on for as long as callers of them do.
-    ///
-    /// It takes memory for the words, and goes over every slot.
-    ///
-    /// # Errors
-    /// StillLinked while an entry is linked, NumbersSpent where no such number is left, and NoMemory. Nothing changes
-    /// then.
-    pub fn reopen(&mut self, alloc: A, by: u32) -> Result<(), ReopenError>
-        requires { 0 < by }
-        // Its number rises, so each entry from before is missing for good, and it takes entries again.
-        ensures rises { OnOk result (self.new.core.shard ≡ self.old.core.shard + by) }
-        ensures stale { OnOk result (OldAreMissing self.old.core self.new.core) }
-        ensures opened { OnOk result (self.new.takes ≡ true) }
-        ensures refused { OnErr result (self.new ≡ self.old) }
-
-        // All that it does.
-        ensures reopens { Reopens self.old by result self.new }
-    {
-        let (answer, leaver) = self.reopen_quietly(alloc, by);
-        leaver.wake();
-        answer
     }
 }

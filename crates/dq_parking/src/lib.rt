@@ -12,7 +12,7 @@ mod waiting;
 
 pub use attended::{Attended, keep_or_leave};
 pub use fault::StreamFault;
-pub use parked::{Leaver, Parked, Until, keep_until, let_sleep, ring, take};
+pub use parked::{Leaver, Parked, let_sleep, ring, take};
 pub use registering::register;
 pub use source::{MillisecondTicks, TickSource};
 pub use waiting::{Waiting, waiting_row};

@@ -168,13 +168,8 @@ impl<A: Allocator> Circles<A> {
         requires { list < LISTS }
         ensures { IfSome result (λ x. StandsIn self.now.homes list x) }
     {
-        if self.opened.is_none() {
-            return None;
-        }
-        match self.first(list) {
-            Some(first) => Some(first),
-            None => None,
-        }
+        let _opened = self.opened?;
+        self.first(list)
     }
 
     /// An index of a list that is filed least there.

@@ -23,10 +23,7 @@ pub fn list_of(tick: u64, when: u64) -> usize
     ensures value { result ≡ list_number tick when }
     ensures small { result < LISTS }
 {
-    let level = match level_of(tick, when) {
-        Some(level) => level,
-        None => 0,
-    };
+    let level = level_of(tick, when).unwrap_or(0);
     SLOTS * level + digit(when, level) as usize
 }
 

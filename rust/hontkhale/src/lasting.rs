@@ -32,16 +32,15 @@ mod state;
 mod stream;
 mod through;
 
-pub use crate::parking::{MillisecondTicks, StreamFault, TickSource};
-pub use config::{BadLastingNumber, LastingConfig, SHARD_LIMIT};
+pub use config::{BadLastingNumber, LastingConfig};
 pub use ended::{Ended, LastingTally, LastingTotals};
 pub use entered::LockedLasting;
 pub use errors::{HandleError, HandleRenewError, LastingError, ReopenError};
 pub use handle::LastingHandle;
 pub use keeping::Kept;
-pub use numbered::NumberedCaller;
 pub use paced::LastingPacedStream;
 pub use queue::LastingQueue;
+#[cfg(test)]
 pub use shard::LastingShard;
 pub use state::PlaceState;
 pub use stream::LastingStream;

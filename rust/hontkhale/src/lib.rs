@@ -65,17 +65,11 @@
 // The erased modules keep the shape and the names of what was proved.
 #![allow(
     clippy::enum_variant_names,
-    clippy::len_zero,
     clippy::manual_find,
-    clippy::manual_is_multiple_of,
     clippy::manual_map,
     clippy::manual_ok_err,
-    clippy::manual_unwrap_or,
-    clippy::manual_unwrap_or_default,
     clippy::module_inception,
-    clippy::needless_return,
-    clippy::question_mark,
-    clippy::while_let_on_iterator
+    clippy::question_mark
 )]
 
 extern crate alloc;
@@ -94,30 +88,22 @@ mod memory;
 mod receiver;
 mod refused;
 
-// A module has what its crate has, also what only the tests of the source name.
-#[allow(dead_code, unused_imports)]
 mod core;
-#[allow(dead_code, unused_imports)]
 mod ticks;
-#[allow(dead_code, unused_imports)]
 mod wheel;
-#[allow(dead_code, unused_imports)]
 mod words;
 
 #[cfg(feature = "std")]
 mod apps;
 #[cfg(feature = "std")]
-#[allow(dead_code, unused_imports)]
 mod lasting;
 #[cfg(feature = "std")]
-#[allow(dead_code, unused_imports)]
 mod parking;
 #[cfg(feature = "std")]
 mod pool;
 #[cfg(feature = "std")]
 pub mod replay;
 #[cfg(feature = "std")]
-#[allow(dead_code, unused_imports)]
 mod shards;
 #[cfg(feature = "std")]
 mod stream;

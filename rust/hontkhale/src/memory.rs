@@ -1,7 +1,7 @@
 //! Memory that may be refused: std's collections by calls that answer so.
 
 use alloc::collections::TryReserveError;
-#[cfg(any(feature = "std", test))]
+#[cfg(feature = "std")]
 use alloc::string::String;
 use alloc::vec::Vec;
 use core::fmt;
@@ -47,10 +47,10 @@ pub(crate) fn copy_of(text: &str) -> Result<String, AllocError> {
     Ok(copy)
 }
 
-#[cfg(any(feature = "std", test))]
+#[cfg(feature = "std")]
 struct Text(String);
 
-#[cfg(any(feature = "std", test))]
+#[cfg(feature = "std")]
 impl fmt::Write for Text {
     fn write_str(&mut self, piece: &str) -> fmt::Result {
         self.0.try_push_str(piece).map_err(|_| fmt::Error)
@@ -58,7 +58,7 @@ impl fmt::Write for Text {
 }
 
 /// The text that a format gives. What is formatted here fails for want of memory alone.
-#[cfg(any(feature = "std", test))]
+#[cfg(feature = "std")]
 pub(crate) fn text_of(what: fmt::Arguments<'_>) -> Result<String, AllocError> {
     let mut text = Text(String::new());
     match fmt::write(&mut text, what) {
@@ -82,13 +82,13 @@ impl<T> TryPush<T> for Vec<T> {
 }
 
 /// A text's growth that may be refused.
-#[cfg(any(feature = "std", test))]
+#[cfg(feature = "std")]
 pub(crate) trait TryPushStr {
     /// Puts a text at the end.
     fn try_push_str(&mut self, text: &str) -> Result<(), AllocError>;
 }
 
-#[cfg(any(feature = "std", test))]
+#[cfg(feature = "std")]
 impl TryPushStr for String {
     fn try_push_str(&mut self, text: &str) -> Result<(), AllocError> {
         self.try_reserve(text.len())?;

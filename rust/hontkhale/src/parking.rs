@@ -11,7 +11,7 @@ mod waiting;
 
 pub use attended::{keep_or_leave, Attended};
 pub use fault::StreamFault;
-pub use parked::{keep_until, let_sleep, ring, take, Leaver, Parked, Until};
+pub use parked::{let_sleep, ring, take, Leaver, Parked};
 pub use registering::register;
 pub use source::{MillisecondTicks, TickSource};
 pub use waiting::{waiting_row, Waiting};

@@ -20,7 +20,9 @@ mod digits;
 mod keys;
 mod words;
 
-pub use digits::{digit, level_of, slot_start, span};
+#[cfg(all(test, feature = "std"))]
+pub use digits::span;
+pub use digits::{digit, level_of, slot_start};
 pub use keys::{is_same_entry, is_same_key, EntryId, Key};
 pub use words::{field, is_live, live_at, pack, stamp, unpack, Mark, Parts};
 

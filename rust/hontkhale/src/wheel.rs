@@ -29,7 +29,7 @@ mod maps;
 mod row;
 mod wheel;
 
-pub use beside::{Beside, Nothing};
+pub use beside::Beside;
 pub use wheel::{Place, Wheel, WheelError};
 
 /// The lists of a wheel, one for each slot of each level: list `64 * level + slot`.

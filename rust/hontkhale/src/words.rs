@@ -7,6 +7,7 @@
 mod caller;
 mod front;
 mod keeper;
+#[cfg(feature = "std")]
 mod many;
 mod parts;
 mod seated;
@@ -18,6 +19,7 @@ mod tries;
 pub use caller::Caller;
 pub use front::{numbered_queue, shared_queue};
 pub use keeper::{Keeper, WordsError, HANDLE_LIMIT};
+#[cfg(feature = "std")]
 pub use many::{poll_into, ManyTurn};
 #[cfg(feature = "std")]
 pub use shards::locked_shards;

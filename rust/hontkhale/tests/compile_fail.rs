@@ -131,9 +131,9 @@ const PROGRAMS: &[Program] = &[
         reason: NO_SUCH_ITEM,
     },
     Program {
-        name: "numbered_caller",
+        name: "lasting_module",
         front: "",
-        last: "use hontkhale::lasting::LastingShard;",
+        last: "use hontkhale::lasting::LastingQueue;",
         reason: PRIVATE,
     },
     Program {

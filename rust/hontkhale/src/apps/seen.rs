@@ -13,7 +13,7 @@ impl<'cache, K, V> Iterator for Seen<'cache, K, V> {
     type Item = (&'cache K, &'cache V);
 
     fn next(&mut self) -> Option<(&'cache K, &'cache V)> {
-        while let Some((key, kept)) = self.entries.next() {
+        for (key, kept) in self.entries.by_ref() {
             if self.moment < kept.deadline {
                 return Some((key, &kept.value));
             }

@@ -30,11 +30,6 @@ impl std::error::Error for LastingError {}
 /// Why a shard isn't opened again.
 #[derive(Clone, Copy, Debug, PartialEq, Eq)]
 pub enum ReopenError {
-    /// Entries are linked, live or cancelled and not yet reaped.
-    StillLinked {
-        /// How many.
-        linked: usize,
-    },
     /// No higher number is left, or more entries were inserted than a tally counts.
     NumbersSpent,
     /// Memory was refused.
@@ -44,7 +39,6 @@ pub enum ReopenError {
 impl fmt::Display for ReopenError {
     fn fmt(&self, f: &mut fmt::Formatter<'_>) -> fmt::Result {
         match self {
-            ReopenError::StillLinked { linked } => write!(f, "{linked} entries are still linked"),
             ReopenError::NumbersSpent => f.write_str("the shard has no number left"),
             ReopenError::NoMemory => f.write_str("out of memory"),
         }

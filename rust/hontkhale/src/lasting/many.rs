@@ -1,24 +1,11 @@
 //! A poll that takes out many entries under one lock.
 
-use crate::core::{CoreError, Expired};
+use crate::core::Expired;
 use crate::lasting::errors::LastingError;
 use crate::lasting::queue::LastingQueue;
 use crate::lasting::quiet::unlock;
-use crate::lasting::shard::LastingShard;
 use crate::words::ManyTurn;
 use alloc::vec::Vec;
-
-impl<T> LastingShard<T> {
-    /// As [`LastingQueue::poll_many`], of a shard in hand.
-    ///
-    /// # Errors
-    /// TickTooLarge beyond the last tick. Nothing changes then.
-    pub fn poll_many(&mut self, tick: u64, row: &mut Vec<Expired<T>>) -> Result<ManyTurn, CoreError> {
-        let (answer, leaver) = self.attended.poll_many(tick, row);
-        leaver.wake();
-        answer
-    }
-}
 
 impl<T> LastingQueue<T> {
     /// Polls the shard at a place under one lock until the caller's own row is full, or nothing is due: the entries stand

@@ -36,10 +36,7 @@ pub(crate) enum Begun {
 pub(crate) type Rows<T> = FreshRows<T, Keeper>;
 
 // What is dropped once the lock is free: the rows that a shard had, or those that it didn't want any more.
-pub(crate) enum LeftOver<T> {
-    Old(Keeper, Slots<T>),
-    Unwanted(Rows<T>),
-}
+pub(crate) type LeftOver<T> = Result<(Keeper, Slots<T>), Rows<T>>;
 
 // Rows that were never used; none where memory is refused.
 fn fresh_rows<T>(size: ShardSize) -> Option<Rows<T>> {
@@ -113,22 +110,22 @@ impl<T> LastingShard<T> {
         // requires FitsShard self.old rows
         let Some((number, past)) = self.next_generation(by) else {
             let (answer, leaver) = nobody(Err(ReopenError::NumbersSpent));
-            return (answer, leaver, LeftOver::Unwanted(rows));
+            return (answer, leaver, Err(rows));
         };
         match self.attended.core.renew_with(number, rows) {
-            Ok((words, slots)) => {
+            Ok(old) => {
                 self.takes = true;
                 self.past = past;
                 self.sweep_from = 0;
                 let leaver = take(&mut self.attended.parked);
-                (Ok(()), leaver, LeftOver::Old(words, slots))
+                (Ok(()), leaver, Ok(old))
             }
             Err(_refused) => unreachable!(),
         }
     }
 
     // Under the second lock: one that is still drained goes on over the rows. Any other makes its step, and wants none.
-    fn end(
+    pub(crate) fn end(
         &mut self,
         rows: Rows<T>,
         place: usize,
@@ -138,7 +135,7 @@ impl<T> LastingShard<T> {
         // requires FitsShard self.old rows
         if !self.is_drained() {
             let (kept, leaver) = self.drain_on(place);
-            return (Ok(kept), leaver, LeftOver::Unwanted(rows));
+            return (Ok(kept), leaver, Err(rows));
         }
         let (answer, leaver, left) = self.open_over(rows, by);
         match answer {

@@ -2,7 +2,7 @@
 
 use crate::core::{CoreError, DelayCore, Removed, Tally, Turn};
 use crate::lasting::ended::{Ended, LastingTally};
-use crate::lasting::errors::{LastingError, ReopenError};
+use crate::lasting::errors::LastingError;
 use crate::lasting::numbered::NumberedCaller;
 use crate::parking::{Attended, Leaver};
 use crate::ticks::{EntryId, Key};
@@ -190,7 +190,7 @@ impl<T> LastingShard<T> {
     pub(crate) fn is_drained(&self) -> bool {
         let worn = self.attended.core.worn();
         let half = self.attended.core.capacity() / 2;
-        if self.attended.core.len() > 0 {
+        if !self.attended.core.is_empty() {
             return false;
         }
         if !self.takes {
@@ -212,23 +212,5 @@ impl<T> LastingShard<T> {
             Ok(caller) => Ok(NumberedCaller::of(number, caller)),
             Err(refusal) => Err(refusal),
         }
-    }
-}
-
-impl<T> LastingShard<T> {
-    /// Goes on with fresh words under a number that is higher by `by`, and takes entries. The tally of this generation
-    /// goes to the past, and a poller that is parked is woken. No slot is worn then, and every key from before is
-    /// refused for good. The old words live on for as long as callers of them do.
-    ///
-    /// It takes memory for the words, and goes over every slot.
-    ///
-    /// # Errors
-    /// StillLinked while an entry is linked, NumbersSpent where no such number is left, and NoMemory. Nothing changes
-    /// then.
-    pub fn reopen(&mut self, by: u32) -> Result<(), ReopenError> {
-        // requires 0 < by
-        let (answer, leaver) = self.reopen_quietly(by);
-        leaver.wake();
-        answer
     }
 }

@@ -104,13 +104,8 @@ impl Circles {
     #[inline]
     pub fn first_open(&self, list: usize) -> Option<usize> {
         // requires list < LISTS
-        if self.opened.is_none() {
-            return None;
-        }
-        match self.first(list) {
-            Some(first) => Some(first),
-            None => None,
-        }
+        let _opened = self.opened?;
+        self.first(list)
     }
 
     /// An index of a list that is filed least there.

@@ -12,10 +12,7 @@ pub fn due_list(tick: u64) -> usize {
 pub fn list_of(tick: u64, when: u64) -> usize {
     // requires tick ≤ when
     // requires when ≤ LAST_TICK
-    let level = match level_of(tick, when) {
-        Some(level) => level,
-        None => 0,
-    };
+    let level = level_of(tick, when).unwrap_or(0);
     SLOTS * level + digit(when, level) as usize
 }
 

@@ -1,14 +1,17 @@
-use Rattle.std.proofs.Common.{◌≡◌, refl, sym, ◌∙◌}
+use Rattle.std.proofs.Common.{rules, ℕ, ◌≡◌, ◌≢◌, ◌<◌, ◌∙◌, refl, sym, Option, None, Some, MatchOption, unwrap_or}
 use Rattle.dq_ticks.specs.Digits.{level}
+use Rattle.dq_ticks.specs.declared.TheConstants.{LEVELS}
 use Rattle.dq_wheel.proofs.Numbers.{level_due}
-use Rattle.dq_wheel.proofs.homes.list_of.Goals.{in-Some, in-None}
 use Rattle.dq_wheel.proofs.homes.list_of.Goals as goal
+
+-- what is due has level 0
+level_or : (t w : ℕ) (o : Option ℕ)
+    → MatchOption o (t ≡ w) (λ n. (t ≢ w) × (n < LEVELS) × (n ≡ level t w)) → unwrap_or o 0 ≡ level t w
+level_or t w None due = sym (level_due t w due)
+level_or t w (Some n) found = search rules
 
 pub returns-clause-value : goal.returns-clause-value
 returns-clause-value c =
-    let level_is : c.match-level_of.level ≡ level c.args.tick c.args.when =
-    elim c.match-level_of.branch [
-      | in-Some w ↦ w.level-is ∙ w.in-Some.ensures.2
-      | in-None w ↦ w.level-is ∙ sym (level_due _ _ w.in-None.ensures)
-    ] in
+    let level_is : c.unwrap_or-level.result ≡ level c.args.tick c.args.when =
+    c.unwrap_or-level.ensures ∙ level_or _ _ c.level_of.result c.level_of.ensures in
     rw (c.digit.ensures, level_is) refl

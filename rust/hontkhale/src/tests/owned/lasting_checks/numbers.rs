@@ -1,19 +1,23 @@
 //! The last numbers of a shard: it is opened again exactly where a key can carry its next number.
 
 use super::same;
-use crate::core::{CoreConfig, CoreError};
-use crate::lasting::{LastingShard, ReopenError};
+use crate::core::{CoreConfig, CoreError, FreshRows};
+use crate::lasting::{Kept, LastingShard, ReopenError};
 use crate::tests::kit::Fail;
-use crate::words::numbered_queue;
+use crate::words::{numbered_queue, Keeper};
 
 type Shard = LastingShard<u64>;
 
-// A shard of that number with two slots, which is closed.
+// The size of a shard of these tests.
+const SLOTS: usize = 2;
+const LAST_STAMP: u32 = 1;
+
+// A shard of that number, which is closed.
 fn closed(number: u32) -> Result<Shard, CoreError> {
     let config = CoreConfig {
         shard: number,
-        capacity: 2,
-        last_stamp: 1,
+        capacity: SLOTS,
+        last_stamp: LAST_STAMP,
     };
     let mut shard = LastingShard::from(numbered_queue(config)?);
     shard.close();
@@ -23,9 +27,12 @@ fn closed(number: u32) -> Result<Shard, CoreError> {
 // What a shard is once it was to be opened again: its number, and whether it takes entries. Refused, it is as it was.
 fn reopens(number: u32, by: u32, answer: Result<u32, ReopenError>) -> Result<(), CoreError> {
     let mut shard = closed(number)?;
-    let answered = shard.reopen(by);
-    same(number, answered.is_ok(), answer.is_ok());
-    same(by, answered.err(), answer.err());
+    let keeper = Keeper::new(SLOTS).expect("memory for two words");
+    let Ok(rows) = FreshRows::new(keeper, LAST_STAMP) else {
+        panic!("the rows are refused");
+    };
+    let (answered, _, _) = shard.end(rows, 0, by);
+    same(number, answered, answer.map(|_| Kept::Reopened { place: 0 }));
     let left = (shard.number(), shard.takes());
     same(number, left, (answer.unwrap_or(number), answer.is_ok()));
     Ok(())

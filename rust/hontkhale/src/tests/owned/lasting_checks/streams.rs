@@ -4,9 +4,10 @@ use self::Step::{Beside, Gives};
 use super::play::Call::{Close, Insert, KeepGoing, Ring, Woken};
 use super::play::{queue_and_player, Call, Player, Texts};
 use super::same;
-use crate::lasting::{Kept, LastingConfig, LastingError, LastingStream, StreamFault, TickSource};
+use crate::lasting::{Kept, LastingConfig, LastingError, LastingStream};
 use crate::tests::kit::{Fail, MockTask, StreamExt};
 use crate::ticks::LAST_TICK;
+use crate::{StreamFault, TickSource};
 use std::cell::Cell;
 use std::task::Poll;
 
