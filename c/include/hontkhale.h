@@ -132,7 +132,8 @@ uint32_t dq_form(void);
  * a slot is worn. DQ_OK, DQ_HELD, DQ_BAD_CONFIG, DQ_NO_MEMORY. */
 dq_answer dq_new(dq_queue *queue, uint32_t shard, size_t capacity, uint32_t last_stamp);
 
-/* Frees a queue. Its callers may be used on and given back after it. DQ_OK, DQ_EMPTY. */
+/* Frees a queue, and ends what is live in it: from then on its callers' extends and cancels of it answer DQ_ENDED, removed.
+ * They may be used on and given back after it. DQ_OK, DQ_EMPTY. */
 dq_answer dq_free(dq_queue *queue);
 
 /* Puts an entry in, and writes its key. DQ_OK, DQ_EMPTY, DQ_TOO_FAR, DQ_FULL. */

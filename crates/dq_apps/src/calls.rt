@@ -25,8 +25,8 @@ impl<K: Eq + Hash + Drop, V: Drop, A: Allocator, S: BuildHasher> TtlCache<K, V, 
     /// whose slot has no stamp left, as Full for one that isn't and for which no slot is free, and as NoMemory. Key
     /// and value come back.
     ///
-    /// In Rust the hash and the comparison of a key may panic here. The put is lost then, and what was kept goes on
-    /// until its deadline; but where the map is growing, std's map may lose keys.
+    /// In Rust a key's hash, comparison or clone may panic here. The put is lost then, and what was kept goes on until
+    /// its deadline; but where the map moves its keys, std's map may lose some, which are dropped with their values.
     pub fn put(&mut self, key: K, value: V, ttl: u64, now: u64) -> PutAnswer<K, V>
     where
         K: Clone,
@@ -129,6 +129,9 @@ impl<K: Eq + Hash + Drop, V: Drop, A: Allocator, S: BuildHasher> TtlCache<K, V, 
 
     /// Sets the moment, drops all that is due then, and answers how much. Time as what is dropped. Refused as
     /// TickTooLarge beyond the last tick, and then nothing changes.
+    ///
+    /// In Rust a key's hash or comparison may panic here. The pair whose key it was is dropped then, and what else is
+    /// due is left for a later call.
     pub fn purge(&mut self, now: u64) -> Result<usize, CoreError>
         ensures purges { Purges self.old now result self.new }
 
@@ -148,7 +151,7 @@ impl<K: Eq + Hash + Drop, V: Drop, A: Allocator, S: BuildHasher> TtlCache<K, V, 
 
     /// Sets the moment and takes out one key with its value that is due then, and none where nothing is due. So
     /// whoever calls it until none comes gets each pair that a purge would drop. Time as a poll of the queue of
-    /// deadlines.
+    /// deadlines. Where a key's hash or comparison panics here, in Rust, its pair is dropped.
     ///
     /// # Errors
     /// TickTooLarge beyond the last tick, and then nothing changes.

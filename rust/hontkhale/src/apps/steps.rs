@@ -2,6 +2,7 @@
 
 use crate::apps::cache::TtlCache;
 use crate::apps::kept::Kept;
+use crate::apps::moves::unless_it_panics;
 use crate::apps::stock::replace_at;
 use crate::core::CoreError;
 use core::hash::{BuildHasher, Hash};
@@ -19,8 +20,8 @@ impl<K: Eq + Hash, V, S: BuildHasher> TtlCache<K, V, S> {
     pub(crate) fn take_due(&mut self) -> Option<(K, V)> {
         loop {
             let key = self.timers.stop_due(self.moment)?;
-            // A map may have lost a key where a hash panicked while it moved its keys.
-            if let Some(kept) = self.stock.remove(&key) {
+            // Where the cache couldn't be mended for want of memory, a key may still be missing.
+            if let Some((_own, kept)) = unless_it_panics(self, |cache| cache.stock.remove_entry(&key)) {
                 return Some((key, kept.value));
             }
         }
@@ -35,9 +36,9 @@ impl<K: Eq + Hash, V, S: BuildHasher> TtlCache<K, V, S> {
         dropped
     }
 
-    // Whether a key is kept. One that is due has no timer any more where its hash panicked as it was to be dropped.
+    // Whether a key is kept, seen or due.
     pub(crate) fn holds(&self, key: &K) -> bool {
-        matches!(self.stock.get(key), Some(kept) if kept.deadline > self.moment)
+        self.stock.contains_key(key)
     }
 
     // Puts a value at a key that is kept; hands it back where the slot has no stamp left.
@@ -68,7 +69,7 @@ impl<K: Eq + Hash, V, S: BuildHasher> TtlCache<K, V, S> {
             return Err((CoreError::Full { linked, worn }, key, value));
         }
         let copy = key.clone();
-        if self.stock.try_reserve(1).is_err() {
+        if unless_it_panics(self, |cache| cache.stock.try_reserve(1)).is_err() {
             return Err((CoreError::NoMemory, key, value));
         }
         // The key is hashed here, and not once its timer runs: its hash may panic.

@@ -116,12 +116,13 @@ impl<K> Timers<K> {
         }
     }
 
-    // Stops a timer.
-    pub(crate) fn stop(&mut self, key: &Key) {
-        // requires IsTimer self.old.slots key.now
-        match self.queue.remove(&key.entry()) {
-            Ok(_) => (),
-            Err(_) => unreachable!(),
-        }
+    // Whether a timer is set.
+    pub(crate) fn is_set(&self, key: &Key) -> bool {
+        self.queue.get(&key.entry()).is_some()
+    }
+
+    // Stops a timer, and hands its key over; none where it isn't set.
+    pub(crate) fn stop(&mut self, key: &Key) -> Option<K> {
+        Some(self.queue.remove(&key.entry()).ok()?.value)
     }
 }

@@ -155,13 +155,13 @@ fn a_refused_insert_whose_value_panics() {
     assert_eq!(bombs.dropped(), 6);
 }
 
-/// The words stay with the caller, which the queue's end doesn't tell.
+/// The words stay with the caller, and what was live is ended.
 #[test]
 fn a_queue_is_dropped_whose_values_panic() {
     let bombs = Bombs::default();
     let (queue, keys, mut caller) = full(&bombs);
     bombs.panics(|| queue);
-    assert_eq!((bombs.dropped(), caller.look(&keys[0])), (4, Ok(Look::StillLive(10))));
+    assert_eq!((bombs.dropped(), caller.look(&keys[0])), (4, Ok(Look::LookRemoved(10))));
 }
 
 /// Its drop calls the queue that it was in, where nobody has it.

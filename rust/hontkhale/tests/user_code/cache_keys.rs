@@ -1,192 +1,302 @@
-//! A key's hash or its comparison panics inside a call of a cache: the call is lost, what was kept goes on, and nothing
-//! panics later.
+//! A key's hash, comparison or clone panics, or a value's clone, each in turn in every call of a cache: what is kept is
+//! what was kept before or what would be kept after, nothing panics later, and honest keys are served.
 
-use super::kit::{panics, within_the_limit};
-use hontkhale::TtlCache;
+use super::kit::within_the_limit;
+use hontkhale::{CountedCache, TtlCache};
 use std::hash::{Hash, Hasher};
 use std::panic::{catch_unwind, AssertUnwindSafe};
-use std::sync::atomic::{AtomicU64, Ordering};
+use std::sync::atomic::{AtomicU64, Ordering::SeqCst};
 use std::sync::Arc;
 
-// Panics at the call of that number, where there is one.
-#[derive(Clone, Default)]
-struct Fuse(Arc<AtomicU64>);
+const CAPACITY: usize = 40;
+const LAST_STAMP: u32 = 3;
+/// What is kept before a call, by number and deadline. What is due at the call's moment stands first.
+const KEPT: [(u64, u64); 5] = [(0, 40), (1, 50), (2, 300), (3, 200), (4, 1 << 40)];
+const NOW: u64 = 60;
+/// So many keys have one hash.
+const ALIKE: u64 = 20;
 
-impl Fuse {
-    fn burns_at(&self, call: u64) {
-        self.0.store(call, Ordering::SeqCst);
-    }
+type Cache = CountedCache<Thing, Thing>;
 
-    fn burns(&self, what: &str) {
-        let left = self.0.load(Ordering::SeqCst);
-        self.0.store(left.saturating_sub(1), Ordering::SeqCst);
-        assert!(left != 1, "a key's {what}");
-    }
-}
-
-// The fuses of the names of one cache.
+/// How many calls of a thing's code, and how many hashes, are still made until one panics; and how many things there are.
 #[derive(Default)]
-struct Fuses {
-    hashes: Fuse,
-    compares: Fuse,
+struct Counts {
+    calls: AtomicU64,
+    hashes: AtomicU64,
+    alive: AtomicU64,
 }
 
-impl Fuses {
-    fn name(&self, number: u64) -> Name {
-        Name {
+/// Panics where this is the last call that it leaves.
+fn burns(calls: &AtomicU64) {
+    let left = calls.load(SeqCst);
+    calls.store(left.saturating_sub(1), SeqCst);
+    assert!(left != 1, "a key's or a value's code");
+}
+
+/// A key or a value.
+struct Thing {
+    number: u64,
+    counts: Arc<Counts>,
+}
+
+impl Thing {
+    fn of(number: u64, counts: &Arc<Counts>) -> Thing {
+        counts.alive.fetch_add(1, SeqCst);
+        Thing {
             number,
-            hashes: self.hashes.clone(),
-            compares: self.compares.clone(),
+            counts: counts.clone(),
         }
     }
-}
 
-#[derive(Clone)]
-struct Name {
-    number: u64,
-    hashes: Fuse,
-    compares: Fuse,
-}
-
-impl Hash for Name {
-    fn hash<H: Hasher>(&self, hasher: &mut H) {
-        self.hashes.burns("hash");
-        self.number.hash(hasher);
+    fn called(&self) {
+        burns(&self.counts.calls);
     }
 }
 
-impl PartialEq for Name {
-    fn eq(&self, other: &Name) -> bool {
-        self.compares.burns("comparison");
+impl Hash for Thing {
+    fn hash<H: Hasher>(&self, hasher: &mut H) {
+        self.called();
+        burns(&self.counts.hashes);
+        (self.number / ALIKE).hash(hasher);
+    }
+}
+
+impl PartialEq for Thing {
+    fn eq(&self, other: &Thing) -> bool {
+        self.called();
         self.number == other.number
     }
 }
 
-impl Eq for Name {}
+impl Eq for Thing {}
 
-// A cache of two names, of which a call of a fuse panics in a put of the first name.
-fn goes_on(burns_at: u64, burn: fn(&Name) -> &Fuse) {
-    let mut cache: TtlCache<Name, u64> = TtlCache::with_capacity(4).expect("a cache");
-    let fuses = Fuses::default();
-    let name = |number| fuses.name(number);
-    for number in 0..2 {
-        assert!(cache.put(name(number), number, 10, 0).is_ok());
+impl Clone for Thing {
+    fn clone(&self) -> Thing {
+        self.called();
+        Thing::of(self.number, &self.counts)
     }
-    burn(&name(0)).burns_at(burns_at);
-    let words = panics(|| drop(cache.put(name(0), 7, 20, 0)));
-    assert!(words.starts_with("a key's"), "{words}");
-    burn(&name(0)).burns_at(0);
-    assert!(cache.purge(10).is_ok());
-    assert!(cache.purge(30).is_ok());
-    assert_eq!(cache.len(), 0);
-    assert!(cache.put(name(3), 3, 10, 30).is_ok());
-    assert_eq!(cache.get(&name(3), 35).copied(), Some(3));
+}
+
+impl Drop for Thing {
+    fn drop(&mut self) {
+        self.counts.alive.fetch_sub(1, SeqCst);
+    }
+}
+
+/// A call that is made at [`NOW`].
+type Call = fn(&mut Cache, &dyn Fn(u64) -> Thing);
+
+const CALLS: [(&str, Call); 21] = [
+    ("get", |it, of| assert!(it.cache.get(&of(2), NOW).is_some())),
+    ("contains", |it, of| assert!(it.cache.contains(&of(2), NOW))),
+    ("sees", |it, of| assert!(it.sees(&of(2), NOW))),
+    ("put, new", |it, of| drop(it.cache.put(of(9), of(109), 30, NOW))),
+    ("put, kept", |it, of| drop(it.cache.put(of(2), of(109), 30, NOW))),
+    ("put, due", |it, of| drop(it.cache.put(of(0), of(109), 30, NOW))),
+    ("put, worn", |it, of| drop(it.cache.put(of(3), of(109), 30, NOW))),
+    ("set, new", |it, of| drop(it.cache.set(of(9), of(109), 30, NOW))),
+    ("set, kept", |it, of| drop(it.cache.set(of(2), of(109), 30, NOW))),
+    ("set, worn", |it, of| drop(it.cache.set(of(3), of(109), 30, NOW))),
+    ("take, kept", |it, of| drop(it.cache.take(&of(2), NOW))),
+    ("take, due", |it, of| drop(it.cache.take(&of(0), NOW))),
+    ("renew, kept", |it, of| assert!(it.cache.renew(&of(2), 30, NOW).is_ok())),
+    ("renew, worn", |it, of| {
+        assert!(it.cache.renew(&of(3), 30, NOW).is_err())
+    }),
+    ("touch, kept", |it, of| assert!(it.cache.touch(&of(2), 30, NOW).is_ok())),
+    ("touch, worn", |it, of| assert!(it.cache.touch(&of(3), 30, NOW).is_ok())),
+    ("refresh", |it, _| assert!(it.cache.refresh().is_ok())),
+    ("purge", |it, _| assert!(it.cache.purge(NOW).is_ok())),
+    ("take_expired", |it, _| drop(it.cache.take_expired(NOW))),
+    ("get_or_insert_with, seen", |it, of| {
+        drop(it.get_or_insert_with(of(2), 30, NOW, || of(109)))
+    }),
+    ("get_or_insert_with, new", |it, of| {
+        drop(it.get_or_insert_with(of(9), 30, NOW, || of(109)))
+    }),
+];
+
+/// A cache that keeps [`KEPT`], each under 100 more. The slot of 3 has no stamp left.
+fn kept(counts: &Arc<Counts>) -> Cache {
+    let mut cache = TtlCache::new(CAPACITY, LAST_STAMP).unwrap();
+    for (number, deadline) in KEPT {
+        assert!(cache
+            .put(Thing::of(number, counts), Thing::of(100 + number, counts), deadline, 0)
+            .is_ok());
+    }
+    for _ in 1..LAST_STAMP {
+        assert_eq!(cache.renew(&Thing::of(3, counts), 200, 0), Ok(200));
+    }
+    CountedCache::new(cache)
+}
+
+/// Makes a call whose n-th call of a thing's code panics, and tells whether one did.
+fn panics_at(nth: u64, call: Call, cache: &mut Cache, counts: &Arc<Counts>) -> bool {
+    counts.calls.store(nth, SeqCst);
+    let called = catch_unwind(AssertUnwindSafe(|| call(cache, &|number| Thing::of(number, counts))));
+    counts.calls.store(0, SeqCst);
+    called.is_err()
+}
+
+/// Takes out what is kept, in the order of deadlines: the key, the value, and the deadline or [`NOW`], if that is later.
+fn drained(cache: &mut Cache) -> Vec<(u64, u64, u64)> {
+    let mut all = Vec::new();
+    while let Some(deadline) = cache.cache.next_deadline() {
+        let tick = deadline.max(NOW);
+        let (key, value) = cache
+            .cache
+            .take_expired(tick)
+            .unwrap()
+            .expect("something is due at the next deadline");
+        all.push((tick, key.number, value.number));
+    }
+    all.sort_unstable();
+    all
+}
+
+/// A cache whose rows are whole: as many keys are counted as come out, and as many honest keys as it has room for are
+/// served.
+fn serves(cache: &mut Cache, counts: &Arc<Counts>) {
+    let cache = &mut cache.cache;
+    assert!(cache.is_empty() && cache.next_wake().is_none() && cache.seen(0).count() == 0);
+    let now = cache.moment();
+    let thing = |number| Thing::of(number, counts);
+    for number in 0..CAPACITY as u64 {
+        let put = cache.set(thing(number), thing(number), 10, now);
+        assert!(matches!(put, Ok(None)), "{number} is refused");
+    }
+    for number in 0..CAPACITY as u64 {
+        assert_eq!(cache.take(&thing(number), now).expect("what was put").number, number);
+    }
+    assert!(cache.is_empty());
+}
+
+/// Takes each key that is seen, and drops what is due.
+fn takes_all(cache: &mut Cache, counts: &Arc<Counts>) {
+    let seen: Vec<(u64, u64)> = cache
+        .cache
+        .seen(NOW)
+        .map(|(key, value)| (key.number, value.number))
+        .collect();
+    for (number, value) in seen {
+        let taken = cache.cache.take(&Thing::of(number, counts), NOW);
+        assert_eq!(taken.map(|taken| taken.number), Some(value));
+    }
+    assert!(cache.cache.purge(NOW).is_ok());
+}
+
+/// What comes out after a call whose n-th call of a thing's code panicked, and whether one did.
+fn after(nth: u64, call: Call) -> (bool, Vec<(u64, u64, u64)>) {
+    let counts = Arc::new(Counts::default());
+    let mut cache = kept(&counts);
+    panics_at(nth, call, &mut cache, &counts);
+    takes_all(&mut cache, &counts);
+    serves(&mut cache, &counts);
+    drop(cache);
+
+    let mut cache = kept(&counts);
+    let panicked = panics_at(nth, call, &mut cache, &counts);
+    let len = cache.cache.len();
+    let all = drained(&mut cache);
+    assert_eq!(all.len(), len, "each key that is counted comes out");
+    serves(&mut cache, &counts);
+    drop(cache);
+    assert_eq!(counts.alive.load(SeqCst), 0, "each key and each value is dropped once");
+    (panicked, all)
 }
 
 #[test]
-fn a_hash_panics_in_put() {
-    within_the_limit(|| (1..3).for_each(|call| goes_on(call, |name| &name.hashes)));
-}
-
-#[test]
-fn a_comparison_panics_in_put() {
-    within_the_limit(|| goes_on(1, |name| &name.compares));
-}
-
-// A put of a new key panics at each of its hashes, and nothing is left of it: not a timer that would later drop what is put
-// there again, nor a slot that is taken.
-#[test]
-fn a_hash_panics_in_the_put_of_a_new_key() {
+fn each_call_of_a_keys_code_panics_in_turn() {
     within_the_limit(|| {
-        for call in 1..6 {
-            let mut cache: TtlCache<Name, u64> = TtlCache::with_capacity(2).expect("a cache");
-            let fuses = Fuses::default();
-            assert!(cache.put(fuses.name(0), 0, 10, 0).is_ok());
-            fuses.hashes.burns_at(call);
-            let put = catch_unwind(AssertUnwindSafe(|| cache.put(fuses.name(1), 1, 10, 0)));
-            fuses.hashes.burns_at(0);
-            if put.is_ok() {
-                assert!(call > 2, "a put hashes its key before its timer begins");
-                return;
+        let later = |all: &[(u64, u64, u64)]| all.iter().filter(|it| it.0 > NOW).copied().collect::<Vec<_>>();
+        for (name, call) in CALLS {
+            let (_, old) = after(0, |_, _| {});
+            let (_, new) = after(0, call);
+            let mut panics = 0;
+            for nth in 1.. {
+                let (panicked, all) = after(nth, call);
+                if !panicked {
+                    assert_eq!(all, new, "{name}");
+                    break;
+                }
+                panics = nth;
+                assert!(
+                    all.iter().all(|it| old.contains(it) || new.contains(it)),
+                    "{name}, {nth}: {all:?}"
+                );
+                let kept = later(&all);
+                assert!(kept == later(&old) || kept == later(&new), "{name}, {nth}: {all:?}");
             }
-            assert!(cache.len() == 1 && cache.get(&fuses.name(1), 0).is_none());
-            assert!(cache.put(fuses.name(1), 3, 100, 0).is_ok());
-            assert_eq!((cache.purge(50), cache.len()), (Ok(1), 1));
-            assert_eq!(
-                cache.get(&fuses.name(1), 99).copied(),
-                Some(3),
-                "it is kept until its own deadline"
-            );
-            assert_eq!((cache.purge(100), cache.is_empty()), (Ok(1), true));
+            assert!(panics > 0 || name == "refresh", "{name}");
         }
-        panic!("each of five hashes of a put");
     });
 }
 
-// A call that would give what is kept until 100 the deadline 20 panics at a call of a fuse, where it makes so many.
-fn keeps(call: fn(&mut TtlCache<Name, u64>, Name), fuse: fn(&Fuses) -> &Fuse, burns_at: u64) {
-    let mut cache: TtlCache<Name, u64> = TtlCache::with_capacity(2).expect("a cache");
-    let fuses = Fuses::default();
-    assert!(cache.put(fuses.name(0), 5, 100, 0).is_ok());
-    fuse(&fuses).burns_at(burns_at);
-    let called = catch_unwind(AssertUnwindSafe(|| call(&mut cache, fuses.name(0))));
-    fuse(&fuses).burns_at(0);
-    if called.is_err() {
-        assert_eq!((cache.purge(99), cache.len()), (Ok(0), 1));
-        assert_eq!(cache.get(&fuses.name(0), 99).copied(), Some(5));
-        assert_eq!((cache.purge(100), cache.len()), (Ok(1), 0));
+/// A cache in which the n-th hash of one put panicked. A put of a new key hashes it twice: so from the third on it is while
+/// the map moves its keys, since too many places of it are spoilt by keys that were taken out.
+fn panicked_while_moving(nth: u64, counts: &Arc<Counts>) -> Option<Cache> {
+    let mut cache = CountedCache::new(TtlCache::with_capacity(CAPACITY).unwrap());
+    let put = |cache: &mut Cache, number| {
+        cache
+            .cache
+            .put(Thing::of(number, counts), Thing::of(number, counts), 1_000, NOW)
+    };
+    for number in 0..ALIKE {
+        assert!(put(&mut cache, number).is_ok());
     }
-}
-
-// What was kept is seen until its old deadline, wherever a put or a renewal panics.
-#[test]
-fn what_was_kept_goes_on_where_a_put_or_a_renewal_panics() {
-    within_the_limit(|| {
-        for burns_at in 1..6 {
-            keeps(
-                |cache, name| drop(cache.put(name, 7, 20, 0)),
-                |fuses| &fuses.hashes,
-                burns_at,
-            );
-            keeps(
-                |cache, name| drop(cache.put(name, 7, 20, 0)),
-                |fuses| &fuses.compares,
-                burns_at,
-            );
-            keeps(
-                |cache, name| assert!(cache.renew(&name, 20, 0).is_ok()),
-                |fuses| &fuses.hashes,
-                burns_at,
-            );
-            keeps(
-                |cache, name| assert!(cache.renew(&name, 20, 0).is_ok()),
-                |fuses| &fuses.compares,
-                burns_at,
-            );
+    for number in 0..ALIKE {
+        assert!(cache.cache.take(&Thing::of(number, counts), NOW).is_some());
+    }
+    for number in ALIKE..2 * ALIKE {
+        counts.hashes.store(nth, SeqCst);
+        let called = catch_unwind(AssertUnwindSafe(|| put(&mut cache, number).is_ok()));
+        counts.hashes.store(0, SeqCst);
+        if called.is_err() {
+            return Some(cache);
         }
-    });
+    }
+    None
 }
 
-// The hash of what is due panics, within a put or a purge: its value isn't seen any more, and its key is put again as if it
-// had never been there.
+// Std's map may lose keys then. What is left is whole, and no slot is taken by what was lost.
 #[test]
-fn the_hash_of_a_due_key_panics() {
+fn a_hash_panics_while_the_map_moves_its_keys() {
     within_the_limit(|| {
-        let mut cache: TtlCache<Name, u64> = TtlCache::with_capacity(1).expect("a cache");
-        let fuses = Fuses::default();
-        for round in 0..4 {
-            let now = round * 100;
-            assert!(cache.put(fuses.name(0), round, 10, now).is_ok());
-            fuses.hashes.burns_at(1);
-            let words = match round % 2 {
-                0 => panics(|| cache.purge(now + 10)),
-                _ => panics(|| drop(cache.put(fuses.name(0), 9, 10, now + 10))),
+        let counts = Arc::new(Counts::default());
+        let mut met = 0;
+        for round in 0..400 {
+            let Some(mut cache) = panicked_while_moving(3 + round % 8, &counts) else {
+                continue;
             };
-            assert_eq!(words, "a key's hash");
-            assert!(cache.get(&fuses.name(0), now + 10).is_none() && cache.is_empty());
+            met += 1;
+            let len = cache.cache.len();
+            assert_eq!(cache.cache.seen(NOW).count(), len);
+            assert_eq!(drained(&mut cache).len(), len);
+            serves(&mut cache, &counts);
+            drop(cache);
+            assert_eq!(counts.alive.load(SeqCst), 0, "each key and each value is dropped once");
         }
-        assert!(cache.put(fuses.name(0), 9, 10, 400).is_ok());
-        assert_eq!((cache.get(&fuses.name(0), 409).copied(), cache.len()), (Some(9), 1));
-        assert_eq!((cache.purge(410), cache.seen(0).count()), (Ok(1), 0));
+        assert!(met > 10, "{met}");
     });
+}
+
+// Each call that lets a key go lets all of its copies go: the cache's own, and its timer's.
+#[test]
+fn copies_of_keys_are_dropped() {
+    let keys: Vec<_> = (0..3).map(Arc::new).collect();
+    let copies = || keys.iter().map(Arc::strong_count).collect::<Vec<_>>();
+    let mut cache: TtlCache<Arc<u32>, &str> = TtlCache::with_capacity(2).expect("a cache");
+    for (key, ttl) in [(0_usize, 10), (0, 20), (1, 5)] {
+        assert!(cache.put(keys[key].clone(), "value", ttl, 0).is_ok());
+    }
+    assert!(cache.put(keys[2].clone(), "no room", 5, 0).is_err());
+    assert_eq!(copies(), [3, 3, 1], "two of each that is kept");
+    assert_eq!(cache.take(&keys[0], 0), Some("value"));
+    assert_eq!((copies(), cache.purge(5)), (vec![1, 3, 1], Ok(1)));
+    assert_eq!(copies(), [1, 1, 1]);
+    assert!(cache.put(keys[2].clone(), "value", 5, 6).is_ok());
+    cache.refresh().expect("memory");
+    assert_eq!(copies(), [1, 1, 3]);
+    drop(cache);
+    assert_eq!(copies(), [1, 1, 1]);
 }
