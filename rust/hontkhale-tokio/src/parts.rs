@@ -3,7 +3,8 @@
 //! An entry stays in its part until it ends, but that `compact` or a worn slot moves it. What comes out is merged by the
 //! parts' wakes: no part is polled beyond the tick at which another may have something.
 //!
-//! No value is dropped while a lock is held: a part that goes with cancelled entries in it is dropped last.
+//! No value is dropped while a lock is held, nor where a key is in hand that its panic would take along: a part that goes
+//! with cancelled entries in it stays aside until a poll drops their values.
 
 use crate::budget::Budget;
 use crate::key::Key;
@@ -27,6 +28,8 @@ pub(crate) struct Parts<T> {
     shared: Owner,
     /// A part keeps its place, which its keys name. The place of a part that went is taken by a later one.
     row: Vec<Option<Part<T>>>,
+    /// Parts that went with cancelled entries in them, whose values a poll drops.
+    gone: Vec<Part<T>>,
     /// For each part a tick before which nothing comes out of it.
     wakes: Vec<u64>,
     /// The part that takes the next insert.
@@ -100,6 +103,7 @@ impl<T> Parts<T> {
     pub fn new(capacity: usize, last_stamp: u32, shared: Shared) -> Parts<T> {
         let mut parts = Parts {
             row: Vec::new(),
+            gone: Vec::new(),
             wakes: Vec::new(),
             open: 0,
             left: 0,
@@ -153,7 +157,7 @@ impl<T> Parts<T> {
             Ok(key) => Ok(key),
             Err(value) => {
                 let key = self.put_somewhere(value, when);
-                drop(self.leave_worn_parts());
+                self.leave_worn_parts();
                 Ok(key)
             }
         }
@@ -251,30 +255,38 @@ impl<T> Parts<T> {
     }
 
     /// Moves what is left out of the parts of which half the slots are worn, and takes them out.
-    #[must_use]
-    fn leave_worn_parts(&mut self) -> Vec<Part<T>> {
+    fn leave_worn_parts(&mut self) {
         let worn: Vec<usize> = self.parts().filter(|part| part.is_worn()).map(|part| part.spot).collect();
-        self.leave_parts(worn)
+        self.leave_parts(worn);
     }
 
-    /// Moves every entry of these parts to others, and takes the parts out. Those come back that cancelled entries are left in.
-    #[must_use]
-    fn leave_parts(&mut self, spots: Vec<usize>) -> Vec<Part<T>> {
+    /// Moves every entry of these parts to others, and takes the parts out. No value is dropped: a poll does that of those that
+    /// cancelled entries are left in.
+    fn leave_parts(&mut self, spots: Vec<usize>) {
         for &spot in &spots {
             if let Some(part) = &mut self.row[spot] {
                 part.is_left = true;
             }
         }
-        let mut gone = Vec::new();
         for spot in spots {
             let places: Vec<Key> = self.row[spot].iter().flat_map(Part::places).collect();
             for place in places {
                 // A handle may have cancelled it meanwhile.
                 let _ = self.carry(place, None);
             }
-            gone.extend(self.take_part(spot).filter(|part| part.len() > 0));
+            if let Some(part) = self.take_part(spot).filter(|part| part.len() > 0) {
+                self.gone.push(part);
+                self.shared.tell();
+            }
         }
-        gone
+    }
+
+    /// Drops the values in the parts that went. Where a drop panics, those that are left are dropped by the next poll.
+    fn drop_gone(&mut self) {
+        while let Some(part) = self.gone.last_mut() {
+            part.sweep();
+            self.gone.pop();
+        }
     }
 
     /// Moves an entry to another slot, under the same user's key, and under another deadline where one is given.
@@ -412,6 +424,8 @@ impl<T> Parts<T> {
         let again = Again(&self.shared);
         for part in self.row.iter_mut().flatten() {
             part.issue(again.0);
+        }
+        for part in self.gone.iter_mut().chain(self.row.iter_mut().flatten()) {
             while part.link.has_cancels() {
                 let Some(most) = budget.piece() else {
                     return false;
@@ -420,6 +434,7 @@ impl<T> Parts<T> {
                 budget.give_back(most - reaped);
             }
         }
+        self.gone.clear();
         mem::forget(again);
         true
     }
@@ -448,7 +463,7 @@ impl<T> Parts<T> {
     #[cold]
     fn reset_elsewhere(&mut self, place: Key, when: u64) -> Result<(), CoreError> {
         self.carry(place, Some(when))?;
-        drop(self.leave_worn_parts());
+        self.leave_worn_parts();
         Ok(())
     }
 
@@ -566,6 +581,7 @@ impl<T> Parts<T> {
 
     /// Takes every entry out. Where a value's drop panics, the entries that are left stay as they are.
     pub fn clear(&mut self) {
+        self.drop_gone();
         for spot in 0..self.row.len() {
             let places: Vec<Key> = self.row[spot].iter().flat_map(Part::places).collect();
             places.into_iter().for_each(|place| drop(self.take_out(place)));
@@ -605,10 +621,10 @@ impl<T> Parts<T> {
             self.add_part(slots);
             wanted -= slots;
         }
-        let gone = self.leave_parts(left);
+        self.leave_parts(left);
         self.cut_row();
         self.forget_the_ended();
-        drop(gone);
+        self.drop_gone();
     }
 
     /// Forgets the places of moved entries that handles cancelled.

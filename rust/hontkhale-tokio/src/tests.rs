@@ -6,6 +6,7 @@ use crate::handle::{EntryError, Handle};
 use crate::key::Key;
 use crate::parts::{Found, Parts};
 use crate::shared::Shared;
+use std::cell::Cell;
 use std::collections::HashMap;
 use std::rc::Rc;
 use std::sync::Arc;
@@ -222,6 +223,43 @@ fn worn_parts_go() {
     }
     assert!(parts.capacity() < 1_000, "{}", parts.capacity());
     assert_eq!(parts.remove(&stays).map(|out| out.value), Some(0));
+}
+
+/// A value that counts the drops within a call that isn't to drop any.
+struct Watched {
+    is_in_call: Rc<Cell<bool>>,
+    drops_in_calls: Rc<Cell<usize>>,
+}
+
+impl Drop for Watched {
+    fn drop(&mut self) {
+        self.drops_in_calls.set(self.drops_in_calls.get() + usize::from(self.is_in_call.get()));
+    }
+}
+
+/// A panic of a value's drop would take along the key that an insert is about to give.
+#[test]
+fn a_worn_part_goes_in_no_insert_or_reset_with_the_values_that_were_cancelled_in_it() {
+    for by_reset in [false, true] {
+        let (is_in_call, drops_in_calls) = (Rc::<Cell<bool>>::default(), Rc::<Cell<usize>>::default());
+        let value = || Watched { is_in_call: is_in_call.clone(), drops_in_calls: drops_in_calls.clone() };
+        let mut parts = Parts::new(0, 2, Shared::new());
+        parts.share();
+        let handle = Handle::of(parts.shared().clone());
+        for _ in 0..20 {
+            let keys: Vec<Key> = (0..100).map(|_| parts.insert(value(), 1_000).unwrap()).collect();
+            keys[..50].iter().for_each(|key| assert!(handle.cancel(key).is_ok()));
+            is_in_call.set(true);
+            if by_reset {
+                keys[50..].iter().cycle().take(500).for_each(|key| parts.reset(key, 2_000).unwrap());
+            }
+            let more: Vec<Key> = (0..100).map(|_| parts.insert(value(), 1_000).unwrap()).collect();
+            is_in_call.set(false);
+            keys[50..].iter().chain(&more).for_each(|key| assert!(parts.remove(key).is_some()));
+            assert!(matches!(parts.poll(0, &mut Budget::of_or_whole(u32::MAX)), Found::Idle));
+            assert_eq!((drops_in_calls.get(), Rc::strong_count(&is_in_call), parts.len()), (0, 1, 0), "{by_reset}");
+        }
+    }
 }
 
 #[test]
