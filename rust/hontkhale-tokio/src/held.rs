@@ -4,6 +4,7 @@
 //! user's code and may call the queue. So what stands in a shard is a [`Held`]: dropped there, it lays its value aside, and
 //! whoever had the shard drops the value afterwards, with [`Leavings::clear`].
 
+use std::cell::RefCell;
 use std::sync::atomic::{AtomicBool, AtomicUsize, Ordering::SeqCst};
 use std::sync::{Arc, Mutex, MutexGuard, PoisonError};
 
@@ -43,6 +44,37 @@ impl<T> Drop for Held<T> {
     }
 }
 
+thread_local! {
+    /// The leavings that this thread drops just now, one within another.
+    static DROPPING: RefCell<Vec<*const ()>> = const { RefCell::new(Vec::new()) };
+}
+
+/// That this thread drops certain leavings. A drop that has them dropped in turn leaves them to it: one drop within another
+/// for each value would overflow the stack.
+struct Dropping(*const ());
+
+impl Dropping {
+    /// None where this thread drops them already.
+    fn begin(leavings: *const ()) -> Option<Dropping> {
+        let begun = DROPPING.try_with(|dropping| {
+            let mut dropping = dropping.borrow_mut();
+            let is_new = !dropping.contains(&leavings);
+            if is_new {
+                dropping.push(leavings);
+            }
+            is_new
+        });
+        // Where the thread ends, its own values may still be dropped.
+        begun.unwrap_or(true).then(|| Dropping(leavings))
+    }
+}
+
+impl Drop for Dropping {
+    fn drop(&mut self) {
+        let _ = DROPPING.try_with(|dropping| dropping.borrow_mut().retain(|leavings| *leavings != self.0));
+    }
+}
+
 impl<T> Leavings<T> {
     /// One lane for each of so many routes.
     pub fn lanes(self: &Arc<Leavings<T>>, routes: usize) -> Vec<Arc<Lane<T>>> {
@@ -63,6 +95,7 @@ impl<T> Leavings<T> {
     }
 
     /// Drops what was laid aside. The caller holds no lock. Where a drop panics the values behind it stay for the next call.
+    /// Within such a drop nothing is done: the call that makes it drops the rest.
     #[inline]
     pub fn clear(&self) {
         if self.count.load(SeqCst) > 0 {
@@ -72,6 +105,9 @@ impl<T> Leavings<T> {
 
     #[cold]
     fn drop_all(&self) {
+        let Some(_dropping) = Dropping::begin((self as *const Leavings<T>).cast()) else {
+            return;
+        };
         loop {
             let value = self.values().pop();
             let Some(value) = value else {

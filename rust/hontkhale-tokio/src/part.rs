@@ -1,10 +1,11 @@
 //! A part of the queue: a queue of hontkhale's for one owner, of a fixed number of slots. Its values stand in it.
 
+use crate::clock::Clock;
 use crate::draws::Draws;
-use crate::key::Key;
+use crate::key::{Expired, Key};
 use crate::link::Link;
 use crate::shared::Shared;
-use hontkhale::{CallError, Caller, CoreConfig, CoreError, DelayCore, Keeper, Look, Piece, Removed, Turn};
+use hontkhale::{CallError, Caller, CoreConfig, CoreError, DelayCore, Keeper, Look, Piece, Turn};
 use std::sync::{Arc, Mutex, PoisonError};
 
 /// The slots of the first part. Each later one has twice as many, up to hontkhale's limit.
@@ -26,19 +27,31 @@ pub(crate) struct Part<T> {
     /// What handles need of the part, and the births of its entries. While no handle was made it knows of no reset.
     pub link: Arc<Link>,
     is_shared: bool,
+    clock: Clock,
     /// Looks at deadlines on behalf of calls that change nothing.
     reader: Mutex<Caller>,
 }
 
+/// What a poll of a part comes to.
+pub(crate) enum Step {
+    Out,
+    /// Nothing before that tick.
+    Waiting(u64),
+    Idle,
+    /// All steps were made, and there are more to make.
+    Working,
+}
+
 impl<T> Part<T> {
     /// A part of so many slots, at a tick.
-    pub fn new(slots: usize, last_stamp: u32, tick: u64) -> Part<T> {
+    pub fn new(slots: usize, last_stamp: u32, clock: Clock, tick: u64) -> Part<T> {
         let number = PARTS.draw();
         let config = CoreConfig { shard: 0, capacity: slots, last_stamp };
         let mut queue = hontkhale::numbered_queue(config).expect("memory for more entries");
         let reader = Mutex::new(queue.issue().expect("a queue's first caller"));
         let link = Arc::new(Link::new(number, slots));
-        let mut part = Part { queue, number, spot: 0, is_left: false, is_stale: false, link, is_shared: false, reader };
+        let (is_left, is_stale, is_shared) = (false, false, false);
+        let mut part = Part { queue, number, spot: 0, is_left, is_stale, link, is_shared, clock, reader };
         part.note(tick);
         part
     }
@@ -109,34 +122,69 @@ impl<T> Part<T> {
         4 * self.queue.len() < self.queue.capacity()
     }
 
-    /// Puts a value in, or gives it back where no slot is free.
-    #[inline(always)]
-    pub fn insert(&mut self, value: T, when: u64) -> Result<Key, T> {
-        match self.queue.insert(value, when) {
+    /// Puts the value in, where a slot is free. A debug build has a place for each of its moves, so it isn't inlined there.
+    #[cfg_attr(not(debug_assertions), inline(always))]
+    pub fn insert(&mut self, value: &mut Option<T>, when: u64) -> Option<Key> {
+        match self.queue.insert(value.take()?, when) {
             Ok(key) => {
                 let (slot, born) = (key.entry().index(), key.stamp());
                 self.link.note(slot as usize, born, born);
-                Ok(Key::of(self.number, self.spot, slot, born))
+                Some(Key::of(self.number, self.spot, slot, born))
             }
-            Err((_, value)) => Err(value),
+            Err((_, back)) => {
+                *value = Some(back);
+                None
+            }
         }
     }
 
-    /// Polls the queue at a tick, by at most so many steps.
+    /// Polls the queue at a tick, by at most so many steps. An entry that comes out is written to `out`.
     #[inline]
-    pub fn poll(&mut self, tick: u64, most: u32) -> Piece<T> {
+    pub fn poll(&mut self, tick: u64, most: u32, out: &mut Option<Expired<T>>) -> Step {
         // Until there is an answer nothing is known of it, so it is polled on.
         self.is_stale = true;
-        let piece = match most {
-            // Without a limit the whole poll does the same, by fewer instructions for each entry that moves.
-            u32::MAX => self.queue.poll(tick).map(Piece::Answer),
-            _ => self.queue.poll_some(tick, most),
-        };
-        let piece = piece.expect("a tick that the clock showed");
-        if let Piece::Answer(Turn::Waiting { .. } | Turn::Idle) = piece {
-            self.is_stale = false;
+        match most {
+            u32::MAX => self.poll_whole(tick, out),
+            _ => self.poll_some(tick, most, out),
         }
-        piece
+    }
+
+    /// The whole poll: without a limit it does the same, by fewer instructions for each entry that moves.
+    #[inline]
+    fn poll_whole(&mut self, tick: u64, out: &mut Option<Expired<T>>) -> Step {
+        match self.queue.poll(tick) {
+            Ok(turn) => self.answer(turn, out),
+            Err(_) => unreachable!("a tick that the clock showed"),
+        }
+    }
+
+    #[inline]
+    fn poll_some(&mut self, tick: u64, most: u32, out: &mut Option<Expired<T>>) -> Step {
+        match self.queue.poll_some(tick, most) {
+            Ok(Piece::Answer(turn)) => self.answer(turn, out),
+            Ok(Piece::Working) => Step::Working,
+            Err(_) => unreachable!("a tick that the clock showed"),
+        }
+    }
+
+    #[inline]
+    fn answer(&mut self, turn: Turn<T>, out: &mut Option<Expired<T>>) -> Step {
+        match turn {
+            Turn::Out(expired) => {
+                let entry = expired.key.entry();
+                let key = Key::of(self.number, self.spot, entry.index(), entry.born());
+                *out = Some(Expired { key, tick: expired.deadline, clock: self.clock, data: expired.value });
+                Step::Out
+            }
+            Turn::Waiting { next } => {
+                self.is_stale = false;
+                Step::Waiting(next)
+            }
+            Turn::Idle => {
+                self.is_stale = false;
+                Step::Idle
+            }
+        }
     }
 
     /// The user's key of what came out.
@@ -174,12 +222,17 @@ impl<T> Part<T> {
         }
     }
 
-    /// Takes an entry out.
+    /// Takes an entry out and writes it to `out`. False where it isn't there.
     #[inline]
-    pub fn remove(&mut self, place: &Key) -> Result<Removed<T>, CoreError> {
-        let removed = self.queue.remove(&place.entry())?;
-        self.is_stale = true;
-        Ok(removed)
+    pub fn remove(&mut self, place: &Key, out: &mut Option<Expired<T>>) -> bool {
+        match self.queue.remove(&place.entry()) {
+            Ok(removed) => {
+                self.is_stale = true;
+                *out = Some(Expired { key: *place, tick: removed.deadline, clock: self.clock, data: removed.value });
+                true
+            }
+            Err(_) => false,
+        }
     }
 
     /// Drops the values of the entries that handles cancelled, and frees their slots.

@@ -3,14 +3,15 @@
 //! An entry stays in its part until it ends, but that `compact` or a worn slot moves it. What comes out is merged by the
 //! parts' wakes: no part is polled beyond the tick at which another may have something.
 //!
-//! No value is dropped while a lock is held: a part that goes with cancelled entries in it is dropped last.
+//! No value is dropped while a lock is held, nor where a key is in hand that its panic would take along: a part that goes
+//! with cancelled entries in it stays aside until a poll drops their values.
 
 use crate::budget::Budget;
-use crate::key::Key;
+use crate::key::{Expired, Key};
 use crate::moves::Moves;
-use crate::part::{Part, FIRST_SLOTS};
+use crate::part::{Part, Step, FIRST_SLOTS};
 use crate::shared::Shared;
-use hontkhale::{CoreError, Piece, Turn, CAPACITY_LIMIT, LAST_TICK};
+use hontkhale::{CoreError, CAPACITY_LIMIT, LAST_TICK};
 use std::mem;
 use std::ops::Deref;
 use std::sync::atomic::{AtomicU64, Ordering};
@@ -27,6 +28,8 @@ pub(crate) struct Parts<T> {
     shared: Owner,
     /// A part keeps its place, which its keys name. The place of a part that went is taken by a later one.
     row: Vec<Option<Part<T>>>,
+    /// Parts that went with cancelled entries in them, whose values a poll drops.
+    gone: Vec<Part<T>>,
     /// For each part a tick before which nothing comes out of it.
     wakes: Vec<u64>,
     /// The part that takes the next insert.
@@ -49,20 +52,13 @@ pub(crate) struct Parts<T> {
 }
 
 /// What a poll finds.
-pub(crate) enum Found<T> {
-    Out(Out<T>),
+pub(crate) enum Found {
+    Out,
     /// Nothing before that tick.
     Waiting(u64),
     Idle,
     /// The budget is spent, and there is more to do.
     Working,
-}
-
-/// An entry that came out or was removed.
-pub(crate) struct Out<T> {
-    pub key: Key,
-    pub deadline: u64,
-    pub value: T,
 }
 
 /// A deadline beyond the last tick.
@@ -100,6 +96,7 @@ impl<T> Parts<T> {
     pub fn new(capacity: usize, last_stamp: u32, shared: Shared) -> Parts<T> {
         let mut parts = Parts {
             row: Vec::new(),
+            gone: Vec::new(),
             wakes: Vec::new(),
             open: 0,
             left: 0,
@@ -132,39 +129,37 @@ impl<T> Parts<T> {
         self.shared.links().moved.extend(self.moves.iter());
     }
 
-    /// Puts a value in.
+    /// Puts a value in. It stands where the caller has it until it is in its slot: a large one is moved as seldom as may be.
     #[inline]
-    pub fn insert(&mut self, value: T, when: u64) -> Result<Key, TooFar> {
+    pub fn insert(&mut self, value: &mut Option<T>, when: u64) -> Result<Key, TooFar> {
         let when = when.max(self.tick);
         self.look_out_for(when);
         match self.put(self.open, value, when) {
-            Ok(key) => Ok(key),
-            Err(value) => self.insert_elsewhere(value, when),
+            Some(key) => Ok(key),
+            None => self.insert_elsewhere(value, when),
         }
     }
 
     #[cold]
-    fn insert_elsewhere(&mut self, value: T, when: u64) -> Result<Key, TooFar> {
+    fn insert_elsewhere(&mut self, value: &mut Option<T>, when: u64) -> Result<Key, TooFar> {
         if when > LAST_TICK {
             return Err(TooFar);
         }
         self.open = self.left;
-        match self.put(self.open, value, when) {
-            Ok(key) => Ok(key),
-            Err(value) => {
-                let key = self.put_somewhere(value, when);
-                drop(self.leave_worn_parts());
-                Ok(key)
-            }
+        if let Some(key) = self.put(self.open, value, when) {
+            return Ok(key);
         }
+        let key = self.put_somewhere(value, when);
+        self.leave_worn_parts();
+        Ok(key)
     }
 
-    /// Puts a value into a part, or gives it back where no slot is free or the deadline is beyond the last tick.
-    #[inline(always)]
-    fn put(&mut self, spot: usize, value: T, when: u64) -> Result<Key, T> {
+    /// Puts a value into a part, where a slot is free and the deadline isn't beyond the last tick.
+    #[cfg_attr(not(debug_assertions), inline(always))]
+    fn put(&mut self, spot: usize, value: &mut Option<T>, when: u64) -> Option<Key> {
         let part = match self.row.get_mut(spot) {
             Some(Some(part)) if !part.is_left => part,
-            _ => return Err(value),
+            _ => return None,
         };
         let wake = &mut self.wakes[spot];
         if *wake == NEVER && part.noted() + BEHIND < self.tick {
@@ -172,15 +167,14 @@ impl<T> Parts<T> {
         }
         let key = part.insert(value, when)?;
         *wake = (*wake).min(when);
-        Ok(key)
+        Some(key)
     }
 
-    fn put_somewhere(&mut self, mut value: T, when: u64) -> Key {
+    fn put_somewhere(&mut self, value: &mut Option<T>, when: u64) -> Key {
         loop {
             self.open = self.find_room();
-            match self.put(self.open, value, when) {
-                Ok(key) => return key,
-                Err(back) => value = back,
+            if let Some(key) = self.put(self.open, value, when) {
+                return key;
             }
         }
     }
@@ -226,7 +220,7 @@ impl<T> Parts<T> {
     fn add_part(&mut self, slots: usize) -> usize {
         let free = self.row.iter().position(Option::is_none).unwrap_or(self.row.len());
         assert!(free < PARTS_LIMIT, "max entries exceeded");
-        let mut part = Part::new(slots, self.last_stamp, self.tick);
+        let mut part = Part::new(slots, self.last_stamp, self.shared.clock, self.tick);
         part.spot = free;
         if self.has_handles {
             part.share(&self.shared);
@@ -251,30 +245,38 @@ impl<T> Parts<T> {
     }
 
     /// Moves what is left out of the parts of which half the slots are worn, and takes them out.
-    #[must_use]
-    fn leave_worn_parts(&mut self) -> Vec<Part<T>> {
+    fn leave_worn_parts(&mut self) {
         let worn: Vec<usize> = self.parts().filter(|part| part.is_worn()).map(|part| part.spot).collect();
-        self.leave_parts(worn)
+        self.leave_parts(worn);
     }
 
-    /// Moves every entry of these parts to others, and takes the parts out. Those come back that cancelled entries are left in.
-    #[must_use]
-    fn leave_parts(&mut self, spots: Vec<usize>) -> Vec<Part<T>> {
+    /// Moves every entry of these parts to others, and takes the parts out. No value is dropped: a poll does that of those that
+    /// cancelled entries are left in.
+    fn leave_parts(&mut self, spots: Vec<usize>) {
         for &spot in &spots {
             if let Some(part) = &mut self.row[spot] {
                 part.is_left = true;
             }
         }
-        let mut gone = Vec::new();
         for spot in spots {
             let places: Vec<Key> = self.row[spot].iter().flat_map(Part::places).collect();
             for place in places {
                 // A handle may have cancelled it meanwhile.
                 let _ = self.carry(place, None);
             }
-            gone.extend(self.take_part(spot).filter(|part| part.len() > 0));
+            if let Some(part) = self.take_part(spot).filter(|part| part.len() > 0) {
+                self.gone.push(part);
+                self.shared.tell();
+            }
         }
-        gone
+    }
+
+    /// Drops the values in the parts that went. Where a drop panics, those that are left are dropped by the next poll.
+    fn drop_gone(&mut self) {
+        while let Some(part) = self.gone.last_mut() {
+            part.sweep();
+            self.gone.pop();
+        }
     }
 
     /// Moves an entry to another slot, under the same user's key, and under another deadline where one is given.
@@ -286,11 +288,12 @@ impl<T> Parts<T> {
         let mut links = if self.has_handles { Some(shared.links()) } else { None };
         let part = self.part_mut(&place).ok_or(CoreError::Missing)?;
         part.link.note_moved(&place);
-        let taken = part.remove(&place)?;
+        let mut taken = None;
+        part.remove(&place, &mut taken);
+        let taken = taken.ok_or(CoreError::Missing)?;
         let key = self.moves.key(place);
-        let deadline = when.unwrap_or(taken.deadline);
-        let new = self.put(self.open, taken.value, deadline);
-        let new = new.unwrap_or_else(|_| unreachable!("a part that has a free slot"));
+        let deadline = when.unwrap_or(taken.tick);
+        let new = self.put(self.open, &mut Some(taken.data), deadline).expect("a part that has a free slot");
         self.moves.note(key, new);
         if let Some(links) = &mut links {
             links.moved.insert(key, new);
@@ -298,20 +301,20 @@ impl<T> Parts<T> {
         Ok(())
     }
 
-    /// Notes how late it is, and takes out what is due first, within a budget.
+    /// Notes how late it is, and takes out what is due first, within a budget. It is written to `out`.
     #[inline]
-    pub fn poll(&mut self, reached: u64, budget: &mut Budget) -> Found<T> {
+    pub fn poll(&mut self, reached: u64, budget: &mut Budget, out: &mut Option<Expired<T>>) -> Found {
         if self.shared.has_news() && !self.heed(budget) {
             return Found::Working;
         }
         match *self.peeked_at.get_mut() {
-            0 => self.poll_parts(reached, budget),
-            deadline => self.poll_peeked(deadline, reached, budget),
+            0 => self.poll_parts(reached, budget, out),
+            deadline => self.poll_peeked(deadline, reached, budget, out),
         }
     }
 
     #[inline]
-    fn poll_parts(&mut self, reached: u64, budget: &mut Budget) -> Found<T> {
+    fn poll_parts(&mut self, reached: u64, budget: &mut Budget, out: &mut Option<Expired<T>>) -> Found {
         loop {
             let (spot, wake, second) = self.soonest();
             if wake == NEVER {
@@ -326,60 +329,57 @@ impl<T> Parts<T> {
                 Some(most) => most,
                 None => return Found::Working,
             };
-            match part.poll(reached.min(second), most) {
-                Piece::Answer(Turn::Out(taken)) => return self.out(spot, taken),
-                Piece::Answer(Turn::Waiting { next }) => {
+            match part.poll(reached.min(second), most, out) {
+                Step::Out => return self.came_out(spot, out),
+                Step::Waiting(next) => {
                     let wake = wake.max(next);
                     self.wakes[spot] = wake;
                     if reached < wake && wake < second {
                         return self.waiting(wake, reached);
                     }
                 }
-                Piece::Answer(_) => self.wakes[spot] = NEVER,
-                _ => budget.grow(),
+                Step::Idle => self.wakes[spot] = NEVER,
+                Step::Working => budget.grow(),
             }
         }
     }
 
     /// A poll after a peek: of entries of one millisecond that one comes out which was named.
     #[cold]
-    fn poll_peeked(&mut self, deadline: u64, reached: u64, budget: &mut Budget) -> Found<T> {
+    fn poll_peeked(&mut self, deadline: u64, reached: u64, budget: &mut Budget, out: &mut Option<Expired<T>>) -> Found {
         let key = self.peeked.get_mut().unwrap_or_else(PoisonError::into_inner).filter(|_| deadline <= reached);
         let Some(key) = key.filter(|key| self.deadline(key) == Some(deadline)) else {
-            return self.poll_parts(reached, budget);
+            return self.poll_parts(reached, budget, out);
         };
-        let found = self.poll_parts(deadline - 1, budget);
-        if let Found::Out(_) | Found::Working = found {
+        let found = self.poll_parts(deadline - 1, budget, out);
+        if let Found::Out | Found::Working = found {
             return found;
         }
         self.forget_peek();
-        match self.remove(&key) {
-            Some(out) => {
-                self.tick = self.tick.max(deadline);
-                Found::Out(out)
-            }
+        if !self.remove(&key, out) {
             // A handle cancelled it just now.
-            None => self.poll_parts(reached, budget),
+            return self.poll_parts(reached, budget, out);
         }
+        self.tick = self.tick.max(deadline);
+        Found::Out
     }
 
     #[inline]
-    fn waiting(&mut self, wake: u64, reached: u64) -> Found<T> {
+    fn waiting(&mut self, wake: u64, reached: u64) -> Found {
         self.tick = self.tick.max(reached);
         Found::Waiting(wake)
     }
 
     /// What came out of a part.
     #[inline]
-    fn out(&mut self, spot: usize, taken: hontkhale::Expired<T>) -> Found<T> {
-        let deadline = taken.deadline;
+    fn came_out(&mut self, spot: usize, out: &mut Option<Expired<T>>) -> Found {
         self.left = spot;
-        self.wakes[spot] = deadline;
-        self.tick = deadline;
-        let entry = taken.key.entry();
-        let number = self.row[spot].as_ref().map_or(0, |part| part.number);
-        let place = Key::of(number, spot, entry.index(), entry.born());
-        Found::Out(self.ended(place, deadline, taken.value))
+        if let Some(out) = out {
+            self.wakes[spot] = out.tick;
+            self.tick = out.tick;
+            self.end(&mut out.key);
+        }
+        Found::Out
     }
 
     /// The part with the least wake, that wake, and the least of the others'.
@@ -412,6 +412,8 @@ impl<T> Parts<T> {
         let again = Again(&self.shared);
         for part in self.row.iter_mut().flatten() {
             part.issue(again.0);
+        }
+        for part in self.gone.iter_mut().chain(self.row.iter_mut().flatten()) {
             while part.link.has_cancels() {
                 let Some(most) = budget.piece() else {
                     return false;
@@ -420,6 +422,7 @@ impl<T> Parts<T> {
                 budget.give_back(most - reaped);
             }
         }
+        self.gone.clear();
         mem::forget(again);
         true
     }
@@ -448,30 +451,34 @@ impl<T> Parts<T> {
     #[cold]
     fn reset_elsewhere(&mut self, place: Key, when: u64) -> Result<(), CoreError> {
         self.carry(place, Some(when))?;
-        drop(self.leave_worn_parts());
+        self.leave_worn_parts();
         Ok(())
     }
 
-    /// Takes the entry of a key out.
+    /// Takes the entry of a key out and writes it to `out`. False where there is none.
     #[inline]
-    pub fn remove(&mut self, key: &Key) -> Option<Out<T>> {
+    pub fn remove(&mut self, key: &Key, out: &mut Option<Expired<T>>) -> bool {
         let place = self.moves.place(key);
-        self.take_out(place)
+        self.take_out(place, out)
     }
 
     /// Takes the entry at a place out.
     #[inline]
-    fn take_out(&mut self, place: Key) -> Option<Out<T>> {
-        let taken = self.part_mut(&place)?.remove(&place).ok()?;
-        self.left = place.spot();
-        Some(self.ended(place, taken.deadline, taken.value))
+    fn take_out(&mut self, place: Key, out: &mut Option<Expired<T>>) -> bool {
+        let is_out = self.part_mut(&place).is_some_and(|part| part.remove(&place, out));
+        if let Some(out) = out {
+            self.left = place.spot();
+            self.end(&mut out.key);
+        }
+        is_out
     }
 
-    /// What leaves from a place, under the user's key.
+    /// Notes that the entry at a place has ended, and gives the user's key.
     #[inline]
-    fn ended(&mut self, place: Key, deadline: u64, value: T) -> Out<T> {
-        let key = if self.moves.is_empty() { place } else { self.forget(place) };
-        Out { key, deadline, value }
+    fn end(&mut self, place: &mut Key) {
+        if !self.moves.is_empty() {
+            *place = self.forget(*place);
+        }
     }
 
     #[cold]
@@ -566,9 +573,13 @@ impl<T> Parts<T> {
 
     /// Takes every entry out. Where a value's drop panics, the entries that are left stay as they are.
     pub fn clear(&mut self) {
+        self.drop_gone();
         for spot in 0..self.row.len() {
             let places: Vec<Key> = self.row[spot].iter().flat_map(Part::places).collect();
-            places.into_iter().for_each(|place| drop(self.take_out(place)));
+            for place in places {
+                let mut out = None;
+                self.take_out(place, &mut out);
+            }
             if let Some(part) = &mut self.row[spot] {
                 part.sweep();
                 if part.len() == 0 {
@@ -605,10 +616,10 @@ impl<T> Parts<T> {
             self.add_part(slots);
             wanted -= slots;
         }
-        let gone = self.leave_parts(left);
+        self.leave_parts(left);
         self.cut_row();
         self.forget_the_ended();
-        drop(gone);
+        self.drop_gone();
     }
 
     /// Forgets the places of moved entries that handles cancelled.

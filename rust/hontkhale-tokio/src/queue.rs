@@ -2,7 +2,7 @@ use crate::budget::{Budget, DEFAULT_BUDGET};
 use crate::handle::{EntryError, Handle};
 use crate::key::{Expired, Key};
 use crate::numbers::{Latest, Numbers};
-use crate::parts::{Found, Out, Parts, TooFar, NEVER};
+use crate::parts::{Found, Parts, TooFar, NEVER};
 use crate::shared::Shared;
 use crate::timer::Timer;
 use futures_core::{ready, Stream};
@@ -159,7 +159,7 @@ impl<T> DelayQueue<T> {
     #[track_caller]
     pub fn insert_at(&mut self, value: T, when: Instant) -> Key {
         let tick = self.parts.shared().clock.tick_at(when);
-        match self.parts.insert(value, tick) {
+        match self.parts.insert(&mut Some(value), tick) {
             Ok(key) => {
                 self.wake_before(tick);
                 key
@@ -186,13 +186,16 @@ impl<T> DelayQueue<T> {
             self.look();
         }
         let mut budget = self.fresh;
+        let mut out = None;
         loop {
-            match self.parts.poll(self.reached, &mut budget) {
-                Found::Out(out) => {
+            match self.parts.poll(self.reached, &mut budget, &mut out) {
+                Found::Out => {
                     self.armed = 0;
                     self.timer.leave();
-                    self.latest.note(out.deadline, self.reached, &self.parts.shared().clock);
-                    return Poll::Ready(Some(self.expired(out)));
+                    if let Some(out) = &out {
+                        self.latest.note(out.tick, self.reached, &out.clock);
+                    }
+                    return Poll::Ready(out);
                 }
                 Found::Idle => {
                     self.arm(NEVER, cx);
@@ -284,11 +287,6 @@ impl<T> DelayQueue<T> {
         }
     }
 
-    #[inline]
-    fn expired(&self, out: Out<T>) -> Expired<T> {
-        Expired { key: out.key, data: out.value, tick: out.deadline, clock: self.parts.shared().clock }
-    }
-
     /// Takes an entry out. Constant time.
     ///
     /// # Panics
@@ -314,11 +312,11 @@ impl<T> DelayQueue<T> {
     /// # }
     /// ```
     pub fn try_remove(&mut self, key: &Key) -> Option<Expired<T>> {
-        let out = self.parts.remove(key)?;
-        if self.armed > 0 && self.parts.holds_none_live() {
+        let mut out = None;
+        if self.parts.remove(key, &mut out) && self.armed > 0 && self.parts.holds_none_live() {
             self.wake();
         }
-        Some(self.expired(out))
+        out
     }
 
     /// Gives an entry another deadline, earlier or later, under the same key. Constant time.

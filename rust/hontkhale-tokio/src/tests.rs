@@ -3,9 +3,10 @@
 use crate::budget::Budget;
 use crate::doors::{Bells, Door};
 use crate::handle::{EntryError, Handle};
-use crate::key::Key;
+use crate::key::{Expired, Key};
 use crate::parts::{Found, Parts};
 use crate::shared::Shared;
+use std::cell::Cell;
 use std::collections::HashMap;
 use std::rc::Rc;
 use std::sync::Arc;
@@ -20,6 +21,12 @@ impl Dice {
         self.0 ^= self.0 << 17;
         self.0 % limit
     }
+}
+
+fn removed<T>(parts: &mut Parts<T>, key: &Key) -> Option<Expired<T>> {
+    let mut out = None;
+    assert_eq!(parts.remove(key, &mut out), out.is_some());
+    out
 }
 
 /// What is in, by its key: the deadline in force and the value, which is also `held` until it is dropped.
@@ -86,7 +93,7 @@ impl Twin {
         let when = self.tick_ahead();
         let value = Rc::new(self.next);
         self.next += 1;
-        let key = self.parts.insert(value.clone(), when).unwrap();
+        let key = self.parts.insert(&mut Some(value.clone()), when).unwrap();
         assert!(self.entries.insert(key, (when.max(self.tick), value)).is_none(), "a key is given twice");
         assert!(!self.ended.contains(&key), "a key is given again");
         self.row.push(key);
@@ -99,9 +106,9 @@ impl Twin {
     }
 
     fn remove(&mut self, key: Key) {
-        let out = self.parts.remove(&key).unwrap();
+        let out = removed(&mut self.parts, &key).unwrap();
         let (deadline, value) = self.end(key);
-        assert_eq!((out.key, out.deadline, &out.value), (key, deadline, &value));
+        assert_eq!((out.key, out.tick, &out.data), (key, deadline, &value));
     }
 
     fn extend(&mut self, key: Key) {
@@ -123,7 +130,7 @@ impl Twin {
     fn refuse(&mut self) {
         if let Some(&key) = self.ended.get(self.dice.below(1 + self.ended.len() as u64) as usize) {
             assert!(self.parts.reset(&key, self.now).is_err());
-            assert!(self.parts.remove(&key).is_none());
+            assert!(removed(&mut self.parts, &key).is_none());
             assert!(self.parts.deadline(&key).is_none());
             let ended = Err(EntryError::Ended);
             assert_eq!(self.handle.extend_at(&key, self.parts.shared().clock.moment(self.now)), ended);
@@ -139,10 +146,12 @@ impl Twin {
                 0 => u32::MAX,
                 steps => steps,
             });
-            match self.parts.poll(self.now, &mut budget) {
-                Found::Out(out) => {
+            let mut out = None;
+            match self.parts.poll(self.now, &mut budget, &mut out) {
+                Found::Out => {
+                    let out = out.expect("what came out");
                     let (deadline, value) = self.end(out.key);
-                    assert_eq!((Some(out.deadline), out.deadline, &out.value), (least, deadline, &value));
+                    assert_eq!((Some(out.tick), out.tick, &out.data), (least, deadline, &value));
                     assert!(deadline <= self.now);
                     self.tick = deadline;
                 }
@@ -215,13 +224,50 @@ fn parts_with_slots_that_wear_out_agree_with_a_model() {
 fn worn_parts_go() {
     let mut parts = Parts::new(0, 2, Shared::new());
     parts.share();
-    let stays = parts.insert(0, 1_000_000).unwrap();
+    let stays = parts.insert(&mut Some(0), 1_000_000).unwrap();
     for value in 1..100_000 {
-        let key = parts.insert(value, 10).unwrap();
-        assert!(parts.remove(&key).is_some());
+        let key = parts.insert(&mut Some(value), 10).unwrap();
+        assert!(removed(&mut parts, &key).is_some());
     }
     assert!(parts.capacity() < 1_000, "{}", parts.capacity());
-    assert_eq!(parts.remove(&stays).map(|out| out.value), Some(0));
+    assert_eq!(removed(&mut parts, &stays).map(|out| out.data), Some(0));
+}
+
+/// A value that counts the drops within a call that isn't to drop any.
+struct Watched {
+    is_in_call: Rc<Cell<bool>>,
+    drops_in_calls: Rc<Cell<usize>>,
+}
+
+impl Drop for Watched {
+    fn drop(&mut self) {
+        self.drops_in_calls.set(self.drops_in_calls.get() + usize::from(self.is_in_call.get()));
+    }
+}
+
+/// A panic of a value's drop would take along the key that an insert is about to give.
+#[test]
+fn a_worn_part_goes_in_no_insert_or_reset_with_the_values_that_were_cancelled_in_it() {
+    for by_reset in [false, true] {
+        let (is_in_call, drops_in_calls) = (Rc::<Cell<bool>>::default(), Rc::<Cell<usize>>::default());
+        let value = || Watched { is_in_call: is_in_call.clone(), drops_in_calls: drops_in_calls.clone() };
+        let mut parts = Parts::new(0, 2, Shared::new());
+        parts.share();
+        let handle = Handle::of(parts.shared().clone());
+        for _ in 0..20 {
+            let keys: Vec<Key> = (0..100).map(|_| parts.insert(&mut Some(value()), 1_000).unwrap()).collect();
+            keys[..50].iter().for_each(|key| assert!(handle.cancel(key).is_ok()));
+            is_in_call.set(true);
+            if by_reset {
+                keys[50..].iter().cycle().take(500).for_each(|key| parts.reset(key, 2_000).unwrap());
+            }
+            let more: Vec<Key> = (0..100).map(|_| parts.insert(&mut Some(value()), 1_000).unwrap()).collect();
+            is_in_call.set(false);
+            keys[50..].iter().chain(&more).for_each(|key| assert!(removed(&mut parts, key).is_some()));
+            assert!(matches!(parts.poll(0, &mut Budget::of_or_whole(u32::MAX), &mut None), Found::Idle));
+            assert_eq!((drops_in_calls.get(), Rc::strong_count(&is_in_call), parts.len()), (0, 1, 0), "{by_reset}");
+        }
+    }
 }
 
 #[test]

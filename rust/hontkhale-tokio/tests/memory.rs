@@ -1,10 +1,12 @@
-//! What a queue holds of memory, each time in a process of its own, by what the system says is resident there.
+//! What a queue holds of memory, by what the system says is resident, and what its calls want of the stack: each time in a
+//! process of its own.
 
 mod common;
 
 use common::{ms, paused};
 use hontkhale_tokio::delay_queue::Key;
 use hontkhale_tokio::DelayQueue;
+use std::future::poll_fn;
 use std::process::Command;
 
 /// Runs a test's body in a process of its own.
@@ -136,4 +138,53 @@ fn room_that_cannot_be_is_refused_at_once() {
             assert!(taken < 8_000, "{taken} KiB");
         });
     });
+}
+
+/// A value of 64 KiB.
+struct Large([u8; 65_536]);
+
+macro_rules! large_calls {
+    ($name:ident, $queue:ty) => {
+        /// Insert, reset, remove and poll with large values.
+        async fn $name() {
+            let mut queue = <$queue>::new();
+            let removed = queue.insert(Large([1; 65_536]), ms(10));
+            queue.insert(Large([2; 65_536]), ms(20));
+            queue.reset(&removed, ms(30));
+            assert_eq!(queue.remove(&removed).get_ref().0[9], 1);
+            assert_eq!(poll_fn(|cx| queue.poll_expired(cx)).await.unwrap().get_ref().0[9], 2);
+        }
+    };
+}
+
+large_calls!(large_here, DelayQueue<Large>);
+large_calls!(large_in_peer, tokio_util::time::DelayQueue<Large>);
+
+/// The KiB of stack that the calls of a side want: of a process of its own, since one that wants more ends.
+fn stack_of(side: &str) -> usize {
+    let (mut too_little, mut enough) = (64, 65_536);
+    while enough - too_little > 16 {
+        let kib = (too_little + enough) / 2;
+        let mut child = Command::new(std::env::current_exe().expect("the test's program"));
+        child.args(["large_values_want_no_more_than_two_and_a_half_of_the_peers_stack", "--exact"]);
+        let run = child.env("SIDE", side).env("KIB", kib.to_string()).output().expect("a process");
+        *(if run.status.success() { &mut enough } else { &mut too_little }) = kib;
+    }
+    enough
+}
+
+#[test]
+fn large_values_want_no_more_than_two_and_a_half_of_the_peers_stack() {
+    let Some(side) = std::env::var_os("SIDE") else {
+        let (here, in_peer) = (stack_of("here"), stack_of("peer"));
+        println!("{here} KiB here, {in_peer} of the peer");
+        assert!(2 * here <= 5 * in_peer, "{here} KiB here, {in_peer} of the peer");
+        return;
+    };
+    let kib: usize = std::env::var("KIB").expect("KiB").parse().expect("a number");
+    let calls = move || match side.to_str() {
+        Some("here") => paused().block_on(large_here()),
+        _ => paused().block_on(large_in_peer()),
+    };
+    std::thread::Builder::new().stack_size(kib << 10).spawn(calls).expect("a thread").join().expect("it ends");
 }

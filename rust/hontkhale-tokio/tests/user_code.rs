@@ -172,6 +172,40 @@ fn a_panic_in_a_cancelled_values_drop_loses_no_other_entry() {
     }
 }
 
+/// A session of which each that ends has the queue drop the others that were cancelled, and how deep their drops go.
+struct Sweeping {
+    queue: SharedDelayQueue<Sweeping>,
+    depths: Arc<(AtomicUsize, AtomicUsize)>,
+}
+
+impl Drop for Sweeping {
+    fn drop(&mut self) {
+        let (depth, most) = &*self.depths;
+        most.fetch_max(depth.fetch_add(1, SeqCst) + 1, SeqCst);
+        self.queue.sweep();
+        depth.fetch_sub(1, SeqCst);
+    }
+}
+
+/// One drop within another for each value would overflow the stack, and end the process.
+#[test]
+fn drops_that_sweep_are_made_one_after_the_other() {
+    ends(|| {
+        paused().block_on(async {
+            let queue = SharedDelayQueue::new(2, 10_000).unwrap();
+            let (handle, depths) = (queue.handle().unwrap(), Arc::<(AtomicUsize, AtomicUsize)>::default());
+            let keys: Vec<_> = (0..1_000)
+                .map(|at| {
+                    queue.insert(at, Sweeping { queue: queue.clone(), depths: depths.clone() }, ms(10_000)).unwrap()
+                })
+                .collect();
+            keys.iter().for_each(|key| assert!(handle.cancel(key).is_ok()));
+            queue.sweep();
+            assert_eq!((Arc::strong_count(&depths), depths.1.load(SeqCst)), (1, 1));
+        });
+    });
+}
+
 /// What a waker does when it is cloned, dropped and woken.
 type Call = dyn Fn() + Send + Sync;
 
