@@ -51,6 +51,35 @@ def locks(store):
     assert store.get("count") == "160" and store.delete("count") == 1
 
 
+def transfers(store):
+    """Eight threads move one of a hundred from an account to the other, by WATCH and EXEC, which fails where another was first."""
+    store.set("from", 100)
+
+    def move(pipe):
+        left = int(pipe.get("from"))
+        pipe.multi()
+        pipe.set("from", left - 1, ex=600)
+        pipe.incr("to")
+
+    def work():
+        for _ in range(10):
+            store.transaction(move, "from")
+
+    threads = [threading.Thread(target=work) for _ in range(8)]
+    for step in (threading.Thread.start, threading.Thread.join):
+        for thread in threads:
+            step(thread)
+    with store.pipeline() as pipe:
+        assert pipe.get("from").get("to").delete("from", "to").execute() == ["20", "80", 2]
+    with store.pipeline() as pipe:
+        pipe.set("balance", 100).execute_command("NOTHING").decrby("balance", 30)
+        try:
+            pipe.execute()
+            sys.exit("clients.py: a transaction with an unknown command is done")
+        except redis.ResponseError:
+            assert store.getdel("balance") is None
+
+
 def many(store):
     """A pipeline, and all names by SCAN."""
     with store.pipeline(transaction=False) as pipe:
@@ -87,7 +116,7 @@ def main():
     port = int(sys.argv[1])
     store = redis.Redis(port=port, decode_responses=True)
     assert store.dbsize() == 0
-    for program in (sessions, limits, locks, many, itself):
+    for program in (sessions, limits, locks, transfers, many, itself):
         program(store)
     web_page(port, store)
     print(f"clients.py: the programs of redis-py {redis.__version__} are served, a web page's request isn't")

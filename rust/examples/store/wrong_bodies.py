@@ -12,8 +12,8 @@ import sys
 import tempfile
 
 HERE = pathlib.Path(__file__).resolve().parent
-KEYSPACE, SHARD, PLACE, WALK, ROOM, COMMAND, KEYS, EXPIRY, ASKED, SCAN, KEEPER, RESP, OUTPUT, SEATS, CONNECTION, LOOP = FILES = [
-    f"src/{it}.rs" for it in ("keyspace", "keyspace/shard", "keyspace/place", "keyspace/walk", "room", "command", "command/keys", "command/expiry", "command/connection", "command/scan", "keeper", "resp", "output",
+KEYSPACE, SHARD, PLACE, WALK, ROOM, COMMAND, KEYS, EXPIRY, ASKED, SCAN, TRANSACTION, KEEPER, RESP, OUTPUT, SEATS, CONNECTION, LOOP = FILES = [
+    f"src/{it}.rs" for it in ("keyspace", "keyspace/shard", "keyspace/place", "keyspace/walk", "room", "command", "command/keys", "command/expiry", "command/connection", "command/scan", "command/transaction", "keeper", "resp", "output",
     "seats", "connection", "event_loop")]
 # The bug, the file, what stands there, what is put in its place, and the test that sees it.
 BODIES = [
@@ -45,8 +45,8 @@ BODIES = [
      "        let when = when - 1;\n        let entry = match old {\n            // An extend", "no_key_is_seen_at_its_deadline"),
     ("reader_sees_what_is_over", KEYSPACE, "        if let Some(life) = record.life(handle, now) {\n            return Some(read(record, life));",
      "        if let Some(life) = record.life(handle, 0) {\n            return Some(read(record, life));", "no_command_sees_a_key_that_is_over"),
-    ("mget_sees_what_is_over", COMMAND, "output.reply(&keys::value(self, name));",
-     "output.reply(&self.desk.keyspace.value_whenever(name));", "no_command_sees_a_key_that_is_over"),
+    ("mget_sees_what_is_over", COMMAND, "words.get(*told).map(|name| keys::value(self, name))",
+     "words.get(*told).map(|name| self.desk.keyspace.value_whenever(name))", "no_command_sees_a_key_that_is_over"),
     ("writer_sees_what_is_over", KEYSPACE, "Some(record) if record.life(handle, now).is_none() => {}",
      "Some(record) if record.life(handle, 0).is_none() => {}", "no_command_sees_a_key_that_is_over"),
     ("a_reader_tells_gone_before_it_came_out", KEYSPACE, "        drop(names);\n        let names = self.write_now(shard, now, handle, name);",
@@ -90,9 +90,9 @@ BODIES = [
     ("a_request_may_be_of_any_length", RESP, "if self.size > REQUEST_LIMIT {", "if self.size > REQUEST_LIMIT * 1000 {",
      "keys_and_values_of_a_mebibyte"),
     ("arguments_without_end", RESP, "*count <= WORDS_LIMIT as i64", "*count < i64::MAX", "broken_frames_end_their_connection"),
-    ("an_mget_holds_all_its_values", COMMAND, "for name in &words[*told..] {",
-     "let all: Vec<_> = words[*told..].iter().map(|name| keys::value(self, name)).collect();\n        Box::leak(Box::new(all));\n"
-     "        for name in &words[*told..] {",
+    ("an_mget_holds_all_its_values", COMMAND, "        while !output.is_full() {",
+     "        let all: Vec<_> = words[1..].iter().map(|name| keys::value(self, name)).collect();\n        Box::leak(Box::new(all));\n"
+     "        while !output.is_full() {",
      "a_client_that_leaves_many_values_unread"),
     ("no_patience_ends", CONNECTION, "since.elapsed() >= PATIENCE", "since.elapsed() >= PATIENCE * 1000", "a_client_that_stops_reading"),
     ("seats_are_never_given_back", SEATS, "        self.seats.taken.fetch_sub(1, SeqCst);", "", "a_thousand_connections"),
@@ -133,6 +133,17 @@ BODIES = [
      "what_was_asked_for_is_sent_at_the_end"),
     ("short_replies_are_held_back_whole", OUTPUT, "self.long.is_some() || self.bytes.len() - self.sent >= ENOUGH", "self.long.is_some()",
      "many_short_replies_are_held_a_few_at_a_time"),
+    ("exec_waits_for_nobody", KEYSPACE, "turns.iter().map(", "turns.iter().take(0).map(", "no_request_sees_half_of_a_transaction"),
+    ("a_request_takes_no_turn", COMMAND, "(!is_exec).then(", "(*told > 1 << 30).then(", "no_request_sees_half_of_a_transaction"),
+    ("multi_queues_nothing", TRANSACTION, "self.queue.is_some() && ", "self.queue.is_some() && self.held() > 1 << 30 && ",
+     "what_is_queued_is_done_by_exec"),
+    ("a_broken_transaction_is_done", TRANSACTION, "queue.is_broken = true", "queue.is_broken = false", "what_is_queued_is_done_by_exec"),
+    ("watch_sees_no_deadline", TRANSACTION, " && *life == life_now", " && (*life == life_now || true)", "nothing_is_done_where_a_watched_key"),
+    ("watch_sees_no_value", TRANSACTION, "Value::ptr_eq(value, &now) && ", "(Value::ptr_eq(value, &now) || true) && ",
+     "nothing_is_done_where_a_watched_key"),
+    ("exec_watches_on", TRANSACTION, "std::mem::take(&mut self.watched)",
+     "self.watched.iter().map(|it| Watched { name: it.name.clone(), seen: it.seen.clone() }).collect()", "nothing_is_done_where_a_watched_key"),
+    ("a_transaction_counts_for_nothing", TRANSACTION, " + self.watched_bytes + self.reply_bytes", "", "what_a_transaction_holds_counts"),
     ("memory_without_end", ROOM, "new <= old || *it <= self.most", "*it < usize::MAX", "no_room_is_an_error_by_name"),
     ("an_empty_store_takes_nothing", ROOM, "if !is_little && ", "if ", "a_process_that_is_too_large_takes_little"),
     ("a_process_without_end", ROOM, "            read + bytes <= most\n", "            read + bytes > 0\n",

@@ -4,6 +4,7 @@ mod connection;
 mod expiry;
 mod keys;
 mod scan;
+mod transaction;
 
 use crate::handle::Handle;
 use crate::keyspace::{Keyspace, NoRoom};
@@ -13,8 +14,9 @@ use crate::seats::Seats;
 use hontkhale::Key;
 use std::collections::HashMap;
 use std::net::SocketAddr;
-use std::sync::Arc;
+use std::sync::{Arc, PoisonError};
 use std::time::{Duration, Instant};
+use transaction::Transaction;
 
 /// How many names a thread's extends are remembered for, and how long these are at most.
 const KNOWN_LIMIT: usize = 16_384;
@@ -37,6 +39,7 @@ pub struct Session {
     id: u64,
     name: Vec<u8>,
     protocol: Protocol,
+    transaction: Transaction,
 }
 
 /// A client, whose request is served.
@@ -100,10 +103,16 @@ const COMMANDS: &[Command] = &[
     Command("config", 2, true, connection::config),
     Command("info", 1, true, connection::info),
     Command("command", 1, true, connection::command),
+    Command("multi", 1, false, transaction::multi),
+    Command(EXEC, 1, false, transaction::exec),
+    Command("discard", 1, false, transaction::discard),
+    Command("watch", 2, true, transaction::watch),
+    Command("unwatch", 1, false, transaction::unwatch),
     Command(QUIT, 1, true, |_, _| Ok(Reply::Status("OK"))),
 ];
 const MGET: &str = "mget";
 const QUIT: &str = "quit";
+const EXEC: &str = "exec";
 /// What a web page's request begins with, and what follows in it: no client of this protocol sends them.
 const ATTACKS: [&[u8]; 2] = [b"post", b"host:"];
 
@@ -132,6 +141,12 @@ enum Refusal {
     Protocol,
     Password,
     HelloOption(String),
+    Nested,
+    WithoutMulti(&'static str),
+    WatchInMulti,
+    LongTransaction,
+    Aborted,
+    AbortedExec,
     Memory,
     Process,
     Deadlines,
@@ -164,6 +179,14 @@ impl Refusal {
             Refusal::Protocol => "NOPROTO unsupported protocol version".into(),
             Refusal::Password => "WRONGPASS invalid username-password pair or user is disabled.".into(),
             Refusal::HelloOption(text) => format!("ERR Syntax error in HELLO option '{text}'"),
+            Refusal::Nested => "ERR MULTI calls can not be nested".into(),
+            Refusal::WithoutMulti(name) => format!("ERR {name} without MULTI"),
+            Refusal::WatchInMulti => "ERR WATCH inside MULTI is not allowed".into(),
+            Refusal::LongTransaction => "ERR the transaction is too long".into(),
+            Refusal::Aborted => "EXECABORT Transaction discarded because of previous errors.".into(),
+            Refusal::AbortedExec => {
+                "EXECABORT Transaction discarded because of: wrong number of arguments for 'exec' command".into()
+            }
             Refusal::Memory => "OOM command not allowed when used memory > 'maxmemory'.".into(),
             Refusal::Process => "OOM the process holds as much memory as it may".into(),
             Refusal::Deadlines => "OOM no room for another key that expires".into(),
@@ -211,20 +234,29 @@ impl Desk {
 
 impl Session {
     pub fn new(id: u64) -> Session {
-        Session { id, name: Vec::new(), protocol: Protocol::Two }
+        Session { id, name: Vec::new(), protocol: Protocol::Two, transaction: Transaction::default() }
+    }
+
+    /// What a transaction is answered and isn't written yet, one reply.
+    pub fn next_reply(&mut self) -> Option<Reply> {
+        self.transaction.next_reply()
     }
 
     /// The memory that it holds.
     pub fn held(&self) -> usize {
-        self.name.capacity()
+        self.name.capacity() + self.transaction.held()
     }
 }
 
 impl Client<'_> {
-    /// Answers a request. An MGET's values are told one by one: a client that leaves them unread holds one of them,
-    /// and not all that it named, which others may have overwritten since. `told` counts its replies from one call to
-    /// the next.
+    /// Answers a request. The values of an MGET and the replies of an EXEC are told one by one: a client that leaves
+    /// them unread holds one value, and not all that it named, which others may have overwritten since. `told` counts
+    /// what is told of a request from one call to the next.
     pub fn serve(&mut self, words: Words<'_>, told: &mut usize, output: &mut Output) -> Served {
+        // EXEC takes all turns itself.
+        let is_exec = words[0].eq_ignore_ascii_case(EXEC.as_bytes());
+        let turn = self.desk.handle.turn();
+        let _taken = (!is_exec).then(|| turn.lock().unwrap_or_else(PoisonError::into_inner));
         if *told == 0 {
             if ATTACKS.iter().any(|it| words[0].eq_ignore_ascii_case(it)) {
                 return Served::Attack;
@@ -238,14 +270,15 @@ impl Client<'_> {
             }
             *told = 1;
         }
-        for name in &words[*told..] {
-            if output.is_full() {
-                return Served::Begun;
+        while !output.is_full() {
+            let next = self.session.next_reply();
+            match next.or_else(|| words.get(*told).map(|name| keys::value(self, name))) {
+                None => return Served::Done,
+                Some(reply) => output.reply(&reply),
             }
-            output.reply(&keys::value(self, name));
             *told += 1;
         }
-        Served::Done
+        Served::Begun
     }
 
     /// What a request is answered. The values of an MGET aren't among it.
@@ -255,11 +288,21 @@ impl Client<'_> {
 
     fn run(&mut self, words: Words<'_>) -> Answer {
         let command = COMMANDS.iter().find(|it| words[0].eq_ignore_ascii_case(it.0.as_bytes()));
-        let Command(name, least, has_more, run) = command.ok_or_else(|| Refusal::Unknown(told(words)))?;
-        if words.len() < *least || (words.len() > *least && !has_more) {
-            return Err(Refusal::WordCount(name));
+        let is_fit = |it: &&Command| words.len() == it.1 || words.len() > it.1 && it.2;
+        match command.ok_or_else(|| Refusal::Unknown(told(words))) {
+            Ok(it) if is_fit(&it) && self.session.transaction.takes(it.0) => self.session.transaction.queue(words),
+            Ok(it) if is_fit(&it) => return it.3(self, words),
+            Ok(it) if it.0 == EXEC => {
+                self.session.transaction = Transaction::default();
+                Err(Refusal::AbortedExec)
+            }
+            Ok(it) => Err(Refusal::WordCount(it.0)),
+            Err(unknown) => Err(unknown),
         }
-        run(self, words)
+        .map_err(|refusal| {
+            self.session.transaction.note_refusal();
+            refusal
+        })
     }
 }
 

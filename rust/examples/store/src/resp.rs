@@ -16,7 +16,7 @@ const WORDS_LIMIT: usize = 1 << 16;
 /// The longest line that isn't the content of a bulk string.
 const LINE_LIMIT: usize = 64 << 10;
 /// What a word counts beside its bytes: its place, and the lines around it.
-const PER_WORD: usize = 32;
+pub const PER_WORD: usize = 32;
 /// The room for words that a parser keeps from one request to the next.
 const KEPT_WORDS: usize = 64;
 
@@ -290,6 +290,8 @@ pub enum Reply {
     /// A text for a person.
     Text(String),
     Nil,
+    /// No array, where one would be.
+    NilArray,
     Array(Vec<Reply>),
     Map(Vec<(Reply, Reply)>),
     /// An array of so many replies, which follow it.
@@ -299,6 +301,18 @@ pub enum Reply {
 impl Reply {
     pub fn bulk(content: &[u8]) -> Reply {
         Reply::Bulk(content.into())
+    }
+
+    /// The memory that it holds.
+    pub fn held(&self) -> usize {
+        mem::size_of::<Reply>()
+            + match self {
+                Reply::Bulk(content) => content.len(),
+                Reply::Error(text) | Reply::Text(text) => text.len(),
+                Reply::Array(replies) => replies.iter().map(Reply::held).sum(),
+                Reply::Map(pairs) => pairs.iter().map(|(name, value)| name.held() + value.held()).sum(),
+                _ => 0,
+            }
     }
 
     /// Writes it, all but the content of a bulk string that is at least so long, which is answered.
@@ -320,7 +334,10 @@ impl Reply {
                 line(to, format_args!("={}\r\ntxt:{text}", text.len() + 4))
             }
             Reply::Text(text) => line(to, format_args!("${}\r\n{text}", text.len())),
-            Reply::Nil => to.extend_from_slice(if protocol == Protocol::Three { b"_\r\n" } else { b"$-1\r\n" }),
+            Reply::NilArray if protocol == Protocol::Two => to.extend_from_slice(b"*-1\r\n"),
+            Reply::NilArray | Reply::Nil => {
+                to.extend_from_slice(if protocol == Protocol::Three { b"_\r\n" } else { b"$-1\r\n" })
+            }
             Reply::Begun(count) => line(to, format_args!("*{count}")),
             Reply::Array(replies) => {
                 line(to, format_args!("*{}", replies.len()));

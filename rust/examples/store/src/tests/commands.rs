@@ -9,6 +9,7 @@ use crate::resp::Reply;
 use crate::room::{Resident, Room};
 use crate::seats::Seats;
 use std::collections::HashSet;
+use std::sync::atomic::{AtomicBool, Ordering::SeqCst};
 use std::sync::Arc;
 use std::thread;
 use std::time::Duration;
@@ -348,6 +349,111 @@ fn a_connection_is_told_of_itself() {
     assert!(said(&mut client, "INFO").starts_with('='));
     assert!(said(&mut client, "HELLO 2").starts_with("*14 "));
     says(&mut client, "GET none => $-1");
+}
+
+#[test]
+fn what_is_queued_is_done_by_exec_and_nothing_before() {
+    let keyspace = keyspace();
+    let (mut client, mut other) = (client(&keyspace), super::client(&keyspace));
+    says(&mut client, "MULTI => +OK\nSET a 70 => +QUEUED\nDECRBY a 30 => +QUEUED\nMGET a b => +QUEUED\nMULTI => -ERR MULTI calls can not be nested");
+    says(&mut other, "GET a => $-1");
+    says(&mut client, "EXEC => *3 +OK :40 *2 $2 40 $-1\nEXEC => -ERR EXEC without MULTI");
+    says(&mut client, "MULTI => +OK\nDECRBY a 30 => +QUEUED\nDISCARD => +OK\nGET a => $2 40");
+    let aborted = "EXEC => -EXECABORT Transaction discarded because of previous errors.";
+    says(&mut client, &format!("MULTI => +OK\nDECRBY a 30 => +QUEUED\nDECRBY a => -ERR wrong number of arguments for 'decrby' command\n{aborted}"));
+    says(&mut other, "GET a => $2 40");
+    // It is as long as a request at most.
+    let value = "v".repeat(600_000);
+    says(
+        &mut client,
+        &format!("MULTI => +OK\nSET b {value} => +QUEUED\nSET b {value} => +QUEUED\nSET b {value} => +QUEUED"),
+    );
+    says(&mut client, &format!("SET b {value} => -ERR the transaction is too long\n{aborted}\nEXISTS b => :0"));
+}
+
+#[test]
+fn nothing_is_done_where_a_watched_key_was_changed() {
+    let keyspace = keyspace();
+    let (mut client, mut other) = (client(&keyspace), super::client(&keyspace));
+    for change in [
+        "SET a 1 PX 60000",
+        "PERSIST a",
+        "PEXPIRE a 70000 GT",
+        "PEXPIRE a 50000 LT",
+        "INCR a",
+        "DEL a",
+        "FLUSHALL",
+        "SET b 1",
+    ] {
+        is_ok(&mut other, "SET a 1 PX 60000");
+        says(&mut client, "WATCH a b => +OK\nMULTI => +OK\nSET a 2 => +QUEUED");
+        says(&mut other, "EXPIRE a 50000 LT => :0\nSET a 1 NX => $-1");
+        ask(&mut other, change);
+        says(&mut client, "EXEC => *-1\nUNWATCH => +OK");
+        ask(&mut other, "DEL b");
+    }
+    // A key that came to its deadline was changed too.
+    is_ok(&mut other, "SET a 1 PX 5");
+    says(&mut client, "WATCH a => +OK\nMULTI => +OK\nPING => +QUEUED");
+    thread::sleep(Duration::from_millis(6));
+    says(&mut client, "EXEC => *-1");
+    is_ok(&mut other, "SET a 1");
+    says(
+        &mut client,
+        "WATCH a b => +OK\nMULTI => +OK\nINCR a => +QUEUED\nEXEC => *1 :2\nWATCH a => +OK\nUNWATCH => +OK",
+    );
+    is_ok(&mut other, "SET a 3");
+    says(&mut client, "MULTI => +OK\nINCR a => +QUEUED\nEXEC => *1 :4");
+}
+
+/// One raises two keys together, and two others look at both, by a transaction and by an MGET.
+#[test]
+fn no_request_sees_half_of_a_transaction() {
+    let keyspace = keyspace();
+    let is_over = AtomicBool::new(false);
+    thread::scope(|scope| {
+        for look in ["MULTI => +OK\nGET a => +QUEUED\nGET b => +QUEUED", ""] {
+            let (keyspace, is_over) = (&keyspace, &is_over);
+            scope.spawn(move || {
+                let mut client = client(keyspace);
+                while !is_over.load(SeqCst) {
+                    says(&mut client, look);
+                    let told = said(&mut client, if look.is_empty() { "MGET a b" } else { "EXEC" });
+                    let words: Vec<_> = told.split_whitespace().collect();
+                    let half = words.len() / 2;
+                    assert_eq!(words[1..=half], words[half + 1..], "{told}");
+                }
+            });
+        }
+        let mut client = client(&keyspace);
+        for _ in 0..3_000 {
+            says(&mut client, "MULTI => +OK\nINCR a => +QUEUED\nINCR b => +QUEUED");
+            ask(&mut client, "EXEC");
+            while client.session.next_reply().is_some() {}
+        }
+        is_over.store(true, SeqCst);
+    });
+}
+
+#[test]
+fn what_a_transaction_holds_counts_as_memory() {
+    let keyspace = keyspace();
+    let mut client = client(&keyspace);
+    let value = "v".repeat(10_000);
+    is_ok(&mut client, &format!("SET a {value}"));
+    let mut holds = |lines: &str, least: usize| {
+        says(&mut client, lines);
+        let held = client.session.held();
+        assert!((least..least + 500).contains(&held), "{held} bytes after {lines:.50}");
+    };
+    holds("PING => +PONG", 0);
+    holds("WATCH a => +OK\nWATCH a => +OK", 10_000);
+    holds(&format!("MULTI => +OK\nSET b {value} => +QUEUED\nGET a => +QUEUED"), 20_000);
+    holds("DISCARD => +OK", 0);
+    is_ok(&mut client, "MULTI");
+    (0..3).for_each(|_| assert_eq!(ask(&mut client, "GET a"), Reply::Status("QUEUED")));
+    assert_eq!(ask(&mut client, "EXEC"), Reply::Begun(3));
+    assert!((30_000..31_000).contains(&client.session.held()));
 }
 
 /// The next cursor of a SCAN, and the names that it tells.
