@@ -12,8 +12,8 @@ import sys
 import tempfile
 
 HERE = pathlib.Path(__file__).resolve().parent
-KEYSPACE, SHARD, PLACE, WALK, ROOM, COMMAND, KEYS, EXPIRY, ASKED, SCAN, TRANSACTION, KEEPER, RESP, OUTPUT, SEATS, CONNECTION, LOOP = FILES = [
-    f"src/{it}.rs" for it in ("keyspace", "keyspace/shard", "keyspace/place", "keyspace/walk", "room", "command", "command/keys", "command/expiry", "command/connection", "command/scan", "command/transaction", "keeper", "resp", "output",
+KEYSPACE, SHARD, PLACE, WALK, ROOM, COMMAND, KEYS, EXPIRY, ASKED, SCAN, TRANSACTION, LEASE, KEEPER, RESP, OUTPUT, SEATS, CONNECTION, LOOP = FILES = [
+    f"src/{it}.rs" for it in ("keyspace", "keyspace/shard", "keyspace/place", "keyspace/walk", "room", "command", "command/keys", "command/expiry", "command/connection", "command/scan", "command/transaction", "command/lease", "keeper", "resp", "output",
     "seats", "connection", "event_loop")]
 # The bug, the file, what stands there, what is put in its place, and the test that sees it.
 BODIES = [
@@ -25,10 +25,10 @@ BODIES = [
     ("xx_is_ignored_by_expire", EXPIRY, "Life::Endless => !self.xx && !self.gt,", "Life::Endless => !self.gt,",
      "expire_changes_what_its_conditions_allow"),
     ("keepttl_is_dropped", KEYS, "if self.is_kept => Ok(Lifetime::Kept)", "if self.is_kept => Ok(Lifetime::Endless)", "set_does_what_its_options_say"),
-    ("nx_is_ignored_by_set", KEYS, "{ !options.only_new }", "{ true }", "set_does_what_its_options_say"),
-    ("xx_is_ignored_by_set", KEYS, "{ !options.only_old }", "{ true }", "set_does_what_its_options_say"),
-    ("get_tells_the_new_value", KEYS, "        let old = place.value().cloned();\n        let is_done = if old.is_some()",
-     "        let is_old = place.value().is_some();\n        let old = place.value().map(|_| words[2].into());\n        let is_done = if is_old",
+    ("nx_is_ignored_by_set", KEYS, "Only::None => old.is_none()", "Only::None => true", "set_does_what_its_options_say"),
+    ("xx_is_ignored_by_set", KEYS, "Only::Some => old.is_some()", "Only::Some => true", "set_does_what_its_options_say"),
+    ("get_tells_the_new_value", KEYS, "        let old = place.value().cloned();\n        let is_done = ",
+     "        let old: Option<crate::keyspace::Value> = place.value().map(|_| words[2].into());\n        let is_done = ",
      "set_does_what_its_options_say"),
     ("seconds_are_taken_as_milliseconds", EXPIRY, "time.checked_mul(1000)", "Some(time)", "set_does_what_its_options_say"),
     ("expireat_counts_from_now", EXPIRY, 'Expire("expireat", Unit::Seconds, false)', 'Expire("expireat", Unit::Seconds, true)',
@@ -133,6 +133,13 @@ BODIES = [
      "what_was_asked_for_is_sent_at_the_end"),
     ("short_replies_are_held_back_whole", OUTPUT, "self.long.is_some() || self.bytes.len() - self.sent >= ENOUGH", "self.long.is_some()",
      "many_short_replies_are_held_a_few_at_a_time"),
+    ("a_lease_is_ended_by_anybody", LEASE, "|value| value == words[2]", "|_| true", "a_lease_is_ended_and_prolonged_by_its_holder"),
+    ("a_lease_is_set_by_anybody", KEYS, "Only::Equal(value) => old == Some(value)", "Only::Equal(_) => old.is_some()",
+     "a_lease_is_ended_and_prolonged_by_its_holder"),
+    ("a_script_takes_any_value", LEASE, "args.first() == Some(&&value[..])", "args.first() != Some(&&value[..1])",
+     "a_lock_of_redis_py_is_its_holders"),
+    ("a_lock_is_extended_from_now", LEASE, "=> expire(place, args, |_, _| until)", "=> expire(place, args, |_, now| now.min(until))",
+     "a_lock_of_redis_py_is_its_holders"),
     ("exec_waits_for_nobody", KEYSPACE, "turns.iter().map(", "turns.iter().take(0).map(", "no_request_sees_half_of_a_transaction"),
     ("a_request_takes_no_turn", COMMAND, "(!is_exec).then(", "(*told > 1 << 30).then(", "no_request_sees_half_of_a_transaction"),
     ("multi_queues_nothing", TRANSACTION, "self.queue.is_some() && ", "self.queue.is_some() && self.held() > 1 << 30 && ",

@@ -3,6 +3,7 @@
 mod connection;
 mod expiry;
 mod keys;
+mod lease;
 mod scan;
 mod transaction;
 
@@ -83,6 +84,9 @@ const COMMANDS: &[Command] = &[
     Command("exists", 2, true, keys::exists),
     Command("getex", 2, true, keys::get_and_expire),
     Command("getdel", 2, false, keys::get_and_remove),
+    Command("delex", 2, true, lease::del_where),
+    Command("delifeq", 3, false, lease::del_if_equal),
+    Command("evalsha", 3, true, lease::eval_sha),
     Command("type", 2, false, keys::type_of),
     Command("scan", 2, true, scan::scan),
     Command("pexpireat", 3, true, |client, words| expiry::expire(client, words, &expiry::PEXPIREAT)),
@@ -141,6 +145,7 @@ enum Refusal {
     Protocol,
     Password,
     HelloOption(String),
+    NoScript,
     Nested,
     WithoutMulti(&'static str),
     WatchInMulti,
@@ -179,6 +184,7 @@ impl Refusal {
             Refusal::Protocol => "NOPROTO unsupported protocol version".into(),
             Refusal::Password => "WRONGPASS invalid username-password pair or user is disabled.".into(),
             Refusal::HelloOption(text) => format!("ERR Syntax error in HELLO option '{text}'"),
+            Refusal::NoScript => "NOSCRIPT No matching script. Please use EVAL.".into(),
             Refusal::Nested => "ERR MULTI calls can not be nested".into(),
             Refusal::WithoutMulti(name) => format!("ERR {name} without MULTI"),
             Refusal::WatchInMulti => "ERR WATCH inside MULTI is not allowed".into(),

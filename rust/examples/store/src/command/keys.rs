@@ -6,7 +6,7 @@ use crate::clock::Tick;
 use crate::keyspace::{Lifetime, Place};
 use crate::resp::{integer, Reply};
 
-fn change<O>(client: &mut Client<'_>, name: &[u8], change: impl FnOnce(&mut Place<'_>) -> O) -> O {
+pub fn change<O>(client: &mut Client<'_>, name: &[u8], change: impl FnOnce(&mut Place<'_>) -> O) -> O {
     client.desk.keyspace.change(&mut client.desk.handle, name, change)
 }
 
@@ -74,11 +74,33 @@ pub fn flush(client: &mut Client<'_>, words: Words<'_>) -> Answer {
     Ok(Reply::Status("OK"))
 }
 
+/// Which old value a SET wants.
+#[derive(Default)]
+enum Only<'a> {
+    #[default]
+    Any,
+    None,
+    Some,
+    Equal(&'a [u8]),
+    NotEqual(&'a [u8]),
+}
+
+impl Only<'_> {
+    fn allows(&self, old: Option<&[u8]>) -> bool {
+        match self {
+            Only::Any => true,
+            Only::None => old.is_none(),
+            Only::Some => old.is_some(),
+            Only::Equal(value) => old == Some(value),
+            Only::NotEqual(value) => old != Some(value),
+        }
+    }
+}
+
 /// What a SET or a GETEX is asked beside the key and the value.
 #[derive(Default)]
 struct Options<'a> {
-    only_new: bool,
-    only_old: bool,
+    only: Only<'a>,
     is_get: bool,
     is_kept: bool,
     is_endless: bool,
@@ -87,33 +109,39 @@ struct Options<'a> {
 
 impl<'a> Options<'a> {
     fn of_set(words: Words<'a>) -> Result<Options<'a>, Refusal> {
-        Options::of(words, |options, word| {
-            match word {
-                b"nx" if !options.only_old => options.only_new = true,
-                b"xx" if !options.only_new => options.only_old = true,
-                b"get" => options.is_get = true,
-                b"keepttl" if options.time.is_none() => options.is_kept = true,
-                _ => return false,
+        Options::of(words, |options, word, rest| {
+            match (word, &options.only) {
+                (b"nx", Only::Any | Only::None) => options.only = Only::None,
+                (b"xx", Only::Any | Only::Some) => options.only = Only::Some,
+                (b"ifeq", Only::Any) => options.only = Only::Equal(rest.next()?),
+                (b"ifne", Only::Any) => options.only = Only::NotEqual(rest.next()?),
+                (b"get", _) => options.is_get = true,
+                (b"keepttl", _) if options.time.is_none() => options.is_kept = true,
+                _ => return None,
             }
-            true
+            Some(())
         })
     }
 
     fn of_getex(words: Words<'a>) -> Result<Options<'a>, Refusal> {
-        Options::of(words, |options, word| {
+        Options::of(words, |options, word, _| {
             let is_known = word == b"persist" && options.time.is_none();
             options.is_endless |= is_known;
-            is_known
+            is_known.then_some(())
         })
     }
 
-    /// The options that a command takes, `take` says whether a word is one, and a time beside them.
-    fn of(words: Words<'a>, take: impl Fn(&mut Options<'a>, &[u8]) -> bool) -> Result<Options<'a>, Refusal> {
+    /// The options that a command takes, `take` says whether a word is one and takes what belongs to it, and a time
+    /// beside them.
+    fn of(
+        words: Words<'a>,
+        take: impl Fn(&mut Options<'a>, &[u8], &mut dyn Iterator<Item = &'a [u8]>) -> Option<()>,
+    ) -> Result<Options<'a>, Refusal> {
         let mut options = Options::default();
-        let mut rest = words.iter();
+        let mut rest = words.iter().copied();
         while let Some(word) = rest.next() {
             let word = word.to_ascii_lowercase();
-            if take(&mut options, &word) {
+            if take(&mut options, &word, &mut rest).is_some() {
                 continue;
             }
             if options.is_kept || options.is_endless {
@@ -144,7 +172,7 @@ pub fn set(client: &mut Client<'_>, words: Words<'_>) -> Answer {
     change(client, words[1], |place| {
         let lifetime = options.lifetime(place.now(), "set")?;
         let old = place.value().cloned();
-        let is_done = if old.is_some() { !options.only_new } else { !options.only_old };
+        let is_done = options.only.allows(old.as_deref());
         if is_done {
             place.set(words[2], lifetime)?;
         }

@@ -352,6 +352,67 @@ fn a_connection_is_told_of_itself() {
 }
 
 #[test]
+fn a_lease_is_ended_and_prolonged_by_its_holder() {
+    let mut client = client(&keyspace());
+    is_ok(&mut client, "SET lease ann PX 30000");
+    says(
+        &mut client,
+        "SET lease ann IFEQ bob PX 60000 => $-1
+        SET lease bob IFEQ bob PX 60000 GET => $3 ann
+        TTL lease => :30
+        SET lease ann IFEQ ann PX 60000 => +OK
+        TTL lease => :60
+        SET lease ann IFEQ ann KEEPTTL GET => $3 ann
+        TTL lease => :60
+        SET lease eve IFNE ann => $-1
+        SET lease ann IFEQ => -ERR syntax error
+        SET lease ann IFEQ ann NX => -ERR syntax error
+        SET lease ann XX IFEQ ann => -ERR syntax error
+        DELIFEQ lease bob => :0
+        DELEX lease IFEQ bob => :0
+        DELEX lease IFNE ann => :0
+        GET lease => $3 ann
+        DELIFEQ lease ann => :1
+        DELIFEQ lease ann => :0
+        SET lease ann IFEQ ann => $-1
+        SET lease ann IFNE eve => +OK
+        DELEX lease IFEQ ann => :1
+        DELEX lease => :0
+        SET lease ann => +OK
+        DELEX lease IFNE bob => :1
+        SET lease ann => +OK
+        DELEX lease => :1
+        DELEX lease IF ann => -ERR syntax error",
+    );
+}
+
+/// By the digests of its scripts.
+#[test]
+fn a_lock_of_redis_py_is_its_holders() {
+    let mut client = client(&keyspace());
+    let [release, extend, acquire] = [
+        "EVALSHA c3f8721cbb97f72bc19e972846bd7aaf91901658 1 lock",
+        "EVALSHA a4e8783852e6b949f9ef3a97212805108459a890 1 lock",
+        "EVALSHA 1cac51482acf5858da00f6d685d68f886cd6b6b2 1 lock",
+    ];
+    is_ok(&mut client, "SET lock token PX 30000");
+    for other in [format!("{release} other"), format!("{extend} other 1000 1"), format!("{acquire} other 1000")] {
+        says(&mut client, &format!("{other} => :0\nTTL lock => :30"));
+    }
+    says(
+        &mut client,
+        &format!("{extend} token 10000 0 => :1\nTTL lock => :40\n{extend} token 20000 1 => :1\nTTL lock => :20"),
+    );
+    says(&mut client, &format!("{acquire} token 50000 => :1\nTTL lock => :50"));
+    says(&mut client, &format!("{acquire} token x => -ERR value is not an integer or out of range\nTTL lock => :50"));
+    says(&mut client, &format!("{release} token => :1\nEXISTS lock => :0\n{release} token => :0"));
+    // A lock without a deadline isn't extended, and is acquired for a time.
+    is_ok(&mut client, "SET lock token");
+    says(&mut client, &format!("{extend} token 10000 0 => :0\n{acquire} token 50000 => :1\nTTL lock => :50"));
+    says(&mut client, "EVALSHA 1cac51482acf5858da00f6d685d68f886cd6b6b3 1 lock token => -NOSCRIPT No matching script. Please use EVAL.");
+}
+
+#[test]
 fn what_is_queued_is_done_by_exec_and_nothing_before() {
     let keyspace = keyspace();
     let (mut client, mut other) = (client(&keyspace), super::client(&keyspace));
