@@ -101,6 +101,8 @@ BODIES = [
      "half_commands_hold_no_more_than_the_memory"),
     ("whoever_holds_nothing_is_welcome", SEATS, "        if seats.is_crowded() {\n            return Err(NoSeat::Memory);\n        }", "",
      "where_the_memory_of_connections_is_used_up"),
+    ("a_zero_byte_is_as_any", RESP, "Some(end) if bytes[end] == 0 => Err(Broken::ZeroByte),", "Some(end) if bytes[end] == 0 => Ok(None),",
+     "a_line_with_a_zero_byte_ends_its_connection"),
     ("a_word_may_follow_a_quote", RESP, "rest.first().map_or(true, |it| is_blank(*it))", "rest.len() < usize::MAX", "quotes_hold_words_together"),
     ("another_database_is_the_same", ASKED, "Err(Refusal::Database)", 'Ok(Reply::Status("OK"))', "a_connection_is_told_of_itself"),
     ("hello_changes_nothing", ASKED, "    client.session.protocol = protocol;\n", "    let _ = protocol;\n", "a_connection_is_told_of_itself"),

@@ -32,6 +32,7 @@ pub enum Broken {
     LongLength,
     LongRequest,
     Quotes,
+    ZeroByte,
 }
 
 impl fmt::Display for Broken {
@@ -46,6 +47,7 @@ impl fmt::Display for Broken {
             Broken::LongLength => write!(f, "too big bulk count string"),
             Broken::LongRequest => write!(f, "too big a request"),
             Broken::Quotes => write!(f, "unbalanced quotes in request"),
+            Broken::ZeroByte => write!(f, "a zero byte in a line"),
         }
     }
 }
@@ -163,17 +165,19 @@ impl Parser {
         Ok(true)
     }
 
-    /// The next line without its end, where it has come.
+    /// The next line without its end, where it has come. No line has a zero byte: what has one is of another protocol, as
+    /// TLS, and what stands in its later lines isn't meant for this server.
     fn line<'a>(&mut self, bytes: &'a [u8], too_long: Broken) -> Result<Option<&'a [u8]>, Broken> {
         let begun = self.at;
-        match bytes[self.looked..].iter().position(|byte| *byte == b'\n') {
+        let end = bytes[self.looked..].iter().position(|byte| matches!(byte, b'\n' | 0)).map(|more| self.looked + more);
+        match end {
+            Some(end) if bytes[end] == 0 => Err(Broken::ZeroByte),
             None if bytes.len() - begun > LINE_LIMIT => Err(too_long),
             None => {
                 self.looked = bytes.len();
                 Ok(None)
             }
-            Some(more) => {
-                let end = self.looked + more;
+            Some(end) => {
                 self.at = end + 1;
                 self.looked = self.at;
                 let line = &bytes[begun..end];

@@ -338,6 +338,19 @@ fn a_web_page_reads_and_writes_nothing() {
     assert!(warned.lines().count() <= 4, "each thread warns once a minute: {warned}");
 }
 
+/// The hello of a TLS client, in which a line of its choice may stand, as in the ticket of a session.
+#[test]
+fn a_line_with_a_zero_byte_ends_its_connection() {
+    let store = Store::new(&[]);
+    let told = "-ERR Protocol error: a zero byte in a line\r\n";
+    let hello = b"\x16\x03\x01\x02\0\x01\0\x01\xfc\x03\x03ticket\nSET evil written\n\0\0\n";
+    for sent in [&hello[..], b"SET evil\0 written\r\nSET evil written\r\n", b"\0", b"PING\0\n", b"*1\0\r\n"] {
+        assert_eq!(store.ends_with(sent), told, "{}", sent.escape_ascii());
+        assert_eq!(ask(&mut store.connect(), &[b"GET", b"evil"]), "$-1\r\n");
+    }
+    assert_eq!(ask(&mut store.connect(), &[b"ECHO", b"a\0b"]), "$3\r\na\0b\r\n");
+}
+
 /// How much more than its `--memory` a process may hold: the program, its threads, and what the allocator keeps for
 /// itself.
 const MARGIN: u64 = 24 << 10;
