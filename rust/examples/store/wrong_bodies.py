@@ -94,7 +94,10 @@ BODIES = [
      "        let all: Vec<_> = words[1..].iter().map(|name| keys::value(self, name)).collect();\n        Box::leak(Box::new(all));\n"
      "        while !output.is_full() {",
      "a_client_that_leaves_many_values_unread"),
-    ("no_patience_ends", CONNECTION, "since.elapsed() >= PATIENCE", "since.elapsed() >= PATIENCE * 1000", "a_client_that_stops_reading"),
+    ("a_reason_is_taken_back", CONNECTION, "            true if self.talk.is_refused => self.linger(),\n", "", "whoever_sends_too_much_reads_why"),
+    ("a_sender_is_heard_for_ever", CONNECTION, "is_past(self.lingers, LINGER)", "is_past(self.lingers, LINGER * 1000)",
+     "whoever_sends_too_much_reads_why"),
+    ("no_patience_ends", CONNECTION, "is_past(self.stuck, PATIENCE)", "is_past(self.stuck, PATIENCE * 1000)", "a_client_that_stops_reading"),
     ("seats_are_never_given_back", SEATS, "        self.seats.taken.fetch_sub(1, SeqCst);", "", "a_thousand_connections"),
     ("a_web_page_is_served", COMMAND, "if ATTACKS.iter().any(", "if words.is_empty() && ATTACKS.iter().any(", "a_web_page_reads_and_writes_nothing"),
     ("half_requests_count_for_nothing", CONNECTION, "PER_SEAT + self.input.capacity() + ", "PER_SEAT + ",

@@ -58,7 +58,7 @@ pub struct EventLoop {
     free: Vec<usize>,
     /// The connections that wait for their turn.
     queue: VecDeque<usize>,
-    /// Those whose clients leave replies unread, and when they were looked at.
+    /// Those whose clients leave replies unread, or send on after the last one, and when they were looked at.
     stuck: Vec<usize>,
     looked: Instant,
     /// Until when the end waits.
@@ -183,7 +183,7 @@ impl EventLoop {
             None => return,
         };
         connection.is_queued = false;
-        let was_stuck = connection.is_stuck();
+        let was_stuck = connection.is_stuck() || connection.is_lingering();
         // An error of its socket ends a connection, and nothing else.
         let after = connection.turn(&mut self.shop).unwrap_or(After::Over);
         let is_stuck = connection.is_stuck();
@@ -191,7 +191,7 @@ impl EventLoop {
         if after == After::Over || is_last {
             return self.close(place);
         }
-        if is_stuck && !was_stuck {
+        if (is_stuck || connection.is_lingering()) && !was_stuck {
             self.stuck.push(place);
         }
         if after == After::Again {
@@ -208,8 +208,12 @@ impl EventLoop {
         let burdens = burdens.filter_map(|(place, it)| Some((it.as_ref()?.burden(), place)));
         let largest = burdens.filter(|((_, held), _)| *held >= MUCH).max();
         if let Some((_, place)) = largest {
-            self.connections[place].iter_mut().for_each(Connection::turn_out);
-            self.close(place);
+            if self.connections[place].as_mut().is_some_and(Connection::turn_out) {
+                self.stuck.push(place);
+                self.queue(place);
+            } else {
+                self.close(place);
+            }
         }
     }
 
@@ -222,7 +226,7 @@ impl EventLoop {
         for place in mem::take(&mut self.stuck) {
             match &self.connections[place] {
                 Some(connection) if connection.is_given_up() => self.close(place),
-                Some(connection) if connection.is_stuck() => self.stuck.push(place),
+                Some(connection) if connection.is_stuck() || connection.is_lingering() => self.stuck.push(place),
                 _ => {}
             }
         }

@@ -338,6 +338,33 @@ fn a_web_page_reads_and_writes_nothing() {
     assert!(warned.lines().count() <= 4, "each thread warns once a minute: {warned}");
 }
 
+/// A value of two MiB, which is sent whole before anything is read.
+#[test]
+fn whoever_sends_too_much_reads_why() {
+    let store = Store::new(&["--threads", "1"]);
+    let whole = request(&[b"SET", b"v", &[b'v'; 2 << 20]]);
+    for _ in 0..20 {
+        let mut stream = store.connect();
+        stream.write_all(&whole).unwrap();
+        assert_eq!(answer(&mut stream), "-ERR Protocol error: invalid bulk length\r\n");
+        assert_eq!(stream.read(&mut [0; 1]).unwrap(), 0, "nothing more is said");
+    }
+    // Whoever sends for ever isn't heard for ever, and holds nothing.
+    let (mut stream, held, begun) = (store.connect(), store.held(), Instant::now());
+    while stream.write_all(&whole).is_ok() {
+        assert!(begun.elapsed() < Duration::from_secs(30), "it is heard for ever");
+        assert!(store.held() < held + (4 << 10), "{} KiB are held", store.held());
+        store.is_well();
+    }
+    // And whoever sends nothing more and doesn't close.
+    let mut stream = store.connect();
+    stream.write_all(b"*x\r\n").unwrap();
+    while ask(&mut store.connect(), &[b"INFO"]).contains("connected_clients:2\r") {
+        assert!(begun.elapsed() < Duration::from_secs(60), "its seat isn't given back");
+        thread::sleep(Duration::from_millis(100));
+    }
+}
+
 /// The hello of a TLS client, in which a line of its choice may stand, as in the ticket of a session.
 #[test]
 fn a_line_with_a_zero_byte_ends_its_connection() {
