@@ -12,8 +12,8 @@ import sys
 import tempfile
 
 HERE = pathlib.Path(__file__).resolve().parent
-KEYSPACE, SHARD, PLACE, WALK, ROOM, COMMAND, KEYS, EXPIRY, ASKED, SCAN, TRANSACTION, LEASE, KEEPER, RESP, OUTPUT, SEATS, CONNECTION, LOOP = FILES = [
-    f"src/{it}.rs" for it in ("keyspace", "keyspace/shard", "keyspace/place", "keyspace/walk", "room", "command", "command/keys", "command/expiry", "command/connection", "command/scan", "command/transaction", "command/lease", "keeper", "resp", "output",
+KEYSPACE, SHARD, PLACE, WALK, ROOM, COMMAND, KEYS, EXPIRY, ASKED, SCAN, TRANSACTION, LEASE, SETTINGS, OPTIONS, KEEPER, RESP, OUTPUT, SEATS, CONNECTION, LOOP = FILES = [
+    f"src/{it}.rs" for it in ("keyspace", "keyspace/shard", "keyspace/place", "keyspace/walk", "room", "command", "command/keys", "command/expiry", "command/connection", "command/scan", "command/transaction", "command/lease", "settings", "options", "keeper", "resp", "output",
     "seats", "connection", "event_loop")]
 # The bug, the file, what stands there, what is put in its place, and the test that sees it.
 BODIES = [
@@ -35,7 +35,7 @@ BODIES = [
      "deadlines_since_1970_are_told_back_to_the_millisecond"),
     ("incr_drops_the_deadline", KEYS, "place.set(new.to_string().as_bytes(), Lifetime::Kept)",
      "place.set(new.to_string().as_bytes(), Lifetime::Endless)", "incr_keeps_the_deadline"),
-    ("incr_wraps", KEYS, "old.checked_add(by).ok_or(Refusal::Overflow)?", "old.wrapping_add(by)", "incr_keeps_the_deadline"),
+    ("incr_wraps", KEYS, "old.checked_add(by).ok_or(Refusal::OVERFLOW)?", "old.wrapping_add(by)", "incr_keeps_the_deadline"),
     ("a_name_is_remembered_without_its_entry", EXPIRY,
      "        if let Some(is_done) = extend_entry(desk, &entry, when) {\n            return is_done;\n        }\n        desk.known",
      "        return extend_entry(desk, &entry, when).unwrap_or(false);\n        #[allow(unreachable_code)]\n        desk.known",
@@ -107,13 +107,13 @@ BODIES = [
     ("a_zero_byte_is_as_any", RESP, "Some(end) if bytes[end] == 0 => Err(Broken::ZeroByte),", "Some(end) if bytes[end] == 0 => Ok(None),",
      "a_line_with_a_zero_byte_ends_its_connection"),
     ("a_word_may_follow_a_quote", RESP, "rest.first().map_or(true, |it| is_blank(*it))", "rest.len() < usize::MAX", "quotes_hold_words_together"),
-    ("another_database_is_the_same", ASKED, "Err(Refusal::Database)", 'Ok(Reply::Status("OK"))', "a_connection_is_told_of_itself"),
+    ("another_database_is_the_same", ASKED, "Err(Refusal::DATABASE)", 'Ok(Reply::Status("OK"))', "a_connection_is_told_of_itself"),
     ("hello_changes_nothing", ASKED, "    client.session.protocol = protocol;\n", "    let _ = protocol;\n", "a_connection_is_told_of_itself"),
     ("getex_persists_nothing", KEYS, "        if options.is_endless {\n            place.persist();", "        if options.is_endless {",
      "set_and_get_take_a_time_of_their_own"),
     ("getdel_leaves_the_key", KEYS, "        let value = place.value().cloned();\n        place.remove();", "        let value = place.value().cloned();",
      "set_and_get_take_a_time_of_their_own"),
-    ("decrby_goes_up", KEYS, "by.checked_neg().ok_or(Refusal::DecrOverflow)?", "by", "numbers_go_up_and_down"),
+    ("decrby_goes_up", KEYS, "by.checked_neg().ok_or(Refusal::DECR_OVERFLOW)?", "by", "numbers_go_up_and_down"),
     ("a_scan_loses_a_name_a_call", WALK, "                    return ((shard as u64) << PLACE_BITS | place as u64, told);",
      "                    return ((shard as u64) << PLACE_BITS | place.saturating_sub(1) as u64, told);", "a_scan_tells_each_name_that_stays"),
     ("a_scan_goes_up", WALK, "names.records.get_index(place - 1)", "names.records.get_index(names.records.len() - place)",
@@ -138,6 +138,17 @@ BODIES = [
      "what_was_asked_for_is_sent_at_the_end"),
     ("short_replies_are_held_back_whole", OUTPUT, "self.long.is_some() || self.bytes.len() - self.sent >= ENOUGH", "self.long.is_some()",
      "many_short_replies_are_held_a_few_at_a_time"),
+    ("a_password_is_its_beginning", SETTINGS, "differs == 0 && told.len() == self.0.len()", "differs == 0", "a_password_lets_in_whoever_tells_it"),
+    ("a_password_is_any_of_its_length", SETTINGS, "differs == 0 && ", "differs != 1 && ", "a_password_lets_in_whoever_tells_it"),
+    ("a_stranger_is_answered", COMMAND, "!self.session.is_admitted && !OPEN", "!self.session.is_admitted && it.0 != \"multi\" && !OPEN",
+     "a_password_lets_in_whoever_tells_it"),
+    ("hello_lets_in_everybody", ASKED, "    if !is_admitted {", "    if !is_admitted && words.is_empty() {", "a_password_lets_in_whoever_tells_it"),
+    ("a_stranger_sends_as_much_as_any", CONNECTION, "self.parser.is_narrow = !self.session.is_admitted();", "", "nothing_is_done_before_the_password"),
+    ("an_address_for_others_is_open", OPTIONS, "if is_open && options.is_protected {", "if is_open && options.keys > 1 << 30 {",
+     "an_address_for_others_wants_a_password"),
+    ("silence_lasts_for_ever", CONNECTION, "self.heard.elapsed() >= timeout", "self.heard.elapsed() >= timeout * 1000",
+     "a_silent_connection_is_closed"),
+    ("whoever_asks_is_silent", CONNECTION, "        self.heard = Instant::now();\n", "", "a_silent_connection_is_closed"),
     ("a_lease_is_ended_by_anybody", LEASE, "|value| value == words[2]", "|_| true", "a_lease_is_ended_and_prolonged_by_its_holder"),
     ("a_lease_is_set_by_anybody", KEYS, "Only::Equal(value) => old == Some(value)", "Only::Equal(_) => old.is_some()",
      "a_lease_is_ended_and_prolonged_by_its_holder"),

@@ -4,15 +4,18 @@ mod connection;
 mod expiry;
 mod keys;
 mod lease;
+mod refusal;
 mod scan;
 mod transaction;
 
 use crate::handle::Handle;
-use crate::keyspace::{Keyspace, NoRoom};
+use crate::keyspace::Keyspace;
 use crate::output::Output;
 use crate::resp::{Protocol, Reply};
 use crate::seats::Seats;
+use crate::settings::Settings;
 use hontkhale::Key;
+use refusal::Refusal;
 use std::collections::HashMap;
 use std::net::SocketAddr;
 use std::sync::{Arc, PoisonError};
@@ -29,6 +32,7 @@ const WARNED_EVERY: Duration = Duration::from_secs(60);
 pub struct Desk {
     keyspace: Arc<Keyspace>,
     seats: Arc<Seats>,
+    settings: Arc<Settings>,
     handle: Handle,
     /// The entries of names that were extended. An entry that isn't the name's any more refuses its key.
     known: HashMap<Vec<u8>, Key>,
@@ -40,6 +44,7 @@ pub struct Session {
     id: u64,
     name: Vec<u8>,
     protocol: Protocol,
+    is_admitted: bool,
     transaction: Transaction,
 }
 
@@ -99,6 +104,7 @@ const COMMANDS: &[Command] = &[
     Command("dbsize", 1, false, |client, _| Ok(count(client.desk.keyspace.count()))),
     Command("flushall", 1, true, keys::flush),
     Command("flushdb", 1, true, keys::flush),
+    Command("auth", 2, true, connection::auth),
     Command("ping", 1, true, connection::ping),
     Command("echo", 2, false, |_, words| Ok(Reply::bulk(words[1]))),
     Command("select", 2, false, connection::select),
@@ -117,102 +123,24 @@ const COMMANDS: &[Command] = &[
 const MGET: &str = "mget";
 const QUIT: &str = "quit";
 const EXEC: &str = "exec";
+/// What is answered before the password is told.
+const OPEN: [&str; 3] = ["auth", "hello", QUIT];
 /// What a web page's request begins with, and what follows in it: no client of this protocol sends them.
 const ATTACKS: [&[u8]; 2] = [b"post", b"host:"];
 
-/// Why a command isn't done.
-#[derive(Debug, PartialEq, Eq)]
-enum Refusal {
-    Unknown(String),
-    UnknownPart(&'static str, String),
-    WordCount(&'static str),
-    PartWordCount(&'static str, &'static str),
-    Syntax,
-    NotAnInteger,
-    OutOfRange(i64, i64),
-    ExpireTime(&'static str),
-    Option(String),
-    NxBeside,
-    GtBesideLt,
-    Overflow,
-    DecrOverflow,
-    Cursor,
-    Database,
-    ClientName,
-    ClientOption(String),
-    LibraryName(&'static str),
-    ProtocolNumber,
-    Protocol,
-    Password,
-    HelloOption(String),
-    NoScript,
-    Nested,
-    WithoutMulti(&'static str),
-    WatchInMulti,
-    LongTransaction,
-    Aborted,
-    AbortedExec,
-    Memory,
-    Process,
-    Deadlines,
-}
-
-impl Refusal {
-    fn reply(&self) -> Reply {
-        Reply::Error(match self {
-            Refusal::Unknown(what) => format!("ERR unknown command {what}"),
-            Refusal::UnknownPart(of, what) => format!("ERR unknown subcommand '{what}'. Try {of} HELP."),
-            Refusal::WordCount(name) => format!("ERR wrong number of arguments for '{name}' command"),
-            Refusal::PartWordCount(of, part) => format!("ERR wrong number of arguments for '{of}|{part}' command"),
-            Refusal::Syntax => "ERR syntax error".into(),
-            Refusal::NotAnInteger => "ERR value is not an integer or out of range".into(),
-            Refusal::OutOfRange(least, most) => {
-                format!("ERR value is out of range, value must between {least} and {most}")
-            }
-            Refusal::ExpireTime(name) => format!("ERR invalid expire time in '{name}' command"),
-            Refusal::Option(text) => format!("ERR Unsupported option {text}"),
-            Refusal::NxBeside => "ERR NX and XX, GT or LT options at the same time are not compatible".into(),
-            Refusal::GtBesideLt => "ERR GT and LT options at the same time are not compatible".into(),
-            Refusal::Overflow => "ERR increment or decrement would overflow".into(),
-            Refusal::DecrOverflow => "ERR decrement would overflow".into(),
-            Refusal::Cursor => "ERR invalid cursor".into(),
-            Refusal::Database => "ERR DB index is out of range".into(),
-            Refusal::ClientName => "ERR Client names cannot contain spaces, newlines or special characters.".into(),
-            Refusal::ClientOption(text) => format!("ERR Unrecognized option '{text}'"),
-            Refusal::LibraryName(what) => format!("ERR {what} cannot contain spaces, newlines or special characters."),
-            Refusal::ProtocolNumber => "ERR Protocol version is not an integer or out of range".into(),
-            Refusal::Protocol => "NOPROTO unsupported protocol version".into(),
-            Refusal::Password => "WRONGPASS invalid username-password pair or user is disabled.".into(),
-            Refusal::HelloOption(text) => format!("ERR Syntax error in HELLO option '{text}'"),
-            Refusal::NoScript => "NOSCRIPT No matching script. Please use EVAL.".into(),
-            Refusal::Nested => "ERR MULTI calls can not be nested".into(),
-            Refusal::WithoutMulti(name) => format!("ERR {name} without MULTI"),
-            Refusal::WatchInMulti => "ERR WATCH inside MULTI is not allowed".into(),
-            Refusal::LongTransaction => "ERR the transaction is too long".into(),
-            Refusal::Aborted => "EXECABORT Transaction discarded because of previous errors.".into(),
-            Refusal::AbortedExec => {
-                "EXECABORT Transaction discarded because of: wrong number of arguments for 'exec' command".into()
-            }
-            Refusal::Memory => "OOM command not allowed when used memory > 'maxmemory'.".into(),
-            Refusal::Process => "OOM the process holds as much memory as it may".into(),
-            Refusal::Deadlines => "OOM no room for another key that expires".into(),
-        })
-    }
-}
-
-impl From<NoRoom> for Refusal {
-    fn from(no_room: NoRoom) -> Refusal {
-        match no_room {
-            NoRoom::Memory => Refusal::Memory,
-            NoRoom::Process => Refusal::Process,
-            NoRoom::Deadlines => Refusal::Deadlines,
-        }
-    }
-}
-
 impl Desk {
-    pub fn new(keyspace: Arc<Keyspace>, seats: Arc<Seats>, handle: Handle) -> Desk {
-        Desk { keyspace, seats, handle, known: HashMap::new(), warned: None }
+    pub fn new(keyspace: Arc<Keyspace>, seats: Arc<Seats>, settings: Arc<Settings>, handle: Handle) -> Desk {
+        Desk { keyspace, seats, settings, handle, known: HashMap::new(), warned: None }
+    }
+
+    /// The session of a connection that begins.
+    pub fn session(&self, id: u64) -> Session {
+        let (name, transaction) = Default::default();
+        Session { id, name, protocol: Protocol::Two, is_admitted: self.settings.password.is_none(), transaction }
+    }
+
+    pub fn settings(&self) -> &Settings {
+        &self.settings
     }
 
     pub fn seats(&self) -> &Seats {
@@ -239,8 +167,9 @@ impl Desk {
 }
 
 impl Session {
-    pub fn new(id: u64) -> Session {
-        Session { id, name: Vec::new(), protocol: Protocol::Two, transaction: Transaction::default() }
+    /// Whether it told the password, or needs none.
+    pub fn is_admitted(&self) -> bool {
+        self.is_admitted
     }
 
     /// What a transaction is answered and isn't written yet, one reply.
@@ -294,21 +223,23 @@ impl Client<'_> {
 
     fn run(&mut self, words: Words<'_>) -> Answer {
         let command = COMMANDS.iter().find(|it| words[0].eq_ignore_ascii_case(it.0.as_bytes()));
-        let is_fit = |it: &&Command| words.len() == it.1 || words.len() > it.1 && it.2;
-        match command.ok_or_else(|| Refusal::Unknown(told(words))) {
-            Ok(it) if is_fit(&it) && self.session.transaction.takes(it.0) => self.session.transaction.queue(words),
-            Ok(it) if is_fit(&it) => return it.3(self, words),
-            Ok(it) if it.0 == EXEC => {
-                self.session.transaction = Transaction::default();
-                Err(Refusal::AbortedExec)
-            }
-            Ok(it) => Err(Refusal::WordCount(it.0)),
-            Err(unknown) => Err(unknown),
+        let transaction = &mut self.session.transaction;
+        let refusal = match command {
+            None => Refusal::Unknown(told(words)),
+            Some(it) if words.len() < it.1 || words.len() > it.1 && !it.2 => Refusal::WordCount(it.0),
+            Some(it) if !self.session.is_admitted && !OPEN.contains(&it.0) => Refusal::NO_AUTH,
+            Some(it) if transaction.takes(it.0) => match transaction.queue(words) {
+                Ok(reply) => return Ok(reply),
+                Err(refusal) => refusal,
+            },
+            Some(it) => return it.3(self, words),
+        };
+        transaction.note_refusal();
+        if command.is_some_and(|it| it.0 == EXEC) {
+            *transaction = Transaction::default();
+            return Err(Refusal::AbortedExec(Box::new(refusal)));
         }
-        .map_err(|refusal| {
-            self.session.transaction.note_refusal();
-            refusal
-        })
+        Err(refusal)
     }
 }
 

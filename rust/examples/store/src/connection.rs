@@ -61,6 +61,8 @@ pub struct Connection {
     is_readable: bool,
     /// The client sends nothing more.
     is_hung_up: bool,
+    /// When something came of the client last.
+    heard: Instant,
     /// Since when the client takes no reply.
     stuck: Option<Instant>,
     /// Since when it is told why it isn't served any more. What it sends is dropped: a socket that is closed with
@@ -84,12 +86,13 @@ struct Talk {
 }
 
 impl Connection {
-    pub fn new(socket: TcpStream, seat: Seat) -> Connection {
+    pub fn new(socket: TcpStream, seat: Seat, desk: &Desk) -> Connection {
         let (parser, output) = Default::default();
-        let talk = Talk { parser, session: Session::new(seat.id), output, told: 0, is_over: false, is_refused: false };
+        let talk = Talk { parser, session: desk.session(seat.id), output, told: 0, is_over: false, is_refused: false };
         let (input, stuck, lingers) = Default::default();
         let (has_more, is_readable, is_hung_up, is_queued) = Default::default();
-        Connection { socket, seat, talk, input, has_more, is_readable, is_hung_up, stuck, lingers, is_queued }
+        let heard = Instant::now();
+        Connection { socket, seat, talk, input, has_more, is_readable, is_hung_up, heard, stuck, lingers, is_queued }
     }
 
     pub fn socket(&mut self) -> &mut TcpStream {
@@ -115,6 +118,11 @@ impl Connection {
     /// Whether it waits for nothing but that its client closes it.
     pub fn is_lingering(&self) -> bool {
         self.lingers.is_some()
+    }
+
+    /// Whether nothing came of its client for so long, and nothing waits for it.
+    pub fn is_silent(&self, timeout: Duration) -> bool {
+        self.talk.output.is_empty() && !self.has_more && self.heard.elapsed() >= timeout
     }
 
     /// Whether its client left its replies unread for too long, or sends on for too long.
@@ -220,6 +228,7 @@ impl Connection {
             Err(error) if error.kind() == ErrorKind::Interrupted => return Ok(true),
             Err(error) => return Err(error),
         };
+        self.heard = Instant::now();
         // Less than was asked for: nothing is left, and what comes next is an event again.
         self.is_readable = count == most || self.is_hung_up;
         if self.input.is_empty() {
@@ -277,6 +286,7 @@ impl Talk {
                     break;
                 }
             }
+            self.parser.is_narrow = !self.session.is_admitted();
             match self.parser.parse(&bytes[used..]) {
                 Ok(None) => break,
                 Ok(Some(length)) => {

@@ -124,7 +124,7 @@ impl EventLoop {
         match (self.queue.is_empty(), self.end) {
             (false, _) => Some(Duration::ZERO),
             (true, Some(end)) => Some(end.saturating_duration_since(Instant::now())),
-            (true, None) if self.stuck.is_empty() => None,
+            (true, None) if !self.is_looking() => None,
             (true, None) => Some(LOOK_EVERY),
         }
     }
@@ -136,7 +136,7 @@ impl EventLoop {
             let interest = Interest::READABLE | Interest::WRITABLE;
             // A socket that can't be watched is closed.
             let is_watched = self.poll.registry().register(&mut socket, Token(place), interest).is_ok();
-            let connection = is_watched.then(|| Connection::new(socket, seat));
+            let connection = is_watched.then(|| Connection::new(socket, seat, &self.shop.desk));
             if place == self.connections.len() {
                 self.connections.push(connection);
             } else {
@@ -217,9 +217,18 @@ impl EventLoop {
         }
     }
 
-    /// Now and then closes those whose clients left their replies unread for too long.
+    /// Whether there is somebody who may be given up for lack of time.
+    fn is_looking(&self) -> bool {
+        !self.stuck.is_empty() || self.timeout().is_some() && self.connections.len() > self.free.len()
+    }
+
+    fn timeout(&self) -> Option<Duration> {
+        self.shop.desk.settings().timeout
+    }
+
+    /// Now and then closes those whose clients left their replies unread for too long, or are silent for too long.
     fn close_stuck(&mut self) {
-        if self.stuck.is_empty() || self.looked.elapsed() < LOOK_EVERY {
+        if !self.is_looking() || self.looked.elapsed() < LOOK_EVERY {
             return;
         }
         self.looked = Instant::now();
@@ -228,6 +237,13 @@ impl EventLoop {
                 Some(connection) if connection.is_given_up() => self.close(place),
                 Some(connection) if connection.is_stuck() || connection.is_lingering() => self.stuck.push(place),
                 _ => {}
+            }
+        }
+        if let Some(timeout) = self.timeout() {
+            for place in 0..self.connections.len() {
+                if self.connections[place].as_ref().is_some_and(|it| it.is_silent(timeout)) {
+                    self.close(place);
+                }
             }
         }
     }

@@ -15,6 +15,9 @@ pub const REQUEST_LIMIT: usize = 2 << 20;
 const WORDS_LIMIT: usize = 1 << 16;
 /// The longest line that isn't the content of a bulk string.
 const LINE_LIMIT: usize = 64 << 10;
+/// The most words of a request of a client that hasn't told the password, and the longest of them.
+const NARROW_WORDS: i64 = 10;
+const NARROW_BULK: usize = 16 << 10;
 /// What a word counts beside its bytes: its place, and the lines around it.
 pub const PER_WORD: usize = 32;
 /// The room for words that a parser keeps from one request to the next.
@@ -33,6 +36,8 @@ pub enum Broken {
     LongRequest,
     Quotes,
     ZeroByte,
+    NarrowCount,
+    NarrowBulk,
 }
 
 impl fmt::Display for Broken {
@@ -47,6 +52,8 @@ impl fmt::Display for Broken {
             Broken::LongLength => write!(f, "too big bulk count string"),
             Broken::LongRequest => write!(f, "too big a request"),
             Broken::Quotes => write!(f, "unbalanced quotes in request"),
+            Broken::NarrowCount => write!(f, "unauthenticated multibulk length"),
+            Broken::NarrowBulk => write!(f, "unauthenticated bulk length"),
             Broken::ZeroByte => write!(f, "a zero byte in a line"),
         }
     }
@@ -68,6 +75,8 @@ pub struct Parser {
     /// The length of the bulk string that was announced.
     bulk: Option<usize>,
     size: usize,
+    /// Whether requests are short: those of a client that hasn't told the password.
+    pub is_narrow: bool,
 }
 
 impl Parser {
@@ -125,6 +134,9 @@ impl Parser {
             return Ok(true);
         }
         let count = integer(&line[1..]).filter(|count| *count <= WORDS_LIMIT as i64).ok_or(Broken::WordCount)?;
+        if self.is_narrow && count > NARROW_WORDS {
+            return Err(Broken::NarrowCount);
+        }
         self.missing = count.max(0) as usize;
         Ok(true)
     }
@@ -141,6 +153,9 @@ impl Parser {
         }
         let length = integer(&line[1..]).and_then(|it| usize::try_from(it).ok());
         let length = length.filter(|it| *it <= BULK_LIMIT).ok_or(Broken::BulkLength)?;
+        if self.is_narrow && length > NARROW_BULK {
+            return Err(Broken::NarrowBulk);
+        }
         self.size += length + PER_WORD;
         if self.size > REQUEST_LIMIT {
             return Err(Broken::LongRequest);

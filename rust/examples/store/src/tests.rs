@@ -7,6 +7,7 @@ use crate::output::Output;
 use crate::resp::{integer, Broken, Parser, Protocol, Reply};
 use crate::room::Room;
 use crate::seats::Seats;
+use crate::settings::Settings;
 use std::sync::atomic::{AtomicBool, Ordering::SeqCst};
 use std::sync::{mpsc, Arc};
 use std::thread;
@@ -25,8 +26,13 @@ struct Asker {
 }
 
 fn client(keyspace: &Arc<Keyspace>) -> Asker {
+    client_by(keyspace, Settings::default())
+}
+
+fn client_by(keyspace: &Arc<Keyspace>, settings: Settings) -> Asker {
     let seats = Arc::new(Seats::new(10, 1 << 20));
-    Asker { desk: Desk::new(keyspace.clone(), seats, keyspace.handle().unwrap()), session: Session::new(7) }
+    let desk = Desk::new(keyspace.clone(), seats, Arc::new(settings), keyspace.handle().unwrap());
+    Asker { session: desk.session(7), desk }
 }
 
 fn ask(Asker { desk, session }: &mut Asker, line: &str) -> Reply {

@@ -49,26 +49,26 @@ pub fn get_and_remove(client: &mut Client<'_>, words: Words<'_>) -> Answer {
 
 pub fn add(client: &mut Client<'_>, name: &[u8], by: i64) -> Answer {
     change(client, name, |place| {
-        let old = place.value().map_or(Some(0), |value| integer(value)).ok_or(Refusal::NotAnInteger)?;
-        let new = old.checked_add(by).ok_or(Refusal::Overflow)?;
+        let old = place.value().map_or(Some(0), |value| integer(value)).ok_or(Refusal::NOT_AN_INTEGER)?;
+        let new = old.checked_add(by).ok_or(Refusal::OVERFLOW)?;
         place.set(new.to_string().as_bytes(), Lifetime::Kept)?;
         Ok(Reply::Integer(new))
     })
 }
 
 pub fn incr_by(client: &mut Client<'_>, words: Words<'_>) -> Answer {
-    add(client, words[1], integer(words[2]).ok_or(Refusal::NotAnInteger)?)
+    add(client, words[1], integer(words[2]).ok_or(Refusal::NOT_AN_INTEGER)?)
 }
 
 pub fn decr_by(client: &mut Client<'_>, words: Words<'_>) -> Answer {
-    let by = integer(words[2]).ok_or(Refusal::NotAnInteger)?;
-    add(client, words[1], by.checked_neg().ok_or(Refusal::DecrOverflow)?)
+    let by = integer(words[2]).ok_or(Refusal::NOT_AN_INTEGER)?;
+    add(client, words[1], by.checked_neg().ok_or(Refusal::DECR_OVERFLOW)?)
 }
 
 pub fn flush(client: &mut Client<'_>, words: Words<'_>) -> Answer {
     let is_known = |mode: &&[u8]| mode.eq_ignore_ascii_case(b"sync") || mode.eq_ignore_ascii_case(b"async");
     if words.len() > 2 || !words[1..].iter().all(is_known) {
-        return Err(Refusal::Syntax);
+        return Err(Refusal::SYNTAX);
     }
     client.desk.keyspace.clear();
     Ok(Reply::Status("OK"))
@@ -145,14 +145,14 @@ impl<'a> Options<'a> {
                 continue;
             }
             if options.is_kept || options.is_endless {
-                return Err(Refusal::Syntax);
+                return Err(Refusal::SYNTAX);
             }
-            let (unit, is_from_now) = Time::option(&word).ok_or(Refusal::Syntax)?;
+            let (unit, is_from_now) = Time::option(&word).ok_or(Refusal::SYNTAX)?;
             // Of two times in one form the last counts.
             if options.time.as_ref().is_some_and(|it| (it.unit, it.is_from_now) != (unit, is_from_now)) {
-                return Err(Refusal::Syntax);
+                return Err(Refusal::SYNTAX);
             }
-            options.time = Some(Time { text: rest.next().ok_or(Refusal::Syntax)?, unit, is_from_now });
+            options.time = Some(Time { text: rest.next().ok_or(Refusal::SYNTAX)?, unit, is_from_now });
         }
         Ok(options)
     }

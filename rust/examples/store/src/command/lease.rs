@@ -28,7 +28,7 @@ fn extend(place: &mut Place<'_>, args: &[&[u8]]) -> Result<bool, Refusal> {
 
 /// Gives a key a deadline that is so many milliseconds after another tick.
 fn expire(place: &mut Place<'_>, args: &[&[u8]], from: impl Fn(&Place<'_>, Tick) -> Tick) -> Result<bool, Refusal> {
-    let time = args.get(1).and_then(|it| integer(it)).ok_or(Refusal::NotAnInteger)?;
+    let time = args.get(1).and_then(|it| integer(it)).ok_or(Refusal::NOT_AN_INTEGER)?;
     let when = time.checked_add(from(place, place.now()) as i64).filter(|it| *it <= LAST_TICK as i64);
     place.expire(when.ok_or(Refusal::ExpireTime("pexpire"))?.max(0) as Tick)?;
     Ok(true)
@@ -36,15 +36,15 @@ fn expire(place: &mut Place<'_>, args: &[&[u8]], from: impl Fn(&Place<'_>, Tick)
 
 /// EVALSHA of a script that is known. It does nothing where the first argument isn't the key's value.
 pub fn eval_sha(client: &mut Client<'_>, words: Words<'_>) -> Answer {
-    let keys = integer(words[2]).ok_or(Refusal::NotAnInteger)?;
+    let keys = integer(words[2]).ok_or(Refusal::NOT_AN_INTEGER)?;
     let is_known = |it: &&Script| words[1].eq_ignore_ascii_case(it.0.as_bytes());
-    let Script(_, run) = SCRIPTS.iter().find(is_known).ok_or(Refusal::NoScript)?;
+    let Script(_, run) = SCRIPTS.iter().find(is_known).ok_or(Refusal::NO_SCRIPT)?;
     match (keys, &words[3..]) {
         (1, [name, args @ ..]) => change(client, name, |place| {
             let is_own = place.value().is_some_and(|value| args.first() == Some(&&value[..]));
             Ok(count(usize::from(is_own && run(place, args)?)))
         }),
-        _ => Err(Refusal::NoScript),
+        _ => Err(Refusal::NO_SCRIPT),
     }
 }
 
@@ -59,7 +59,7 @@ pub fn del_where(client: &mut Client<'_>, words: Words<'_>) -> Answer {
         [] => remove_if(client, words[1], |_| true),
         [word, other] if word.eq_ignore_ascii_case(b"ifeq") => remove_if(client, words[1], |value| value == *other),
         [word, other] if word.eq_ignore_ascii_case(b"ifne") => remove_if(client, words[1], |value| value != *other),
-        _ => Err(Refusal::Syntax),
+        _ => Err(Refusal::SYNTAX),
     }
 }
 

@@ -10,21 +10,21 @@ const MOST: usize = 1_024;
 
 pub fn scan(client: &mut Client<'_>, words: Words<'_>) -> Answer {
     let cursor = str::from_utf8(words[1]).ok().filter(|it| !it.starts_with('+')).and_then(|it| it.parse().ok());
-    let cursor: u64 = cursor.ok_or(Refusal::Cursor)?;
+    let cursor: u64 = cursor.ok_or(Refusal::CURSOR)?;
     let (mut pattern, mut asked, mut is_strings) = (&b"*"[..], ASKED, true);
     for option in words[2..].chunks(2) {
         let (name, value) = match option {
             [name, value] => (name.to_ascii_lowercase(), *value),
-            _ => return Err(Refusal::Syntax),
+            _ => return Err(Refusal::SYNTAX),
         };
         match &name[..] {
             b"match" => pattern = value,
             b"count" => {
-                let count = integer(value).ok_or(Refusal::NotAnInteger)?;
-                asked = usize::try_from(count).ok().filter(|it| *it > 0).ok_or(Refusal::Syntax)?;
+                let count = integer(value).ok_or(Refusal::NOT_AN_INTEGER)?;
+                asked = usize::try_from(count).ok().filter(|it| *it > 0).ok_or(Refusal::SYNTAX)?;
             }
             b"type" => is_strings = value.eq_ignore_ascii_case(b"string"),
-            _ => return Err(Refusal::Syntax),
+            _ => return Err(Refusal::SYNTAX),
         }
     }
     let (next, names) = client.desk.keyspace.names_from(cursor, asked.min(MOST));

@@ -67,7 +67,7 @@ impl Transaction {
         let queue = self.queue.get_or_insert_with(Queue::default);
         queue.bytes += words.iter().map(|word| word.len() + PER_WORD).sum::<usize>();
         if queue.bytes > REQUEST_LIMIT {
-            return Err(Refusal::LongTransaction);
+            return Err(Refusal::LONG_TRANSACTION);
         }
         queue.requests.push(words.iter().map(|word| word.to_vec()).collect());
         Ok(Reply::Status("QUEUED"))
@@ -98,7 +98,7 @@ impl Transaction {
 pub fn multi(client: &mut Client<'_>, _: Words<'_>) -> Answer {
     let queue = &mut client.session.transaction.queue;
     if queue.is_some() {
-        return Err(Refusal::Nested);
+        return Err(Refusal::NESTED);
     }
     *queue = Some(Queue::default());
     Ok(Reply::Status("OK"))
@@ -112,7 +112,7 @@ pub fn discard(client: &mut Client<'_>, _: Words<'_>) -> Answer {
 
 pub fn watch(client: &mut Client<'_>, words: Words<'_>) -> Answer {
     if client.session.transaction.queue.is_some() {
-        return Err(Refusal::WatchInMulti);
+        return Err(Refusal::WATCH_IN_MULTI);
     }
     for name in &words[1..] {
         let watched = Watched::new(client.desk, name);
@@ -135,7 +135,7 @@ pub fn exec(client: &mut Client<'_>, _: Words<'_>) -> Answer {
     let queue = client.session.transaction.queue.take().ok_or(Refusal::WithoutMulti("EXEC"))?;
     let watched = client.session.transaction.unwatch();
     if queue.is_broken {
-        return Err(Refusal::Aborted);
+        return Err(Refusal::ABORTED);
     }
     let keyspace = client.desk.keyspace.clone();
     keyspace.alone(|| {

@@ -1,13 +1,14 @@
 //! What each command says and does, where a slip would pass by unseen: no keeper runs here, so that what is over stays
 //! until somebody asks.
 
-use super::{ask, client, is_ok, keyspace, Asker};
+use super::{ask, client, client_by, is_ok, keyspace, Asker};
 use crate::command::Client;
 use crate::keyspace::{Keyspace, SHARDS, SMALL_TABLE};
 use crate::output::Output;
 use crate::resp::Reply;
 use crate::room::{Resident, Room};
 use crate::seats::Seats;
+use crate::settings::{Password, Settings};
 use std::collections::HashSet;
 use std::sync::atomic::{AtomicBool, Ordering::SeqCst};
 use std::sync::Arc;
@@ -515,6 +516,33 @@ fn what_a_transaction_holds_counts_as_memory() {
     (0..3).for_each(|_| assert_eq!(ask(&mut client, "GET a"), Reply::Status("QUEUED")));
     assert_eq!(ask(&mut client, "EXEC"), Reply::Begun(3));
     assert!((30_000..31_000).contains(&client.session.held()));
+}
+
+#[test]
+fn a_password_lets_in_whoever_tells_it() {
+    let settings = || Settings { password: Password::of("secret\nnothing"), timeout: None };
+    let wrong = "-WRONGPASS invalid username-password pair or user is disabled.";
+    let mut client = client_by(&keyspace(), settings());
+    for line in ["GET a", "MULTI", "PING", "CLIENT ID", "WATCH a"] {
+        says(&mut client, &format!("{line} => -NOAUTH Authentication required."));
+    }
+    for line in [
+        "AUTH secre",
+        "AUTH secretsecret",
+        "AUTH secre\t",
+        "AUTH eve secret",
+        "AUTH default nothing",
+        "HELLO 3 AUTH default x",
+    ] {
+        says(&mut client, &format!("{line} => {wrong}\nGET a => -NOAUTH Authentication required."));
+    }
+    assert!(said(&mut client, "HELLO 3").starts_with("-NOAUTH HELLO must be called"));
+    says(&mut client, "AUTH default secret x => -ERR syntax error\nAUTH secret => +OK\nGET a => $-1\nHELLO 9 => -NOPROTO unsupported protocol version");
+    says(&mut client, &format!("AUTH nothing => {wrong}\nGET a => $-1"));
+    let mut client = client_by(&keyspace(), settings());
+    assert!(said(&mut client, "HELLO 3 AUTH default secret SETNAME eve").starts_with("%7 "));
+    says(&mut client, "CLIENT GETNAME => $3 eve");
+    says(&mut client_by(&keyspace(), settings()), "AUTH default secret => +OK\nPING => +PONG");
 }
 
 /// The next cursor of a SCAN, and the names that it tells.
