@@ -86,7 +86,11 @@ const COMMANDS: &[Command] = &[
     Command("del", 2, true, keys::del),
     Command("unlink", 2, true, keys::del),
     Command(MGET, 2, true, |_, words| Ok(Reply::Begun(words.len() - 1))),
+    Command("mset", 3, true, keys::set_all),
+    Command("setnx", 3, false, keys::set_new),
+    Command("getset", 3, false, keys::get_and_set),
     Command("exists", 2, true, keys::exists),
+    Command("touch", 2, true, keys::exists),
     Command("getex", 2, true, keys::get_and_expire),
     Command("getdel", 2, false, keys::get_and_remove),
     Command("delex", 2, true, lease::del_where),
@@ -94,6 +98,7 @@ const COMMANDS: &[Command] = &[
     Command("evalsha", 3, true, lease::eval_sha),
     Command("type", 2, false, keys::type_of),
     Command("scan", 2, true, scan::scan),
+    Command("keys", 2, false, scan::keys),
     Command("pexpireat", 3, true, |client, words| expiry::expire(client, words, &expiry::PEXPIREAT)),
     Command("expireat", 3, true, |client, words| expiry::expire(client, words, &expiry::EXPIREAT)),
     Command("ttl", 2, false, |client, words| expiry::life(client, words, |until, now| (until - now + 500) / 1000)),
@@ -106,6 +111,7 @@ const COMMANDS: &[Command] = &[
     Command("flushdb", 1, true, keys::flush),
     Command("auth", 2, true, connection::auth),
     Command("ping", 1, true, connection::ping),
+    Command("time", 1, false, connection::time),
     Command("echo", 2, false, |_, words| Ok(Reply::bulk(words[1]))),
     Command("select", 2, false, connection::select),
     Command("hello", 1, true, connection::hello),
@@ -184,7 +190,7 @@ impl Session {
 }
 
 impl Client<'_> {
-    /// Answers a request. The values of an MGET and the replies of an EXEC are told one by one: a client that leaves
+    /// Answers a request. The values of an MGET, the replies of an EXEC and the names of KEYS are told one by one: a client that leaves
     /// them unread holds one value, and not all that it named, which others may have overwritten since. `told` counts
     /// what is told of a request from one call to the next.
     pub fn serve(&mut self, words: Words<'_>, told: &mut usize, output: &mut Output) -> Served {
@@ -207,7 +213,7 @@ impl Client<'_> {
         }
         while !output.is_full() {
             let next = self.session.next_reply();
-            match next.or_else(|| words.get(*told).map(|name| keys::value(self, name))) {
+            match next.or_else(|| named(words).get(*told - 1).map(|name| keys::value(self, name))) {
                 None => return Served::Done,
                 Some(reply) => output.reply(&reply),
             }
@@ -243,23 +249,34 @@ impl Client<'_> {
     }
 }
 
+/// The names whose values follow the beginning of a reply.
+fn named<'a>(words: Words<'a>) -> Words<'a> {
+    if words[0].eq_ignore_ascii_case(MGET.as_bytes()) {
+        &words[1..]
+    } else {
+        &[]
+    }
+}
+
 fn count(number: usize) -> Reply {
     Reply::Integer(number as i64)
 }
 
-/// At most 128 bytes of a word, as a refusal repeats it.
+/// At most 128 bytes of a word, as a refusal repeats it: up to a zero byte, each as a character.
 fn repeated(word: &[u8]) -> String {
-    String::from_utf8_lossy(&word[..word.len().min(128)]).into_owned()
+    word.iter().take(128).take_while(|it| **it != 0).map(|it| *it as char).collect()
 }
 
 /// An unknown request as Redis tells it, at most 128 bytes of its name and of its other words.
 fn told(words: Words<'_>) -> String {
-    let mut rest = String::new();
+    let (mut rest, mut count) = (String::new(), 0);
     for word in &words[1..] {
-        if rest.len() >= 128 {
+        if count >= 128 {
             break;
         }
-        rest += &format!("'{}' ", repeated(&word[..word.len().min(128 - rest.len())]));
+        let word = repeated(&word[..word.len().min(128 - count)]);
+        count += word.chars().count() + 3;
+        rest += &format!("'{word}' ");
     }
     format!("'{}', with args beginning with: {rest}", repeated(words[0]))
 }

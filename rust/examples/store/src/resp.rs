@@ -45,7 +45,7 @@ impl fmt::Display for Broken {
         match self {
             Broken::WordCount => write!(f, "invalid multibulk length"),
             Broken::BulkLength => write!(f, "invalid bulk length"),
-            Broken::NoBulk(got) => write!(f, "expected '$', got '{}'", got.escape_ascii()),
+            Broken::NoBulk(got) => write!(f, "expected '$', got '{}'", *got as char),
             Broken::NoLineEnd => write!(f, "expected the end of a line"),
             Broken::LongInline => write!(f, "too big inline request"),
             Broken::LongCount => write!(f, "too big mbulk count string"),
@@ -303,6 +303,7 @@ pub enum Protocol {
 #[derive(Clone, Debug, PartialEq, Eq)]
 pub enum Reply {
     Status(&'static str),
+    /// Each character is a byte of that number, as a client sent it.
     Error(String),
     Integer(i64),
     Bulk(Arc<[u8]>),
@@ -338,8 +339,12 @@ impl Reply {
     pub fn write(&self, to: &mut Vec<u8>, protocol: Protocol, long: usize) -> Option<Arc<[u8]>> {
         match self {
             Reply::Status(text) => line(to, format_args!("+{text}")),
-            // A line that a client sent within it would end the reply, and begin another.
-            Reply::Error(text) => line(to, format_args!("-{}", text.replace(['\r', '\n'], " "))),
+            Reply::Error(text) => {
+                to.push(b'-');
+                // A line that a client sent within it would end the reply, and begin another.
+                to.extend(text.chars().map(|it| if matches!(it, '\r' | '\n') { b' ' } else { it as u8 }));
+                to.extend_from_slice(b"\r\n");
+            }
             Reply::Integer(number) => line(to, format_args!(":{number}")),
             Reply::Bulk(content) => {
                 line(to, format_args!("${}", content.len()));

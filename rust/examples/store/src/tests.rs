@@ -238,13 +238,13 @@ fn replies_are_written_whole() {
     output.reply(&Reply::Bulk(long));
     assert!(output.is_full(), "a long value is sent before anything is added");
     output.send(&mut written).unwrap();
-    let told = Reply::Error("ERR Unsupported option a\r\n+OK".into());
+    let told = Reply::Error("ERR Unsupported option \u{e4}\r\n+OK".into());
     let replies = [told, Reply::Nil, Reply::Integer(-2), Reply::Begun(1), Reply::Status("OK"), Reply::Text("a".into())];
     replies.iter().for_each(|reply| output.reply(reply));
     output.send(&mut written).unwrap();
     assert!(output.is_empty());
     assert!(written.starts_with(b"$100000\r\nxxx"));
-    assert!(written.ends_with(b"xxx\r\n-ERR Unsupported option a  +OK\r\n$-1\r\n:-2\r\n*1\r\n+OK\r\n$1\r\na\r\n"));
+    assert!(written.ends_with(b"xxx\r\n-ERR Unsupported option \xe4  +OK\r\n$-1\r\n:-2\r\n*1\r\n+OK\r\n$1\r\na\r\n"));
     output.protocol = Protocol::Three;
     let pairs = vec![(Reply::bulk(b"a"), Reply::Array(vec![Reply::Nil]))];
     [Reply::Map(pairs), Reply::Text("b".into())].iter().for_each(|reply| output.reply(reply));

@@ -4,6 +4,7 @@ use super::scan::is_match;
 use super::{count, repeated, Answer, Client, Refusal, Words, COMMANDS};
 use crate::keyspace::Held;
 use crate::resp::{integer, Protocol, Reply};
+use std::time::SystemTime;
 
 /// The version of Redis whose replies these are. Clients ask for it to know which commands there are.
 const REDIS_VERSION: &str = "7.0.15";
@@ -14,6 +15,13 @@ pub fn ping(_: &mut Client<'_>, words: Words<'_>) -> Answer {
         [_, text] => Ok(Reply::bulk(text)),
         _ => Err(Refusal::WordCount("ping")),
     }
+}
+
+/// The seconds since 1970, and the microseconds of this one.
+pub fn time(_: &mut Client<'_>, _: Words<'_>) -> Answer {
+    let since = SystemTime::now().duration_since(SystemTime::UNIX_EPOCH).unwrap_or_default();
+    let text = |number: u64| Reply::bulk(number.to_string().as_bytes());
+    Ok(Reply::Array(vec![text(since.as_secs()), text(since.subsec_micros().into())]))
 }
 
 /// There is one database.

@@ -184,6 +184,35 @@ pub fn set(client: &mut Client<'_>, words: Words<'_>) -> Answer {
     })
 }
 
+pub fn set_new(client: &mut Client<'_>, words: Words<'_>) -> Answer {
+    change(client, words[1], |place| {
+        let is_new = place.value().is_none();
+        if is_new {
+            place.set(words[2], Lifetime::Endless)?;
+        }
+        Ok(count(usize::from(is_new)))
+    })
+}
+
+pub fn get_and_set(client: &mut Client<'_>, words: Words<'_>) -> Answer {
+    change(client, words[1], |place| {
+        let old = place.value().cloned();
+        place.set(words[2], Lifetime::Endless)?;
+        Ok(old.map_or(Reply::Nil, Reply::Bulk))
+    })
+}
+
+/// Sets each key. What was set before one that is refused stays.
+pub fn set_all(client: &mut Client<'_>, words: Words<'_>) -> Answer {
+    if words.len() % 2 == 0 {
+        return Err(Refusal::WordCount("mset"));
+    }
+    for pair in words[1..].chunks(2) {
+        change(client, pair[0], |place| place.set(pair[1], Lifetime::Endless))?;
+    }
+    Ok(Reply::Status("OK"))
+}
+
 /// SETEX or PSETEX: the time stands before the value.
 pub fn set_until(client: &mut Client<'_>, words: Words<'_>, command: &'static str) -> Answer {
     let time = Time::from_now(words[2], command == "setex");

@@ -1,6 +1,6 @@
 //! MULTI, EXEC, DISCARD, WATCH and UNWATCH: requests that are queued, and then served while no other request is.
 
-use super::{keys, Answer, Client, Desk, Refusal, Words};
+use super::{keys, named, Answer, Client, Desk, Refusal, Words};
 use crate::keyspace::{Life, Value};
 use crate::resp::{Reply, PER_WORD, REQUEST_LIMIT};
 use std::collections::VecDeque;
@@ -12,7 +12,7 @@ pub struct Transaction {
     queue: Option<Queue>,
     watched: Vec<Watched>,
     watched_bytes: usize,
-    /// What EXEC is answered and isn't written yet.
+    /// What EXEC or KEYS is answered and isn't written yet.
     replies: VecDeque<Reply>,
     reply_bytes: usize,
 }
@@ -84,9 +84,14 @@ impl Transaction {
         Some(reply)
     }
 
-    fn keep(&mut self, reply: Reply) {
+    /// Keeps a reply until the others before it are written.
+    pub fn keep(&mut self, reply: Reply) {
+        self.keep_at(self.replies.len(), reply);
+    }
+
+    fn keep_at(&mut self, at: usize, reply: Reply) {
         self.reply_bytes += reply.held();
-        self.replies.push_back(reply);
+        self.replies.insert(at, reply);
     }
 
     fn unwatch(&mut self) -> Vec<Watched> {
@@ -144,10 +149,11 @@ pub fn exec(client: &mut Client<'_>, _: Words<'_>) -> Answer {
         }
         for request in &queue.requests {
             let words: Vec<&[u8]> = request.iter().map(Vec::as_slice).collect();
+            let at = client.session.transaction.replies.len();
             let reply = client.answer(&words);
-            let names = if matches!(reply, Reply::Begun(_)) { &words[1..] } else { &[] };
-            client.session.transaction.keep(reply);
-            for name in names {
+            // What follows the beginning of its reply is kept already, or comes now.
+            client.session.transaction.keep_at(at, reply);
+            for name in named(&words) {
                 let value = keys::value(client, name);
                 client.session.transaction.keep(value);
             }

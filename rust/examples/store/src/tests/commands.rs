@@ -13,7 +13,7 @@ use std::collections::HashSet;
 use std::sync::atomic::{AtomicBool, Ordering::SeqCst};
 use std::sync::Arc;
 use std::thread;
-use std::time::Duration;
+use std::time::{Duration, SystemTime};
 
 /// What a reply is written as.
 fn said(Asker { desk, session }: &mut Asker, line: &str) -> String {
@@ -306,6 +306,52 @@ fn set_and_get_take_a_time_of_their_own() {
         GETDEL a => $-1
         TYPE a => +none",
     );
+}
+
+#[test]
+fn older_ways_to_set_do_as_set_does() {
+    let mut client = client(&keyspace());
+    says(
+        &mut client,
+        "SETEX a 60 1 => +OK
+        SETNX a 2 => :0
+        TTL a => :60
+        SETNX b 2 => :1
+        MGET a b => *2 $1 1 $1 2
+        GETSET a 3 => $1 1
+        TTL a => :-1
+        GETSET c 4 => $-1
+        SETEX a 60 1 => +OK
+        MSET a 5 d 6 a 7 => +OK
+        TTL a => :-1
+        MGET a d => *2 $1 7 $1 6
+        MSET a 5 d => -ERR wrong number of arguments for 'mset' command
+        TOUCH a b c d e a => :5",
+    );
+    let seconds = SystemTime::now().duration_since(SystemTime::UNIX_EPOCH).unwrap().as_secs();
+    let told = said(&mut client, "TIME");
+    let words: Vec<_> = told.split(' ').collect();
+    assert_eq!((words[0], words[1]), ("*2", "$10"));
+    assert!(
+        (seconds..seconds + 5).contains(&words[2].parse().unwrap()) && words[4].parse::<u32>().unwrap() < 1_000_000
+    );
+}
+
+#[test]
+fn keys_are_told_once_each_and_none_that_is_over() {
+    let mut client = client(&keyspace());
+    (0..1_000).for_each(|at| is_ok(&mut client, &format!("SET name:{at} 1")));
+    is_ok(&mut client, "SET name:over 1 PX 2");
+    thread::sleep(Duration::from_millis(4));
+    let told = said(&mut client, "KEYS name:*");
+    let names: HashSet<_> = told.split(' ').filter(|it| it.starts_with("name:")).collect();
+    assert!(told.starts_with("*1000 ") && names.len() == 1_000 && !names.contains("name:over"));
+    says(&mut client, "KEYS name:77[x] => *0\nKEYS name:999 => *1 $8 name:999\nKEYS none => *0");
+    says(
+        &mut client,
+        "MULTI => +OK\nKEYS name:5 => +QUEUED\nGET name:5 => +QUEUED\nKEYS none => +QUEUED\nMGET name:5 => +QUEUED",
+    );
+    says(&mut client, "EXEC => *4 *1 $6 name:5 $1 1 *0 *1 $1 1");
 }
 
 #[test]
