@@ -51,6 +51,63 @@ def locks(store):
     assert store.get("count") == "160" and store.delete("count") == 1
 
 
+def leases(store):
+    """The same by redis-py's Lock, which lets go and prolongs by scripts what it holds and nothing else."""
+    lock = store.lock("lease", timeout=30)
+    assert lock.acquire(blocking=False) and lock.owned() and not store.lock("lease", timeout=30).acquire(blocking=False)
+    assert lock.extend(10) and 39 <= store.ttl("lease") <= 40 and lock.extend(20, replace_ttl=True) and store.ttl("lease") == 20
+    assert lock.reacquire() and store.ttl("lease") == 30
+    store.set("lease", "another", px=50_000)
+    for step in (lock.release, lambda: lock.extend(10), lock.reacquire):
+        lock.local.token = lock.local.token or b"mine"
+        try:
+            step()
+            sys.exit("clients.py: a lock that another has is let go or prolonged")
+        except redis.exceptions.LockError:
+            assert store.get("lease") == "another" and store.ttl("lease") == 50
+    store.delete("lease")
+
+    def work():
+        for _ in range(10):
+            with store.lock("lease", timeout=30, sleep=0.001):
+                store.set("count", int(store.get("count") or 0) + 1)
+
+    threads = [threading.Thread(target=work) for _ in range(8)]
+    for step in (threading.Thread.start, threading.Thread.join):
+        for thread in threads:
+            step(thread)
+    assert store.get("count") == "80" and store.delete("count") == 1 and not store.exists("lease")
+
+
+def transfers(store):
+    """Eight threads move one of a hundred from an account to the other, by WATCH and EXEC, which fails where another was first."""
+    store.set("from", 100)
+
+    def move(pipe):
+        left = int(pipe.get("from"))
+        pipe.multi()
+        pipe.set("from", left - 1, ex=600)
+        pipe.incr("to")
+
+    def work():
+        for _ in range(10):
+            store.transaction(move, "from")
+
+    threads = [threading.Thread(target=work) for _ in range(8)]
+    for step in (threading.Thread.start, threading.Thread.join):
+        for thread in threads:
+            step(thread)
+    with store.pipeline() as pipe:
+        assert pipe.get("from").get("to").delete("from", "to").execute() == ["20", "80", 2]
+    with store.pipeline() as pipe:
+        pipe.set("balance", 100).execute_command("NOTHING").decrby("balance", 30)
+        try:
+            pipe.execute()
+            sys.exit("clients.py: a transaction with an unknown command is done")
+        except redis.ResponseError:
+            assert store.getdel("balance") is None
+
+
 def many(store):
     """A pipeline, and all names by SCAN."""
     with store.pipeline(transaction=False) as pipe:
@@ -87,7 +144,7 @@ def main():
     port = int(sys.argv[1])
     store = redis.Redis(port=port, decode_responses=True)
     assert store.dbsize() == 0
-    for program in (sessions, limits, locks, many, itself):
+    for program in (sessions, limits, locks, leases, transfers, many, itself):
         program(store)
     web_page(port, store)
     print(f"clients.py: the programs of redis-py {redis.__version__} are served, a web page's request isn't")

@@ -148,9 +148,13 @@ class Draw:
             return [[self.word(form), self.name(), self.time({"setex": "ex", "psetex": "px"}[form]), self.value()]]
         if kind < 0.90:
             return [[self.word(self.one(["incrby", "decrby"])), self.name(), self.value()]]
+        if kind < 0.91:
+            return [[self.word(self.one(["setnx", "getset"])), self.name(), self.value()]]
+        if kind < 0.92:
+            return [[self.word("mset"), *[it for _ in range(self.one([1, 2, 3])) for it in (self.name(), self.value())]]]
         if kind < 0.95:
             some = [self.name() for _ in range(self.one([1, 2, 5]))]
-            return [[self.one(["mget", "del", "exists"]), *some]]
+            return [[self.one(["mget", "del", "exists", "touch"]), *some]]
         if kind < 0.97:
             return [self.wrong()]
         if kind < 0.975:

@@ -3,18 +3,24 @@
 mod connection;
 mod expiry;
 mod keys;
+mod lease;
+mod refusal;
 mod scan;
+mod transaction;
 
 use crate::handle::Handle;
-use crate::keyspace::{Keyspace, NoRoom};
+use crate::keyspace::Keyspace;
 use crate::output::Output;
 use crate::resp::{Protocol, Reply};
 use crate::seats::Seats;
+use crate::settings::Settings;
 use hontkhale::Key;
+use refusal::Refusal;
 use std::collections::HashMap;
 use std::net::SocketAddr;
-use std::sync::Arc;
+use std::sync::{Arc, PoisonError};
 use std::time::{Duration, Instant};
+use transaction::Transaction;
 
 /// How many names a thread's extends are remembered for, and how long these are at most.
 const KNOWN_LIMIT: usize = 16_384;
@@ -26,6 +32,7 @@ const WARNED_EVERY: Duration = Duration::from_secs(60);
 pub struct Desk {
     keyspace: Arc<Keyspace>,
     seats: Arc<Seats>,
+    settings: Arc<Settings>,
     handle: Handle,
     /// The entries of names that were extended. An entry that isn't the name's any more refuses its key.
     known: HashMap<Vec<u8>, Key>,
@@ -37,6 +44,8 @@ pub struct Session {
     id: u64,
     name: Vec<u8>,
     protocol: Protocol,
+    is_admitted: bool,
+    transaction: Transaction,
 }
 
 /// A client, whose request is served.
@@ -77,11 +86,19 @@ const COMMANDS: &[Command] = &[
     Command("del", 2, true, keys::del),
     Command("unlink", 2, true, keys::del),
     Command(MGET, 2, true, |_, words| Ok(Reply::Begun(words.len() - 1))),
+    Command("mset", 3, true, keys::set_all),
+    Command("setnx", 3, false, keys::set_new),
+    Command("getset", 3, false, keys::get_and_set),
     Command("exists", 2, true, keys::exists),
+    Command("touch", 2, true, keys::exists),
     Command("getex", 2, true, keys::get_and_expire),
     Command("getdel", 2, false, keys::get_and_remove),
+    Command("delex", 2, true, lease::del_where),
+    Command("delifeq", 3, false, lease::del_if_equal),
+    Command("evalsha", 3, true, lease::eval_sha),
     Command("type", 2, false, keys::type_of),
     Command("scan", 2, true, scan::scan),
+    Command("keys", 2, false, scan::keys),
     Command("pexpireat", 3, true, |client, words| expiry::expire(client, words, &expiry::PEXPIREAT)),
     Command("expireat", 3, true, |client, words| expiry::expire(client, words, &expiry::EXPIREAT)),
     Command("ttl", 2, false, |client, words| expiry::life(client, words, |until, now| (until - now + 500) / 1000)),
@@ -92,7 +109,9 @@ const COMMANDS: &[Command] = &[
     Command("dbsize", 1, false, |client, _| Ok(count(client.desk.keyspace.count()))),
     Command("flushall", 1, true, keys::flush),
     Command("flushdb", 1, true, keys::flush),
+    Command("auth", 2, true, connection::auth),
     Command("ping", 1, true, connection::ping),
+    Command("time", 1, false, connection::time),
     Command("echo", 2, false, |_, words| Ok(Reply::bulk(words[1]))),
     Command("select", 2, false, connection::select),
     Command("hello", 1, true, connection::hello),
@@ -100,90 +119,34 @@ const COMMANDS: &[Command] = &[
     Command("config", 2, true, connection::config),
     Command("info", 1, true, connection::info),
     Command("command", 1, true, connection::command),
+    Command("multi", 1, false, transaction::multi),
+    Command(EXEC, 1, false, transaction::exec),
+    Command("discard", 1, false, transaction::discard),
+    Command("watch", 2, true, transaction::watch),
+    Command("unwatch", 1, false, transaction::unwatch),
     Command(QUIT, 1, true, |_, _| Ok(Reply::Status("OK"))),
 ];
 const MGET: &str = "mget";
 const QUIT: &str = "quit";
+const EXEC: &str = "exec";
+/// What is answered before the password is told.
+const OPEN: [&str; 3] = ["auth", "hello", QUIT];
 /// What a web page's request begins with, and what follows in it: no client of this protocol sends them.
 const ATTACKS: [&[u8]; 2] = [b"post", b"host:"];
 
-/// Why a command isn't done.
-#[derive(Debug, PartialEq, Eq)]
-enum Refusal {
-    Unknown(String),
-    UnknownPart(&'static str, String),
-    WordCount(&'static str),
-    PartWordCount(&'static str, &'static str),
-    Syntax,
-    NotAnInteger,
-    OutOfRange(i64, i64),
-    ExpireTime(&'static str),
-    Option(String),
-    NxBeside,
-    GtBesideLt,
-    Overflow,
-    DecrOverflow,
-    Cursor,
-    Database,
-    ClientName,
-    ClientOption(String),
-    LibraryName(&'static str),
-    ProtocolNumber,
-    Protocol,
-    Password,
-    HelloOption(String),
-    Memory,
-    Process,
-    Deadlines,
-}
-
-impl Refusal {
-    fn reply(&self) -> Reply {
-        Reply::Error(match self {
-            Refusal::Unknown(what) => format!("ERR unknown command {what}"),
-            Refusal::UnknownPart(of, what) => format!("ERR unknown subcommand '{what}'. Try {of} HELP."),
-            Refusal::WordCount(name) => format!("ERR wrong number of arguments for '{name}' command"),
-            Refusal::PartWordCount(of, part) => format!("ERR wrong number of arguments for '{of}|{part}' command"),
-            Refusal::Syntax => "ERR syntax error".into(),
-            Refusal::NotAnInteger => "ERR value is not an integer or out of range".into(),
-            Refusal::OutOfRange(least, most) => {
-                format!("ERR value is out of range, value must between {least} and {most}")
-            }
-            Refusal::ExpireTime(name) => format!("ERR invalid expire time in '{name}' command"),
-            Refusal::Option(text) => format!("ERR Unsupported option {text}"),
-            Refusal::NxBeside => "ERR NX and XX, GT or LT options at the same time are not compatible".into(),
-            Refusal::GtBesideLt => "ERR GT and LT options at the same time are not compatible".into(),
-            Refusal::Overflow => "ERR increment or decrement would overflow".into(),
-            Refusal::DecrOverflow => "ERR decrement would overflow".into(),
-            Refusal::Cursor => "ERR invalid cursor".into(),
-            Refusal::Database => "ERR DB index is out of range".into(),
-            Refusal::ClientName => "ERR Client names cannot contain spaces, newlines or special characters.".into(),
-            Refusal::ClientOption(text) => format!("ERR Unrecognized option '{text}'"),
-            Refusal::LibraryName(what) => format!("ERR {what} cannot contain spaces, newlines or special characters."),
-            Refusal::ProtocolNumber => "ERR Protocol version is not an integer or out of range".into(),
-            Refusal::Protocol => "NOPROTO unsupported protocol version".into(),
-            Refusal::Password => "WRONGPASS invalid username-password pair or user is disabled.".into(),
-            Refusal::HelloOption(text) => format!("ERR Syntax error in HELLO option '{text}'"),
-            Refusal::Memory => "OOM command not allowed when used memory > 'maxmemory'.".into(),
-            Refusal::Process => "OOM the process holds as much memory as it may".into(),
-            Refusal::Deadlines => "OOM no room for another key that expires".into(),
-        })
-    }
-}
-
-impl From<NoRoom> for Refusal {
-    fn from(no_room: NoRoom) -> Refusal {
-        match no_room {
-            NoRoom::Memory => Refusal::Memory,
-            NoRoom::Process => Refusal::Process,
-            NoRoom::Deadlines => Refusal::Deadlines,
-        }
-    }
-}
-
 impl Desk {
-    pub fn new(keyspace: Arc<Keyspace>, seats: Arc<Seats>, handle: Handle) -> Desk {
-        Desk { keyspace, seats, handle, known: HashMap::new(), warned: None }
+    pub fn new(keyspace: Arc<Keyspace>, seats: Arc<Seats>, settings: Arc<Settings>, handle: Handle) -> Desk {
+        Desk { keyspace, seats, settings, handle, known: HashMap::new(), warned: None }
+    }
+
+    /// The session of a connection that begins.
+    pub fn session(&self, id: u64) -> Session {
+        let (name, transaction) = Default::default();
+        Session { id, name, protocol: Protocol::Two, is_admitted: self.settings.password.is_none(), transaction }
+    }
+
+    pub fn settings(&self) -> &Settings {
+        &self.settings
     }
 
     pub fn seats(&self) -> &Seats {
@@ -210,21 +173,31 @@ impl Desk {
 }
 
 impl Session {
-    pub fn new(id: u64) -> Session {
-        Session { id, name: Vec::new(), protocol: Protocol::Two }
+    /// Whether it told the password, or needs none.
+    pub fn is_admitted(&self) -> bool {
+        self.is_admitted
+    }
+
+    /// What a transaction is answered and isn't written yet, one reply.
+    pub fn next_reply(&mut self) -> Option<Reply> {
+        self.transaction.next_reply()
     }
 
     /// The memory that it holds.
     pub fn held(&self) -> usize {
-        self.name.capacity()
+        self.name.capacity() + self.transaction.held()
     }
 }
 
 impl Client<'_> {
-    /// Answers a request. An MGET's values are told one by one: a client that leaves them unread holds one of them,
-    /// and not all that it named, which others may have overwritten since. `told` counts its replies from one call to
-    /// the next.
+    /// Answers a request. The values of an MGET, the replies of an EXEC and the names of KEYS are told one by one: a client that leaves
+    /// them unread holds one value, and not all that it named, which others may have overwritten since. `told` counts
+    /// what is told of a request from one call to the next.
     pub fn serve(&mut self, words: Words<'_>, told: &mut usize, output: &mut Output) -> Served {
+        // EXEC takes all turns itself.
+        let is_exec = words[0].eq_ignore_ascii_case(EXEC.as_bytes());
+        let turn = self.desk.handle.turn();
+        let _taken = (!is_exec).then(|| turn.lock().unwrap_or_else(PoisonError::into_inner));
         if *told == 0 {
             if ATTACKS.iter().any(|it| words[0].eq_ignore_ascii_case(it)) {
                 return Served::Attack;
@@ -238,14 +211,15 @@ impl Client<'_> {
             }
             *told = 1;
         }
-        for name in &words[*told..] {
-            if output.is_full() {
-                return Served::Begun;
+        while !output.is_full() {
+            let next = self.session.next_reply();
+            match next.or_else(|| named(words).get(*told - 1).map(|name| keys::value(self, name))) {
+                None => return Served::Done,
+                Some(reply) => output.reply(&reply),
             }
-            output.reply(&keys::value(self, name));
             *told += 1;
         }
-        Served::Done
+        Served::Begun
     }
 
     /// What a request is answered. The values of an MGET aren't among it.
@@ -255,11 +229,32 @@ impl Client<'_> {
 
     fn run(&mut self, words: Words<'_>) -> Answer {
         let command = COMMANDS.iter().find(|it| words[0].eq_ignore_ascii_case(it.0.as_bytes()));
-        let Command(name, least, has_more, run) = command.ok_or_else(|| Refusal::Unknown(told(words)))?;
-        if words.len() < *least || (words.len() > *least && !has_more) {
-            return Err(Refusal::WordCount(name));
+        let transaction = &mut self.session.transaction;
+        let refusal = match command {
+            None => Refusal::Unknown(told(words)),
+            Some(it) if words.len() < it.1 || words.len() > it.1 && !it.2 => Refusal::WordCount(it.0),
+            Some(it) if !self.session.is_admitted && !OPEN.contains(&it.0) => Refusal::NO_AUTH,
+            Some(it) if transaction.takes(it.0) => match transaction.queue(words) {
+                Ok(reply) => return Ok(reply),
+                Err(refusal) => refusal,
+            },
+            Some(it) => return it.3(self, words),
+        };
+        transaction.note_refusal();
+        if command.is_some_and(|it| it.0 == EXEC) {
+            *transaction = Transaction::default();
+            return Err(Refusal::AbortedExec(Box::new(refusal)));
         }
-        run(self, words)
+        Err(refusal)
+    }
+}
+
+/// The names whose values follow the beginning of a reply.
+fn named<'a>(words: Words<'a>) -> Words<'a> {
+    if words[0].eq_ignore_ascii_case(MGET.as_bytes()) {
+        &words[1..]
+    } else {
+        &[]
     }
 }
 
@@ -267,19 +262,21 @@ fn count(number: usize) -> Reply {
     Reply::Integer(number as i64)
 }
 
-/// At most 128 bytes of a word, as a refusal repeats it.
+/// At most 128 bytes of a word, as a refusal repeats it: up to a zero byte, each as a character.
 fn repeated(word: &[u8]) -> String {
-    String::from_utf8_lossy(&word[..word.len().min(128)]).into_owned()
+    word.iter().take(128).take_while(|it| **it != 0).map(|it| *it as char).collect()
 }
 
 /// An unknown request as Redis tells it, at most 128 bytes of its name and of its other words.
 fn told(words: Words<'_>) -> String {
-    let mut rest = String::new();
+    let (mut rest, mut count) = (String::new(), 0);
     for word in &words[1..] {
-        if rest.len() >= 128 {
+        if count >= 128 {
             break;
         }
-        rest += &format!("'{}' ", repeated(&word[..word.len().min(128 - rest.len())]));
+        let word = repeated(&word[..word.len().min(128 - count)]);
+        count += word.chars().count() + 3;
+        rest += &format!("'{word}' ");
     }
     format!("'{}', with args beginning with: {rest}", repeated(words[0]))
 }

@@ -8,6 +8,7 @@ use mio::event::Event;
 use mio::net::TcpStream;
 use std::io::{self, ErrorKind, Read};
 use std::mem;
+use std::net::Shutdown;
 use std::time::{Duration, Instant};
 
 /// What is read in a turn, so that every connection of a thread has one soon; more of a request that has begun.
@@ -19,6 +20,8 @@ const SENDS: usize = 8;
 const STEP: usize = 128 << 10;
 /// How long a client may leave its replies unread.
 const PATIENCE: Duration = Duration::from_secs(15);
+/// How long a client that sends on is heard after the reason why it isn't served any more.
+const LINGER: Duration = Duration::from_secs(3);
 /// A request of so many words is taken apart without another allocation.
 const FEW: usize = 8;
 /// The room for replies that a thread keeps.
@@ -58,8 +61,13 @@ pub struct Connection {
     is_readable: bool,
     /// The client sends nothing more.
     is_hung_up: bool,
+    /// When something came of the client last.
+    heard: Instant,
     /// Since when the client takes no reply.
     stuck: Option<Instant>,
+    /// Since when it is told why it isn't served any more. What it sends is dropped: a socket that is closed with
+    /// something unread takes back what it said.
+    lingers: Option<Instant>,
     /// Whether it waits for its turn.
     pub is_queued: bool,
 }
@@ -73,15 +81,18 @@ struct Talk {
     told: usize,
     /// Nothing more is answered.
     is_over: bool,
+    /// The last reply is the reason why.
+    is_refused: bool,
 }
 
 impl Connection {
-    pub fn new(socket: TcpStream, seat: Seat) -> Connection {
+    pub fn new(socket: TcpStream, seat: Seat, desk: &Desk) -> Connection {
         let (parser, output) = Default::default();
-        let talk = Talk { parser, session: Session::new(seat.id), output, told: 0, is_over: false };
-        let (input, stuck) = Default::default();
+        let talk = Talk { parser, session: desk.session(seat.id), output, told: 0, is_over: false, is_refused: false };
+        let (input, stuck, lingers) = Default::default();
         let (has_more, is_readable, is_hung_up, is_queued) = Default::default();
-        Connection { socket, seat, talk, input, has_more, is_readable, is_hung_up, stuck, is_queued }
+        let heard = Instant::now();
+        Connection { socket, seat, talk, input, has_more, is_readable, is_hung_up, heard, stuck, lingers, is_queued }
     }
 
     pub fn socket(&mut self) -> &mut TcpStream {
@@ -104,13 +115,27 @@ impl Connection {
         self.stuck.is_some()
     }
 
-    /// Whether its client left its replies unread for too long.
+    /// Whether it waits for nothing but that its client closes it.
+    pub fn is_lingering(&self) -> bool {
+        self.lingers.is_some()
+    }
+
+    /// Whether nothing came of its client for so long, and nothing waits for it.
+    pub fn is_silent(&self, timeout: Duration) -> bool {
+        self.talk.output.is_empty() && !self.has_more && self.heard.elapsed() >= timeout
+    }
+
+    /// Whether its client left its replies unread for too long, or sends on for too long.
     pub fn is_given_up(&self) -> bool {
-        self.stuck.is_some_and(|since| since.elapsed() >= PATIENCE)
+        let is_past = |since: Option<Instant>, most| since.is_some_and(|it| it.elapsed() >= most);
+        is_past(self.stuck, PATIENCE) || is_past(self.lingers, LINGER)
     }
 
     /// Sends what waits, then answers what has come, a piece of it.
     pub fn turn(&mut self, shop: &mut Shop) -> io::Result<After> {
+        if self.is_lingering() {
+            return self.drop_piece(shop);
+        }
         self.send()?;
         if !self.talk.output.is_empty() {
             return Ok(After::Waits);
@@ -134,9 +159,31 @@ impl Connection {
         self.seat.hold(PER_SEAT + self.input.capacity() + parser.held() + session.held() + output.held());
         match output.is_empty() {
             false => After::Waits,
+            true if self.talk.is_refused => self.linger(),
             true if *is_over => After::Over,
             true if self.has_more || self.is_readable => After::Again,
             true => After::Waits,
+        }
+    }
+
+    /// Ends what is said, and keeps nothing.
+    fn linger(&mut self) -> After {
+        self.lingers = Some(Instant::now());
+        (self.input, self.talk.parser, self.has_more) = Default::default();
+        self.seat.hold(PER_SEAT);
+        match self.socket.shutdown(Shutdown::Write) {
+            Ok(()) => After::Again,
+            Err(_) => After::Over,
+        }
+    }
+
+    fn drop_piece(&mut self, shop: &mut Shop) -> io::Result<After> {
+        match self.socket.read(&mut shop.piece) {
+            Ok(0) => Ok(After::Over),
+            Ok(_) => Ok(After::Again),
+            Err(error) if error.kind() == ErrorKind::WouldBlock => Ok(After::Waits),
+            Err(error) if error.kind() == ErrorKind::Interrupted => Ok(After::Again),
+            Err(error) => Err(error),
         }
     }
 
@@ -145,12 +192,14 @@ impl Connection {
         (self.is_stuck(), self.seat.held())
     }
 
-    /// Tells its client that it is closed because it holds too much, where it hears it.
-    pub fn turn_out(&mut self) {
-        if self.talk.output.is_empty() {
-            self.talk.output.reply(&Reply::Error(NoSeat::Memory.to_string()));
-            let _ = self.send();
+    /// Tells its client that it is closed because it holds too much, where it hears it. False where it is to be closed
+    /// at once.
+    pub fn turn_out(&mut self) -> bool {
+        if !self.talk.output.is_empty() {
+            return false;
         }
+        self.talk.output.reply(&Reply::Error(NoSeat::Memory.to_string()));
+        self.send().is_ok() && self.talk.output.is_empty() && self.linger() != After::Over
     }
 
     fn send(&mut self) -> io::Result<()> {
@@ -179,6 +228,7 @@ impl Connection {
             Err(error) if error.kind() == ErrorKind::Interrupted => return Ok(true),
             Err(error) => return Err(error),
         };
+        self.heard = Instant::now();
         // Less than was asked for: nothing is left, and what comes next is an event again.
         self.is_readable = count == most || self.is_hung_up;
         if self.input.is_empty() {
@@ -236,6 +286,7 @@ impl Talk {
                     break;
                 }
             }
+            self.parser.is_narrow = !self.session.is_admitted();
             match self.parser.parse(&bytes[used..]) {
                 Ok(None) => break,
                 Ok(Some(length)) => {
@@ -282,6 +333,6 @@ impl Talk {
 
     fn end_with(&mut self, reply: &Reply) {
         self.output.reply(reply);
-        self.is_over = true;
+        (self.is_over, self.is_refused) = (true, true);
     }
 }

@@ -58,7 +58,7 @@ pub struct EventLoop {
     free: Vec<usize>,
     /// The connections that wait for their turn.
     queue: VecDeque<usize>,
-    /// Those whose clients leave replies unread, and when they were looked at.
+    /// Those whose clients leave replies unread, or send on after the last one, and when they were looked at.
     stuck: Vec<usize>,
     looked: Instant,
     /// Until when the end waits.
@@ -124,7 +124,7 @@ impl EventLoop {
         match (self.queue.is_empty(), self.end) {
             (false, _) => Some(Duration::ZERO),
             (true, Some(end)) => Some(end.saturating_duration_since(Instant::now())),
-            (true, None) if self.stuck.is_empty() => None,
+            (true, None) if !self.is_looking() => None,
             (true, None) => Some(LOOK_EVERY),
         }
     }
@@ -136,7 +136,7 @@ impl EventLoop {
             let interest = Interest::READABLE | Interest::WRITABLE;
             // A socket that can't be watched is closed.
             let is_watched = self.poll.registry().register(&mut socket, Token(place), interest).is_ok();
-            let connection = is_watched.then(|| Connection::new(socket, seat));
+            let connection = is_watched.then(|| Connection::new(socket, seat, &self.shop.desk));
             if place == self.connections.len() {
                 self.connections.push(connection);
             } else {
@@ -183,7 +183,7 @@ impl EventLoop {
             None => return,
         };
         connection.is_queued = false;
-        let was_stuck = connection.is_stuck();
+        let was_stuck = connection.is_stuck() || connection.is_lingering();
         // An error of its socket ends a connection, and nothing else.
         let after = connection.turn(&mut self.shop).unwrap_or(After::Over);
         let is_stuck = connection.is_stuck();
@@ -191,7 +191,7 @@ impl EventLoop {
         if after == After::Over || is_last {
             return self.close(place);
         }
-        if is_stuck && !was_stuck {
+        if (is_stuck || connection.is_lingering()) && !was_stuck {
             self.stuck.push(place);
         }
         if after == After::Again {
@@ -208,22 +208,42 @@ impl EventLoop {
         let burdens = burdens.filter_map(|(place, it)| Some((it.as_ref()?.burden(), place)));
         let largest = burdens.filter(|((_, held), _)| *held >= MUCH).max();
         if let Some((_, place)) = largest {
-            self.connections[place].iter_mut().for_each(Connection::turn_out);
-            self.close(place);
+            if self.connections[place].as_mut().is_some_and(Connection::turn_out) {
+                self.stuck.push(place);
+                self.queue(place);
+            } else {
+                self.close(place);
+            }
         }
     }
 
-    /// Now and then closes those whose clients left their replies unread for too long.
+    /// Whether there is somebody who may be given up for lack of time.
+    fn is_looking(&self) -> bool {
+        !self.stuck.is_empty() || self.timeout().is_some() && self.connections.len() > self.free.len()
+    }
+
+    fn timeout(&self) -> Option<Duration> {
+        self.shop.desk.settings().timeout
+    }
+
+    /// Now and then closes those whose clients left their replies unread for too long, or are silent for too long.
     fn close_stuck(&mut self) {
-        if self.stuck.is_empty() || self.looked.elapsed() < LOOK_EVERY {
+        if !self.is_looking() || self.looked.elapsed() < LOOK_EVERY {
             return;
         }
         self.looked = Instant::now();
         for place in mem::take(&mut self.stuck) {
             match &self.connections[place] {
                 Some(connection) if connection.is_given_up() => self.close(place),
-                Some(connection) if connection.is_stuck() => self.stuck.push(place),
+                Some(connection) if connection.is_stuck() || connection.is_lingering() => self.stuck.push(place),
                 _ => {}
+            }
+        }
+        if let Some(timeout) = self.timeout() {
+            for place in 0..self.connections.len() {
+                if self.connections[place].as_ref().is_some_and(|it| it.is_silent(timeout)) {
+                    self.close(place);
+                }
             }
         }
     }

@@ -1,18 +1,25 @@
 //! What a thread reads deadlines by, and extends them: a caller of each shard's queue, which takes no lock.
+//! Beside it is the thread's turn, which it has while it serves a request. Whoever has the turns of all is alone.
 
 use crate::clock::Tick;
 use crate::keyspace::SHARDS;
 use hontkhale::{CallError, Caller, Key, Look};
+use std::sync::{Arc, Mutex};
 
 pub struct Handle {
     /// By shard, the number of the queue that it is of, and the caller. A queue that follows another has a higher
     /// number.
     callers: Vec<(u32, Caller)>,
+    turn: Arc<Mutex<()>>,
 }
 
 impl Handle {
     pub fn new(callers: Vec<(u32, Caller)>) -> Handle {
-        Handle { callers }
+        Handle { callers, turn: Arc::default() }
+    }
+
+    pub fn turn(&self) -> Arc<Mutex<()>> {
+        self.turn.clone()
     }
 
     fn place(number: u32) -> usize {

@@ -22,7 +22,7 @@ use hontkhale::{CoreConfig, CoreError, WordsError, CAPACITY_LIMIT, LAST_STAMP};
 use shard::{Shard, Writer};
 use std::collections::hash_map::RandomState;
 use std::hash::{BuildHasher, Hasher};
-use std::sync::Arc;
+use std::sync::{Arc, Mutex, PoisonError, RwLock};
 
 pub const SHARDS: usize = 64;
 /// The threads that take out what is due, each of which has every so many shards.
@@ -62,6 +62,8 @@ pub struct Keyspace {
     alarms: Vec<Alarm>,
     hasher: RandomState,
     room: Arc<Room>,
+    /// The turns of all handles.
+    turns: RwLock<Vec<Arc<Mutex<()>>>>,
     /// The stamp after which a slot is worn.
     last_stamp: u32,
     pub clock: Clock,
@@ -84,6 +86,7 @@ impl Keyspace {
             alarms: (0..KEEPERS).map(|_| Alarm::default()).collect(),
             hasher: RandomState::new(),
             room,
+            turns: RwLock::default(),
             last_stamp,
             clock,
         })
@@ -92,7 +95,16 @@ impl Keyspace {
     /// A handle of every shard, for one thread.
     pub fn handle(&self) -> Result<Handle, WordsError> {
         let callers = (0..SHARDS).map(|shard| self.write(shard).numbered_caller());
-        Ok(Handle::new(callers.collect::<Result<_, _>>()?))
+        let handle = Handle::new(callers.collect::<Result<_, _>>()?);
+        self.turns.write().unwrap_or_else(PoisonError::into_inner).push(handle.turn());
+        Ok(handle)
+    }
+
+    /// Does something while no handle's thread has its turn, so that no request is served meanwhile.
+    pub fn alone<O>(&self, act: impl FnOnce() -> O) -> O {
+        let turns = self.turns.read().unwrap_or_else(PoisonError::into_inner);
+        let _taken: Vec<_> = turns.iter().map(|it| it.lock().unwrap_or_else(PoisonError::into_inner)).collect();
+        act()
     }
 
     pub fn alarm(&self, keeper: usize) -> &Alarm {

@@ -15,8 +15,11 @@ pub const REQUEST_LIMIT: usize = 2 << 20;
 const WORDS_LIMIT: usize = 1 << 16;
 /// The longest line that isn't the content of a bulk string.
 const LINE_LIMIT: usize = 64 << 10;
+/// The most words of a request of a client that hasn't told the password, and the longest of them.
+const NARROW_WORDS: i64 = 10;
+const NARROW_BULK: usize = 16 << 10;
 /// What a word counts beside its bytes: its place, and the lines around it.
-const PER_WORD: usize = 32;
+pub const PER_WORD: usize = 32;
 /// The room for words that a parser keeps from one request to the next.
 const KEPT_WORDS: usize = 64;
 
@@ -32,6 +35,9 @@ pub enum Broken {
     LongLength,
     LongRequest,
     Quotes,
+    ZeroByte,
+    NarrowCount,
+    NarrowBulk,
 }
 
 impl fmt::Display for Broken {
@@ -39,13 +45,16 @@ impl fmt::Display for Broken {
         match self {
             Broken::WordCount => write!(f, "invalid multibulk length"),
             Broken::BulkLength => write!(f, "invalid bulk length"),
-            Broken::NoBulk(got) => write!(f, "expected '$', got '{}'", got.escape_ascii()),
+            Broken::NoBulk(got) => write!(f, "expected '$', got '{}'", *got as char),
             Broken::NoLineEnd => write!(f, "expected the end of a line"),
             Broken::LongInline => write!(f, "too big inline request"),
             Broken::LongCount => write!(f, "too big mbulk count string"),
             Broken::LongLength => write!(f, "too big bulk count string"),
             Broken::LongRequest => write!(f, "too big a request"),
             Broken::Quotes => write!(f, "unbalanced quotes in request"),
+            Broken::NarrowCount => write!(f, "unauthenticated multibulk length"),
+            Broken::NarrowBulk => write!(f, "unauthenticated bulk length"),
+            Broken::ZeroByte => write!(f, "a zero byte in a line"),
         }
     }
 }
@@ -66,6 +75,8 @@ pub struct Parser {
     /// The length of the bulk string that was announced.
     bulk: Option<usize>,
     size: usize,
+    /// Whether requests are short: those of a client that hasn't told the password.
+    pub is_narrow: bool,
 }
 
 impl Parser {
@@ -123,6 +134,9 @@ impl Parser {
             return Ok(true);
         }
         let count = integer(&line[1..]).filter(|count| *count <= WORDS_LIMIT as i64).ok_or(Broken::WordCount)?;
+        if self.is_narrow && count > NARROW_WORDS {
+            return Err(Broken::NarrowCount);
+        }
         self.missing = count.max(0) as usize;
         Ok(true)
     }
@@ -139,6 +153,9 @@ impl Parser {
         }
         let length = integer(&line[1..]).and_then(|it| usize::try_from(it).ok());
         let length = length.filter(|it| *it <= BULK_LIMIT).ok_or(Broken::BulkLength)?;
+        if self.is_narrow && length > NARROW_BULK {
+            return Err(Broken::NarrowBulk);
+        }
         self.size += length + PER_WORD;
         if self.size > REQUEST_LIMIT {
             return Err(Broken::LongRequest);
@@ -163,17 +180,19 @@ impl Parser {
         Ok(true)
     }
 
-    /// The next line without its end, where it has come.
+    /// The next line without its end, where it has come. No line has a zero byte: what has one is of another protocol, as
+    /// TLS, and what stands in its later lines isn't meant for this server.
     fn line<'a>(&mut self, bytes: &'a [u8], too_long: Broken) -> Result<Option<&'a [u8]>, Broken> {
         let begun = self.at;
-        match bytes[self.looked..].iter().position(|byte| *byte == b'\n') {
+        let end = bytes[self.looked..].iter().position(|byte| matches!(byte, b'\n' | 0)).map(|more| self.looked + more);
+        match end {
+            Some(end) if bytes[end] == 0 => Err(Broken::ZeroByte),
             None if bytes.len() - begun > LINE_LIMIT => Err(too_long),
             None => {
                 self.looked = bytes.len();
                 Ok(None)
             }
-            Some(more) => {
-                let end = self.looked + more;
+            Some(end) => {
                 self.at = end + 1;
                 self.looked = self.at;
                 let line = &bytes[begun..end];
@@ -284,12 +303,15 @@ pub enum Protocol {
 #[derive(Clone, Debug, PartialEq, Eq)]
 pub enum Reply {
     Status(&'static str),
+    /// Each character is a byte of that number, as a client sent it.
     Error(String),
     Integer(i64),
     Bulk(Arc<[u8]>),
     /// A text for a person.
     Text(String),
     Nil,
+    /// No array, where one would be.
+    NilArray,
     Array(Vec<Reply>),
     Map(Vec<(Reply, Reply)>),
     /// An array of so many replies, which follow it.
@@ -301,12 +323,28 @@ impl Reply {
         Reply::Bulk(content.into())
     }
 
+    /// The memory that it holds.
+    pub fn held(&self) -> usize {
+        mem::size_of::<Reply>()
+            + match self {
+                Reply::Bulk(content) => content.len(),
+                Reply::Error(text) | Reply::Text(text) => text.len(),
+                Reply::Array(replies) => replies.iter().map(Reply::held).sum(),
+                Reply::Map(pairs) => pairs.iter().map(|(name, value)| name.held() + value.held()).sum(),
+                _ => 0,
+            }
+    }
+
     /// Writes it, all but the content of a bulk string that is at least so long, which is answered.
     pub fn write(&self, to: &mut Vec<u8>, protocol: Protocol, long: usize) -> Option<Arc<[u8]>> {
         match self {
             Reply::Status(text) => line(to, format_args!("+{text}")),
-            // A line that a client sent within it would end the reply, and begin another.
-            Reply::Error(text) => line(to, format_args!("-{}", text.replace(['\r', '\n'], " "))),
+            Reply::Error(text) => {
+                to.push(b'-');
+                // A line that a client sent within it would end the reply, and begin another.
+                to.extend(text.chars().map(|it| if matches!(it, '\r' | '\n') { b' ' } else { it as u8 }));
+                to.extend_from_slice(b"\r\n");
+            }
             Reply::Integer(number) => line(to, format_args!(":{number}")),
             Reply::Bulk(content) => {
                 line(to, format_args!("${}", content.len()));
@@ -320,7 +358,10 @@ impl Reply {
                 line(to, format_args!("={}\r\ntxt:{text}", text.len() + 4))
             }
             Reply::Text(text) => line(to, format_args!("${}\r\n{text}", text.len())),
-            Reply::Nil => to.extend_from_slice(if protocol == Protocol::Three { b"_\r\n" } else { b"$-1\r\n" }),
+            Reply::NilArray if protocol == Protocol::Two => to.extend_from_slice(b"*-1\r\n"),
+            Reply::NilArray | Reply::Nil => {
+                to.extend_from_slice(if protocol == Protocol::Three { b"_\r\n" } else { b"$-1\r\n" })
+            }
             Reply::Begun(count) => line(to, format_args!("*{count}")),
             Reply::Array(replies) => {
                 line(to, format_args!("*{}", replies.len()));

@@ -98,7 +98,7 @@ impl Resident {
         }
         // What others write meanwhile counts once more rather than not at all.
         self.written.store(bytes, SeqCst);
-        self.bytes().map_or(false, |read| {
+        self.bytes().is_ok_and(|read| {
             self.read.store(read, SeqCst);
             read + bytes <= most
         })

@@ -5,6 +5,7 @@ use crate::event_loop::{EventLoop, Mailbox};
 use crate::keeper::keep;
 use crate::keyspace::{Keyspace, KEEPERS};
 use crate::seats::{NoSeat, Seat, Seats};
+use crate::settings::Settings;
 use mio::net::{TcpListener, TcpStream, UnixStream};
 use mio::{Events, Interest, Poll, Token};
 use signal_hook::consts::{SIGINT, SIGTERM};
@@ -31,13 +32,15 @@ pub fn serve(
     listener: std::net::TcpListener,
     keyspace: &Arc<Keyspace>,
     seats: &Arc<Seats>,
+    settings: &Arc<Settings>,
     threads: usize,
 ) -> Result<(), Failure> {
     for keeper in 0..KEEPERS {
         let keyspace = keyspace.clone();
         thread::Builder::new().name(format!("keeper {keeper}")).spawn(move || keep(&keyspace, keeper))?;
     }
-    let servers = (0..threads).map(|at| server(at, keyspace, seats)).collect::<Result<Vec<_>, _>>()?;
+    let desk = || Ok::<_, Failure>(Desk::new(keyspace.clone(), seats.clone(), settings.clone(), keyspace.handle()?));
+    let servers = (0..threads).map(|at| server(at, desk()?)).collect::<Result<Vec<_>, _>>()?;
     welcome_all(listener, seats, &servers)?;
     servers.iter().try_for_each(|it| it.mailbox.end())?;
     for server in servers {
@@ -46,8 +49,7 @@ pub fn serve(
     Ok(())
 }
 
-fn server(at: usize, keyspace: &Arc<Keyspace>, seats: &Arc<Seats>) -> Result<Server, Failure> {
-    let desk = Desk::new(keyspace.clone(), seats.clone(), keyspace.handle()?);
+fn server(at: usize, desk: Desk) -> Result<Server, Failure> {
     let event_loop = EventLoop::new(desk)?;
     let mailbox = event_loop.mailbox();
     let thread = thread::Builder::new().name(format!("server {at}")).spawn(move || event_loop.run())?;

@@ -7,6 +7,7 @@ use crate::output::Output;
 use crate::resp::{integer, Broken, Parser, Protocol, Reply};
 use crate::room::Room;
 use crate::seats::Seats;
+use crate::settings::Settings;
 use std::sync::atomic::{AtomicBool, Ordering::SeqCst};
 use std::sync::{mpsc, Arc};
 use std::thread;
@@ -25,8 +26,13 @@ struct Asker {
 }
 
 fn client(keyspace: &Arc<Keyspace>) -> Asker {
+    client_by(keyspace, Settings::default())
+}
+
+fn client_by(keyspace: &Arc<Keyspace>, settings: Settings) -> Asker {
     let seats = Arc::new(Seats::new(10, 1 << 20));
-    Asker { desk: Desk::new(keyspace.clone(), seats, keyspace.handle().unwrap()), session: Session::new(7) }
+    let desk = Desk::new(keyspace.clone(), seats, Arc::new(settings), keyspace.handle().unwrap());
+    Asker { session: desk.session(7), desk }
 }
 
 fn ask(Asker { desk, session }: &mut Asker, line: &str) -> Reply {
@@ -232,13 +238,13 @@ fn replies_are_written_whole() {
     output.reply(&Reply::Bulk(long));
     assert!(output.is_full(), "a long value is sent before anything is added");
     output.send(&mut written).unwrap();
-    let told = Reply::Error("ERR Unsupported option a\r\n+OK".into());
+    let told = Reply::Error("ERR Unsupported option \u{e4}\r\n+OK".into());
     let replies = [told, Reply::Nil, Reply::Integer(-2), Reply::Begun(1), Reply::Status("OK"), Reply::Text("a".into())];
     replies.iter().for_each(|reply| output.reply(reply));
     output.send(&mut written).unwrap();
     assert!(output.is_empty());
     assert!(written.starts_with(b"$100000\r\nxxx"));
-    assert!(written.ends_with(b"xxx\r\n-ERR Unsupported option a  +OK\r\n$-1\r\n:-2\r\n*1\r\n+OK\r\n$1\r\na\r\n"));
+    assert!(written.ends_with(b"xxx\r\n-ERR Unsupported option \xe4  +OK\r\n$-1\r\n:-2\r\n*1\r\n+OK\r\n$1\r\na\r\n"));
     output.protocol = Protocol::Three;
     let pairs = vec![(Reply::bulk(b"a"), Reply::Array(vec![Reply::Nil]))];
     [Reply::Map(pairs), Reply::Text("b".into())].iter().for_each(|reply| output.reply(reply));

@@ -33,8 +33,10 @@ impl Store {
         let mut child = command.spawn().unwrap();
         let (mut said, mut first) = (BufReader::new(child.stdout.take().unwrap()), String::new());
         said.read_line(&mut first).unwrap();
-        assert!(first.contains("without passwords"), "{first}");
-        let address = first.split([' ', ',']).find(|it| it.starts_with("127.0.0.1:")).unwrap().to_string();
+        assert!(first.contains("a password"), "{first}");
+        let address =
+            first.split([' ', ',']).find(|it| it.contains(':') && it.ends_with(|end: char| end.is_ascii_digit()));
+        let address = address.unwrap().replace("0.0.0.0", "127.0.0.1");
         Store { child, said, first, address }
     }
 
@@ -336,6 +338,119 @@ fn a_web_page_reads_and_writes_nothing() {
     let (_, warned) = store.ends();
     assert!(warned.contains("127.0.0.1:") && warned.contains("sent POST or Host: as a command"), "{warned}");
     assert!(warned.lines().count() <= 4, "each thread warns once a minute: {warned}");
+}
+
+/// What a store says that doesn't start.
+fn refusal(options: &[&str], password: Option<&str>) -> String {
+    let mut command = Command::new(env!("CARGO_BIN_EXE_store"));
+    command.args(["--port", "0"]).args(options).env_remove("STORE_PASSWORD");
+    let command = command.envs(password.map(|it| ("STORE_PASSWORD", it)));
+    let mut child = command.stdout(Stdio::null()).stderr(Stdio::piped()).spawn().unwrap();
+    let begun = Instant::now();
+    while child.try_wait().unwrap().is_none() && begun.elapsed() < Duration::from_secs(20) {
+        thread::sleep(Duration::from_millis(10));
+    }
+    // One that starts is killed, and has no code then.
+    let _ = child.kill();
+    let output = child.wait_with_output().unwrap();
+    assert_eq!(output.status.code(), Some(1), "{options:?}");
+    String::from_utf8(output.stderr).unwrap()
+}
+
+#[test]
+fn an_address_for_others_wants_a_password() {
+    let told = "store: 0.0.0.0 is for others too: a --password-file is wanted, or --protected-mode no";
+    assert!(refusal(&["--bind", "0.0.0.0"], None).starts_with(told));
+    assert!(refusal(&["--protected-mode", "yes", "--bind", "0.0.0.0"], None).starts_with(told));
+    assert!(refusal(&["--password-file", "/dev/null"], None).starts_with("store: /dev/null has no password"));
+    assert!(refusal(&[], Some("")).starts_with("store: STORE_PASSWORD is empty"));
+    for options in [["--protected-mode", "no"], ["--password-file", "README.md"]] {
+        let store = Store::by(Command::new(env!("CARGO_BIN_EXE_store")).args(["--bind", "0.0.0.0"]).args(options));
+        assert!(store.first.contains(" 0.0.0.0:"), "{}", store.first);
+        assert!(!ask(&mut store.connect(), &[b"PING"]).is_empty());
+    }
+}
+
+#[test]
+fn nothing_is_done_before_the_password_is_told() {
+    let mut command = Command::new(env!("CARGO_BIN_EXE_store"));
+    let store = Store::by(command.env("STORE_PASSWORD", "secret"));
+    let mut stream = store.connect();
+    assert_eq!(ask(&mut stream, &[b"SET", b"a", b"1"]), "-NOAUTH Authentication required.\r\n");
+    assert!(ask(&mut stream, &[b"AUTH", b"secre"]).starts_with("-WRONGPASS"));
+    assert_eq!(ask(&mut stream, &[b"GET", b"a"]), "-NOAUTH Authentication required.\r\n");
+    // A stranger holds little.
+    let (many, long) = (request(&[&b"GET"[..]; 11]), request(&[b"AUTH", &[b'x'; 20_000]]));
+    assert_eq!(store.ends_with(&many), "-ERR Protocol error: unauthenticated multibulk length\r\n");
+    assert_eq!(store.ends_with(&long), "-ERR Protocol error: unauthenticated bulk length\r\n");
+    assert_eq!(ask(&mut stream, &[b"AUTH", b"secret"]), "+OK\r\n");
+    assert_eq!(ask(&mut stream, &[b"SET", b"a", &[b'v'; 20_000]]), "+OK\r\n");
+    assert_eq!(ask(&mut stream, &[&b"EXISTS"[..]; 20]), ":0\r\n");
+    let line = std::fs::read(format!("/proc/{}/cmdline", store.child.id())).unwrap();
+    assert!(!String::from_utf8_lossy(&line).contains("secret"));
+}
+
+#[test]
+fn a_silent_connection_is_closed_after_the_timeout() {
+    let store = Store::new(&["--timeout", "2", "--clients", "20"]);
+    let mut busy = store.connect();
+    let mut silent: Vec<TcpStream> = (0..19).map(|_| store.connect()).collect();
+    // Half a request is silence too.
+    silent.iter_mut().for_each(|it| it.write_all(b"*1\r\n$4\r\nPI").unwrap());
+    assert_eq!(ask(&mut busy, &[b"PING"]), "+PONG\r\n");
+    assert_eq!(store.ends_with(b""), "-ERR max number of clients reached\r\n");
+    let begun = Instant::now();
+    while ask(&mut busy, &[b"INFO"]).contains("connected_clients:20\r") {
+        assert!(begun.elapsed() < Duration::from_secs(20), "they are never closed");
+        thread::sleep(Duration::from_millis(50));
+    }
+    assert!(begun.elapsed() > Duration::from_secs(1), "they are closed before their time");
+    silent.iter_mut().for_each(|it| assert_eq!(it.read(&mut [0; 1]).unwrap(), 0, "it is told nothing"));
+    while begun.elapsed() < Duration::from_secs(5) {
+        assert_eq!(ask(&mut busy, &[b"PING"]), "+PONG\r\n", "whoever asks is served on");
+        thread::sleep(Duration::from_millis(100));
+    }
+    store.is_well();
+}
+
+/// A value of two MiB, which is sent whole before anything is read.
+#[test]
+fn whoever_sends_too_much_reads_why() {
+    let store = Store::new(&["--threads", "1"]);
+    let whole = request(&[b"SET", b"v", &[b'v'; 2 << 20]]);
+    for _ in 0..20 {
+        let mut stream = store.connect();
+        stream.write_all(&whole).unwrap();
+        assert_eq!(answer(&mut stream), "-ERR Protocol error: invalid bulk length\r\n");
+        assert_eq!(stream.read(&mut [0; 1]).unwrap(), 0, "nothing more is said");
+    }
+    // Whoever sends for ever isn't heard for ever, and holds nothing.
+    let (mut stream, held, begun) = (store.connect(), store.held(), Instant::now());
+    while stream.write_all(&whole).is_ok() {
+        assert!(begun.elapsed() < Duration::from_secs(30), "it is heard for ever");
+        assert!(store.held() < held + (4 << 10), "{} KiB are held", store.held());
+        store.is_well();
+    }
+    // And whoever sends nothing more and doesn't close.
+    let mut stream = store.connect();
+    stream.write_all(b"*x\r\n").unwrap();
+    while ask(&mut store.connect(), &[b"INFO"]).contains("connected_clients:2\r") {
+        assert!(begun.elapsed() < Duration::from_secs(60), "its seat isn't given back");
+        thread::sleep(Duration::from_millis(100));
+    }
+}
+
+/// The hello of a TLS client, in which a line of its choice may stand, as in the ticket of a session.
+#[test]
+fn a_line_with_a_zero_byte_ends_its_connection() {
+    let store = Store::new(&[]);
+    let told = "-ERR Protocol error: a zero byte in a line\r\n";
+    let hello = b"\x16\x03\x01\x02\0\x01\0\x01\xfc\x03\x03ticket\nSET evil written\n\0\0\n";
+    for sent in [&hello[..], b"SET evil\0 written\r\nSET evil written\r\n", b"\0", b"PING\0\n", b"*1\0\r\n"] {
+        assert_eq!(store.ends_with(sent), told, "{}", sent.escape_ascii());
+        assert_eq!(ask(&mut store.connect(), &[b"GET", b"evil"]), "$-1\r\n");
+    }
+    assert_eq!(ask(&mut store.connect(), &[b"ECHO", b"a\0b"]), "$3\r\na\0b\r\n");
 }
 
 /// How much more than its `--memory` a process may hold: the program, its threads, and what the allocator keeps for

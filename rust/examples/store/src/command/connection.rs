@@ -4,6 +4,7 @@ use super::scan::is_match;
 use super::{count, repeated, Answer, Client, Refusal, Words, COMMANDS};
 use crate::keyspace::Held;
 use crate::resp::{integer, Protocol, Reply};
+use std::time::SystemTime;
 
 /// The version of Redis whose replies these are. Clients ask for it to know which commands there are.
 const REDIS_VERSION: &str = "7.0.15";
@@ -16,13 +17,20 @@ pub fn ping(_: &mut Client<'_>, words: Words<'_>) -> Answer {
     }
 }
 
+/// The seconds since 1970, and the microseconds of this one.
+pub fn time(_: &mut Client<'_>, _: Words<'_>) -> Answer {
+    let since = SystemTime::now().duration_since(SystemTime::UNIX_EPOCH).unwrap_or_default();
+    let text = |number: u64| Reply::bulk(number.to_string().as_bytes());
+    Ok(Reply::Array(vec![text(since.as_secs()), text(since.subsec_micros().into())]))
+}
+
 /// There is one database.
 pub fn select(_: &mut Client<'_>, words: Words<'_>) -> Answer {
     match integer(words[1]) {
         Some(0) => Ok(Reply::Status("OK")),
-        Some(number) if i32::try_from(number).is_ok() => Err(Refusal::Database),
+        Some(number) if i32::try_from(number).is_ok() => Err(Refusal::DATABASE),
         Some(_) => Err(Refusal::OutOfRange(i32::MIN.into(), i32::MAX.into())),
-        None => Err(Refusal::NotAnInteger),
+        None => Err(Refusal::NOT_AN_INTEGER),
     }
 }
 
@@ -34,17 +42,18 @@ fn is_plain(name: &[u8]) -> bool {
 pub fn hello(client: &mut Client<'_>, words: Words<'_>) -> Answer {
     let protocol = match words.get(1).map(|it| integer(it)) {
         None => client.session.protocol,
-        Some(None) => return Err(Refusal::ProtocolNumber),
+        Some(None) => return Err(Refusal::PROTOCOL_NUMBER),
         Some(Some(2)) => Protocol::Two,
         Some(Some(3)) => Protocol::Three,
-        Some(Some(_)) => return Err(Refusal::Protocol),
+        Some(Some(_)) => return Err(Refusal::PROTOCOL),
     };
-    let (mut rest, mut name) = (words.get(2..).unwrap_or(&[]), None);
+    let (mut rest, mut name, mut is_admitted) = (words.get(2..).unwrap_or(&[]), None, client.session.is_admitted);
     while let Some((option, others)) = rest.split_first() {
         rest = match (&option.to_ascii_lowercase()[..], others) {
-            // There are no passwords: any is good for the one user.
-            (b"auth", [user, _, others @ ..]) if *user == b"default" => others,
-            (b"auth", [_, _, ..]) => return Err(Refusal::Password),
+            (b"auth", [user, password, others @ ..]) => {
+                is_admitted = is_password(client, user, password)?;
+                others
+            }
             (b"setname", [new, others @ ..]) => {
                 name = Some(*new);
                 others
@@ -52,11 +61,31 @@ pub fn hello(client: &mut Client<'_>, words: Words<'_>) -> Answer {
             _ => return Err(Refusal::HelloOption(repeated(option))),
         };
     }
+    if !is_admitted {
+        return Err(Refusal::HELLO_NO_AUTH);
+    }
+    client.session.is_admitted = true;
     if let Some(name) = name {
         set_name(client, name)?;
     }
     client.session.protocol = protocol;
     Ok(about(client))
+}
+
+/// Whether a user is told with its password: there is the one of Redis's, for whom any is good where none is set.
+fn is_password(client: &Client<'_>, user: &[u8], password: &[u8]) -> Result<bool, Refusal> {
+    let is_right = client.desk.settings.password.as_ref().map_or(true, |it| it.is(password));
+    (user == b"default" && is_right).then_some(true).ok_or(Refusal::PASSWORD)
+}
+
+pub fn auth(client: &mut Client<'_>, words: Words<'_>) -> Answer {
+    client.session.is_admitted |= match words {
+        [_, _] if client.desk.settings.password.is_none() => return Err(Refusal::NO_PASSWORD),
+        [_, password] => is_password(client, b"default", password)?,
+        [_, user, password] => is_password(client, user, password)?,
+        _ => return Err(Refusal::SYNTAX),
+    };
+    Ok(Reply::Status("OK"))
 }
 
 fn about(client: &Client<'_>) -> Reply {
@@ -76,7 +105,7 @@ fn about(client: &Client<'_>) -> Reply {
 
 fn set_name(client: &mut Client<'_>, name: &[u8]) -> Result<(), Refusal> {
     if !is_plain(name) {
-        return Err(Refusal::ClientName);
+        return Err(Refusal::CLIENT_NAME);
     }
     client.session.name = name.to_vec();
     Ok(())
@@ -129,7 +158,7 @@ pub fn config(client: &mut Client<'_>, words: Words<'_>) -> Answer {
         ("maxmemory-policy", "noeviction".to_string()),
         ("proto-max-bulk-len", crate::resp::BULK_LIMIT.to_string()),
         ("save", String::new()),
-        ("timeout", "0".into()),
+        ("timeout", client.desk.settings.timeout.map_or(0, |it| it.as_secs()).to_string()),
     ];
     let asked = settings.iter().filter_map(|(name, value)| {
         let name = name.as_bytes();

@@ -37,7 +37,7 @@ impl<'a> Time<'a> {
 
     /// It in milliseconds since 1970.
     fn instant(&self, now: Tick, command: &'static str) -> Result<i64, Refusal> {
-        let time = integer(self.text).ok_or(Refusal::NotAnInteger)?;
+        let time = integer(self.text).ok_or(Refusal::NOT_AN_INTEGER)?;
         let millis = if self.unit == Unit::Seconds { time.checked_mul(1000) } else { Some(time) };
         let instant = millis.and_then(|it| it.checked_add(if self.is_from_now { now as i64 } else { 0 }));
         instant.filter(|it| *it <= LAST_TICK as i64).ok_or(Refusal::ExpireTime(command))
@@ -83,8 +83,8 @@ impl Conditions {
             }
         }
         match only {
-            Conditions { nx: true, xx, gt, lt } if xx || gt || lt => Err(Refusal::NxBeside),
-            Conditions { gt: true, lt: true, .. } => Err(Refusal::GtBesideLt),
+            Conditions { nx: true, xx, gt, lt } if xx || gt || lt => Err(Refusal::NX_BESIDE),
+            Conditions { gt: true, lt: true, .. } => Err(Refusal::GT_BESIDE_LT),
             only => Ok(only),
         }
     }

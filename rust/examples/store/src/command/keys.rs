@@ -6,7 +6,7 @@ use crate::clock::Tick;
 use crate::keyspace::{Lifetime, Place};
 use crate::resp::{integer, Reply};
 
-fn change<O>(client: &mut Client<'_>, name: &[u8], change: impl FnOnce(&mut Place<'_>) -> O) -> O {
+pub fn change<O>(client: &mut Client<'_>, name: &[u8], change: impl FnOnce(&mut Place<'_>) -> O) -> O {
     client.desk.keyspace.change(&mut client.desk.handle, name, change)
 }
 
@@ -49,36 +49,58 @@ pub fn get_and_remove(client: &mut Client<'_>, words: Words<'_>) -> Answer {
 
 pub fn add(client: &mut Client<'_>, name: &[u8], by: i64) -> Answer {
     change(client, name, |place| {
-        let old = place.value().map_or(Some(0), |value| integer(value)).ok_or(Refusal::NotAnInteger)?;
-        let new = old.checked_add(by).ok_or(Refusal::Overflow)?;
+        let old = place.value().map_or(Some(0), |value| integer(value)).ok_or(Refusal::NOT_AN_INTEGER)?;
+        let new = old.checked_add(by).ok_or(Refusal::OVERFLOW)?;
         place.set(new.to_string().as_bytes(), Lifetime::Kept)?;
         Ok(Reply::Integer(new))
     })
 }
 
 pub fn incr_by(client: &mut Client<'_>, words: Words<'_>) -> Answer {
-    add(client, words[1], integer(words[2]).ok_or(Refusal::NotAnInteger)?)
+    add(client, words[1], integer(words[2]).ok_or(Refusal::NOT_AN_INTEGER)?)
 }
 
 pub fn decr_by(client: &mut Client<'_>, words: Words<'_>) -> Answer {
-    let by = integer(words[2]).ok_or(Refusal::NotAnInteger)?;
-    add(client, words[1], by.checked_neg().ok_or(Refusal::DecrOverflow)?)
+    let by = integer(words[2]).ok_or(Refusal::NOT_AN_INTEGER)?;
+    add(client, words[1], by.checked_neg().ok_or(Refusal::DECR_OVERFLOW)?)
 }
 
 pub fn flush(client: &mut Client<'_>, words: Words<'_>) -> Answer {
     let is_known = |mode: &&[u8]| mode.eq_ignore_ascii_case(b"sync") || mode.eq_ignore_ascii_case(b"async");
     if words.len() > 2 || !words[1..].iter().all(is_known) {
-        return Err(Refusal::Syntax);
+        return Err(Refusal::SYNTAX);
     }
     client.desk.keyspace.clear();
     Ok(Reply::Status("OK"))
 }
 
+/// Which old value a SET wants.
+#[derive(Default)]
+enum Only<'a> {
+    #[default]
+    Any,
+    None,
+    Some,
+    Equal(&'a [u8]),
+    NotEqual(&'a [u8]),
+}
+
+impl Only<'_> {
+    fn allows(&self, old: Option<&[u8]>) -> bool {
+        match self {
+            Only::Any => true,
+            Only::None => old.is_none(),
+            Only::Some => old.is_some(),
+            Only::Equal(value) => old == Some(value),
+            Only::NotEqual(value) => old != Some(value),
+        }
+    }
+}
+
 /// What a SET or a GETEX is asked beside the key and the value.
 #[derive(Default)]
 struct Options<'a> {
-    only_new: bool,
-    only_old: bool,
+    only: Only<'a>,
     is_get: bool,
     is_kept: bool,
     is_endless: bool,
@@ -87,44 +109,50 @@ struct Options<'a> {
 
 impl<'a> Options<'a> {
     fn of_set(words: Words<'a>) -> Result<Options<'a>, Refusal> {
-        Options::of(words, |options, word| {
-            match word {
-                b"nx" if !options.only_old => options.only_new = true,
-                b"xx" if !options.only_new => options.only_old = true,
-                b"get" => options.is_get = true,
-                b"keepttl" if options.time.is_none() => options.is_kept = true,
-                _ => return false,
+        Options::of(words, |options, word, rest| {
+            match (word, &options.only) {
+                (b"nx", Only::Any | Only::None) => options.only = Only::None,
+                (b"xx", Only::Any | Only::Some) => options.only = Only::Some,
+                (b"ifeq", Only::Any) => options.only = Only::Equal(rest.next()?),
+                (b"ifne", Only::Any) => options.only = Only::NotEqual(rest.next()?),
+                (b"get", _) => options.is_get = true,
+                (b"keepttl", _) if options.time.is_none() => options.is_kept = true,
+                _ => return None,
             }
-            true
+            Some(())
         })
     }
 
     fn of_getex(words: Words<'a>) -> Result<Options<'a>, Refusal> {
-        Options::of(words, |options, word| {
+        Options::of(words, |options, word, _| {
             let is_known = word == b"persist" && options.time.is_none();
             options.is_endless |= is_known;
-            is_known
+            is_known.then_some(())
         })
     }
 
-    /// The options that a command takes, `take` says whether a word is one, and a time beside them.
-    fn of(words: Words<'a>, take: impl Fn(&mut Options<'a>, &[u8]) -> bool) -> Result<Options<'a>, Refusal> {
+    /// The options that a command takes, `take` says whether a word is one and takes what belongs to it, and a time
+    /// beside them.
+    fn of(
+        words: Words<'a>,
+        take: impl Fn(&mut Options<'a>, &[u8], &mut dyn Iterator<Item = &'a [u8]>) -> Option<()>,
+    ) -> Result<Options<'a>, Refusal> {
         let mut options = Options::default();
-        let mut rest = words.iter();
+        let mut rest = words.iter().copied();
         while let Some(word) = rest.next() {
             let word = word.to_ascii_lowercase();
-            if take(&mut options, &word) {
+            if take(&mut options, &word, &mut rest).is_some() {
                 continue;
             }
             if options.is_kept || options.is_endless {
-                return Err(Refusal::Syntax);
+                return Err(Refusal::SYNTAX);
             }
-            let (unit, is_from_now) = Time::option(&word).ok_or(Refusal::Syntax)?;
+            let (unit, is_from_now) = Time::option(&word).ok_or(Refusal::SYNTAX)?;
             // Of two times in one form the last counts.
             if options.time.as_ref().is_some_and(|it| (it.unit, it.is_from_now) != (unit, is_from_now)) {
-                return Err(Refusal::Syntax);
+                return Err(Refusal::SYNTAX);
             }
-            options.time = Some(Time { text: rest.next().ok_or(Refusal::Syntax)?, unit, is_from_now });
+            options.time = Some(Time { text: rest.next().ok_or(Refusal::SYNTAX)?, unit, is_from_now });
         }
         Ok(options)
     }
@@ -144,7 +172,7 @@ pub fn set(client: &mut Client<'_>, words: Words<'_>) -> Answer {
     change(client, words[1], |place| {
         let lifetime = options.lifetime(place.now(), "set")?;
         let old = place.value().cloned();
-        let is_done = if old.is_some() { !options.only_new } else { !options.only_old };
+        let is_done = options.only.allows(old.as_deref());
         if is_done {
             place.set(words[2], lifetime)?;
         }
@@ -154,6 +182,35 @@ pub fn set(client: &mut Client<'_>, words: Words<'_>) -> Answer {
             _ => Reply::Nil,
         })
     })
+}
+
+pub fn set_new(client: &mut Client<'_>, words: Words<'_>) -> Answer {
+    change(client, words[1], |place| {
+        let is_new = place.value().is_none();
+        if is_new {
+            place.set(words[2], Lifetime::Endless)?;
+        }
+        Ok(count(usize::from(is_new)))
+    })
+}
+
+pub fn get_and_set(client: &mut Client<'_>, words: Words<'_>) -> Answer {
+    change(client, words[1], |place| {
+        let old = place.value().cloned();
+        place.set(words[2], Lifetime::Endless)?;
+        Ok(old.map_or(Reply::Nil, Reply::Bulk))
+    })
+}
+
+/// Sets each key. What was set before one that is refused stays.
+pub fn set_all(client: &mut Client<'_>, words: Words<'_>) -> Answer {
+    if words.len() % 2 == 0 {
+        return Err(Refusal::WordCount("mset"));
+    }
+    for pair in words[1..].chunks(2) {
+        change(client, pair[0], |place| place.set(pair[1], Lifetime::Endless))?;
+    }
+    Ok(Reply::Status("OK"))
 }
 
 /// SETEX or PSETEX: the time stands before the value.

@@ -9,22 +9,21 @@ const ASKED: usize = 10;
 const MOST: usize = 1_024;
 
 pub fn scan(client: &mut Client<'_>, words: Words<'_>) -> Answer {
-    let cursor = str::from_utf8(words[1]).ok().filter(|it| !it.starts_with('+')).and_then(|it| it.parse().ok());
-    let cursor: u64 = cursor.ok_or(Refusal::Cursor)?;
+    let cursor = cursor(words[1]).ok_or(Refusal::CURSOR)?;
     let (mut pattern, mut asked, mut is_strings) = (&b"*"[..], ASKED, true);
     for option in words[2..].chunks(2) {
         let (name, value) = match option {
             [name, value] => (name.to_ascii_lowercase(), *value),
-            _ => return Err(Refusal::Syntax),
+            _ => return Err(Refusal::SYNTAX),
         };
         match &name[..] {
             b"match" => pattern = value,
             b"count" => {
-                let count = integer(value).ok_or(Refusal::NotAnInteger)?;
-                asked = usize::try_from(count).ok().filter(|it| *it > 0).ok_or(Refusal::Syntax)?;
+                let count = integer(value).ok_or(Refusal::NOT_AN_INTEGER)?;
+                asked = usize::try_from(count).ok().filter(|it| *it > 0).ok_or(Refusal::SYNTAX)?;
             }
             b"type" => is_strings = value.eq_ignore_ascii_case(b"string"),
-            _ => return Err(Refusal::Syntax),
+            _ => return Err(Refusal::SYNTAX),
         }
     }
     let (next, names) = client.desk.keyspace.names_from(cursor, asked.min(MOST));
@@ -33,9 +32,34 @@ pub fn scan(client: &mut Client<'_>, words: Words<'_>) -> Answer {
     Ok(Reply::Array(vec![Reply::bulk(next.to_string().as_bytes()), Reply::Array(names)]))
 }
 
+/// A cursor as C's strtoul takes it: nothing is 0, a minus counts from above, and what follows a zero byte doesn't count.
+fn cursor(text: &[u8]) -> Option<u64> {
+    let text = text.split(|it| *it == 0).next()?;
+    let (is_negative, digits) = match text {
+        [] => return Some(0),
+        [b'-', digits @ ..] => (true, digits),
+        [b'+', digits @ ..] => (false, digits),
+        digits => (false, digits),
+    };
+    let number: u64 = str::from_utf8(digits).ok().filter(|it| !it.starts_with('+'))?.parse().ok()?;
+    Some(if is_negative { number.wrapping_neg() } else { number })
+}
+
+/// The names of all keys that fit a pattern, which are told one by one.
+pub fn keys(client: &mut Client<'_>, words: Words<'_>) -> Answer {
+    let names: Vec<_> = client.desk.keyspace.names(|name| is_match(words[1], name));
+    let count = names.len();
+    names.into_iter().for_each(|name| client.session.transaction.keep(Reply::Bulk(name)));
+    Ok(Reply::Begun(count))
+}
+
 /// Whether a text is as a pattern says, where `*` stands for any bytes, `?` for one, `[a-z]` for one of these,
 /// `[^a-z]` for any other, and a backslash takes the meaning off what follows it.
 pub fn is_match(pattern: &[u8], text: &[u8]) -> bool {
+    if text.is_empty() {
+        // Redis takes no two stars for nothing.
+        return matches!(pattern, b"" | b"*");
+    }
     let (mut rest, mut left) = (pattern, text);
     // Where to go on once what follows the last star doesn't fit: the star takes another byte.
     let mut star: Option<(&[u8], &[u8])> = None;

@@ -50,6 +50,16 @@ impl Keyspace {
         &self.shards[shard]
     }
 
+    /// The names of live keys that fit, each shard's by themselves.
+    pub fn names(&self, is_fit: impl Fn(&[u8]) -> bool) -> Vec<Name> {
+        let now = self.clock.now();
+        let shards = (0..SHARDS).map(|shard| self.present(shard, now).read());
+        shards.fold(Vec::new(), |mut all, names| {
+            all.extend(names.records.keys().filter(|name| is_fit(name)).cloned());
+            all
+        })
+    }
+
     /// About so many names of live keys from a position on, and the position to go on from, 0 behind the last. A name
     /// that stays is told by one of the calls, whatever comes and goes meanwhile: a shard is told from its last place
     /// down, and what moves goes from its last place to a lower one.

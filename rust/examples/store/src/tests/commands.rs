@@ -1,17 +1,19 @@
 //! What each command says and does, where a slip would pass by unseen: no keeper runs here, so that what is over stays
 //! until somebody asks.
 
-use super::{ask, client, is_ok, keyspace, Asker};
+use super::{ask, client, client_by, is_ok, keyspace, Asker};
 use crate::command::Client;
 use crate::keyspace::{Keyspace, SHARDS, SMALL_TABLE};
 use crate::output::Output;
 use crate::resp::Reply;
 use crate::room::{Resident, Room};
 use crate::seats::Seats;
+use crate::settings::{Password, Settings};
 use std::collections::HashSet;
+use std::sync::atomic::{AtomicBool, Ordering::SeqCst};
 use std::sync::Arc;
 use std::thread;
-use std::time::Duration;
+use std::time::{Duration, SystemTime};
 
 /// What a reply is written as.
 fn said(Asker { desk, session }: &mut Asker, line: &str) -> String {
@@ -307,6 +309,52 @@ fn set_and_get_take_a_time_of_their_own() {
 }
 
 #[test]
+fn older_ways_to_set_do_as_set_does() {
+    let mut client = client(&keyspace());
+    says(
+        &mut client,
+        "SETEX a 60 1 => +OK
+        SETNX a 2 => :0
+        TTL a => :60
+        SETNX b 2 => :1
+        MGET a b => *2 $1 1 $1 2
+        GETSET a 3 => $1 1
+        TTL a => :-1
+        GETSET c 4 => $-1
+        SETEX a 60 1 => +OK
+        MSET a 5 d 6 a 7 => +OK
+        TTL a => :-1
+        MGET a d => *2 $1 7 $1 6
+        MSET a 5 d => -ERR wrong number of arguments for 'mset' command
+        TOUCH a b c d e a => :5",
+    );
+    let seconds = SystemTime::now().duration_since(SystemTime::UNIX_EPOCH).unwrap().as_secs();
+    let told = said(&mut client, "TIME");
+    let words: Vec<_> = told.split(' ').collect();
+    assert_eq!((words[0], words[1]), ("*2", "$10"));
+    assert!(
+        (seconds..seconds + 5).contains(&words[2].parse().unwrap()) && words[4].parse::<u32>().unwrap() < 1_000_000
+    );
+}
+
+#[test]
+fn keys_are_told_once_each_and_none_that_is_over() {
+    let mut client = client(&keyspace());
+    (0..1_000).for_each(|at| is_ok(&mut client, &format!("SET name:{at} 1")));
+    is_ok(&mut client, "SET name:over 1 PX 2");
+    thread::sleep(Duration::from_millis(4));
+    let told = said(&mut client, "KEYS name:*");
+    let names: HashSet<_> = told.split(' ').filter(|it| it.starts_with("name:")).collect();
+    assert!(told.starts_with("*1000 ") && names.len() == 1_000 && !names.contains("name:over"));
+    says(&mut client, "KEYS name:77[x] => *0\nKEYS name:999 => *1 $8 name:999\nKEYS none => *0");
+    says(
+        &mut client,
+        "MULTI => +OK\nKEYS name:5 => +QUEUED\nGET name:5 => +QUEUED\nKEYS none => +QUEUED\nMGET name:5 => +QUEUED",
+    );
+    says(&mut client, "EXEC => *4 *1 $6 name:5 $1 1 *0 *1 $1 1");
+}
+
+#[test]
 fn numbers_go_up_and_down_and_no_further_than_they_can() {
     let mut client = client(&keyspace());
     says(
@@ -348,6 +396,199 @@ fn a_connection_is_told_of_itself() {
     assert!(said(&mut client, "INFO").starts_with('='));
     assert!(said(&mut client, "HELLO 2").starts_with("*14 "));
     says(&mut client, "GET none => $-1");
+}
+
+#[test]
+fn a_lease_is_ended_and_prolonged_by_its_holder() {
+    let mut client = client(&keyspace());
+    is_ok(&mut client, "SET lease ann PX 30000");
+    says(
+        &mut client,
+        "SET lease ann IFEQ bob PX 60000 => $-1
+        SET lease bob IFEQ bob PX 60000 GET => $3 ann
+        TTL lease => :30
+        SET lease ann IFEQ ann PX 60000 => +OK
+        TTL lease => :60
+        SET lease ann IFEQ ann KEEPTTL GET => $3 ann
+        TTL lease => :60
+        SET lease eve IFNE ann => $-1
+        SET lease ann IFEQ => -ERR syntax error
+        SET lease ann IFEQ ann NX => -ERR syntax error
+        SET lease ann XX IFEQ ann => -ERR syntax error
+        DELIFEQ lease bob => :0
+        DELEX lease IFEQ bob => :0
+        DELEX lease IFNE ann => :0
+        GET lease => $3 ann
+        DELIFEQ lease ann => :1
+        DELIFEQ lease ann => :0
+        SET lease ann IFEQ ann => $-1
+        SET lease ann IFNE eve => +OK
+        DELEX lease IFEQ ann => :1
+        DELEX lease => :0
+        SET lease ann => +OK
+        DELEX lease IFNE bob => :1
+        SET lease ann => +OK
+        DELEX lease => :1
+        DELEX lease IF ann => -ERR syntax error",
+    );
+}
+
+/// By the digests of its scripts.
+#[test]
+fn a_lock_of_redis_py_is_its_holders() {
+    let mut client = client(&keyspace());
+    let [release, extend, acquire] = [
+        "EVALSHA c3f8721cbb97f72bc19e972846bd7aaf91901658 1 lock",
+        "EVALSHA a4e8783852e6b949f9ef3a97212805108459a890 1 lock",
+        "EVALSHA 1cac51482acf5858da00f6d685d68f886cd6b6b2 1 lock",
+    ];
+    is_ok(&mut client, "SET lock token PX 30000");
+    for other in [format!("{release} other"), format!("{extend} other 1000 1"), format!("{acquire} other 1000")] {
+        says(&mut client, &format!("{other} => :0\nTTL lock => :30"));
+    }
+    says(
+        &mut client,
+        &format!("{extend} token 10000 0 => :1\nTTL lock => :40\n{extend} token 20000 1 => :1\nTTL lock => :20"),
+    );
+    says(&mut client, &format!("{acquire} token 50000 => :1\nTTL lock => :50"));
+    says(&mut client, &format!("{acquire} token x => -ERR value is not an integer or out of range\nTTL lock => :50"));
+    says(&mut client, &format!("{release} token => :1\nEXISTS lock => :0\n{release} token => :0"));
+    // A lock without a deadline isn't extended, and is acquired for a time.
+    is_ok(&mut client, "SET lock token");
+    says(&mut client, &format!("{extend} token 10000 0 => :0\n{acquire} token 50000 => :1\nTTL lock => :50"));
+    says(&mut client, "EVALSHA 1cac51482acf5858da00f6d685d68f886cd6b6b3 1 lock token => -NOSCRIPT No matching script. Please use EVAL.");
+}
+
+#[test]
+fn what_is_queued_is_done_by_exec_and_nothing_before() {
+    let keyspace = keyspace();
+    let (mut client, mut other) = (client(&keyspace), super::client(&keyspace));
+    says(&mut client, "MULTI => +OK\nSET a 70 => +QUEUED\nDECRBY a 30 => +QUEUED\nMGET a b => +QUEUED\nMULTI => -ERR MULTI calls can not be nested");
+    says(&mut other, "GET a => $-1");
+    says(&mut client, "EXEC => *3 +OK :40 *2 $2 40 $-1\nEXEC => -ERR EXEC without MULTI");
+    says(&mut client, "MULTI => +OK\nDECRBY a 30 => +QUEUED\nDISCARD => +OK\nGET a => $2 40");
+    let aborted = "EXEC => -EXECABORT Transaction discarded because of previous errors.";
+    says(&mut client, &format!("MULTI => +OK\nDECRBY a 30 => +QUEUED\nDECRBY a => -ERR wrong number of arguments for 'decrby' command\n{aborted}"));
+    says(&mut other, "GET a => $2 40");
+    // It is as long as a request at most.
+    let value = "v".repeat(600_000);
+    says(
+        &mut client,
+        &format!("MULTI => +OK\nSET b {value} => +QUEUED\nSET b {value} => +QUEUED\nSET b {value} => +QUEUED"),
+    );
+    says(&mut client, &format!("SET b {value} => -ERR the transaction is too long\n{aborted}\nEXISTS b => :0"));
+}
+
+#[test]
+fn nothing_is_done_where_a_watched_key_was_changed() {
+    let keyspace = keyspace();
+    let (mut client, mut other) = (client(&keyspace), super::client(&keyspace));
+    for change in [
+        "SET a 1 PX 60000",
+        "PERSIST a",
+        "PEXPIRE a 70000 GT",
+        "PEXPIRE a 50000 LT",
+        "INCR a",
+        "DEL a",
+        "FLUSHALL",
+        "SET b 1",
+    ] {
+        is_ok(&mut other, "SET a 1 PX 60000");
+        says(&mut client, "WATCH a b => +OK\nMULTI => +OK\nSET a 2 => +QUEUED");
+        says(&mut other, "EXPIRE a 50000 LT => :0\nSET a 1 NX => $-1");
+        ask(&mut other, change);
+        says(&mut client, "EXEC => *-1\nUNWATCH => +OK");
+        ask(&mut other, "DEL b");
+    }
+    // A key that came to its deadline was changed too.
+    is_ok(&mut other, "SET a 1 PX 5");
+    says(&mut client, "WATCH a => +OK\nMULTI => +OK\nPING => +QUEUED");
+    thread::sleep(Duration::from_millis(6));
+    says(&mut client, "EXEC => *-1");
+    is_ok(&mut other, "SET a 1");
+    says(
+        &mut client,
+        "WATCH a b => +OK\nMULTI => +OK\nINCR a => +QUEUED\nEXEC => *1 :2\nWATCH a => +OK\nUNWATCH => +OK",
+    );
+    is_ok(&mut other, "SET a 3");
+    says(&mut client, "MULTI => +OK\nINCR a => +QUEUED\nEXEC => *1 :4");
+}
+
+/// One raises two keys together, and two others look at both, by a transaction and by an MGET.
+#[test]
+fn no_request_sees_half_of_a_transaction() {
+    let keyspace = keyspace();
+    let is_over = AtomicBool::new(false);
+    thread::scope(|scope| {
+        for look in ["MULTI => +OK\nGET a => +QUEUED\nGET b => +QUEUED", ""] {
+            let (keyspace, is_over) = (&keyspace, &is_over);
+            scope.spawn(move || {
+                let mut client = client(keyspace);
+                while !is_over.load(SeqCst) {
+                    says(&mut client, look);
+                    let told = said(&mut client, if look.is_empty() { "MGET a b" } else { "EXEC" });
+                    let words: Vec<_> = told.split_whitespace().collect();
+                    let half = words.len() / 2;
+                    assert_eq!(words[1..=half], words[half + 1..], "{told}");
+                }
+            });
+        }
+        let mut client = client(&keyspace);
+        for _ in 0..3_000 {
+            says(&mut client, "MULTI => +OK\nINCR a => +QUEUED\nINCR b => +QUEUED");
+            ask(&mut client, "EXEC");
+            while client.session.next_reply().is_some() {}
+        }
+        is_over.store(true, SeqCst);
+    });
+}
+
+#[test]
+fn what_a_transaction_holds_counts_as_memory() {
+    let keyspace = keyspace();
+    let mut client = client(&keyspace);
+    let value = "v".repeat(10_000);
+    is_ok(&mut client, &format!("SET a {value}"));
+    let mut holds = |lines: &str, least: usize| {
+        says(&mut client, lines);
+        let held = client.session.held();
+        assert!((least..least + 500).contains(&held), "{held} bytes after {lines:.50}");
+    };
+    holds("PING => +PONG", 0);
+    holds("WATCH a => +OK\nWATCH a => +OK", 10_000);
+    holds(&format!("MULTI => +OK\nSET b {value} => +QUEUED\nGET a => +QUEUED"), 20_000);
+    holds("DISCARD => +OK", 0);
+    is_ok(&mut client, "MULTI");
+    (0..3).for_each(|_| assert_eq!(ask(&mut client, "GET a"), Reply::Status("QUEUED")));
+    assert_eq!(ask(&mut client, "EXEC"), Reply::Begun(3));
+    assert!((30_000..31_000).contains(&client.session.held()));
+}
+
+#[test]
+fn a_password_lets_in_whoever_tells_it() {
+    let settings = || Settings { password: Password::of("secret\nnothing"), timeout: None };
+    let wrong = "-WRONGPASS invalid username-password pair or user is disabled.";
+    let mut client = client_by(&keyspace(), settings());
+    for line in ["GET a", "MULTI", "PING", "CLIENT ID", "WATCH a"] {
+        says(&mut client, &format!("{line} => -NOAUTH Authentication required."));
+    }
+    for line in [
+        "AUTH secre",
+        "AUTH secretsecret",
+        "AUTH secre\t",
+        "AUTH eve secret",
+        "AUTH default nothing",
+        "HELLO 3 AUTH default x",
+    ] {
+        says(&mut client, &format!("{line} => {wrong}\nGET a => -NOAUTH Authentication required."));
+    }
+    assert!(said(&mut client, "HELLO 3").starts_with("-NOAUTH HELLO must be called"));
+    says(&mut client, "AUTH default secret x => -ERR syntax error\nAUTH secret => +OK\nGET a => $-1\nHELLO 9 => -NOPROTO unsupported protocol version");
+    says(&mut client, &format!("AUTH nothing => {wrong}\nGET a => $-1"));
+    let mut client = client_by(&keyspace(), settings());
+    assert!(said(&mut client, "HELLO 3 AUTH default secret SETNAME eve").starts_with("%7 "));
+    says(&mut client, "CLIENT GETNAME => $3 eve");
+    says(&mut client_by(&keyspace(), settings()), "AUTH default secret => +OK\nPING => +PONG");
 }
 
 /// The next cursor of a SCAN, and the names that it tells.
