@@ -30,6 +30,7 @@ use std::fmt;
 use std::sync::atomic::Ordering::SeqCst;
 use std::sync::Arc;
 use std::time::{Duration, Instant};
+use waking::NEVER;
 
 /// Values with deadlines, for any number of threads: each value comes out when its deadline is over.
 ///
@@ -60,9 +61,9 @@ use std::time::{Duration, Instant};
 /// A clone is the same queue. Every call takes `&self`, and any thread may make it at any time.
 ///
 /// # Deadlines
-/// A deadline is rounded up to whole milliseconds from the queue's making, and nothing comes out before it. Of several entries
-/// that are due the order is that of their deadlines, as far as they stand in one shard. A deadline may be up to 139 years
-/// after the queue's making.
+/// A deadline is rounded up to whole milliseconds from the queue's making, and nothing comes out before it. A deadline that is
+/// over is due at once. Of several entries that are due the order is that of their deadlines, as far as they stand in one shard.
+/// A deadline may be up to 139 years after the queue's making.
 ///
 /// # Cost
 /// [`extend`](DelayQueue::extend) and [`cancel`](DelayQueue::cancel) take no lock and constant time. [`insert`](DelayQueue::insert),
@@ -314,10 +315,10 @@ impl<T> DelayQueue<T> {
     }
 
     /// A moment that isn't after any deadline, none where no entry is there. It is the first deadline, or an earlier one that
-    /// was extended or cancelled since. It takes the lock of each shard in turn.
+    /// was extended or cancelled since. It takes the lock of the shards that may have it, and may look at each of their entries.
     pub fn next_deadline(&self) -> Option<Instant> {
         self.shared
-            .first_filed()
+            .first_filed_before(NEVER)
             .map(|tick| self.shared.front.time.moment(tick))
     }
 
@@ -345,8 +346,8 @@ impl<T> DelayQueue<T> {
         self.drain().count()
     }
 
-    /// Takes out what waits, one entry after the other: its key, its deadline and its value, for a shutdown that saves it.
-    /// Each step takes one entry out. What is inserted meanwhile may be among them.
+    /// Takes out what waits, one entry after the other, in no promised order: its key, its deadline and its value, for a
+    /// shutdown that saves it. What isn't taken stays in the queue. What is inserted meanwhile may be among them.
     ///
     /// ```
     /// use hontkhale::DelayQueue;

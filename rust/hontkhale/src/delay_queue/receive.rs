@@ -2,6 +2,7 @@
 
 use crate::core::{Expired as Out, Piece, Turn};
 use crate::delay_queue::key::Key;
+use crate::delay_queue::segment::Segment;
 use crate::delay_queue::shared::Shared;
 use crate::delay_queue::waking::{Todo, Wait};
 use crate::delay_queue::{DelayQueue, Expired};
@@ -263,6 +264,7 @@ pub struct Drain<'q, T> {
     shared: &'q Shared<T>,
     segment: usize,
     place: usize,
+    slot: usize,
 }
 
 impl<'q, T> Drain<'q, T> {
@@ -271,30 +273,26 @@ impl<'q, T> Drain<'q, T> {
             shared,
             segment: 0,
             place: 0,
+            slot: 0,
         }
     }
-}
 
-impl<T> Shared<T> {
-    /// Takes a live entry out of the shard at a place, none where there is none.
-    fn take_any(&self, at: usize, place: usize) -> Option<(Key, Instant, T)> {
-        let segment = self.segment(at)?;
-        loop {
-            let mut shard = segment.enter(place);
-            let entry = shard.peek()?.entry();
-            match shard.remove(&entry) {
-                Ok(removed) => {
-                    drop(shard);
-                    self.front.waiting.fetch_sub(1, SeqCst);
-                    let key = self.user_key(at, &removed.key);
-                    return Some((key, self.front.time.moment(removed.deadline), removed.value));
-                }
-                // It was cancelled.
-                Err(_) => {
-                    let _ = shard.reap(&entry);
-                }
-            }
+    /// The next live entry of the present shard. What was cancelled is freed on the way.
+    fn next_here(&mut self, segment: &Segment<T>) -> Option<(Key, Instant, T)> {
+        while let Some((entry, next)) = segment.entry_from(self.place, self.slot) {
+            self.slot = next;
+            let mut shard = segment.enter(self.place);
+            let Ok(removed) = shard.remove(&entry) else {
+                let _ = shard.reap(&entry);
+                continue;
+            };
+            drop(shard);
+            let front = &self.shared.front;
+            front.waiting.fetch_sub(1, SeqCst);
+            let key = self.shared.user_key(self.segment, &removed.key);
+            return Some((key, front.time.moment(removed.deadline), removed.value));
         }
+        None
     }
 }
 
@@ -304,16 +302,17 @@ impl<T> Iterator for Drain<'_, T> {
     fn next(&mut self) -> Option<(Key, Instant, T)> {
         // What was cancelled is dropped while nothing is in hand.
         self.shared.tidy();
-        while let Some(segment) = self.shared.segment(self.segment) {
-            if let Some(taken) = self.shared.take_any(self.segment, self.place) {
+        let shared = self.shared;
+        while let Some(segment) = shared.segment(self.segment) {
+            if let Some(taken) = self.next_here(segment) {
                 return Some(taken);
             }
-            self.place += 1;
+            (self.place, self.slot) = (self.place + 1, 0);
             if self.place == segment.rows.len() {
                 (self.segment, self.place) = (self.segment + 1, 0);
             }
         }
-        self.shared.tidy();
+        shared.tidy();
         None
     }
 }

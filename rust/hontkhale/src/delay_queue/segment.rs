@@ -2,7 +2,7 @@
 
 use crate::delay_queue::waking::NEVER;
 use crate::lasting::{LastingConfig, LastingQueue, LockedLasting};
-use crate::CoreError;
+use crate::{CoreError, EntryId};
 use std::ops::{Deref, DerefMut};
 use std::sync::atomic::{AtomicBool, AtomicU64, AtomicUsize, Ordering::SeqCst};
 use std::thread;
@@ -134,6 +134,15 @@ impl<T> Segment<T> {
         let swept = self.enter(place).sweep_some(from, count);
         row.sweep_from.store(swept.next.unwrap_or(0), SeqCst);
         swept.next.is_none()
+    }
+
+    /// The first entry from a slot on, live or cancelled, and the slot after it; none where that was the shard's last.
+    pub fn entry_from(&self, place: usize, from: usize) -> Option<(EntryId, usize)> {
+        let shard = self.queue.lock(place);
+        let core = &shard.attended.core;
+        let born = |slot: usize| Some((slot, core.slots.held(slot)?.0));
+        let (slot, born) = (from..core.capacity()).find_map(born)?;
+        Some((EntryId::new(core.shard(), slot as u32, born), slot + 1))
     }
 
     /// How many slots there are.

@@ -50,8 +50,8 @@ pub(crate) struct Shared<T> {
     /// The accepted cancels as the sweep of all shards began that is under way, and where it goes on.
     swept: AtomicU64,
     sweep_at: AtomicUsize,
-    /// How many slots are still to be swept.
-    unswept: AtomicUsize,
+    /// How many sweeps are left until each slot was looked at since the last cancel.
+    sweeps_left: AtomicUsize,
 }
 
 /// What is asked of a thread's handle.
@@ -211,7 +211,7 @@ impl<T> Shared<T> {
             latest: AtomicU64::new(0),
             swept: AtomicU64::new(0),
             sweep_at: AtomicUsize::new(0),
-            unswept: AtomicUsize::new(0),
+            sweeps_left: AtomicUsize::new(0),
         }
     }
 
@@ -531,12 +531,12 @@ impl<T> Shared<T> {
     pub fn use_quiet_moment(&self) {
         let cancels = self.front.cancels.load(SeqCst);
         if self.swept.swap(cancels, SeqCst) != cancels {
-            let slots: usize = self.segments().map(|(_, segment)| segment.capacity()).sum();
-            self.unswept.store(slots, SeqCst);
+            let sweeps = |segment: &Segment<T>| segment.capacity() / SWEPT + segment.rows.len();
+            let sweeps = self.segments().map(|(_, segment)| sweeps(segment)).sum();
+            self.sweeps_left.store(sweeps, SeqCst);
         }
-        if self.unswept.load(SeqCst) > 0 {
-            let left = |slots: usize| Some(slots.saturating_sub(SWEPT));
-            let _ = self.unswept.fetch_update(SeqCst, SeqCst, left);
+        let one_fewer = |left: usize| left.checked_sub(1);
+        if self.sweeps_left.fetch_update(SeqCst, SeqCst, one_fewer).is_ok() {
             self.sweep_next();
         }
         for (at, segment) in self.segments() {

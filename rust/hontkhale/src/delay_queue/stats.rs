@@ -45,13 +45,10 @@ impl fmt::Display for Stats {
 }
 
 impl<T> Segment<T> {
-    /// The tick by which the first entry is filed. No deadline of a live one is before it.
-    fn first_filed(&self) -> Option<u64> {
-        let filed = |place| {
-            let shard = self.enter(place);
-            shard.filed(&shard.peek()?.entry())
-        };
-        (0..self.rows.len()).filter_map(filed).min()
+    /// The tick by which the first entry of the shard at a place is filed. No deadline of a live one is before it.
+    fn first_filed(&self, place: usize) -> Option<u64> {
+        let shard = self.enter(place);
+        shard.filed(&shard.peek()?.entry())
     }
 
     /// How many cancelled entries were freed.
@@ -69,17 +66,26 @@ impl<T> Segment<T> {
 }
 
 impl<T> Shared<T> {
-    /// The tick by which the first entry of all is filed.
-    pub fn first_filed(&self) -> Option<u64> {
-        self.segments().filter_map(|(_, segment)| segment.first_filed()).min()
+    /// The tick by which the first entry of all is filed, where that is before a tick. No deadline of a shard is before its
+    /// hint, so those of later hints aren't asked.
+    pub fn first_filed_before(&self, end: u64) -> Option<u64> {
+        let mut first = end;
+        for (_, segment) in self.segments() {
+            for (place, row) in segment.rows.iter().enumerate() {
+                if row.hint() < first {
+                    first = segment.first_filed(place).map_or(first, |filed| filed.min(first));
+                }
+            }
+        }
+        Some(first).filter(|first| *first < end)
     }
 
     pub fn stats(&self) -> Stats {
         let waiting = self.front.waiting.load(SeqCst);
         let reaped: u64 = self.segments().map(|(_, segment)| segment.reaped()).sum();
         let cancels = self.front.cancels.load(SeqCst);
-        let first = self.first_filed().unwrap_or(u64::MAX);
-        let late = self.front.time.tick().saturating_sub(first);
+        let now = self.front.time.tick();
+        let late = self.first_filed_before(now).map_or(0, |first| now - first);
         Stats {
             waiting,
             cancelled: cancels.saturating_sub(reaped) as usize,

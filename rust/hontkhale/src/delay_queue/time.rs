@@ -111,20 +111,31 @@ impl Time {
     /// The present tick.
     #[inline]
     pub fn tick(&self) -> u64 {
-        let passed = self.now().saturating_duration_since(self.start).as_millis();
-        u64::try_from(passed).map_or(LAST_TICK, |tick| tick.min(LAST_TICK))
+        rounded_down(self.passed())
     }
 
-    /// The first tick that isn't before a moment, none beyond the last.
+    /// The first tick that isn't before a moment, or the present one where the moment is over; none beyond the last.
     #[inline]
     pub fn tick_at(&self, when: Instant) -> Option<u64> {
-        tick_after(when.saturating_duration_since(self.start))
+        self.tick_after(self.passed(), when.saturating_duration_since(self.start))
     }
 
-    /// The first tick that isn't before this moment and a duration, none beyond the last.
+    /// The same of the moment that comes after a duration.
     #[inline]
     pub fn tick_in(&self, after: Duration) -> Option<u64> {
-        tick_after(self.now().saturating_duration_since(self.start).checked_add(after)?)
+        let passed = self.passed();
+        self.tick_after(passed, passed.checked_add(after)?)
+    }
+
+    fn passed(&self) -> Duration {
+        self.now().saturating_duration_since(self.start)
+    }
+
+    fn tick_after(&self, passed: Duration, deadline: Duration) -> Option<u64> {
+        if deadline <= passed {
+            return Some(rounded_down(deadline));
+        }
+        rounded_up(deadline)
     }
 
     /// The moment at which a tick begins.
@@ -149,24 +160,28 @@ impl Time {
     }
 }
 
-fn tick_after(start: Duration) -> Option<u64> {
-    let millis = start.as_nanos().checked_add(999_999)? / 1_000_000;
+fn rounded_down(length: Duration) -> u64 {
+    u64::try_from(length.as_millis()).map_or(LAST_TICK, |tick| tick.min(LAST_TICK))
+}
+
+fn rounded_up(length: Duration) -> Option<u64> {
+    let millis = length.as_nanos().checked_add(999_999)? / 1_000_000;
     u64::try_from(millis).ok().filter(|tick| *tick <= LAST_TICK)
 }
 
 #[cfg(test)]
 mod tests {
-    use super::{tick_after, LAST_TICK};
+    use super::{rounded_up, LAST_TICK};
     use std::time::Duration;
 
     #[test]
     fn a_deadline_is_rounded_up_and_refused_beyond_the_last_tick() {
         let last = Duration::from_millis(LAST_TICK);
-        assert_eq!(tick_after(Duration::ZERO), Some(0));
-        assert_eq!(tick_after(Duration::from_nanos(1)), Some(1));
-        assert_eq!(tick_after(Duration::from_millis(7)), Some(7));
-        assert_eq!(tick_after(last), Some(LAST_TICK));
-        assert_eq!(tick_after(last + Duration::from_nanos(1)), None);
-        assert_eq!(tick_after(Duration::MAX), None);
+        assert_eq!(rounded_up(Duration::ZERO), Some(0));
+        assert_eq!(rounded_up(Duration::from_nanos(1)), Some(1));
+        assert_eq!(rounded_up(Duration::from_millis(7)), Some(7));
+        assert_eq!(rounded_up(last), Some(LAST_TICK));
+        assert_eq!(rounded_up(last + Duration::from_nanos(1)), None);
+        assert_eq!(rounded_up(Duration::MAX), None);
     }
 }
