@@ -88,7 +88,8 @@ pub struct DelayQueue<T> {
 pub struct Expired<T> {
     /// The key that its insert returned.
     pub key: Key,
-    /// Its deadline, rounded up to the queue's milliseconds.
+    /// Its deadline, rounded up to the queue's milliseconds. Where that was over when it was given, it is a moment between then
+    /// and the giving.
     pub deadline: Instant,
     /// Its value.
     pub value: T,

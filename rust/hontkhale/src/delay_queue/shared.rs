@@ -251,21 +251,26 @@ impl<T> Shared<T> {
         if self.front.bell.is_closed() {
             return Err((InsertErrorKind::Closed, value));
         }
-        let more = |waiting| {
-            if waiting < self.limits.max_entries {
-                Some(waiting + 1)
-            } else {
-                None
-            }
-        };
-        if self.front.waiting.fetch_update(SeqCst, SeqCst, more).is_err() {
+        let Some(counted) = self.count() else {
             return Err((InsertErrorKind::Full, value));
-        }
-        let counted = Counted(&self.front.waiting);
+        };
         let key = self.insert_counted(value, tick)?;
         std::mem::forget(counted);
         self.front.ring_before(tick);
         Ok(key)
+    }
+
+    /// Counts one entry more, none where there are as many as may be.
+    #[inline]
+    fn count(&self) -> Option<Counted<'_>> {
+        let (waiting, most) = (&self.front.waiting, self.limits.max_entries);
+        if most == usize::MAX {
+            waiting.fetch_add(1, SeqCst);
+        } else {
+            let more = |waiting| if waiting < most { Some(waiting + 1) } else { None };
+            waiting.fetch_update(SeqCst, SeqCst, more).ok()?;
+        }
+        Some(Counted(waiting))
     }
 
     /// The same of an entry that is counted already, in this thread's shard of a segment that has room there.
@@ -407,7 +412,7 @@ impl<T> Shared<T> {
             let moved = self.move_entry(&mut moves, &place, Some(tick));
             drop(moves);
             match moved {
-                Ok(()) => return Ok(*key),
+                Ok(_) => return Ok(*key),
                 Err(Unmoved::Ended) => return Err(KeyError::Ended),
                 Err(Unmoved::NoRoom) => {
                     self.tidy();
@@ -449,7 +454,7 @@ enum Unmoved {
 impl<T> Shared<T> {
     /// Moves a live entry to a slot that has stamps, and gives it a deadline, or leaves it the one that it has. Nobody else
     /// holds two locks of shards, and whoever holds one waits for nothing, so the order of the two is free.
-    fn move_entry(&self, moves: &mut Moves, place: &Key, tick: Option<u64>) -> Result<(), Unmoved> {
+    fn move_entry(&self, moves: &mut Moves, place: &Key, tick: Option<u64>) -> Result<u64, Unmoved> {
         let segment = self.segment(place.segment()).ok_or(Unmoved::Ended)?;
         let at = segment.place_of(place.number());
         let mut source = segment.enter(at);
@@ -465,7 +470,7 @@ impl<T> Shared<T> {
         drop(source);
         moves.purge(|place| self.is_linked(place));
         self.moved.store(moves.len(), SeqCst);
-        moved.map(|_| ())
+        moved.map(|_| tick)
     }
 
     /// Takes an entry out of a shard whose lock is held, and puts it in anew: there, or in the first shard that has room. No
@@ -588,8 +593,10 @@ impl<T> Shared<T> {
         }
     }
 
-    /// Moves a few of the last entries of a shard that drains, such as one that is extended for ever. Whether it is empty now.
+    /// Moves a few of the last entries of a shard that drains, such as one that is extended for ever, and tells whether it is
+    /// empty then.
     fn empties(&self, segment: &Segment<T>, at: usize, place: usize) -> bool {
+        let now = self.front.time.tick();
         for _ in 0..MOVED_AT_ONCE {
             let mut moves = self.moves();
             let mut shard = segment.enter(place);
@@ -599,13 +606,19 @@ impl<T> Shared<T> {
             if shard.len() > shard.capacity() / 8 + 1 {
                 return false;
             }
-            if shard.deadline(&key.entry()) == Err(CoreError::WasCancelled) {
-                let _ = shard.reap(&key.entry());
-                continue;
+            match shard.deadline(&key.entry()) {
+                Ok(deadline) if deadline > now => drop(shard),
+                // It is due, and comes out without being moved.
+                Ok(_) => return false,
+                Err(_) => {
+                    let _ = shard.reap(&key.entry());
+                    continue;
+                }
             }
-            drop(shard);
-            if let Err(Unmoved::NoRoom) = self.move_entry(&mut moves, &self.key(at, &key), None) {
-                return false;
+            match self.move_entry(&mut moves, &self.key(at, &key), None) {
+                Ok(tick) => self.front.ring_before(tick),
+                Err(Unmoved::Ended) => {}
+                Err(Unmoved::NoRoom) => return false,
             }
         }
         false
@@ -639,7 +652,7 @@ impl Drop for Counted<'_> {
 impl Limits {
     fn of_segment(&self, at: usize) -> LastingConfig {
         let shards = if at < 5 { self.shards.min(2 << at) } else { self.shards };
-        let slots = (2 * FIRST_CAPACITY) << at.min(30);
+        let slots = (2 * FIRST_CAPACITY) << at.min(16);
         let capacity = (slots / shards).min(self.max_entries.max(1)).clamp(1, CAPACITY_LIMIT);
         LastingConfig {
             shards,

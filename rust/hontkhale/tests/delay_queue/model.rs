@@ -161,7 +161,7 @@ impl Run {
         assert_eq!(self.queue.len(), self.waits.len());
         let first = self.waits.values().map(|waits| waits.0).min();
         let told = self.queue.next_deadline();
-        assert!(first.map_or(true, |first| told.map_or(false, |told| told <= first)));
+        assert!(first.map_or(true, |first| told.is_some_and(|told| told <= first)));
     }
 
     fn drain(&mut self) {
