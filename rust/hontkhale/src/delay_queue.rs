@@ -139,7 +139,7 @@ impl<T> DelayQueue<T> {
             .map_err(|(kind, value)| InsertError::new(kind, value))
     }
 
-    /// Puts a value in that is cancelled where the returned guard is dropped before it came out.
+    /// Puts a value in that is taken out and dropped where the returned guard is dropped before it came out.
     ///
     /// # Errors
     /// As [`insert`](DelayQueue::insert) returns them.

@@ -82,8 +82,8 @@ impl fmt::Debug for Handle {
     }
 }
 
-/// An entry that is cancelled where this is dropped, as [`DelayQueue::guard`] makes it: the deadline of a request, of a
-/// connection, of a lease.
+/// An entry that is taken out where this is dropped, with its value, as [`DelayQueue::guard`] makes it: the deadline of a
+/// request, of a connection, of a lease.
 ///
 /// ```
 /// use hontkhale::DelayQueue;
@@ -97,7 +97,7 @@ impl fmt::Debug for Handle {
 /// assert!(queue.is_empty());
 /// # Ok::<(), Box<dyn std::error::Error>>(())
 /// ```
-#[must_use = "the entry is cancelled where this is dropped"]
+#[must_use = "the entry is taken out where this is dropped"]
 pub struct Timeout<T> {
     queue: Option<DelayQueue<T>>,
     key: Key,
@@ -141,8 +141,9 @@ impl<T> Timeout<T> {
 
 impl<T> Drop for Timeout<T> {
     fn drop(&mut self) {
+        // The value is dropped at once: what it holds, such as a socket, is wanted no longer.
         if let Some(queue) = &self.queue {
-            let _ = queue.cancel(&self.key);
+            drop(queue.remove(&self.key));
         }
     }
 }

@@ -1,6 +1,6 @@
 //! A key names its entry for as long as that lives, and nothing else.
 
-use crate::kit::{ms, FAR};
+use crate::kit::{ms, Drops, FAR};
 use hontkhale::delay_queue::{Handle, Key, KeyError, ManualClock, Timeout};
 use hontkhale::DelayQueue;
 use std::cell::Cell;
@@ -107,18 +107,18 @@ fn a_deadline_that_is_too_far_is_refused_and_changes_nothing() {
 }
 
 #[test]
-fn a_guard_cancels_where_it_is_dropped() {
-    let queue = DelayQueue::new();
-    drop(queue.guard(1, FAR).expect("room"));
-    assert!(queue.is_empty());
-    let guard = queue.guard(2, ms(0)).expect("room");
+fn a_guard_takes_its_entry_out_where_it_is_dropped() {
+    let (drops, queue) = (Drops::default(), DelayQueue::new());
+    drop(queue.guard(drops.value(1), FAR).expect("room"));
+    assert!(queue.is_empty() && drops.count(1) == 1);
+    let guard = queue.guard(drops.value(2), ms(0)).expect("room");
     assert!(guard.extend(FAR).is_ok());
     assert!(queue.try_recv().is_none());
-    assert_eq!(guard.cancel(), Some(2));
-    let key = queue.guard(3, FAR).expect("room").forget();
-    assert_eq!(queue.remove(&key), Ok(3));
-    let guard = queue.guard(4, ms(0)).expect("room");
-    assert_eq!(queue.recv().map(|expired| expired.value), Some(4));
+    assert_eq!(guard.cancel().map(|value| value.number), Some(2));
+    let key = queue.guard(drops.value(3), FAR).expect("room").forget();
+    assert_eq!(queue.remove(&key).map(|value| value.number), Ok(3));
+    let guard = queue.guard(drops.value(4), ms(0)).expect("room");
+    assert_eq!(queue.recv().map(|expired| expired.value.number), Some(4));
     assert_eq!(guard.extend(FAR), Err(KeyError::Ended));
-    assert_eq!(guard.cancel(), None);
+    assert!(guard.cancel().is_none());
 }

@@ -1,6 +1,7 @@
 //! What the tests share: a time limit, drawn numbers, and values that are counted.
 
 use std::collections::HashMap;
+use std::fmt;
 use std::sync::mpsc::{channel, RecvTimeoutError};
 use std::sync::{Arc, Mutex};
 use std::thread;
@@ -60,6 +61,18 @@ impl Value {
     pub fn then(mut self, call: impl FnOnce() + Send + 'static) -> Value {
         self.then = Some(Box::new(call));
         self
+    }
+}
+
+impl PartialEq for Value {
+    fn eq(&self, other: &Value) -> bool {
+        self.number == other.number
+    }
+}
+
+impl fmt::Debug for Value {
+    fn fmt(&self, f: &mut fmt::Formatter<'_>) -> fmt::Result {
+        f.debug_tuple("Value").field(&self.number).finish()
     }
 }
 
