@@ -78,6 +78,8 @@ mod checked_wheel;
 #[cfg(feature = "std")]
 mod clock;
 mod debug;
+#[cfg(feature = "std")]
+pub mod delay_queue;
 mod due;
 mod fresh;
 mod index;
@@ -125,6 +127,8 @@ pub use crate::words::{numbered_queue, shared_queue, Caller, Keeper, WordsError,
 pub use crate::apps::{CountedCache, IdleSessions, MemoAnswer, Name, PutAnswer, Seen, TtlCache};
 #[cfg(feature = "std")]
 pub use crate::clock::Clock;
+#[cfg(feature = "std")]
+pub use crate::delay_queue::DelayQueue;
 #[cfg(feature = "std")]
 pub use crate::lasting::{
     BadLastingNumber, Ended, HandleError, HandleRenewError, Kept, LastingConfig, LastingError, LastingHandle,

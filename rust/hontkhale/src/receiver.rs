@@ -131,7 +131,7 @@ impl<'q, T> Receiver<'q, T> {
             if let Some(expired) = self.poll(&mut cx) {
                 return Some(expired);
             }
-            if self.is_closed() || moment.map_or(false, |moment| moment <= Instant::now()) {
+            if self.is_closed() || moment.is_some_and(|moment| moment <= Instant::now()) {
                 return None;
             }
             self.keep_going();

@@ -1,0 +1,40 @@
+//! A TCP server that sends back what it reads, and closes each connection that was idle for a while.
+
+use hontkhale::DelayQueue;
+use std::error::Error;
+use std::io::{Read, Write};
+use std::net::{Shutdown, TcpListener, TcpStream};
+use std::thread;
+use std::time::Duration;
+
+pub fn serve(listener: TcpListener, idle: Duration) {
+    let queue = DelayQueue::new();
+    let idle_ones: DelayQueue<TcpStream> = queue.clone();
+    thread::spawn(move || {
+        for expired in &idle_ones {
+            let _ = expired.value.shutdown(Shutdown::Both);
+        }
+    });
+    for stream in listener.incoming().flatten() {
+        let queue = queue.clone();
+        thread::spawn(move || echo(stream, &queue, idle).is_ok());
+    }
+}
+
+/// The guard takes the entry out where the connection ends, whatever ends it.
+fn echo(mut stream: TcpStream, queue: &DelayQueue<TcpStream>, idle: Duration) -> Result<(), Box<dyn Error>> {
+    let timeout = queue.guard(stream.try_clone()?, idle)?;
+    let mut buffer = [0; 4_096];
+    loop {
+        match stream.read(&mut buffer)? {
+            0 => return Ok(()),
+            count => stream.write_all(&buffer[..count])?,
+        }
+        timeout.extend(idle)?;
+    }
+}
+
+#[allow(dead_code)]
+fn main() {
+    serve(TcpListener::bind("127.0.0.1:7007").expect("a free port"), Duration::from_secs(30));
+}

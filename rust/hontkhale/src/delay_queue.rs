@@ -1,0 +1,431 @@
+//! One queue for any number of threads: values go in with a delay, and come out when it is over.
+//!
+//! [`DelayQueue`] is what most programs need of this crate. It grows as entries come, renews what is worn by itself, and its
+//! receivers are woken in time. The shards that it stands over are proved, as the crate's front page tells; what is here, by
+//! which threads share them, wait, and find their entries, is written by hand and tested.
+
+mod builder;
+mod callers;
+mod errors;
+mod handle;
+mod key;
+mod moves;
+mod receive;
+mod segment;
+mod shared;
+mod stats;
+mod time;
+mod waking;
+
+pub use builder::Builder;
+pub use errors::{InsertError, InsertErrorKind, KeyError};
+pub use handle::{Handle, Timeout};
+pub use key::Key;
+pub use receive::{Drain, Iter, TryIter};
+pub use stats::Stats;
+pub use time::ManualClock;
+
+use shared::{Shared, Step};
+use std::fmt;
+use std::sync::atomic::Ordering::SeqCst;
+use std::sync::Arc;
+use std::time::{Duration, Instant};
+use waking::NEVER;
+
+/// Values with deadlines, for any number of threads: each value comes out when its deadline is over.
+///
+/// ```
+/// use hontkhale::DelayQueue;
+/// use std::thread;
+/// use std::time::Duration;
+///
+/// let queue = DelayQueue::new();
+/// let receiver = queue.clone();
+/// let closes = thread::spawn(move || {
+///     let mut closed = Vec::new();
+///     while let Some(expired) = receiver.recv() {
+///         closed.push(expired.value);
+///     }
+///     closed
+/// });
+///
+/// let ann = queue.insert("ann's session", Duration::from_millis(10))?;
+/// queue.insert("bob's session", Duration::from_millis(20))?;
+/// queue.extend(&ann, Duration::from_secs(60))?;
+/// thread::sleep(Duration::from_millis(100));
+/// queue.close();
+/// assert_eq!(closes.join().unwrap(), ["bob's session"]);
+/// # Ok::<(), Box<dyn std::error::Error>>(())
+/// ```
+///
+/// A clone is the same queue. Every call takes `&self`, and any thread may make it at any time.
+///
+/// # Deadlines
+/// A deadline is rounded up to whole milliseconds from the queue's making, and nothing comes out before it. A deadline that is
+/// over is due at once. Of several entries that are due the order is that of their deadlines, as far as they stand in one shard.
+/// A deadline may be up to 139 years after the queue's making.
+///
+/// # Cost
+/// [`extend`](DelayQueue::extend) and [`cancel`](DelayQueue::cancel) take no lock and constant time. [`insert`](DelayQueue::insert),
+/// [`reset`](DelayQueue::reset) and [`remove`](DelayQueue::remove) take the lock of one shard for constant time. An insert may
+/// do a bounded part of what keeps the queue going besides, and takes memory where the queue grows.
+///
+/// # What a value's drop may do
+/// The queue drops the values of entries that were cancelled, and those that are left as its last clone is dropped. It holds no
+/// lock meanwhile, so a drop may call the queue. A drop that panics passes through the call that made it; no entry but the
+/// dropped one is lost, though a value that was handed to [`insert`](DelayQueue::insert) is dropped with the call.
+///
+/// # The end
+/// [`close`](DelayQueue::close) ends the receivers. The queue is dropped with its last clone; a [`Handle`] says
+/// [`Closed`](KeyError::Closed) then.
+pub struct DelayQueue<T> {
+    shared: Arc<Shared<T>>,
+}
+
+/// An entry that came out.
+#[derive(Debug)]
+#[non_exhaustive]
+pub struct Expired<T> {
+    /// The key that its insert returned.
+    pub key: Key,
+    /// Its deadline, rounded up to the queue's milliseconds. Where that was over when it was given, it is a moment between then
+    /// and the giving.
+    pub deadline: Instant,
+    /// Its value.
+    pub value: T,
+}
+
+impl<T> DelayQueue<T> {
+    /// An empty queue without a bound. It takes memory as entries come.
+    #[must_use]
+    pub fn new() -> DelayQueue<T> {
+        DelayQueue::builder().build()
+    }
+
+    /// For a queue with a bound, another number of shards, or a clock for tests.
+    pub fn builder() -> Builder<T> {
+        Builder::new()
+    }
+
+    /// Puts a value in, to come out after `after`, and returns its key. A receiver that waits for a later one is woken.
+    ///
+    /// # Errors
+    /// TooFar, Closed, Full, and NoMemory; the value comes back.
+    ///
+    /// ```
+    /// use hontkhale::DelayQueue;
+    /// use std::time::Duration;
+    ///
+    /// let queue = DelayQueue::new();
+    /// let key = queue.insert("session", Duration::from_secs(30))?;
+    /// assert_eq!(queue.remove(&key)?, "session");
+    /// # Ok::<(), Box<dyn std::error::Error>>(())
+    /// ```
+    pub fn insert(&self, value: T, after: Duration) -> Result<Key, InsertError<T>> {
+        let tick = self.shared.front.time.tick_in(after);
+        self.shared
+            .insert(value, tick)
+            .map_err(|(kind, value)| InsertError::new(kind, value))
+    }
+
+    /// Puts a value in, to come out at `when`, or at once where that is over.
+    ///
+    /// # Errors
+    /// As [`insert`](DelayQueue::insert) returns them.
+    pub fn insert_at(&self, value: T, when: Instant) -> Result<Key, InsertError<T>> {
+        let tick = self.shared.front.time.tick_at(when);
+        self.shared
+            .insert(value, tick)
+            .map_err(|(kind, value)| InsertError::new(kind, value))
+    }
+
+    /// Puts a value in that is taken out and dropped where the returned guard is dropped before it came out.
+    ///
+    /// # Errors
+    /// As [`insert`](DelayQueue::insert) returns them.
+    ///
+    /// ```
+    /// use hontkhale::DelayQueue;
+    /// use std::time::Duration;
+    ///
+    /// let queue = DelayQueue::new();
+    /// let timeout = queue.guard("request 7", Duration::from_secs(5))?;
+    /// // The request is answered here.
+    /// assert_eq!(timeout.cancel(), Some("request 7"));
+    /// assert!(queue.is_empty());
+    /// # Ok::<(), Box<dyn std::error::Error>>(())
+    /// ```
+    pub fn guard(&self, value: T, after: Duration) -> Result<Timeout<T>, InsertError<T>> {
+        let key = self.insert(value, after)?;
+        Ok(Timeout::new(self.clone(), key))
+    }
+
+    /// Gives an entry the deadline `after` from now, sooner or later than the one that it has. It returns the entry's key,
+    /// which is equal to the old one; the old one serves as well, but an [`extend`](DelayQueue::extend) by it takes a lock.
+    ///
+    /// # Errors
+    /// WrongQueue, TooFar, Ended, and NoMemory.
+    pub fn reset(&self, key: &Key, after: Duration) -> Result<Key, KeyError> {
+        self.shared.reset(key, self.shared.front.time.tick_in(after))
+    }
+
+    /// Gives an entry the deadline `when`, sooner or later than the one that it has.
+    ///
+    /// # Errors
+    /// As [`reset`](DelayQueue::reset) returns them.
+    pub fn reset_at(&self, key: &Key, when: Instant) -> Result<Key, KeyError> {
+        self.shared.reset(key, self.shared.front.time.tick_at(when))
+    }
+
+    /// Raises the deadline of an entry to `after` from now, and returns the deadline that is then in force: that one, or a
+    /// later one that it had.
+    ///
+    /// # Errors
+    /// WrongQueue, TooFar, Ended, and NoMemory.
+    ///
+    /// ```
+    /// use hontkhale::DelayQueue;
+    /// use std::time::Duration;
+    ///
+    /// let queue = DelayQueue::new();
+    /// let key = queue.insert("session", Duration::from_millis(1))?;
+    /// let deadline = queue.extend(&key, Duration::from_secs(60))?;
+    /// assert_eq!(queue.extend(&key, Duration::ZERO)?, deadline);
+    /// assert_eq!(queue.deadline(&key)?, deadline);
+    /// # Ok::<(), Box<dyn std::error::Error>>(())
+    /// ```
+    pub fn extend(&self, key: &Key, after: Duration) -> Result<Instant, KeyError> {
+        self.extend_to(key, self.shared.front.time.tick_in(after))
+    }
+
+    /// Raises the deadline of an entry to `when`, and returns the deadline that is then in force.
+    ///
+    /// # Errors
+    /// As [`extend`](DelayQueue::extend) returns them.
+    pub fn extend_at(&self, key: &Key, when: Instant) -> Result<Instant, KeyError> {
+        self.extend_to(key, self.shared.front.time.tick_at(when))
+    }
+
+    fn extend_to(&self, key: &Key, tick: Option<u64>) -> Result<Instant, KeyError> {
+        self.step(key, Step::to(tick))
+    }
+
+    fn step(&self, key: &Key, step: Step) -> Result<Instant, KeyError> {
+        let deadline = self.shared.step(key, step)?;
+        Ok(self.shared.front.time.moment(deadline))
+    }
+
+    /// Cancels an entry, so that it won't come out, and returns the deadline that it gave up. Its value is dropped later: by a
+    /// receiver in a quiet moment or when the entry would have been due, by an insert that finds no room, or with the queue.
+    /// [`remove`](DelayQueue::remove) returns the value at once, and takes a lock.
+    ///
+    /// # Errors
+    /// WrongQueue, Ended, and NoMemory.
+    pub fn cancel(&self, key: &Key) -> Result<Instant, KeyError> {
+        self.step(key, Step::Cancel)
+    }
+
+    /// Takes an entry out, and returns its value.
+    ///
+    /// # Errors
+    /// WrongQueue, and Ended.
+    pub fn remove(&self, key: &Key) -> Result<T, KeyError> {
+        self.shared.remove(key).map(|removed| removed.value)
+    }
+
+    /// The deadline of an entry.
+    ///
+    /// # Errors
+    /// WrongQueue, Ended, and NoMemory.
+    pub fn deadline(&self, key: &Key) -> Result<Instant, KeyError> {
+        self.step(key, Step::Look)
+    }
+
+    /// Takes an entry out that is due, and waits until one is. It returns none once the queue is closed and nothing is due.
+    ///
+    /// Any number of threads may receive. One of them sleeps until the next deadline, the others until they are next.
+    ///
+    /// ```
+    /// use hontkhale::DelayQueue;
+    /// use std::time::Duration;
+    ///
+    /// let queue = DelayQueue::new();
+    /// queue.insert("late", Duration::from_millis(20))?;
+    /// queue.insert("early", Duration::from_millis(10))?;
+    /// assert_eq!(queue.recv().map(|expired| expired.value), Some("early"));
+    /// assert_eq!(queue.recv().map(|expired| expired.value), Some("late"));
+    /// queue.close();
+    /// assert!(queue.recv().is_none());
+    /// # Ok::<(), Box<dyn std::error::Error>>(())
+    /// ```
+    pub fn recv(&self) -> Option<Expired<T>> {
+        self.shared.receive()
+    }
+
+    /// Takes an entry out that is due, and waits at most that long until one is. It returns none where none came due, or the
+    /// queue is closed and nothing is due.
+    pub fn recv_timeout(&self, timeout: Duration) -> Option<Expired<T>> {
+        self.shared.receive_within(timeout)
+    }
+
+    /// Takes an entry out that is due now.
+    pub fn try_recv(&self) -> Option<Expired<T>> {
+        self.shared.try_receive()
+    }
+
+    /// Appends entries that are due to a row, at most so many, and returns how many. It waits until there is one, and takes
+    /// several under one lock. It returns 0 where `most` is 0, or once the queue is closed and nothing is due.
+    ///
+    /// ```
+    /// use hontkhale::DelayQueue;
+    /// use std::time::Duration;
+    ///
+    /// let queue = DelayQueue::new();
+    /// for number in 0..100 {
+    ///     queue.insert(number, Duration::ZERO)?;
+    /// }
+    /// let mut row = Vec::new();
+    /// while row.len() < 100 {
+    ///     queue.recv_many(&mut row, 64);
+    /// }
+    /// assert_eq!(row.iter().map(|expired| expired.value).sum::<u64>(), 4_950);
+    /// # Ok::<(), Box<dyn std::error::Error>>(())
+    /// ```
+    pub fn recv_many(&self, row: &mut Vec<Expired<T>>, most: usize) -> usize {
+        self.shared.receive_many(row, most)
+    }
+
+    /// What comes out, one entry after the other, until the queue is closed: each step is a [`recv`](DelayQueue::recv).
+    pub fn iter(&self) -> Iter<'_, T> {
+        Iter::new(self)
+    }
+
+    /// What is due now, one entry after the other: each step is a [`try_recv`](DelayQueue::try_recv).
+    pub fn try_iter(&self) -> TryIter<'_, T> {
+        TryIter::new(self)
+    }
+
+    /// The number of entries that wait, or are due and didn't come out yet.
+    pub fn len(&self) -> usize {
+        self.shared.front.waiting.load(SeqCst)
+    }
+
+    /// Whether no entry waits.
+    pub fn is_empty(&self) -> bool {
+        self.len() == 0
+    }
+
+    /// A moment that isn't after any deadline, none where no entry is there. It is the first deadline, or an earlier one that
+    /// was extended or cancelled since. It takes the lock of the shards that may have it, and may look at each of their entries.
+    pub fn next_deadline(&self) -> Option<Instant> {
+        self.shared
+            .first_filed_before(NEVER)
+            .map(|tick| self.shared.front.time.moment(tick))
+    }
+
+    /// What a server watches: how much waits, how late it is, and what is held. It takes the lock of each shard in turn.
+    ///
+    /// ```
+    /// use hontkhale::delay_queue::ManualClock;
+    /// use hontkhale::DelayQueue;
+    /// use std::time::Duration;
+    ///
+    /// let clock = ManualClock::new();
+    /// let queue = DelayQueue::builder().clock(&clock).build();
+    /// queue.insert("session", Duration::from_secs(1))?;
+    /// clock.advance(Duration::from_secs(3));
+    /// let stats = queue.stats();
+    /// assert_eq!((stats.waiting, stats.late), (1, Duration::from_secs(2)));
+    /// # Ok::<(), Box<dyn std::error::Error>>(())
+    /// ```
+    pub fn stats(&self) -> Stats {
+        self.shared.stats()
+    }
+
+    /// Takes out all that waits, and drops it. It returns how many entries these were.
+    pub fn clear(&self) -> usize {
+        self.drain().count()
+    }
+
+    /// Takes out what waits, one entry after the other, in no promised order: its key, its deadline and its value, for a
+    /// shutdown that saves it. What isn't taken stays in the queue. What is inserted meanwhile may be among them.
+    ///
+    /// ```
+    /// use hontkhale::DelayQueue;
+    /// use std::time::Duration;
+    ///
+    /// let queue = DelayQueue::new();
+    /// let key = queue.insert("session", Duration::from_secs(30))?;
+    /// queue.close();
+    /// let saved: Vec<_> = queue.drain().map(|(key, _, value)| (key, value)).collect();
+    /// assert_eq!(saved, [(key, "session")]);
+    /// # Ok::<(), Box<dyn std::error::Error>>(())
+    /// ```
+    pub fn drain(&self) -> Drain<'_, T> {
+        Drain::new(&self.shared)
+    }
+
+    /// Closes the queue: from now on it takes no values, and its receivers get what is due and then none. What waits stays
+    /// there, for [`drain`](DelayQueue::drain).
+    pub fn close(&self) {
+        self.shared.front.close();
+    }
+
+    /// Whether the queue is closed.
+    pub fn is_closed(&self) -> bool {
+        self.shared.front.bell.is_closed()
+    }
+}
+
+impl<T: Send + 'static> DelayQueue<T> {
+    /// What extends and cancels entries of this queue elsewhere, without its type. Any number of handles may be made.
+    ///
+    /// ```
+    /// use hontkhale::delay_queue::KeyError;
+    /// use hontkhale::DelayQueue;
+    /// use std::time::Duration;
+    ///
+    /// let queue = DelayQueue::new();
+    /// let key = queue.insert("session", Duration::from_secs(30))?;
+    /// let handle = queue.handle();
+    /// handle.extend(&key, Duration::from_secs(60))?;
+    /// drop(queue);
+    /// assert_eq!(handle.extend(&key, Duration::from_secs(90)), Err(KeyError::Closed));
+    /// # Ok::<(), Box<dyn std::error::Error>>(())
+    /// ```
+    pub fn handle(&self) -> Handle {
+        Handle::new(&self.shared)
+    }
+}
+
+impl<T> Clone for DelayQueue<T> {
+    fn clone(&self) -> DelayQueue<T> {
+        DelayQueue {
+            shared: Arc::clone(&self.shared),
+        }
+    }
+}
+
+impl<T> Default for DelayQueue<T> {
+    fn default() -> DelayQueue<T> {
+        DelayQueue::new()
+    }
+}
+
+impl<T> fmt::Debug for DelayQueue<T> {
+    fn fmt(&self, f: &mut fmt::Formatter<'_>) -> fmt::Result {
+        f.debug_struct("DelayQueue")
+            .field("len", &self.len())
+            .field("is_closed", &self.is_closed())
+            .finish_non_exhaustive()
+    }
+}
+
+impl<'q, T> IntoIterator for &'q DelayQueue<T> {
+    type Item = Expired<T>;
+    type IntoIter = Iter<'q, T>;
+
+    fn into_iter(self) -> Iter<'q, T> {
+        self.iter()
+    }
+}

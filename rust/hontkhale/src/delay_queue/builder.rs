@@ -1,0 +1,92 @@
+//! What a queue is made by.
+
+use crate::delay_queue::callers::Front;
+use crate::delay_queue::shared::{Limits, Shared};
+use crate::delay_queue::time::{ManualClock, Time};
+use crate::delay_queue::DelayQueue;
+use crate::shards::SHARD_LIMIT;
+use crate::LAST_STAMP;
+use std::fmt;
+use std::marker::PhantomData;
+use std::sync::Arc;
+use std::thread;
+
+/// What a [`DelayQueue`] is made by, as [`DelayQueue::builder`] begins it.
+///
+/// ```
+/// use hontkhale::DelayQueue;
+///
+/// let queue: DelayQueue<String> = DelayQueue::builder().max_entries(1_000_000).shards(8).build();
+/// assert!(queue.is_empty());
+/// ```
+#[must_use]
+pub struct Builder<T> {
+    limits: Limits,
+    clock: Option<ManualClock>,
+    values: PhantomData<fn() -> T>,
+}
+
+impl<T> Builder<T> {
+    pub(crate) fn new() -> Builder<T> {
+        let shards = thread::available_parallelism().map_or(4, |count| count.get().clamp(2, 16));
+        let limits = Limits {
+            shards,
+            max_entries: usize::MAX,
+            last_stamp: LAST_STAMP,
+        };
+        Builder {
+            limits,
+            clock: None,
+            values: PhantomData,
+        }
+    }
+
+    /// How many entries may wait at most. An insert beyond is refused as
+    /// [`Full`](crate::delay_queue::InsertErrorKind::Full). Without it a queue grows until it has 3 million entries a shard.
+    pub fn max_entries(mut self, most: usize) -> Builder<T> {
+        self.limits.max_entries = most;
+        self
+    }
+
+    /// Over how many shards, each behind a lock of its own, the threads of a queue are spread once it has grown: 2 to 64, and
+    /// the nearest of these for another number. Without it they are as many as the machine runs threads, at most 16.
+    pub fn shards(mut self, shards: usize) -> Builder<T> {
+        self.limits.shards = shards.clamp(2, SHARD_LIMIT);
+        self
+    }
+
+    /// A clock that a test advances, in the place of the system's.
+    pub fn clock(mut self, clock: &ManualClock) -> Builder<T> {
+        self.clock = Some(clock.clone());
+        self
+    }
+
+    /// After how many inserts and resets a slot is worn, 1 to [`LAST_STAMP`]: for tests of what is done then.
+    #[doc(hidden)]
+    pub fn last_stamp(mut self, last: u32) -> Builder<T> {
+        self.limits.last_stamp = last.clamp(1, LAST_STAMP);
+        self
+    }
+
+    /// The queue, which is empty, and takes memory as entries come.
+    #[must_use]
+    pub fn build(self) -> DelayQueue<T> {
+        let front = Arc::new(Front::new(Time::new(self.clock.clone())));
+        if let Some(clock) = &self.clock {
+            let weak = Arc::downgrade(&front);
+            clock.wakes(move || weak.upgrade().map(|front| front.wake_all()).is_some());
+        }
+        DelayQueue {
+            shared: Arc::new(Shared::new(front, self.limits)),
+        }
+    }
+}
+
+impl<T> fmt::Debug for Builder<T> {
+    fn fmt(&self, f: &mut fmt::Formatter<'_>) -> fmt::Result {
+        f.debug_struct("Builder")
+            .field("limits", &self.limits)
+            .field("clock", &self.clock)
+            .finish_non_exhaustive()
+    }
+}

@@ -1,0 +1,157 @@
+//! What reaches entries from elsewhere: a handle, which knows nothing of the values, and a guard of one entry.
+
+use crate::delay_queue::callers::Front;
+use crate::delay_queue::errors::KeyError;
+use crate::delay_queue::key::Key;
+use crate::delay_queue::shared::{quick_step, Shared, Step, Steps};
+use crate::delay_queue::DelayQueue;
+use std::fmt;
+use std::sync::{Arc, Weak};
+use std::time::{Duration, Instant};
+
+/// Extends and cancels entries of a [`DelayQueue`], and tells their deadlines, without its type and without a lifetime.
+///
+/// It may be cloned and sent to any thread, and doesn't keep its queue: once that was dropped, each call returns
+/// [`Closed`](KeyError::Closed).
+#[derive(Clone)]
+pub struct Handle {
+    front: Arc<Front>,
+    queue: Weak<dyn Steps>,
+}
+
+impl Handle {
+    pub(crate) fn new<T: Send + 'static>(shared: &Arc<Shared<T>>) -> Handle {
+        let queue: Weak<Shared<T>> = Arc::downgrade(shared);
+        Handle {
+            front: Arc::clone(&shared.front),
+            queue,
+        }
+    }
+
+    fn step(&self, key: &Key, step: Step) -> Result<Instant, KeyError> {
+        if self.front.is_ended() {
+            return Err(KeyError::Closed);
+        }
+        let made = match quick_step(&self.front, key, step) {
+            Some(made) => made,
+            None => self.queue.upgrade().ok_or(KeyError::Closed)?.slow_step(key, step),
+        };
+        Ok(self.front.time.moment(made?))
+    }
+
+    /// Raises the deadline of an entry to `after` from now, and returns the deadline that is then in force: that one, or a
+    /// later one that it had. It takes no lock and constant time; after a reset of the entry it may take one.
+    ///
+    /// # Errors
+    /// Closed, WrongQueue, TooFar, Ended, and NoMemory.
+    pub fn extend(&self, key: &Key, after: Duration) -> Result<Instant, KeyError> {
+        self.step(key, Step::to(self.front.time.tick_in(after)))
+    }
+
+    /// Raises the deadline of an entry to `when`, and returns the deadline that is then in force.
+    ///
+    /// # Errors
+    /// As [`extend`](Handle::extend) returns them.
+    pub fn extend_at(&self, key: &Key, when: Instant) -> Result<Instant, KeyError> {
+        self.step(key, Step::to(self.front.time.tick_at(when)))
+    }
+
+    /// Cancels an entry, so that it won't come out, and returns the deadline that it gave up. Its value is dropped later, by
+    /// the queue.
+    ///
+    /// # Errors
+    /// Closed, WrongQueue, Ended, and NoMemory.
+    pub fn cancel(&self, key: &Key) -> Result<Instant, KeyError> {
+        self.step(key, Step::Cancel)
+    }
+
+    /// The deadline of an entry.
+    ///
+    /// # Errors
+    /// Closed, WrongQueue, Ended, and NoMemory.
+    pub fn deadline(&self, key: &Key) -> Result<Instant, KeyError> {
+        self.step(key, Step::Look)
+    }
+}
+
+impl fmt::Debug for Handle {
+    fn fmt(&self, f: &mut fmt::Formatter<'_>) -> fmt::Result {
+        f.debug_struct("Handle")
+            .field("queue", &self.front.number())
+            .finish_non_exhaustive()
+    }
+}
+
+/// An entry that is taken out where this is dropped, with its value, as [`DelayQueue::guard`] makes it: the deadline of a
+/// request, of a connection, of a lease.
+///
+/// ```
+/// use hontkhale::DelayQueue;
+/// use std::time::Duration;
+///
+/// let queue = DelayQueue::new();
+/// {
+///     let timeout = queue.guard("request 7", Duration::from_secs(5))?;
+///     timeout.extend(Duration::from_secs(10))?;
+/// }
+/// assert!(queue.is_empty());
+/// # Ok::<(), Box<dyn std::error::Error>>(())
+/// ```
+#[must_use = "the entry is taken out where this is dropped"]
+pub struct Timeout<T> {
+    queue: Option<DelayQueue<T>>,
+    key: Key,
+}
+
+impl<T> Timeout<T> {
+    pub(crate) fn new(queue: DelayQueue<T>, key: Key) -> Timeout<T> {
+        Timeout {
+            queue: Some(queue),
+            key,
+        }
+    }
+
+    /// The entry's key.
+    pub fn key(&self) -> Key {
+        self.key
+    }
+
+    /// Raises the deadline to `after` from now, and returns the deadline that is then in force.
+    ///
+    /// # Errors
+    /// TooFar, Ended where the value came out already, and NoMemory.
+    pub fn extend(&self, after: Duration) -> Result<Instant, KeyError> {
+        match &self.queue {
+            Some(queue) => queue.extend(&self.key, after),
+            None => Err(KeyError::Ended),
+        }
+    }
+
+    /// Takes the value back, none where it came out already.
+    pub fn cancel(mut self) -> Option<T> {
+        self.queue.take()?.remove(&self.key).ok()
+    }
+
+    /// Leaves the entry in the queue, and returns its key.
+    pub fn forget(mut self) -> Key {
+        self.queue = None;
+        self.key
+    }
+}
+
+impl<T> Drop for Timeout<T> {
+    fn drop(&mut self) {
+        // The value is dropped at once: what it holds, such as a socket, is wanted no longer.
+        if let Some(queue) = &self.queue {
+            drop(queue.remove(&self.key));
+        }
+    }
+}
+
+impl<T> fmt::Debug for Timeout<T> {
+    fn fmt(&self, f: &mut fmt::Formatter<'_>) -> fmt::Result {
+        f.debug_struct("Timeout")
+            .field("key", &self.key)
+            .finish_non_exhaustive()
+    }
+}

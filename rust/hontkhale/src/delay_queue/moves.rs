@@ -1,0 +1,69 @@
+//! Where the entries are that were moved to another slot, so that their keys stay good.
+
+use crate::delay_queue::key::Key;
+use std::collections::HashMap;
+
+/// From how many on the moved entries are looked through for those that have ended.
+const FIRST_PURGE: usize = 64;
+
+pub(crate) struct Moves {
+    /// The present key by the user's.
+    places: HashMap<Key, Key>,
+    /// The user's key by the present one.
+    keys: HashMap<Key, Key>,
+    purge_at: usize,
+}
+
+impl Moves {
+    pub fn new() -> Moves {
+        Moves {
+            places: HashMap::new(),
+            keys: HashMap::new(),
+            purge_at: FIRST_PURGE,
+        }
+    }
+
+    pub fn len(&self) -> usize {
+        self.places.len()
+    }
+
+    /// The present key of a moved entry.
+    pub fn place(&self, key: &Key) -> Option<Key> {
+        self.places.get(key).copied()
+    }
+
+    /// The user's key of the entry that is at a place.
+    pub fn key(&self, place: &Key) -> Key {
+        *self.keys.get(place).unwrap_or(place)
+    }
+
+    /// Notes that the entry of a user's key is at another place.
+    pub fn note(&mut self, key: Key, place: Key) {
+        if let Some(before) = self.places.insert(key, place) {
+            self.keys.remove(&before);
+        }
+        self.keys.insert(place, key);
+    }
+
+    /// Forgets the entry at a place, which has ended, and gives its user's key.
+    pub fn end(&mut self, place: &Key) -> Key {
+        match self.keys.remove(place) {
+            None => *place,
+            Some(key) => {
+                self.places.remove(&key);
+                key
+            }
+        }
+    }
+
+    /// Forgets those that have ended, where there are twice as many as the last time.
+    pub fn purge(&mut self, mut is_there: impl FnMut(&Key) -> bool) {
+        if self.places.len() < self.purge_at {
+            return;
+        }
+        self.keys.retain(|place, _| is_there(place));
+        let keys = &self.keys;
+        self.places.retain(|_, place| keys.contains_key(place));
+        self.purge_at = FIRST_PURGE.max(2 * self.places.len());
+    }
+}

@@ -1,0 +1,324 @@
+//! How entries come out.
+
+use crate::core::{Expired as Out, Piece, Turn};
+use crate::delay_queue::key::Key;
+use crate::delay_queue::segment::Segment;
+use crate::delay_queue::shared::Shared;
+use crate::delay_queue::waking::{Todo, Wait};
+use crate::delay_queue::{DelayQueue, Expired};
+use std::fmt;
+use std::sync::atomic::Ordering::SeqCst;
+use std::thread;
+use std::time::{Duration, Instant};
+
+/// How many steps of a poll are made under one lock.
+const STEPS: u32 = 256;
+/// How many entries are taken out under one lock.
+const TAKEN_AT_ONCE: usize = 64;
+
+/// What a wait came to.
+enum Waited<R> {
+    Took(R),
+    /// Values are to be dropped.
+    Untidy,
+    Over,
+}
+
+/// A place in the line of those that wait.
+struct Seat<'q, T> {
+    shared: &'q Shared<T>,
+    wait: Wait,
+}
+
+impl<T> Drop for Seat<'_, T> {
+    fn drop(&mut self) {
+        self.shared.front.leave(self.wait);
+    }
+}
+
+impl<T> Shared<T> {
+    /// What `take` takes, as soon as it takes something; none from `until` on, or once the queue is closed. Values that were
+    /// let go are dropped here, before something is in hand and outside the line.
+    pub fn wait_for<R>(&self, until: Option<Instant>, mut take: impl FnMut() -> Option<R>) -> Option<R> {
+        loop {
+            self.tidy();
+            if let Some(taken) = take() {
+                return Some(taken);
+            }
+            if self.is_over(until) {
+                return None;
+            }
+            self.use_quiet_moment();
+            match self.wait_in_line(until, &mut take) {
+                Waited::Took(taken) => return Some(taken),
+                Waited::Untidy => {}
+                // What has come due meanwhile comes out.
+                Waited::Over => return take(),
+            }
+        }
+    }
+
+    fn is_over(&self, until: Option<Instant>) -> bool {
+        self.front.bell.is_closed() || until.is_some_and(|until| until <= self.front.time.now())
+    }
+
+    fn wait_in_line<R>(&self, until: Option<Instant>, take: &mut impl FnMut() -> Option<R>) -> Waited<R> {
+        let mut seat = Seat {
+            shared: self,
+            wait: self.front.join(),
+        };
+        loop {
+            match seat.wait.step(&self.front.bell, || self.least_hint()) {
+                Todo::Step => {}
+                Todo::Take => {
+                    if let Some(taken) = take() {
+                        return Waited::Took(taken);
+                    }
+                    if !self.is_tidy() {
+                        return Waited::Untidy;
+                    }
+                }
+                Todo::Sleep(tick) => {
+                    if self.is_over(until) {
+                        return Waited::Over;
+                    }
+                    self.sleep(tick, until);
+                }
+                Todo::Leave => return Waited::Over,
+            }
+        }
+    }
+
+    fn sleep(&self, tick: u64, until: Option<Instant>) {
+        let time = &self.front.time;
+        let due = time.moment_of(tick);
+        match due
+            .into_iter()
+            .chain(until)
+            .min()
+            .and_then(|when| time.sleep_until(when))
+        {
+            Some(length) => thread::park_timeout(length),
+            None if time.tick() < tick => thread::park(),
+            None => {}
+        }
+    }
+
+    /// The shard that has something due first, where one has.
+    fn most_due(&self, now: u64) -> Option<(usize, usize)> {
+        let mut least = (now.saturating_add(1), None);
+        for (at, segment) in self.segments() {
+            for (place, row) in segment.rows.iter().enumerate() {
+                let hint = row.hint();
+                if hint < least.0 {
+                    least = (hint, Some((at, place)));
+                }
+            }
+        }
+        least.1
+    }
+
+    /// An entry that is due.
+    pub fn take_one(&self) -> Option<Expired<T>> {
+        let now = self.front.time.tick();
+        while let Some((at, place)) = self.most_due(now) {
+            let mut out = None;
+            self.poll(at, place, now, |expired| {
+                out = Some(expired);
+                false
+            });
+            if let Some(out) = out {
+                return Some(self.expired(at, out, now));
+            }
+        }
+        None
+    }
+
+    /// Entries that are due, at most so many, and tells how many.
+    pub fn take_many(&self, row: &mut Vec<Expired<T>>, most: usize) -> usize {
+        let now = self.front.time.tick();
+        let mut taken = 0;
+        while taken < most {
+            let Some((at, place)) = self.most_due(now) else {
+                break;
+            };
+            let count = TAKEN_AT_ONCE.min(most - taken);
+            let mut batch = Vec::with_capacity(count);
+            self.poll(at, place, now, |expired| {
+                batch.push(expired);
+                batch.len() < count
+            });
+            taken += batch.len();
+            row.extend(batch.into_iter().map(|out| self.expired(at, out, now)));
+        }
+        taken
+    }
+
+    /// Takes out what is due in a shard while `more` says so, by a bounded number of steps.
+    fn poll(&self, at: usize, place: usize, now: u64, mut more: impl FnMut(Out<T>) -> bool) {
+        let segment = self.segment(at).expect("a segment of the queue");
+        let mut shard = segment.enter(place);
+        loop {
+            match shard.poll_some(now, STEPS).expect("a tick that isn't beyond the last") {
+                Piece::Answer(Turn::Out(expired)) => {
+                    if !more(expired) {
+                        break;
+                    }
+                }
+                Piece::Answer(Turn::Waiting { .. } | Turn::Idle) => break,
+                // The hint is as it was, so the shard is asked again.
+                Piece::Working => return,
+            }
+        }
+        shard.set_hint();
+    }
+
+    fn expired(&self, at: usize, out: Out<T>, now: u64) -> Expired<T> {
+        self.front.waiting.fetch_sub(1, SeqCst);
+        let late = now.saturating_sub(out.deadline);
+        if late > self.latest.load(SeqCst) {
+            self.latest.fetch_max(late, SeqCst);
+        }
+        Expired {
+            key: self.user_key(at, &out.key),
+            deadline: self.front.time.moment(out.deadline),
+            value: out.value,
+        }
+    }
+}
+
+impl<T> Shared<T> {
+    pub fn receive(&self) -> Option<Expired<T>> {
+        self.wait_for(None, || self.take_one())
+    }
+
+    pub fn receive_within(&self, timeout: Duration) -> Option<Expired<T>> {
+        // A moment that no clock reaches is waited for without end.
+        self.wait_for(self.front.time.now().checked_add(timeout), || self.take_one())
+    }
+
+    pub fn receive_many(&self, row: &mut Vec<Expired<T>>, most: usize) -> usize {
+        if most == 0 {
+            return 0;
+        }
+        let some = |taken: usize| if taken > 0 { Some(taken) } else { None };
+        self.wait_for(None, || some(self.take_many(row, most))).unwrap_or(0)
+    }
+
+    pub fn try_receive(&self) -> Option<Expired<T>> {
+        self.tidy();
+        let taken = self.take_one();
+        if taken.is_none() {
+            // What the poll freed is dropped while nothing is in hand.
+            self.tidy();
+        }
+        taken
+    }
+}
+
+/// What comes out of a queue, one entry after the other, until it is closed.
+#[derive(Debug)]
+#[must_use = "an iterator does nothing until it is asked"]
+pub struct Iter<'q, T> {
+    queue: &'q DelayQueue<T>,
+}
+
+/// What is due of a queue, one entry after the other.
+#[derive(Debug)]
+#[must_use = "an iterator does nothing until it is asked"]
+pub struct TryIter<'q, T> {
+    queue: &'q DelayQueue<T>,
+}
+
+impl<'q, T> Iter<'q, T> {
+    pub(crate) fn new(queue: &'q DelayQueue<T>) -> Iter<'q, T> {
+        Iter { queue }
+    }
+}
+
+impl<'q, T> TryIter<'q, T> {
+    pub(crate) fn new(queue: &'q DelayQueue<T>) -> TryIter<'q, T> {
+        TryIter { queue }
+    }
+}
+
+impl<T> Iterator for Iter<'_, T> {
+    type Item = Expired<T>;
+
+    fn next(&mut self) -> Option<Expired<T>> {
+        self.queue.recv()
+    }
+}
+
+impl<T> Iterator for TryIter<'_, T> {
+    type Item = Expired<T>;
+
+    fn next(&mut self) -> Option<Expired<T>> {
+        self.queue.try_recv()
+    }
+}
+
+/// What waits in a queue, taken out one entry after the other.
+#[must_use = "an iterator does nothing until it is asked"]
+pub struct Drain<'q, T> {
+    shared: &'q Shared<T>,
+    segment: usize,
+    place: usize,
+    slot: usize,
+}
+
+impl<'q, T> Drain<'q, T> {
+    pub(crate) fn new(shared: &'q Shared<T>) -> Drain<'q, T> {
+        Drain {
+            shared,
+            segment: 0,
+            place: 0,
+            slot: 0,
+        }
+    }
+
+    /// The next live entry of the present shard. What was cancelled is freed on the way.
+    fn next_here(&mut self, segment: &Segment<T>) -> Option<(Key, Instant, T)> {
+        while let Some((entry, next)) = segment.entry_from(self.place, self.slot) {
+            self.slot = next;
+            let mut shard = segment.enter(self.place);
+            let Ok(removed) = shard.remove(&entry) else {
+                let _ = shard.reap(&entry);
+                continue;
+            };
+            drop(shard);
+            let front = &self.shared.front;
+            front.waiting.fetch_sub(1, SeqCst);
+            let key = self.shared.user_key(self.segment, &removed.key);
+            return Some((key, front.time.moment(removed.deadline), removed.value));
+        }
+        None
+    }
+}
+
+impl<T> Iterator for Drain<'_, T> {
+    type Item = (Key, Instant, T);
+
+    fn next(&mut self) -> Option<(Key, Instant, T)> {
+        // What was cancelled is dropped while nothing is in hand.
+        self.shared.tidy();
+        let shared = self.shared;
+        while let Some(segment) = shared.segment(self.segment) {
+            if let Some(taken) = self.next_here(segment) {
+                return Some(taken);
+            }
+            (self.place, self.slot) = (self.place + 1, 0);
+            if self.place == segment.rows.len() {
+                (self.segment, self.place) = (self.segment + 1, 0);
+            }
+        }
+        shared.tidy();
+        None
+    }
+}
+
+impl<T> fmt::Debug for Drain<'_, T> {
+    fn fmt(&self, f: &mut fmt::Formatter<'_>) -> fmt::Result {
+        f.debug_struct("Drain").finish_non_exhaustive()
+    }
+}

@@ -1,0 +1,663 @@
+//! What the clones of a queue share: its segments, and the calls by key.
+
+use crate::core::{CallError, CoreError, Look, Removed};
+use crate::delay_queue::callers::{route, Front, Handles};
+use crate::delay_queue::errors::{InsertErrorKind, KeyError};
+use crate::delay_queue::key::Key;
+use crate::delay_queue::moves::Moves;
+use crate::delay_queue::segment::{Locked, Segment};
+use crate::delay_queue::waking::NEVER;
+use crate::lasting::{Kept, LastingConfig, LastingHandle};
+use crate::ticks::{self, EntryId, CAPACITY_LIMIT};
+use std::sync::atomic::{AtomicBool, AtomicU64, AtomicUsize, Ordering::SeqCst};
+use std::sync::{Arc, Mutex, MutexGuard, OnceLock, PoisonError};
+
+/// The most segments of a queue.
+const SEGMENTS: usize = 64;
+/// The slots of a shard of the first segment. Each further segment has twice as many shards, and then twice as many slots a
+/// shard, up to the most.
+const FIRST_CAPACITY: usize = 64;
+/// How many slots of a shard are looked at for cancelled entries where there is no free one.
+const SWEPT: usize = 256;
+/// How many shards are swept so before a segment is made.
+const SWEEPS: usize = 8;
+/// Ticks from one time that a worn shard is looked at to the next.
+const RENEW_PAUSE: u64 = 100;
+/// How many entries of a shard that drains are moved at once.
+const MOVED_AT_ONCE: usize = 16;
+
+/// What a queue is made by.
+#[derive(Clone, Debug)]
+pub(crate) struct Limits {
+    pub shards: usize,
+    pub max_entries: usize,
+    pub last_stamp: u32,
+}
+
+pub(crate) struct Shared<T> {
+    pub front: Arc<Front>,
+    limits: Limits,
+    segments: [OnceLock<Box<Segment<T>>>; SEGMENTS],
+    /// How many segments there are.
+    open: AtomicUsize,
+    /// Held while a segment is made.
+    grows: Mutex<()>,
+    moves: Mutex<Moves>,
+    /// How many entries were moved. It isn't 0 from before one is taken out of its place.
+    moved: AtomicUsize,
+    /// By how many ticks an entry was late at most as it came out.
+    pub latest: AtomicU64,
+    /// The accepted cancels as the sweep of all shards began that is under way, and where it goes on.
+    swept: AtomicU64,
+    sweep_at: AtomicUsize,
+    /// How many sweeps are left until each slot was looked at since the last cancel.
+    sweeps_left: AtomicUsize,
+}
+
+/// What is asked of a thread's handle.
+#[derive(Clone, Copy)]
+pub(crate) enum Step {
+    /// To a tick at the least.
+    Extend(u64),
+    Cancel,
+    Look,
+}
+
+impl Step {
+    /// An extend to a tick. Beyond the last one it is refused once the key is found to be of the queue.
+    pub fn to(tick: Option<u64>) -> Step {
+        Step::Extend(tick.unwrap_or(u64::MAX))
+    }
+
+    #[inline]
+    fn make(self, handle: &mut LastingHandle, key: &ticks::Key) -> Result<u64, CallError> {
+        match self {
+            Step::Extend(tick) => handle.extend(key, tick),
+            Step::Cancel => handle.cancel(key),
+            Step::Look => match handle.look(key)? {
+                Look::StillLive(deadline) => Ok(deadline),
+                how => Err(CallError::Ended { how }),
+            },
+        }
+    }
+}
+
+/// A step by a thread's own handle, without a lock. None where it takes the shard's to tell.
+#[inline]
+pub(crate) fn quick_step(front: &Arc<Front>, key: &Key, step: Step) -> Option<Result<u64, KeyError>> {
+    if key.queue() != front.number() {
+        return Some(Err(KeyError::WrongQueue));
+    }
+    let made = front.with_handles(|handles| match handles.get_mut(key.segment()) {
+        Some(Some(handle)) => Some(step.make(handle, &key.inner())),
+        _ => None,
+    });
+    match made? {
+        Ok(deadline) => Some(Ok(counted(front, step, deadline))),
+        Err(CallError::TooFar { .. }) => Some(Err(KeyError::TooFar)),
+        // One that was moved is found as removed.
+        Err(
+            CallError::Ended {
+                how: Look::LookRemoved(_),
+            }
+            | CallError::Unknown
+            | CallError::Stale { .. },
+        ) => None,
+        Err(CallError::Ended { .. }) => Some(Err(KeyError::Ended)),
+    }
+}
+
+fn counted(front: &Front, step: Step, deadline: u64) -> u64 {
+    if let Step::Cancel = step {
+        front.cancels.fetch_add(1, SeqCst);
+        front.waiting.fetch_sub(1, SeqCst);
+    }
+    deadline
+}
+
+/// What a handle asks of a queue whose values it doesn't know.
+pub(crate) trait Steps: Send + Sync {
+    /// A step that takes the shard's lock.
+    fn slow_step(&self, key: &Key, step: Step) -> Result<u64, KeyError>;
+}
+
+impl<T: Send> Steps for Shared<T> {
+    fn slow_step(&self, key: &Key, step: Step) -> Result<u64, KeyError> {
+        self.step_slowly(key, step)
+    }
+}
+
+impl<T> Shared<T> {
+    pub fn step(&self, key: &Key, step: Step) -> Result<u64, KeyError> {
+        quick_step(&self.front, key, step).unwrap_or_else(|| self.step_slowly(key, step))
+    }
+
+    /// A step under the shard's lock: the entry's stamp was changed by a reset, its shard was renewed, it was moved, or it has
+    /// ended.
+    #[cold]
+    fn step_slowly(&self, key: &Key, step: Step) -> Result<u64, KeyError> {
+        if let Some(deadline) = self.step_at(key, step)? {
+            return Ok(deadline);
+        }
+        if self.moved.load(SeqCst) == 0 {
+            return Err(KeyError::Ended);
+        }
+        let moves = self.moves();
+        let place = moves.place(key).ok_or(KeyError::Ended)?;
+        self.step_at(&place, step)?.ok_or(KeyError::Ended)
+    }
+
+    /// A step on the entry at a place; none where it isn't there, or isn't live.
+    fn step_at(&self, place: &Key, step: Step) -> Result<Option<u64>, KeyError> {
+        let Some(segment) = self.segment(place.segment()) else {
+            return Ok(None);
+        };
+        let made = self
+            .front
+            .with_handles(|handles| step_in(handles, segment, place, step))?;
+        Ok(made.map(|deadline| counted(&self.front, step, deadline)))
+    }
+}
+
+/// A step by one of these handles, which is made or renewed where it doesn't know the shard yet.
+fn step_in<T>(handles: &mut Handles, segment: &Segment<T>, place: &Key, step: Step) -> Result<Option<u64>, KeyError> {
+    let handle = handle_of(handles, segment, place.segment())?;
+    for _ in 0..2 {
+        let mut shard = segment.enter(segment.place_of(place.number()));
+        if shard.deadline(&place.entry()).is_err() {
+            return Ok(None);
+        }
+        // The entry is there by its birth, and under the lock nobody changes its stamp.
+        let made = match step.make(handle, &place.inner()) {
+            Err(CallError::Stale { seen }) => step.make(handle, &ticks::Key::new(place.entry(), seen)),
+            made => made,
+        };
+        drop(shard);
+        match made {
+            Ok(deadline) => return Ok(Some(deadline)),
+            Err(CallError::TooFar { .. }) => return Err(KeyError::TooFar),
+            Err(CallError::Unknown) => handle.renew(&segment.queue).map_err(|_| KeyError::NoMemory)?,
+            Err(_) => return Ok(None),
+        };
+    }
+    Ok(None)
+}
+
+fn handle_of<'h, T>(
+    handles: &'h mut Handles,
+    segment: &Segment<T>,
+    at: usize,
+) -> Result<&'h mut LastingHandle, KeyError> {
+    if handles.len() <= at {
+        handles.resize_with(at + 1, || None);
+    }
+    let slot = &mut handles[at];
+    match slot {
+        Some(handle) => Ok(handle),
+        None => Ok(slot.insert(segment.queue.handle().map_err(|_| KeyError::NoMemory)?)),
+    }
+}
+
+impl<T> Shared<T> {
+    pub fn new(front: Arc<Front>, limits: Limits) -> Shared<T> {
+        Shared {
+            front,
+            limits,
+            segments: std::array::from_fn(|_| OnceLock::new()),
+            open: AtomicUsize::new(0),
+            grows: Mutex::default(),
+            moves: Mutex::new(Moves::new()),
+            moved: AtomicUsize::new(0),
+            latest: AtomicU64::new(0),
+            swept: AtomicU64::new(0),
+            sweep_at: AtomicUsize::new(0),
+            sweeps_left: AtomicUsize::new(0),
+        }
+    }
+
+    fn moves(&self) -> MutexGuard<'_, Moves> {
+        self.moves.lock().unwrap_or_else(PoisonError::into_inner)
+    }
+
+    pub fn segment(&self, at: usize) -> Option<&Segment<T>> {
+        self.segments.get(at)?.get().map(|segment| &**segment)
+    }
+
+    /// The segments that there are.
+    pub fn segments(&self) -> impl Iterator<Item = (usize, &Segment<T>)> {
+        let open = self.open.load(SeqCst);
+        (0..open).filter_map(|at| Some((at, self.segment(at)?)))
+    }
+
+    /// The least hint: nothing is due before it.
+    pub fn least_hint(&self) -> u64 {
+        let hints = self
+            .segments()
+            .flat_map(|(_, segment)| segment.rows.iter().map(|row| row.hint()));
+        hints.min().unwrap_or(NEVER)
+    }
+
+    pub fn key(&self, segment: usize, key: &ticks::Key) -> Key {
+        Key::of(self.front.number(), segment, key)
+    }
+}
+
+impl<T> Shared<T> {
+    /// Puts an entry in that is due at a tick.
+    pub fn insert(&self, value: T, tick: Option<u64>) -> Result<Key, (InsertErrorKind, T)> {
+        let Some(tick) = tick else {
+            return Err((InsertErrorKind::TooFar, value));
+        };
+        if self.front.bell.is_closed() {
+            return Err((InsertErrorKind::Closed, value));
+        }
+        let Some(counted) = self.count() else {
+            return Err((InsertErrorKind::Full, value));
+        };
+        let key = self.insert_counted(value, tick)?;
+        std::mem::forget(counted);
+        self.front.ring_before(tick);
+        Ok(key)
+    }
+
+    /// Counts one entry more, none where there are as many as may be.
+    #[inline]
+    fn count(&self) -> Option<Counted<'_>> {
+        let (waiting, most) = (&self.front.waiting, self.limits.max_entries);
+        if most == usize::MAX {
+            waiting.fetch_add(1, SeqCst);
+        } else {
+            let more = |waiting| if waiting < most { Some(waiting + 1) } else { None };
+            waiting.fetch_update(SeqCst, SeqCst, more).ok()?;
+        }
+        Some(Counted(waiting))
+    }
+
+    /// The same of an entry that is counted already, in this thread's shard of a segment that has room there.
+    fn insert_counted(&self, value: T, tick: u64) -> Result<Key, (InsertErrorKind, T)> {
+        let mut value = value;
+        let route = route();
+        for (at, segment) in self.segments() {
+            let place = route % segment.rows.len();
+            if segment.rows[place].has_room() {
+                match self.insert_at(at, segment, place, value, tick) {
+                    Ok(key) => return Ok(key),
+                    Err(back) => value = back,
+                }
+            }
+        }
+        self.insert_elsewhere(value, tick)
+    }
+
+    /// An insert at a place. The value comes back where there is no room.
+    fn insert_at(&self, at: usize, segment: &Segment<T>, place: usize, value: T, tick: u64) -> Result<Key, T> {
+        let mut shard = segment.enter_clean(place);
+        match shard.insert(value, tick) {
+            Ok(key) => {
+                shard.lower_hint(tick);
+                drop(shard);
+                self.renew_where_due(segment, at);
+                Ok(self.key(at, &key))
+            }
+            Err((_, back)) => Err(back),
+        }
+    }
+
+    /// An insert for which this thread's shards have no room: in any that has, then after a sweep and a renewal, and at last
+    /// in a new segment.
+    #[cold]
+    fn insert_elsewhere(&self, value: T, tick: u64) -> Result<Key, (InsertErrorKind, T)> {
+        let mut value = value;
+        for turn in 0.. {
+            for (at, segment) in self.segments() {
+                for place in (0..segment.rows.len()).filter(|place| segment.rows[*place].has_room()) {
+                    match self.insert_at(at, segment, place, value, tick) {
+                        Ok(key) => return Ok(key),
+                        Err(back) => value = back,
+                    }
+                }
+            }
+            let open = self.open.load(SeqCst);
+            if turn == 0 && open > 0 {
+                self.make_room();
+            } else if let Err(kind) = self.grow(open) {
+                return Err((kind, value));
+            }
+        }
+        unreachable!("a queue has so many segments at most")
+    }
+
+    /// Frees what was cancelled and what is worn, by a bounded number of slots.
+    fn make_room(&self) {
+        for _ in 0..SWEEPS {
+            self.sweep_next();
+        }
+        for (at, segment) in self.segments() {
+            if segment.is_worn.load(SeqCst) {
+                self.renew(segment, at);
+            }
+        }
+    }
+
+    /// Makes the next segment, unless there are more than `seen` by now.
+    fn grow(&self, seen: usize) -> Result<(), InsertErrorKind> {
+        let _one = self.grows.lock().unwrap_or_else(PoisonError::into_inner);
+        let open = self.open.load(SeqCst);
+        if open > seen {
+            return Ok(());
+        }
+        let slot = self.segments.get(open).ok_or(InsertErrorKind::Full)?;
+        let segment = Segment::new(self.limits.of_segment(open)).map_err(|_| InsertErrorKind::NoMemory)?;
+        let _ = slot.set(Box::new(segment));
+        self.open.store(open + 1, SeqCst);
+        Ok(())
+    }
+}
+
+impl<T> Shared<T> {
+    /// What a call makes of the entry of a key, under its shard's lock, and in which segment.
+    fn at_entry<R>(
+        &self,
+        key: &Key,
+        mut call: impl FnMut(&mut Locked<'_, T>, &EntryId) -> Result<R, CoreError>,
+    ) -> Result<(usize, R), CoreError> {
+        let mut call_at = |place: &Key| {
+            let segment = self.segment(place.segment()).ok_or(CoreError::Missing)?;
+            let mut shard = segment.enter(segment.place_of(place.number()));
+            call(&mut shard, &place.entry()).map(|made| (place.segment(), made))
+        };
+        match call_at(key) {
+            Err(CoreError::Missing) if self.moved.load(SeqCst) > 0 => {
+                let moves = self.moves();
+                call_at(&moves.place(key).ok_or(CoreError::Missing)?)
+            }
+            made => made,
+        }
+    }
+
+    fn own(&self, key: &Key) -> Result<(), KeyError> {
+        if key.queue() == self.front.number() {
+            Ok(())
+        } else {
+            Err(KeyError::WrongQueue)
+        }
+    }
+
+    /// Gives an entry the deadline `tick`, and gives its key of the present stamp.
+    pub fn reset(&self, key: &Key, tick: Option<u64>) -> Result<Key, KeyError> {
+        self.own(key)?;
+        let tick = tick.ok_or(KeyError::TooFar)?;
+        let reset = self.at_entry(key, |shard, entry| {
+            let renamed = shard.reset(entry, tick)?;
+            shard.lower_hint(tick);
+            Ok(renamed)
+        });
+        let renamed = match reset {
+            Ok((at, renamed)) => self.key(at, &renamed),
+            Err(CoreError::Worn) => self.reset_elsewhere(key, tick)?,
+            Err(_) => return Err(KeyError::Ended),
+        };
+        self.front.ring_before(tick);
+        // Of one that was moved the key is the one that it always had.
+        Ok(if renamed == *key { renamed } else { *key })
+    }
+
+    /// The reset of an entry whose slot has no stamp left: it is moved.
+    #[cold]
+    fn reset_elsewhere(&self, key: &Key, tick: u64) -> Result<Key, KeyError> {
+        loop {
+            let open = self.open.load(SeqCst);
+            let mut moves = self.moves();
+            let place = moves.place(key).unwrap_or(*key);
+            let moved = self.move_entry(&mut moves, &place, Some(tick));
+            drop(moves);
+            match moved {
+                Ok(_) => return Ok(*key),
+                Err(Unmoved::Ended) => return Err(KeyError::Ended),
+                Err(Unmoved::NoRoom) => {
+                    self.tidy();
+                    self.grow(open).map_err(|_| KeyError::NoMemory)?;
+                }
+            }
+        }
+    }
+
+    /// Takes a live entry out.
+    pub fn remove(&self, key: &Key) -> Result<Removed<T>, KeyError> {
+        self.own(key)?;
+        let removed = self.at_entry(key, |shard, entry| shard.remove(entry));
+        let (at, removed) = removed.map_err(|_| KeyError::Ended)?;
+        self.user_key(at, &removed.key);
+        self.front.waiting.fetch_sub(1, SeqCst);
+        Ok(removed)
+    }
+
+    /// The key that the user has of an entry that has ended.
+    pub fn user_key(&self, at: usize, key: &ticks::Key) -> Key {
+        let place = self.key(at, key);
+        if self.moved.load(SeqCst) == 0 {
+            return place;
+        }
+        let mut moves = self.moves();
+        let key = moves.end(&place);
+        self.moved.store(moves.len(), SeqCst);
+        key
+    }
+}
+
+/// Why an entry isn't moved.
+enum Unmoved {
+    Ended,
+    NoRoom,
+}
+
+impl<T> Shared<T> {
+    /// Moves a live entry to a slot that has stamps, and gives it a deadline, or leaves it the one that it has. Nobody else
+    /// holds two locks of shards, and whoever holds one waits for nothing, so the order of the two is free.
+    fn move_entry(&self, moves: &mut Moves, place: &Key, tick: Option<u64>) -> Result<u64, Unmoved> {
+        let segment = self.segment(place.segment()).ok_or(Unmoved::Ended)?;
+        let at = segment.place_of(place.number());
+        let mut source = segment.enter(at);
+        let deadline = source.deadline(&place.entry()).map_err(|_| Unmoved::Ended)?;
+        let tick = tick.unwrap_or(deadline);
+        let key = moves.key(place);
+        // From here on whoever doesn't find the entry at its place asks for where it was moved.
+        self.moved.store(moves.len() + 1, SeqCst);
+        let moved = self.put_elsewhere(&mut source, (place.segment(), at), &place.entry(), tick);
+        if let Ok(present) = &moved {
+            moves.note(key, *present);
+        }
+        drop(source);
+        moves.purge(|place| self.is_linked(place));
+        self.moved.store(moves.len(), SeqCst);
+        moved.map(|_| tick)
+    }
+
+    /// Takes an entry out of a shard whose lock is held, and puts it in anew: there, or in the first shard that has room. No
+    /// value is dropped meanwhile: a shard where some are set aside isn't taken.
+    fn put_elsewhere(
+        &self,
+        source: &mut Locked<'_, T>,
+        from: (usize, usize),
+        entry: &EntryId,
+        tick: u64,
+    ) -> Result<Key, Unmoved> {
+        let takes = |shard: &Locked<'_, T>| shard.has_room() && shard.aside() == 0;
+        if takes(source) {
+            let removed = source.remove(entry).map_err(|_| Unmoved::Ended)?;
+            return Ok(self.put(source, from.0, removed.value, tick));
+        }
+        for (at, segment) in self.segments() {
+            for place in 0..segment.rows.len() {
+                if (at, place) == from || !segment.rows[place].has_room() {
+                    continue;
+                }
+                let mut other = segment.enter(place);
+                if takes(&other) {
+                    let removed = source.remove(entry).map_err(|_| Unmoved::Ended)?;
+                    return Ok(self.put(&mut other, at, removed.value, tick));
+                }
+            }
+        }
+        Err(Unmoved::NoRoom)
+    }
+
+    fn put(&self, shard: &mut Locked<'_, T>, at: usize, value: T, tick: u64) -> Key {
+        let key = shard.insert(value, tick).map_err(|(error, _)| error);
+        shard.lower_hint(tick);
+        self.key(at, &key.expect("a shard that has a free slot"))
+    }
+
+    fn is_linked(&self, place: &Key) -> bool {
+        let Some(segment) = self.segment(place.segment()) else {
+            return false;
+        };
+        segment
+            .enter(segment.place_of(place.number()))
+            .filed(&place.entry())
+            .is_some()
+    }
+}
+
+impl<T> Shared<T> {
+    /// Drops the values that were let go and that nobody dropped yet. No lock is held meanwhile.
+    pub fn tidy(&self) {
+        for (_, segment) in self.segments().filter(|(_, segment)| segment.has_aside.load(SeqCst)) {
+            segment.drop_all_aside();
+        }
+    }
+
+    /// Whether there are such values.
+    pub fn is_tidy(&self) -> bool {
+        !self.segments().any(|(_, segment)| segment.has_aside.load(SeqCst))
+    }
+
+    /// A bounded part of what is done where nothing is due: cancelled entries are freed, and worn shards renewed.
+    pub fn use_quiet_moment(&self) {
+        let cancels = self.front.cancels.load(SeqCst);
+        if self.swept.swap(cancels, SeqCst) != cancels {
+            let sweeps = |segment: &Segment<T>| segment.capacity() / SWEPT + segment.rows.len();
+            let sweeps = self.segments().map(|(_, segment)| sweeps(segment)).sum();
+            self.sweeps_left.store(sweeps, SeqCst);
+        }
+        let one_fewer = |left: usize| left.checked_sub(1);
+        if self.sweeps_left.fetch_update(SeqCst, SeqCst, one_fewer).is_ok() {
+            self.sweep_next();
+        }
+        for (at, segment) in self.segments() {
+            self.renew_where_due(segment, at);
+        }
+    }
+
+    /// Frees cancelled entries at the next slots of the next shard, and drops their values.
+    fn sweep_next(&self) {
+        let shards: usize = self.segments().map(|(_, segment)| segment.rows.len()).sum();
+        let mut place = self.sweep_at.load(SeqCst) % shards.max(1);
+        for (_, segment) in self.segments() {
+            if place < segment.rows.len() {
+                if segment.sweep(place, SWEPT) {
+                    self.sweep_at.fetch_add(1, SeqCst);
+                }
+                return segment.drop_aside(place);
+            }
+            place -= segment.rows.len();
+        }
+    }
+
+    #[inline]
+    fn renew_where_due(&self, segment: &Segment<T>, at: usize) {
+        if segment.is_worn.load(SeqCst) && self.front.time.tick() >= segment.renew_at.load(SeqCst) {
+            self.renew(segment, at);
+        }
+    }
+
+    /// Has worn shards closed, emptied and opened again, unless another thread does so. It holds no lock while values are
+    /// dropped.
+    #[cold]
+    fn renew(&self, segment: &Segment<T>, at: usize) {
+        if segment.is_renewed.swap(true, SeqCst) {
+            return;
+        }
+        let _claim = Claim(&segment.is_renewed);
+        segment
+            .renew_at
+            .store(self.front.time.tick().saturating_add(RENEW_PAUSE), SeqCst);
+        for _ in 0..4 * segment.rows.len() {
+            match segment.queue.keep_going() {
+                Ok(Kept::Fine) => return segment.is_worn.store(false, SeqCst),
+                // What the shard has room for is noted as its lock is let go.
+                Ok(Kept::Closed { place } | Kept::Reopened { place }) => drop(segment.enter(place)),
+                Ok(Kept::Drains { place, .. }) if self.empties(segment, at, place) => {}
+                Ok(Kept::Drains { .. }) | Err(_) => return,
+            }
+        }
+    }
+
+    /// Moves a few of the last entries of a shard that drains, such as one that is extended for ever, and tells whether it is
+    /// empty then.
+    fn empties(&self, segment: &Segment<T>, at: usize, place: usize) -> bool {
+        let now = self.front.time.tick();
+        for _ in 0..MOVED_AT_ONCE {
+            let mut moves = self.moves();
+            let mut shard = segment.enter(place);
+            let Some(key) = shard.peek() else {
+                return true;
+            };
+            if shard.len() > shard.capacity() / 8 + 1 {
+                return false;
+            }
+            match shard.deadline(&key.entry()) {
+                Ok(deadline) if deadline > now => drop(shard),
+                // It is due, and comes out without being moved.
+                Ok(_) => return false,
+                Err(_) => {
+                    let _ = shard.reap(&key.entry());
+                    continue;
+                }
+            }
+            match self.move_entry(&mut moves, &self.key(at, &key), None) {
+                Ok(tick) => self.front.ring_before(tick),
+                Err(Unmoved::Ended) => {}
+                Err(Unmoved::NoRoom) => return false,
+            }
+        }
+        false
+    }
+}
+
+impl<T> Drop for Shared<T> {
+    fn drop(&mut self) {
+        self.front.end();
+    }
+}
+
+/// What one thread does at a time, until this is dropped.
+struct Claim<'a>(&'a AtomicBool);
+
+impl Drop for Claim<'_> {
+    fn drop(&mut self) {
+        self.0.store(false, SeqCst);
+    }
+}
+
+/// An entry that is counted though it isn't in.
+struct Counted<'a>(&'a AtomicUsize);
+
+impl Drop for Counted<'_> {
+    fn drop(&mut self) {
+        self.0.fetch_sub(1, SeqCst);
+    }
+}
+
+impl Limits {
+    fn of_segment(&self, at: usize) -> LastingConfig {
+        let shards = if at < 5 { self.shards.min(2 << at) } else { self.shards };
+        let slots = (2 * FIRST_CAPACITY) << at.min(16);
+        let capacity = (slots / shards).min(self.max_entries.max(1)).clamp(1, CAPACITY_LIMIT);
+        LastingConfig {
+            shards,
+            capacity,
+            last_stamp: self.last_stamp,
+        }
+    }
+}

@@ -1,0 +1,187 @@
+//! From where a queue has the time.
+
+use crate::LAST_TICK;
+use std::fmt;
+use std::sync::atomic::{AtomicU64, Ordering::SeqCst};
+use std::sync::{Arc, Mutex, MutexGuard, PoisonError};
+use std::time::{Duration, Instant};
+
+/// A clock that stands still until it is advanced, for tests. A clone is the same clock.
+///
+/// ```
+/// use hontkhale::delay_queue::ManualClock;
+/// use hontkhale::DelayQueue;
+/// use std::time::Duration;
+///
+/// let clock = ManualClock::new();
+/// let queue = DelayQueue::builder().clock(&clock).build();
+/// queue.insert("lease", Duration::from_secs(3_600))?;
+/// clock.advance(Duration::from_secs(3_599));
+/// assert!(queue.try_recv().is_none());
+/// clock.advance(Duration::from_secs(1));
+/// assert_eq!(queue.recv().map(|expired| expired.value), Some("lease"));
+/// # Ok::<(), Box<dyn std::error::Error>>(())
+/// ```
+#[derive(Clone)]
+pub struct ManualClock(Arc<Manual>);
+
+/// Wakes whoever waits for the time of one queue. False where there is no such queue any more.
+type Wakes = Box<dyn Fn() -> bool + Send + Sync>;
+
+struct Manual {
+    start: Instant,
+    passed: AtomicU64,
+    queues: Mutex<Vec<Arc<Wakes>>>,
+}
+
+impl ManualClock {
+    /// A clock that stands at the present moment.
+    pub fn new() -> ManualClock {
+        ManualClock(Arc::new(Manual {
+            start: Instant::now(),
+            passed: AtomicU64::new(0),
+            queues: Mutex::default(),
+        }))
+    }
+
+    /// The moment at which it stands.
+    pub fn now(&self) -> Instant {
+        self.0.start + Duration::from_nanos(self.0.passed.load(SeqCst))
+    }
+
+    /// Goes on by that much, at most to 584 years after its start, and wakes the receivers that wait for it.
+    pub fn advance(&self, by: Duration) {
+        let by = u64::try_from(by.as_nanos()).unwrap_or(u64::MAX);
+        let _ = self
+            .0
+            .passed
+            .fetch_update(SeqCst, SeqCst, |passed| Some(passed.saturating_add(by)));
+        let queues = self.queues().clone();
+        let gone: Vec<_> = queues.into_iter().filter(|wakes| !wakes()).collect();
+        if !gone.is_empty() {
+            self.queues()
+                .retain(|wakes| !gone.iter().any(|other| Arc::ptr_eq(wakes, other)));
+        }
+    }
+
+    fn queues(&self) -> MutexGuard<'_, Vec<Arc<Wakes>>> {
+        self.0.queues.lock().unwrap_or_else(PoisonError::into_inner)
+    }
+
+    /// From now on an advance makes that call, until it returns false.
+    pub(crate) fn wakes(&self, queue: impl Fn() -> bool + Send + Sync + 'static) {
+        self.queues().push(Arc::new(Box::new(queue)));
+    }
+}
+
+impl Default for ManualClock {
+    fn default() -> ManualClock {
+        ManualClock::new()
+    }
+}
+
+impl fmt::Debug for ManualClock {
+    fn fmt(&self, f: &mut fmt::Formatter<'_>) -> fmt::Result {
+        f.debug_tuple("ManualClock").field(&self.now()).finish()
+    }
+}
+
+/// A queue's time in ticks of one millisecond since its start. A deadline is rounded up and the present down, so nothing
+/// comes out before its time.
+#[derive(Debug)]
+pub(crate) struct Time {
+    start: Instant,
+    clock: Option<ManualClock>,
+}
+
+impl Time {
+    pub fn new(clock: Option<ManualClock>) -> Time {
+        let start = clock.as_ref().map_or_else(Instant::now, ManualClock::now);
+        Time { start, clock }
+    }
+
+    #[inline]
+    pub fn now(&self) -> Instant {
+        match &self.clock {
+            None => Instant::now(),
+            Some(clock) => clock.now(),
+        }
+    }
+
+    /// The present tick.
+    #[inline]
+    pub fn tick(&self) -> u64 {
+        rounded_down(self.passed())
+    }
+
+    /// The first tick that isn't before a moment, or the present one where the moment is over; none beyond the last.
+    #[inline]
+    pub fn tick_at(&self, when: Instant) -> Option<u64> {
+        self.tick_after(self.passed(), when.saturating_duration_since(self.start))
+    }
+
+    /// The same of the moment that comes after a duration.
+    #[inline]
+    pub fn tick_in(&self, after: Duration) -> Option<u64> {
+        let passed = self.passed();
+        self.tick_after(passed, passed.checked_add(after)?)
+    }
+
+    fn passed(&self) -> Duration {
+        self.now().saturating_duration_since(self.start)
+    }
+
+    fn tick_after(&self, passed: Duration, deadline: Duration) -> Option<u64> {
+        if deadline <= passed {
+            return Some(rounded_down(deadline));
+        }
+        rounded_up(deadline)
+    }
+
+    /// The moment at which a tick begins.
+    pub fn moment(&self, tick: u64) -> Instant {
+        self.start + Duration::from_millis(tick)
+    }
+
+    /// The same, none for a tick that never comes.
+    pub fn moment_of(&self, tick: u64) -> Option<Instant> {
+        if tick > LAST_TICK {
+            return None;
+        }
+        Some(self.moment(tick))
+    }
+
+    /// How long a thread may sleep at most until a moment, none where it is woken as the time comes.
+    pub fn sleep_until(&self, when: Instant) -> Option<Duration> {
+        match &self.clock {
+            None => Some(when.saturating_duration_since(Instant::now())),
+            Some(_) => None,
+        }
+    }
+}
+
+fn rounded_down(length: Duration) -> u64 {
+    u64::try_from(length.as_millis()).map_or(LAST_TICK, |tick| tick.min(LAST_TICK))
+}
+
+fn rounded_up(length: Duration) -> Option<u64> {
+    let millis = length.as_nanos().checked_add(999_999)? / 1_000_000;
+    u64::try_from(millis).ok().filter(|tick| *tick <= LAST_TICK)
+}
+
+#[cfg(test)]
+mod tests {
+    use super::{rounded_up, LAST_TICK};
+    use std::time::Duration;
+
+    #[test]
+    fn a_deadline_is_rounded_up_and_refused_beyond_the_last_tick() {
+        let last = Duration::from_millis(LAST_TICK);
+        assert_eq!(rounded_up(Duration::ZERO), Some(0));
+        assert_eq!(rounded_up(Duration::from_nanos(1)), Some(1));
+        assert_eq!(rounded_up(Duration::from_millis(7)), Some(7));
+        assert_eq!(rounded_up(last), Some(LAST_TICK));
+        assert_eq!(rounded_up(last + Duration::from_nanos(1)), None);
+        assert_eq!(rounded_up(Duration::MAX), None);
+    }
+}

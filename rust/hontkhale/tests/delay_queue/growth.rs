@@ -1,0 +1,82 @@
+//! A queue grows as entries come, up to its bound, and uses again what has ended.
+
+use crate::kit::{ms, Drops, FAR};
+use hontkhale::delay_queue::{InsertErrorKind, ManualClock};
+use hontkhale::DelayQueue;
+use std::time::Duration;
+
+#[test]
+fn an_empty_queue_takes_little_and_grows_as_entries_come() {
+    let queue = DelayQueue::builder().shards(4).build();
+    let empty = queue.stats().memory;
+    assert!(empty < 10_000, "{empty}");
+    for number in 0..100_000_u64 {
+        queue.insert(number, FAR).expect("room");
+    }
+    let memory = queue.stats().memory;
+    assert!(memory < 3 * 64 * 100_000, "{memory}");
+    assert_eq!((queue.len(), queue.clear(), queue.len()), (100_000, 100_000, 0));
+    for number in 0..100_000_u64 {
+        queue.insert(number, FAR).expect("room");
+    }
+    assert_eq!(queue.stats().memory, memory);
+}
+
+#[test]
+fn no_more_wait_than_may_and_what_has_ended_makes_room() {
+    for most in [0, 1, 5, 1_000] {
+        let queue = DelayQueue::builder().max_entries(most).build();
+        let keys: Vec<_> = (0..most)
+            .map(|number| queue.insert(number, FAR).expect("room"))
+            .collect();
+        for _ in 0..3 {
+            let refused = queue.insert(most, FAR).unwrap_err();
+            assert_eq!((refused.kind(), refused.into_inner()), (InsertErrorKind::Full, most));
+        }
+        for key in &keys {
+            queue.cancel(key).expect("it waits");
+            queue.insert(7, FAR).expect("room");
+        }
+        assert_eq!(queue.len(), most);
+    }
+}
+
+/// Cancelled entries give their slots back without a receiver, so a queue doesn't grow by them without end.
+#[test]
+fn an_insert_frees_what_was_cancelled() {
+    let drops = Drops::default();
+    let queue = DelayQueue::new();
+    for number in 0..50_000 {
+        let key = queue.insert(drops.value(number), FAR).expect("room");
+        queue.cancel(&key).expect("it waits");
+    }
+    let stats = queue.stats();
+    assert!(stats.cancelled < 5_000 && stats.memory < 1_000_000, "{stats}");
+    drop(queue);
+    assert!(drops.are_once(50_000));
+}
+
+#[test]
+fn a_receiver_in_a_quiet_moment_frees_what_was_cancelled() {
+    let drops = Drops::default();
+    let queue = DelayQueue::new();
+    let key = queue.insert(drops.value(0), FAR).expect("room");
+    queue.cancel(&key).expect("it waits");
+    assert!(queue.recv_timeout(ms(1)).is_none());
+    for _ in 0..8 {
+        assert!(queue.recv_timeout(ms(1)).is_none());
+    }
+    assert_eq!((drops.count(0), queue.stats().cancelled), (1, 0));
+}
+
+#[test]
+fn a_deadline_a_century_away_comes_out_then() {
+    let clock = ManualClock::new();
+    let queue = DelayQueue::builder().clock(&clock).build();
+    let century = Duration::from_secs(100 * 365 * 24 * 3_600);
+    queue.insert("far", century).expect("room");
+    clock.advance(century - ms(1));
+    assert!(queue.try_recv().is_none());
+    clock.advance(ms(1));
+    assert_eq!(queue.try_recv().map(|expired| expired.value), Some("far"));
+}

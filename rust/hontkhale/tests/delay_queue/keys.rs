@@ -1,0 +1,124 @@
+//! A key names its entry for as long as that lives, and nothing else.
+
+use crate::kit::{ms, Drops, FAR};
+use hontkhale::delay_queue::{Handle, Key, KeyError, ManualClock, Timeout};
+use hontkhale::DelayQueue;
+use std::cell::Cell;
+use std::collections::{BTreeSet, HashMap};
+use std::mem::size_of;
+use std::thread;
+
+fn is_sent<T: Send>() {}
+fn is_shared<T: Send + Sync + Clone>() {}
+
+#[test]
+fn its_types_are_sent_and_shared() {
+    is_shared::<DelayQueue<Cell<u8>>>();
+    is_shared::<Handle>();
+    is_shared::<Key>();
+    is_sent::<Timeout<Cell<u8>>>();
+    assert_eq!(size_of::<Key>(), 16);
+}
+
+#[test]
+fn keys_of_different_entries_differ_and_those_of_one_are_equal() {
+    let queue = DelayQueue::new();
+    let keys: Vec<Key> = (0..1_000)
+        .map(|number| queue.insert(number, FAR).expect("room"))
+        .collect();
+    assert_eq!(keys.iter().collect::<BTreeSet<_>>().len(), 1_000);
+    let names: HashMap<Key, usize> = keys.iter().copied().zip(0..).collect();
+    for (number, key) in keys.iter().enumerate() {
+        let renamed = queue.reset(key, FAR * 2).expect("it waits");
+        assert_eq!((renamed, names[&renamed]), (*key, number));
+    }
+}
+
+/// Also where the reset moves the entry, which it does here from the second on.
+#[test]
+fn a_key_serves_for_its_entrys_whole_life() {
+    for last_stamp in [1, 2, 3, 1_000] {
+        let queue = DelayQueue::builder().last_stamp(last_stamp).build();
+        let key = queue.insert("session", FAR).expect("room");
+        let handle = queue.handle();
+        for turn in 1..50 {
+            let later = FAR + ms(1_000 * turn);
+            assert_eq!(queue.reset(&key, FAR), Ok(key));
+            let deadline = queue.extend(&key, later).expect("it waits");
+            assert_eq!(handle.deadline(&key), Ok(deadline));
+            let handle = handle.clone();
+            let extends = thread::spawn(move || handle.extend(&key, later + ms(500)).is_ok());
+            assert!(extends.join().unwrap());
+        }
+        queue.reset(&key, ms(0)).expect("it waits");
+        let expired = queue.recv().expect("it is due");
+        assert_eq!((expired.key, expired.value), (key, "session"));
+    }
+}
+
+#[test]
+fn what_has_ended_is_refused_by_each_call() {
+    let clock = ManualClock::new();
+    let queue = DelayQueue::builder().clock(&clock).build();
+    let [out, removed, cancelled] = [1, 2, 3].map(|number| queue.insert(number, ms(number)).expect("room"));
+    assert!(queue.cancel(&cancelled).is_ok());
+    assert_eq!(queue.remove(&removed), Ok(2));
+    clock.advance(ms(1));
+    assert_eq!(queue.recv().map(|expired| expired.value), Some(1));
+    // Other entries get their slots.
+    let others: Vec<_> = (0..200)
+        .map(|number| queue.insert(number, FAR).expect("room"))
+        .collect();
+    for key in [out, removed, cancelled] {
+        assert_eq!(queue.extend(&key, FAR), Err(KeyError::Ended));
+        assert_eq!(queue.reset(&key, FAR), Err(KeyError::Ended));
+        assert_eq!(queue.cancel(&key), Err(KeyError::Ended));
+        assert_eq!(queue.deadline(&key), Err(KeyError::Ended));
+        assert_eq!(queue.remove(&key), Err(KeyError::Ended));
+        assert_eq!(queue.handle().extend(&key, FAR), Err(KeyError::Ended));
+    }
+    assert_eq!(queue.len(), others.len());
+}
+
+#[test]
+fn an_extend_never_lowers_and_a_reset_does() {
+    let clock = ManualClock::new();
+    let queue = DelayQueue::builder().clock(&clock).build();
+    let key = queue.insert((), ms(100)).expect("room");
+    assert_eq!(queue.extend(&key, ms(50)), Ok(clock.now() + ms(100)));
+    assert_eq!(queue.extend_at(&key, clock.now() + ms(200)), Ok(clock.now() + ms(200)));
+    queue.reset(&key, ms(70)).expect("it waits");
+    assert_eq!(queue.deadline(&key), Ok(clock.now() + ms(70)));
+    queue.reset_at(&key, clock.now() + ms(60)).expect("it waits");
+    assert_eq!(queue.next_deadline(), Some(clock.now() + ms(60)));
+    assert_eq!(queue.cancel(&key), Ok(clock.now() + ms(60)));
+}
+
+#[test]
+fn a_deadline_that_is_too_far_is_refused_and_changes_nothing() {
+    let queue = DelayQueue::new();
+    let key = queue.insert((), FAR).expect("room");
+    let deadline = queue.deadline(&key);
+    let too_far = std::time::Duration::from_secs(140 * 366 * 24 * 3_600);
+    assert_eq!(queue.extend(&key, too_far), Err(KeyError::TooFar));
+    assert_eq!(queue.reset(&key, too_far), Err(KeyError::TooFar));
+    assert_eq!(queue.handle().extend(&key, too_far), Err(KeyError::TooFar));
+    assert_eq!(queue.deadline(&key), deadline);
+}
+
+#[test]
+fn a_guard_takes_its_entry_out_where_it_is_dropped() {
+    let (drops, queue) = (Drops::default(), DelayQueue::new());
+    drop(queue.guard(drops.value(1), FAR).expect("room"));
+    assert!(queue.is_empty() && drops.count(1) == 1);
+    let guard = queue.guard(drops.value(2), ms(0)).expect("room");
+    assert!(guard.extend(FAR).is_ok());
+    assert!(queue.try_recv().is_none());
+    assert_eq!(guard.cancel().map(|value| value.number), Some(2));
+    let key = queue.guard(drops.value(3), FAR).expect("room").forget();
+    assert_eq!(queue.remove(&key).map(|value| value.number), Ok(3));
+    let guard = queue.guard(drops.value(4), ms(0)).expect("room");
+    assert_eq!(queue.recv().map(|expired| expired.value.number), Some(4));
+    assert_eq!(guard.extend(FAR), Err(KeyError::Ended));
+    assert!(guard.cancel().is_none());
+}
