@@ -13,7 +13,7 @@ use Rattle.dq_words.specs.declared.keeper.TheConstants.{HANDLE_LIMIT}
 use Rattle.dq_words.specs.CallerCalls.{seen_at, look_of, IsForged}
 use Rattle.dq_words.specs.Counts.{cancels_in}
 use Rattle.dq_words.specs.Files.{IsIn, extends_at}
-use Rattle.dq_words.specs.Plays.{Fair}
+use Rattle.dq_words.specs.Plays.{Fair, giving_back}
 use Rattle.dq_words.specs.Seats.{Sat}
 
 -- the word of the key's slot, as the caller saw it last
@@ -74,6 +74,11 @@ StepsAtMost n c d = length d.view.steps ≤ length c.view.steps + n
 -- how many cancels of the caller were accepted
 abbrev pub cancels_of : Sat → ℕ
 cancels_of c = cancels_in c.view.calls
+
+-- what is left of a caller that was given back: its table, and all that it knew, with the step
+-- that counts it as gone
+abbrev pub ShowsGone : Sat → Sat → Type 0
+ShowsGone c g = (g.table ≡ c.table) × (g.view ≡ giving_back c.view)
 
 -- nothing is known yet: no step was made, no call accepted, nothing written, and nobody issued
 abbrev pub KnowsNothing : Sat → Type 0

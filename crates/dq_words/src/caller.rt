@@ -2,7 +2,7 @@
 ghost use Rattle.std.specs.Prelude.{◌≡◌, ◌+◌, ◌<◌, ◌≤◌, [], length, false, IfErr, IfOk};
 ghost use Rattle.std.specs.Prelude.{MatchOption, MatchResult};
 ghost use Rattle.dq_ticks.specs.Word.{stamp_of, mark_of, field_of};
-ghost use Rattle.dq_words.specs.AtTheCall.{cancels_of, AgreesWithCalls, ExtendRefusedByWord};
+ghost use Rattle.dq_words.specs.AtTheCall.{cancels_of, AgreesWithCalls, ExtendRefusedByWord, ShowsGone};
 ghost use Rattle.dq_words.specs.AtTheCall.{KeepsPromises, LookRefusedByWord, RefusedByWord};
 ghost use Rattle.dq_words.specs.AtTheCall.{SeesCancelled, SeesEntry, SeesLive, StepsAtMost};
 ghost use Rattle.dq_words.specs.CallerCalls.{IsCaller, IsForged, Refuses, CallerExtends};
@@ -11,7 +11,7 @@ ghost use Rattle.dq_words.specs.Counts.{most_begins};
 ghost use Rattle.dq_words.specs.Keeping.{Knew};
 
 use crate::parts::{cancelled_word, live_word};
-use crate::seated::Seated;
+use crate::seated::{Gone, Seated};
 use dq_core::{CallError, Look, shown};
 use dq_ticks::{Key, LAST_TICK, Mark, stamp, unpack};
 use std::alloc::{Allocator, Global};
@@ -199,5 +199,16 @@ impl<A: Allocator> Caller<A> {
         let cancels = self.cancels;
         self.seat.give_back(cancels);
         cancels
+    }
+
+    /// As [`Caller::give_back`], with what shows that its step was made: whoever has it knows that this caller is
+    /// counted as gone, and its cancels with it.
+    pub fn leave(self) -> (u64, Gone)
+        ensures cancels { result.0 ≡ cancels_of self }
+        ensures few { result.0 ≤ most_begins }
+        ensures gone { ShowsGone self result.1 }
+    {
+        let Caller { seat, cancels } = self;
+        (cancels, seat.leave(cancels))
     }
 }

@@ -20,4 +20,5 @@ pub use caller::Caller;
 pub use front::{numbered_queue, shared_queue};
 pub use keeper::{HANDLE_LIMIT, Keeper, WordsError};
 pub use many::{ManyTurn, poll_into};
+pub use seated::Gone;
 pub use shards::locked_shards;

@@ -16,6 +16,7 @@ ghost use Rattle.dq_words.specs.Plays.{giving_back, CallerLoads, KeeperLoads, Re
 ghost use Rattle.dq_words.specs.Plays.{BeginStep, ExchangeStep, ExtendStep, CancelStep, SeatGoesOn};
 ghost use Rattle.dq_words.specs.Rule.{first_keeper};
 
+mod gone;
 mod plays;
 mod rule;
 
@@ -26,6 +27,7 @@ use crate::seated::plays::{
 };
 use crate::seated::rule::{WordSeat, WordTable};
 use atomic_table::Table;
+pub use gone::Gone;
 use std::alloc::{AllocError, Allocator};
 use std::marker::Model;
 use std::sync::Arc;

@@ -49,6 +49,27 @@ fn issues_to_the_limit(rt: &impl Abort, keeper: &mut Keeper) -> Result<(), Fail>
     Ok(())
 }
 
+// A live word is ended as its keeper is dropped, at the deadline in force, and its caller is told.
+#[test]
+fn a_dropped_keeper_ends_its_live_words(rt: HostRuntime) -> Result<(), Fail> {
+    let mut keeper = Keeper::new(rt.alloc(), 1)?;
+    let mut caller = keeper.issue()?;
+    keeper.begin(0, 1, 10);
+    extends(&rt, &mut caller, &key(0, 1), 50, Ok(50));
+    drop(keeper);
+    let how = Look::LookRemoved(50);
+    looks(&rt, &mut caller, &key(0, 1), Ok(how));
+    extends(
+        &rt,
+        &mut caller,
+        &key(0, 1),
+        60,
+        Err(CallError::Ended { how }),
+    );
+    same(&rt, "cancels", caller.give_back(), 0);
+    Ok(())
+}
+
 #[test]
 fn words_first_pass(rt: HostRuntime) -> Result<(), Fail> {
     let mut keeper = Keeper::new(rt.alloc(), 1)?;

@@ -47,6 +47,26 @@ fn issues_to_the_limit(keeper: &mut Keeper) -> Result<(), Fail> {
     Ok(())
 }
 
+// A live word is ended as its keeper is dropped, at the deadline in force, and its caller is told.
+#[test]
+fn a_dropped_keeper_ends_its_live_words() -> Result<(), Fail> {
+    let mut keeper = Keeper::new(1)?;
+    let mut caller = keeper.issue()?;
+    keeper.begin(0, 1, 10);
+    extends(&mut caller, &key(0, 1), 50, Ok(50));
+    drop(keeper);
+    let how = Look::LookRemoved(50);
+    looks(&mut caller, &key(0, 1), Ok(how));
+    extends(
+        &mut caller,
+        &key(0, 1),
+        60,
+        Err(CallError::Ended { how }),
+    );
+    same("cancels", caller.give_back(), 0);
+    Ok(())
+}
+
 #[test]
 fn words_first_pass() -> Result<(), Fail> {
     let mut keeper = Keeper::new(1)?;
