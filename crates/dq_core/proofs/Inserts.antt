@@ -6,7 +6,7 @@ use Rattle.dq_ticks.specs.declared.words.Parts.{Parts}
 use Rattle.dq_ticks.specs.declared.TheConstants.{LAST_TICK}
 use Rattle.dq_wheel.specs.State.{Filing, linked}
 use Rattle.dq_core.specs.Words.{Counts, word_at, never, live, begun_counts}
-use Rattle.dq_core.specs.Slots.{Row, SlotRows, unused, row_at, is_held, is_free, is_worn, filled, filled_row, IsFilled}
+use Rattle.dq_core.specs.Slots.{Row, SlotRows, unused, row_at, is_held, is_free, is_worn, filled, filled_row}
 use Rattle.dq_ticks.specs.declared.keys.Key.{Key}
 use Rattle.dq_ticks.specs.declared.keys.EntryId.{EntryId}
 use Rattle.dq_core.proofs.SlotRows.{parted}
@@ -98,7 +98,7 @@ inserted {T} {W} b c i when v k l small inside free ek ew es eknown ec esh en =
     })
 
 -- the law after an insert, by what its calls say
-pub law_inserted : {T : Type 0} {noted : ℕ} {wheel wheel' : Filing} {slots slots' : SlotRows T} {known known' : List Parts} {counts counts' : Counts} → IsLawful noted wheel slots known counts → (i stamp tick base f when : ℕ) (v : T) → when ≤ LAST_TICK → IsFilled slots v (Ok i) slots' → stamp ≡ (row_at slots'.rows i).stamp → tick ≡ wheel.tick → base ≡ max when tick → f ≡ filing_for tick base → wheel' ≡ linked wheel i f → known' ≡ set known i (live stamp base) → counts' ≡ begun_counts counts → IsLawful noted wheel' slots' known' counts'
+pub law_inserted : {T : Type 0} {noted : ℕ} {wheel wheel' : Filing} {slots slots' : SlotRows T} {known known' : List Parts} {counts counts' : Counts} → IsLawful noted wheel slots known counts → (i stamp tick base f when : ℕ) (v : T) → when ≤ LAST_TICK → (i < length slots.rows) × (is_free slots.last_stamp (row_at slots.rows i) ≡ true) × (slots' ≡ filled slots i v) → stamp ≡ (row_at slots'.rows i).stamp → tick ≡ wheel.tick → base ≡ max when tick → f ≡ filing_for tick base → wheel' ≡ linked wheel i f → known' ≡ set known i (live stamp base) → counts' ≡ begun_counts counts → IsLawful noted wheel' slots' known' counts'
 law_inserted {T} {noted} {wheel} {wheel'} {slots} {slots'} {known} {known'} l i stamp tick base f when v small fill es et eb ef ew ek ec =
     let ahead : wheel.tick ≤ base = omega arith in
     let noted_small = l.noted_bound in
@@ -109,7 +109,7 @@ law_inserted {T} {noted} {wheel} {wheel'} {slots} {slots'} {known} {known'} l i 
     law_filled l i base v fill.0 fill.1 ahead low (ew ∙ ap (λ x. linked wheel i x) files) fill.2 (ek ∙ ap (λ x. set known i (live x base)) s) ec
 
 -- an insert, by what its calls say
-pub inserts : {T W : Type 0} (b c : Core T W) (i stamp tick base f when : ℕ) (v : T) (id : EntryId) (k : Key) → IsLawfulCore b → when ≤ LAST_TICK → IsFilled b.slots v (Ok i) c.slots → stamp ≡ (row_at c.slots.rows i).stamp → tick ≡ b.wheel.filing.tick → base ≡ max when tick → f ≡ filing_for tick base → c.wheel.filing ≡ linked b.wheel.filing i f → c.known ≡ set b.known i (live stamp base) → c.counts ≡ begun_counts b.counts → id ≡ record { shard = b.shard; index = i; born = stamp } → k ≡ record { entry = id; stamp = stamp } → c.shard ≡ b.shard → c.noted ≡ b.noted → IsInserted b v when k c
+pub inserts : {T W : Type 0} (b c : Core T W) (i stamp tick base f when : ℕ) (v : T) (id : EntryId) (k : Key) → IsLawfulCore b → when ≤ LAST_TICK → (i < length b.slots.rows) × (is_free b.slots.last_stamp (row_at b.slots.rows i) ≡ true) × (c.slots ≡ filled b.slots i v) → stamp ≡ (row_at c.slots.rows i).stamp → tick ≡ b.wheel.filing.tick → base ≡ max when tick → f ≡ filing_for tick base → c.wheel.filing ≡ linked b.wheel.filing i f → c.known ≡ set b.known i (live stamp base) → c.counts ≡ begun_counts b.counts → id ≡ record { shard = b.shard; index = i; born = stamp } → k ≡ record { entry = id; stamp = stamp } → c.shard ≡ b.shard → c.noted ≡ b.noted → IsInserted b v when k c
 inserts b c i stamp tick base f when v id k l small fill es et eb ef ew ek ec eid ekey esh en =
     let s : stamp ≡ (row_at b.slots.rows i).stamp + 1 = filled_stamp b.slots c.slots i stamp v fill.0 fill.2 es in
     let bases : base ≡ base_for b when = eb ∙ ap (λ t. max when t) et in

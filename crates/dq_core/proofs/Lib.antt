@@ -3,6 +3,7 @@ pub mod ByKey
 pub mod CallWords
 mod Cells
 pub mod Clearing
+pub mod DeferredBits
 pub mod Finds
 pub mod FreeBits
 pub mod Inserts

@@ -216,6 +216,10 @@ worn_count {last = last} {rows = rows} s =
     let b = s.counted in
     (omega arith, omega arith)
 
+-- a row of which one slot changes has the room that it had
+pub room_kept : {T : Type 0} (rows : List (Row T)) (i : ℕ) (r : Row T) (n m : ℕ) → length rows ≤ n → m ≡ n → length (set rows i r) ≤ m
+room_kept rows i r n m room same = rw (length-set rows i r) (omega (arith, room, same))
+
 -- what was read at an index is the slot there
 pub read_is : {T : Type 0} (rows : List (Row T)) (i : ℕ) (r : Row T) → i < length rows → r ≡ get_or rows i r → row_at rows i ≡ r
 read_is rows i r inside read = get_or_default rows i unused r inside ∙ sym read

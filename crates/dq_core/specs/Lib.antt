@@ -2,6 +2,7 @@ pub mod AtTheCall
 pub mod Calls
 pub mod Cells
 pub mod Core
+pub mod Deferred
 pub mod Entries
 pub mod FreeSlots
 pub mod KeyCalls

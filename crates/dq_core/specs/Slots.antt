@@ -68,9 +68,10 @@ raised s i = record s { rows = slice_set s.rows i (raised_row (row_at s.rows i))
 
 -- a value goes to a free slot, under that slot's next stamp; it comes back, and nothing changes,
 -- exactly where no slot is free
-abbrev pub IsFilled : {T : Type 0} → SlotRows T → T → Result ℕ T → SlotRows T → Type 0
-IsFilled s v (Ok i) t =
-    (i < length s.rows) × (is_free s.last_stamp (row_at s.rows i) ≡ true) × (t ≡ filled s i v)
+abbrev pub IsFilled : {T : Type 0} →
+    SlotRows T → T → Result (ℕ × Option T) T → SlotRows T → Type 0
+IsFilled s v (Ok f) t =
+    (f.0 < length s.rows) × (is_free s.last_stamp (row_at s.rows f.0) ≡ true) × (t ≡ filled s f.0 v)
 IsFilled s v (Err back) t = (count_by (is_free s.last_stamp) s.rows ≡ 0) × (back ≡ v) × (t ≡ s)
 
 -- a slot's stamp is within the last one, and what is held there was born under a stamp from 1 to

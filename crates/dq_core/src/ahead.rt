@@ -13,7 +13,7 @@ pub(crate) struct Ahead<'a, T, W, A: Allocator = Global> {
     pub(crate) words: &'a W,
 }
 
-impl<'a, T: Drop, W: Words, A: Allocator> Beside for Ahead<'a, T, W, A> {
+impl<'a, T, W: Words, A: Allocator> Beside for Ahead<'a, T, W, A> {
     #[inline(always)]
     fn once_read(&self, index: usize, number: u64) -> u64 {
         let same = self.words.once_read(index, number);

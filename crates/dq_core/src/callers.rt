@@ -7,7 +7,7 @@ use crate::queue::DelayCore;
 use crate::words::SharedWords;
 use std::alloc::Allocator;
 
-impl<T: Drop, W: SharedWords, A: Allocator> DelayCore<T, W, A> {
+impl<T, W: SharedWords, A: Allocator> DelayCore<T, W, A> {
     ghost use Rattle.dq_core.specs.Readers.{with_words};
 
     /// Issues a caller of the words.

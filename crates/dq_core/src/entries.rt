@@ -39,7 +39,7 @@ impl<'a, T, A: Allocator> Model for Entries<'a, T, A> {
         (drop s.slot (machine s.queue.now).table) };
 }
 
-impl<T: Drop, W: Words, A: Allocator> DelayCore<T, W, A> {
+impl<T, W: Words, A: Allocator> DelayCore<T, W, A> {
     ghost use Rattle.dq_core.specs.AtTheCall.{HoldsValue};
     ghost use Rattle.dq_core.specs.Calls.{IsMissing};
 
@@ -59,7 +59,7 @@ impl<T: Drop, W: Words, A: Allocator> DelayCore<T, W, A> {
     }
 }
 
-impl<T: Drop, A: Allocator> DelayCore<T, VecWords<A>, A> {
+impl<T, A: Allocator> DelayCore<T, VecWords<A>, A> {
     ghost use Rattle.dq_core.specs.Entries.{live_entries, live_entry, ListsEachOnce};
 
     // The live entry at a slot.
@@ -99,7 +99,7 @@ impl<T: Drop, A: Allocator> DelayCore<T, VecWords<A>, A> {
     }
 }
 
-impl<'a, T: Drop, A: Allocator> Iterator for Entries<'a, T, A> {
+impl<'a, T, A: Allocator> Iterator for Entries<'a, T, A> {
     ghost use Rattle.dq_core.specs.Entries.{Listed};
 
     type Item = LiveEntry<'a, T>;

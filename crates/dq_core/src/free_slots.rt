@@ -4,7 +4,7 @@
 //! are bits of words, with a bit of a summary for each word that isn't 0, and are given in rising order from where
 //! the last was given, so that a fill walks through the memory in its order. The stack also serves a queue that is
 //! nearly full, where the few free bits would lie far apart. Each call takes constant time.
-ghost use Rattle.std.specs.Prelude.{◌≡◌, ◌≢◌, ℕ, ◌+◌, ◌*◌, ◌/◌, ◌%◌, ◌<◌, ◌≤◌, ◌↔◌, length, slice_index, IfOk, MatchOption};
+ghost use Rattle.std.specs.Prelude.{◌≡◌, ◌≢◌, ℕ, ◌+◌, ◌*◌, ◌/◌, ◌%◌, ◌<◌, ◌≤◌, ◌↔◌, length, slice_index, IfOk, IsTrue, MatchOption};
 ghost use Rattle.std.specs.Int.{bit_at};
 ghost use Rattle.dq_wheel.specs.Walks.{bit_of};
 ghost use Rattle.dq_core.specs.FreeSlots.{FreeIndexes, free_times, room_of, GivesBack, TakesFree, IsSummed};
@@ -19,7 +19,7 @@ const RECENT: usize = 64;
 const BITS: usize = 64;
 
 // A bit for each of 1,024 words.
-type Summary = [u64; 16];
+pub(crate) type Summary = [u64; 16];
 
 /// Which indexes are free.
 #[derive(Drop)]
@@ -77,7 +77,7 @@ fn next_word(summary: &Summary, from: usize) -> Option<usize>
 
 // A word of bits that isn't 0: the one that gave the last index, or the next that the summary knows.
 #[inline]
-fn filled_word(bits: &[u64], summary: &Summary, last: usize) -> Option<usize>
+pub(crate) fn filled_word(bits: &[u64], summary: &Summary, last: usize) -> Option<usize>
     requires last { last < length bits.now }
     requires size { length bits.now ≤ 1024 }
     requires summed { IsSummed bits.now summary.now }
@@ -94,7 +94,7 @@ fn filled_word(bits: &[u64], summary: &Summary, last: usize) -> Option<usize>
 
 // Sets the bit of an index, and its word's in the summary where it is the word's first.
 #[inline]
-fn set_bit(bits: &mut [u64], summary: &mut Summary, index: usize)
+pub(crate) fn set_bit(bits: &mut [u64], summary: &mut Summary, index: usize)
     requires room { index < 64 * length bits.old }
     requires size { length bits.old ≤ 1024 }
     requires summed { IsSummed bits.old summary.old }
@@ -110,9 +110,37 @@ fn set_bit(bits: &mut [u64], summary: &mut Summary, index: usize)
     }
 }
 
+// Whether the bit of an index is set.
+#[inline]
+pub(crate) fn has_bit(bits: &[u64], index: usize) -> bool
+    requires { index < 64 * length bits.now }
+    ensures { IsTrue result ↔ (bit_of bits.now index ≡ 1) }
+{
+    bits[index / BITS] >> (index % BITS) & 1 == 1
+}
+
+// Clears the bit of an index, and its word's in the summary where it was the word's only one.
+#[inline]
+pub(crate) fn clear_bit(bits: &mut [u64], summary: &mut Summary, index: usize)
+    requires room { index < 64 * length bits.old }
+    requires size { length bits.old ≤ 1024 }
+    requires set { bit_of bits.old index ≡ 1 }
+    requires summed { IsSummed bits.old summary.old }
+    ensures cleared { bit_of bits.new index ≡ 0 }
+    ensures others { (i : ℕ) → i ≢ index → bit_of bits.new i ≡ bit_of bits.old i }
+    ensures summed { IsSummed bits.new summary.new }
+{
+    let word = index / BITS;
+    let left = bits[word] & !(1 << (index % BITS));
+    bits[word] = left;
+    if left == 0 {
+        summary[word / BITS] &= !(1 << (word % BITS));
+    }
+}
+
 // Clears the lowest bit of a word that isn't 0, and the word's bit in the summary where it was its only one.
 #[inline]
-fn take_bit(bits: &mut [u64], summary: &mut Summary, word: usize) -> usize
+pub(crate) fn take_bit(bits: &mut [u64], summary: &mut Summary, word: usize) -> usize
     requires word_in { word < length bits.old }
     requires size { length bits.old ≤ 1024 }
     requires filled { 0 < slice_index bits.old word }

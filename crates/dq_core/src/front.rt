@@ -43,7 +43,7 @@ impl CoreConfig {
     }
 }
 
-impl<T: Drop, A: Allocator + Clone + Drop> DelayCore<T, VecWords<A>, A> {
+impl<T, A: Allocator + Clone + Drop> DelayCore<T, VecWords<A>, A> {
     ghost use Rattle.dq_core.specs.Core.{machine};
     ghost use Rattle.dq_core.specs.Machine.{NoneLinked};
     ghost use Rattle.dq_core.specs.Words.{AreFresh};
@@ -71,27 +71,6 @@ impl<T: Drop, A: Allocator + Clone + Drop> DelayCore<T, VecWords<A>, A> {
         let words = VecWords::new(alloc.clone()?, capacity)?;
         match DelayCore::new(alloc, CoreConfig::of(capacity), words) {
             Ok(queue) => Ok(queue),
-            Err((error, _)) => Err(error),
-        }
-    }
-}
-
-impl<T: Drop, W: Words, A: Allocator> DelayCore<T, W, A> {
-    ghost use Rattle.dq_core.specs.Calls.{Inserts};
-    ghost use Rattle.dq_core.specs.Words.{StillBegun};
-
-    /// As [`DelayCore::insert`], for callers that answer a refusal with `?`: the value is dropped then.
-    ///
-    /// # Errors
-    /// TooFar beyond the last tick, and else Full where no slot is free.
-    #[inline]
-    pub fn insert_or_drop(&mut self, value: T, when: u64) -> Result<Key, CoreError>
-        ensures inserts { Inserts self.old value when (with_value_back value result) self.new }
-        ensures origin { W.origin self.new.words ≡ W.origin self.old.words }
-        ensures begun { StillBegun W.begun self.old.words self.new.words }
-    {
-        match self.insert(value, when) {
-            Ok(key) => Ok(key),
             Err((error, _)) => Err(error),
         }
     }

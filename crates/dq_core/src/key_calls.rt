@@ -11,7 +11,7 @@ use crate::words::{CallError, Look};
 use dq_ticks::{Key, LAST_TICK};
 use std::alloc::Allocator;
 
-impl<T: Drop, A: Allocator> DelayCore<T, VecWords<A>, A> {
+impl<T, A: Allocator> DelayCore<T, VecWords<A>, A> {
     ghost use Rattle.dq_core.specs.Calls.{SameCore};
     ghost use Rattle.dq_core.specs.Machine.{OwnEventsAlone};
     ghost use Rattle.dq_core.specs.KeyCalls.{Extends, Cancels, Shows, KeepsRest};

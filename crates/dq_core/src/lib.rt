@@ -10,16 +10,16 @@
 #![tactic(auto)]
 
 mod ahead;
-mod aside;
 mod callers;
+mod deferred;
 mod entries;
 mod errors;
 mod free_slots;
 mod front;
 mod key_calls;
 pub mod laws;
-mod letting_go;
 mod outcomes;
+mod owner;
 mod packed_row;
 mod pieces;
 mod plain;

@@ -24,15 +24,13 @@ use crate::words::Words;
 use dq_ticks::{LAST_TICK, Mark};
 use std::alloc::Allocator;
 
-impl<T: Drop, W: Words, A: Allocator> DelayCore<T, W, A> {
-    /// Does of a [`Self::poll`] at most `most` steps, each in constant time but for a value's drop. Call again while
-    /// it answers Working: each such call leaves at least so many steps fewer. Between the calls every other call may
-    /// be made.
+impl<T, W: Words, A: Allocator> DelayCore<T, W, A> {
+    /// Does of a poll at most `most` steps, each in constant time. No value is dropped: that of each cancelled entry
+    /// which it reaps waits until it is taken out. Over shared words an entry that is due may take two of these steps.
     ///
-    /// Over shared words an entry that is due may take two of these steps, a look and one that ends it.
-    ///
-    /// Who is told Working by a call of no step at all learns nothing. Refused as TickTooLarge beyond the last tick.
-    pub fn poll_some(&mut self, tick: u64, most: u32) -> Result<Piece<T>, CoreError>
+    /// # Errors
+    /// TickTooLarge beyond the last tick, which is not noted then.
+    pub fn poll_some_deferring(&mut self, tick: u64, most: u32) -> Result<Piece<T>, CoreError>
         // The greater of the two ticks is noted. A tick is refused, and nothing changes, exactly
         // beyond the last one.
         ensures noted { OnOk result (self.new.noted ≡ max self.old.noted tick) }

@@ -72,7 +72,7 @@ impl<T, A: Allocator> Model for PlainQueue<T, A> {
         × (a.capacity ≤ vec_capacity a.entries) };
 }
 
-impl<T: Drop, A: Allocator> PlainQueue<T, A> {
+impl<T, A: Allocator> PlainQueue<T, A> {
     ghost use Rattle.dq_core.specs.Plain.{IsPlain, PlainMakes, PlainInserts, PlainPolls};
 
     /// An empty queue at tick 0; `BadConfig` for a capacity of 0 or beyond [`CAPACITY_LIMIT`], `NoMemory` where

@@ -71,7 +71,7 @@ fn is_config(config: &CoreConfig, rows: usize) -> bool
 }
 
 // The rows that a queue takes memory for: its wheel and its slots.
-fn wheel_and_slots<T: Drop, A: Allocator + Clone>(
+fn wheel_and_slots<T, A: Allocator + Clone>(
     alloc: A,
     capacity: usize,
     last: u32,
@@ -84,11 +84,11 @@ fn wheel_and_slots<T: Drop, A: Allocator + Clone>(
         × (r.1 ≡ record { last_stamp = last; rows = replicate capacity unused })) }
 {
     let other = alloc.clone()?;
-    let slots = Slots::new(other, capacity, last)?;
-    match Wheel::new(alloc, capacity) {
-        Ok(wheel) => Ok((wheel, slots)),
-        Err(_) => Err(AllocError),
-    }
+    let Ok(wheel) = Wheel::new(other, capacity) else {
+        return Err(AllocError);
+    };
+    let slots = Slots::new(alloc, capacity, last)?;
+    Ok((wheel, slots))
 }
 
 // Where a deadline is filed at a tick.
@@ -116,7 +116,7 @@ fn once_near<W: Words, A: Allocator>(wheel: &Wheel<A>, index: usize, stamp: u32)
     }
 }
 
-impl<T: Drop, W: Words + Drop, A: Allocator + Clone> DelayCore<T, W, A> {
+impl<T, W: Words + Drop, A: Allocator + Clone> DelayCore<T, W, A> {
     ghost use Rattle.dq_core.specs.Calls.{IsMade};
     ghost use Rattle.dq_core.specs.Core.{machine};
     ghost use Rattle.dq_core.specs.Machine.{NoneLinked};
@@ -160,7 +160,7 @@ impl<T: Drop, W: Words + Drop, A: Allocator + Clone> DelayCore<T, W, A> {
     }
 }
 
-impl<T: Drop, W: Words, A: Allocator> DelayCore<T, W, A> {
+impl<T, W: Words, A: Allocator> DelayCore<T, W, A> {
     ghost use Rattle.dq_wheel.specs.Lawful.{IsLawfulWheel};
     ghost use Rattle.dq_core.specs.Core.{Core, machine, IsLawfulCore};
     ghost use Rattle.dq_core.specs.Machine.{NoneLiveBefore, NoneLinked, table_at};
@@ -197,37 +197,44 @@ impl<T: Drop, W: Words, A: Allocator> DelayCore<T, W, A> {
     }
 
     /// Puts an entry in that is live until `when`, a tick of one millisecond, or until the wheel's tick where `when`
-    /// lies before it, and answers its key. Constant time. Refused as TooFar beyond the last tick, and else as Full
-    /// where no slot is free; the value comes back then.
+    /// lies before it, and returns its key. No value is dropped: one that waits for its drop in the slot that the
+    /// entry takes comes out beside the key. Constant time.
+    ///
+    /// # Errors
+    /// TooFar beyond the last tick, and else Full where no slot is free. The value comes back then.
     #[inline(always)]
-    pub fn insert(&mut self, value: T, when: u64) -> Result<Key, (CoreError, T)>
+    pub fn insert_deferring(
+        &mut self,
+        value: T,
+        when: u64,
+    ) -> (Result<Key, (CoreError, T)>, Option<T>)
         // The entry is live from now on, and no other entry changes.
-        ensures live { IfOk result (λ k. IsLinkedAs self.new k value (base_for self.old when)) }
-        ensures others { IfOk result (λ k. OthersStay self.old self.new k.entry.index) }
-        ensures one_more { OnOk result (linked_in self.new ≡ linked_in self.old + 1) }
+        ensures live { IfOk result.0 (λ k. IsLinkedAs self.new k value (base_for self.old when)) }
+        ensures others { IfOk result.0 (λ k. OthersStay self.old self.new k.entry.index) }
+        ensures one_more { OnOk result.0 (linked_in self.new ≡ linked_in self.old + 1) }
 
         // A slot was free: so Full comes exactly where each is held or worn.
-        ensures room { OnOk result (linked_in self.old
+        ensures room { OnOk result.0 (linked_in self.old
             + count_by (is_worn self.old.slots.last_stamp) self.old.slots.rows
             < length self.old.slots.rows) }
 
         // Refused, the value comes back and nothing changes; first, and exactly, beyond the last tick.
-        ensures refused { IfErr result (λ e. (e.1 ≡ value) × (self.new ≡ self.old)) }
-        ensures too_far { IsErrAnd result (λ e. e.0 ≡ TooFar LAST_TICK) ↔ (LAST_TICK < when) }
+        ensures refused { IfErr result.0 (λ e. (e.1 ≡ value) × (self.new ≡ self.old)) }
+        ensures too_far { IsErrAnd result.0 (λ e. e.0 ≡ TooFar LAST_TICK) ↔ (LAST_TICK < when) }
 
         // Exactly: a step of the queue machine, and what it leaves of the wheel, the slots and the words.
-        ensures inserts { Inserts self.old value when result self.new }
-        ensures begins { IfOk result
+        ensures inserts { Inserts self.old value when result.0 self.new }
+        ensures begins { IfOk result.0
             (λ k. W.begun self.new.words k.entry.index k.stamp (base_for self.old when)) }
         ensures same { SameCore self.old self.new }
         ensures origin { W.origin self.new.words ≡ W.origin self.old.words }
         ensures begun { StillBegun W.begun self.old.words self.new.words }
     {
         if when > LAST_TICK {
-            return Err((CoreError::TooFar { limit: LAST_TICK }, value));
+            return (Err((CoreError::TooFar { limit: LAST_TICK }, value)), None);
         }
         match self.slots.fill(value) {
-            Ok(index) => {
+            Ok((index, crowded)) => {
                 let stamp = self.slots.stamp(index);
                 let tick = self.wheel.tick();
                 let base = when.max(tick);
@@ -235,14 +242,14 @@ impl<T: Drop, W: Words, A: Allocator> DelayCore<T, W, A> {
                 self.wheel.link(index, filing_tick(tick, base));
                 self.inserted += 1;
                 let entry = EntryId::new(self.shard, index as u32, stamp);
-                Ok(Key::new(entry, stamp))
+                (Ok(Key::new(entry, stamp)), crowded)
             }
             Err(value) => {
                 let full = CoreError::Full {
                     linked: self.slots.linked(),
                     worn: self.slots.worn(),
                 };
-                Err((full, value))
+                (Err((full, value)), None)
             }
         }
     }
@@ -341,11 +348,13 @@ impl<T: Drop, W: Words, A: Allocator> DelayCore<T, W, A> {
     }
 
     /// Notes a tick of one millisecond, and takes out one entry whose deadline in force is reached by the greatest
-    /// tick noted: call again until the answer is Waiting (nothing is due; `next` is the next tick at which there is
-    /// something to do) or Idle (nothing is linked). Refused as TickTooLarge beyond the last tick, which is not noted
-    /// then.
+    /// tick noted, or tells when to come again. No value is dropped: that of each cancelled entry which it reaps waits
+    /// until it is taken out.
+    ///
+    /// # Errors
+    /// TickTooLarge beyond the last tick, which is not noted then.
     #[inline(always)]
-    pub fn poll(&mut self, tick: u64) -> Result<Turn<T>, CoreError>
+    pub fn poll_deferring(&mut self, tick: u64) -> Result<Turn<T>, CoreError>
         // The greater of the two ticks is noted. A tick is refused, and nothing changes, exactly
         // beyond the last one.
         ensures noted { OnOk result (self.new.noted ≡ max self.old.noted tick) }

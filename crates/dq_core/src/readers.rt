@@ -11,7 +11,7 @@ use dq_ticks::{EntryId, Key};
 use dq_wheel::Place;
 use std::alloc::Allocator;
 
-impl<T: Drop, W: Words, A: Allocator> DelayCore<T, W, A> {
+impl<T, W: Words, A: Allocator> DelayCore<T, W, A> {
     ghost use Rattle.dq_core.specs.Readers.{IsTally, TellsLeast, TellsPlace, TellsFiled};
 
     /// The number of the shard, which the queue's keys carry.

@@ -65,7 +65,7 @@ impl<T, W: Words, A: Allocator> Model for FreshRows<T, W, A> {
         × (length (W.known r.words) ≡ length r.slots.rows) };
 }
 
-impl<T: Drop, W: Words + Drop, A: Allocator + Clone> FreshRows<T, W, A> {
+impl<T, W: Words + Drop, A: Allocator + Clone> FreshRows<T, W, A> {
     ghost use Rattle.dq_core.specs.Renewals.{MakesRows};
 
     /// Those words, with a slot for each that has `last_stamp` stamps.
@@ -92,15 +92,8 @@ impl<T: Drop, W: Words + Drop, A: Allocator + Clone> FreshRows<T, W, A> {
     }
 }
 
-impl<T: Drop, W: Words, A: Allocator> FreshRows<T, W, A> {
+impl<T, W: Words, A: Allocator> FreshRows<T, W, A> {
     ghost use Rattle.dq_core.specs.Renewals.{AreUnused};
-
-    /// From now on the queue that goes on over them sets aside what it lets go, as by [`DelayCore::set_aside`].
-    pub fn set_aside(&mut self)
-        ensures { self.new ≡ self.old }
-    {
-        self.slots.set_aside();
-    }
 
     /// None of them was ever used. The call does nothing, and is for proofs.
     pub fn law(&self)
@@ -110,7 +103,7 @@ impl<T: Drop, W: Words, A: Allocator> FreshRows<T, W, A> {
     }
 }
 
-impl<T: Drop, W: Words, A: Allocator> DelayCore<T, W, A> {
+impl<T, W: Words, A: Allocator> DelayCore<T, W, A> {
     ghost use Rattle.dq_core.specs.Core.{machine};
     ghost use Rattle.dq_core.specs.Machine.{NoneLinked};
     ghost use Rattle.dq_core.specs.Renewals.{fresh_machine, OldAreMissing, RenewsQueue, RenewsQueueWith};
@@ -176,8 +169,8 @@ impl<T: Drop, W: Words, A: Allocator> DelayCore<T, W, A> {
     /// As [`DelayCore::renew`], with slots that were never used in the place of the queue's own, too. It answers the
     /// words and the slots that it had, which hold nothing.
     ///
-    /// It takes no memory and gives none back, and is of constant time. What is set aside goes with the old slots;
-    /// whether the queue sets aside is then as [`FreshRows::set_aside`] said of the new ones.
+    /// It takes no memory and gives none back, and is of constant time. The values that wait for their drop go with the
+    /// old slots.
     ///
     /// # Errors
     /// StillLinked where an entry is linked, then UsedNumber where the number isn't higher than the queue's, and then

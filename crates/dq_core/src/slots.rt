@@ -4,12 +4,13 @@
 //! is held there. A slot that holds nothing at the last stamp is worn: it is never used again. All the memory is
 //! taken by `new`. Every other call is of constant time but `forget`, which goes over every slot.
 //!
-//! A value that is let go is dropped at once. In a row that sets aside it stays in its slot, which holds nothing from
-//! then on, until somebody takes it out: so whoever keeps the row behind a lock can drop it once the lock is free.
+//! A value that is let go stays in its slot, which holds nothing from then on, until somebody takes it out. No call
+//! drops a value: no impl here says that one may be dropped.
 ghost use Rattle.std.specs.Prelude.{◌≡◌, ℕ, ◌+◌, ◌<◌, ◌≤◌, ◌^◌, length, replicate, IfOk, MatchOption, Some, None, true, false};
 ghost use Rattle.std.specs.List.{count_by};
+ghost use Rattle.dq_core.specs.Deferred.{defers_room};
 
-use crate::aside::Aside;
+use crate::deferred::DeferredDrops;
 use crate::free_slots::FreeSlots;
 use dq_ticks::LAST_STAMP;
 use dq_wheel::Beside;
@@ -47,7 +48,7 @@ impl<T> Model for Cell<T> {
     ghost invariant = { λ a. IsCell a.born a.value };
 }
 
-impl<T: Drop> Cell<T> {
+impl<T> Cell<T> {
     ghost use Rattle.dq_core.specs.Slots.{unused, is_held, IsBorn, filled_row, vacated_row, raised_row};
 
     fn unused() -> Self
@@ -105,7 +106,7 @@ impl<T: Drop> Cell<T> {
         }
     }
 
-    // Puts a value in, and answers the one that was set aside here.
+    // Puts a value in, and returns the one that was set aside here.
     #[inline]
     fn fill(&mut self, value: T) -> Option<T>
         requires { self.old.stamp + 1 < 2 ^ 32 }
@@ -113,12 +114,7 @@ impl<T: Drop> Cell<T> {
     {
         self.stamp += 1;
         self.born = self.stamp;
-        // A value without a drop is never set aside.
-        if mem::needs_drop::<T>() {
-            return self.value.replace(value);
-        }
-        self.value = Some(value);
-        None
+        self.value.replace(value)
     }
 
     #[inline]
@@ -150,22 +146,6 @@ impl<T: Drop> Cell<T> {
         self.value.take()
     }
 
-    // Whether it holds nothing, and nothing is set aside here.
-    fn is_clean(&self) -> bool {
-        self.born == 0 && self.value.is_none()
-    }
-
-    // Sets a value aside here. False where there is no place, and it is dropped.
-    fn put_aside(&mut self, value: T) -> bool
-        ensures { self.new ≡ self.old }
-    {
-        if self.born > 0 || self.value.is_some() {
-            return false;
-        }
-        self.value = Some(value);
-        true
-    }
-
     // As if it had never been used; but what was set aside stays.
     fn forget(&mut self)
         ensures { self.new ≡ unused }
@@ -192,21 +172,24 @@ pub struct Slots<T, A: Allocator = Global> {
     free_count: usize,
     cells: Vec<Cell<T>, A>,
     free: FreeSlots<A>,
-    aside: Aside,
+    deferred: DeferredDrops<A>,
 }
 
 impl<T, A: Allocator> Model for Slots<T, A> {
     ghost use Rattle.dq_core.specs.Slots.{SlotRows};
+    ghost use Rattle.std.specs.Prelude.{◌≤◌, length};
+    ghost use Rattle.dq_core.specs.Deferred.{defers_room};
     ghost use Rattle.dq_core.specs.SlotRowsKept.{IsSlotRowsKept};
 
     ghost Value = { SlotRows T };
 
     ghost view = { λ a. record { last_stamp = a.last; rows = a.cells.items } };
 
-    ghost invariant = { λ a. IsSlotRowsKept a.last a.cells.items a.free a.held_count a.free_count };
+    ghost invariant = { λ a. IsSlotRowsKept a.last a.cells.items a.free a.held_count a.free_count
+        × (length a.cells.items ≤ defers_room a.deferred) };
 }
 
-impl<T: Drop, A: Allocator + Clone> Slots<T, A> {
+impl<T, A: Allocator + Clone> Slots<T, A> {
     ghost use Rattle.dq_core.specs.Slots.{SlotRows, unused};
     ghost use Rattle.dq_ticks.specs.declared.TheConstants.{CAPACITY_LIMIT, LAST_STAMP};
 
@@ -218,8 +201,10 @@ impl<T: Drop, A: Allocator + Clone> Slots<T, A> {
         ensures { IfOk result
             (λ s. s ≡ record { last_stamp = last; rows = replicate capacity unused }) }
     {
-        let mut cells = Vec::with_capacity(alloc.clone()?, capacity)?;
-        let mut free = FreeSlots::new(alloc, capacity)?;
+        let deferred = DeferredDrops::new(alloc.clone()?, capacity)?;
+        let mut free = FreeSlots::new(alloc.clone()?, capacity)?;
+        // No cell is made before all memory is there: one might hold a value, for all that its type says.
+        let mut cells = Vec::with_capacity(alloc, capacity)?;
         for index in 0..capacity {
             cells.push_reserved(Cell::unused());
             free.set(index);
@@ -230,13 +215,35 @@ impl<T: Drop, A: Allocator + Clone> Slots<T, A> {
             free_count: capacity,
             cells,
             free,
-            aside: Aside::new(),
+            deferred,
         })
     }
 }
 
+// Notes that the value of a slot was let go there, and waits for its drop where it has one.
+#[inline(always)]
+fn mark<T, A: Allocator>(deferred: &mut DeferredDrops<A>, index: usize)
+    requires { index < defers_room deferred.old }
+    ensures { defers_room deferred.new ≡ defers_room deferred.old }
+{
+    if mem::needs_drop::<T>() {
+        deferred.add(index);
+    }
+}
+
+// Notes that a value which waited for its drop, if one did, is out of its slot.
+#[inline(always)]
+fn unmark<T, A: Allocator>(deferred: &mut DeferredDrops<A>, index: usize, value: &Option<T>)
+    requires { index < defers_room deferred.old }
+    ensures { defers_room deferred.new ≡ defers_room deferred.old }
+{
+    if mem::needs_drop::<T>() && value.is_some() {
+        deferred.remove(index);
+    }
+}
+
 // A poll reads a slot whose index is due. So its wheel reads these rows ahead.
-impl<T: Drop, A: Allocator> Beside for Slots<T, A> {
+impl<T, A: Allocator> Beside for Slots<T, A> {
     #[inline(always)]
     fn once_read(&self, index: usize, number: u64) -> u64 {
         if index >= self.cells.len() {
@@ -248,21 +255,6 @@ impl<T: Drop, A: Allocator> Beside for Slots<T, A> {
 }
 
 impl<T, A: Allocator> Slots<T, A> {
-    /// From now on what is let go is set aside, where its drop does anything.
-    pub fn set_aside(&mut self)
-        ensures { self.new ≡ self.old }
-    {
-        self.aside.keep();
-    }
-
-    /// How many values are set aside.
-    #[inline(always)]
-    pub fn aside(&self) -> usize {
-        self.aside.count::<T>()
-    }
-}
-
-impl<T: Drop, A: Allocator> Slots<T, A> {
     ghost use Rattle.dq_core.specs.Slots.{SlotRows, row_at, is_free, is_held, is_worn, vacated, raised, unused, IsBorn, IsFilled, IsSlotRows};
     ghost use Rattle.dq_core.specs.Renewals.{forgotten, never_used};
 
@@ -347,21 +339,21 @@ impl<T: Drop, A: Allocator> Slots<T, A> {
         cell.held()
     }
 
-    /// Puts a value into a free slot, under that slot's next stamp, and answers its index; hands the value back where
-    /// no slot is free.
-    #[inline]
-    pub fn fill(&mut self, value: T) -> Result<usize, T>
+    /// Puts a value into a free slot, under that slot's next stamp, and returns its index, with the value that was set
+    /// aside there, if one was. It hands the value back where no slot is free.
+    #[inline(always)]
+    pub fn fill(&mut self, value: T) -> Result<(usize, Option<T>), T>
         ensures { IsFilled self.old value result self.new }
     {
         let Some(index) = self.free.take() else {
             return Err(value);
         };
         let cell = &mut self.cells[index];
-        let parted = cell.fill(value);
+        let crowded = cell.fill(value);
         self.held_count += 1;
         self.free_count -= 1;
-        self.put_aside(parted);
-        Ok(index)
+        unmark(&mut self.deferred, index, &crowded);
+        Ok((index, crowded))
     }
 
     /// Takes out what a slot holds.
@@ -381,32 +373,40 @@ impl<T: Drop, A: Allocator> Slots<T, A> {
         held
     }
 
-    /// Lets go of what a slot holds. The value is dropped, once all else is done; or it is set aside, where the row
-    /// does so.
+    /// Lets go of what a slot holds. The value is set aside in the slot, and waits for its drop where it has one.
     #[inline]
     pub fn let_go(&mut self, index: usize)
         requires { is_held (row_at self.old.rows index) ≡ true }
         ensures { self.new ≡ vacated self.old index }
     {
-        if !self.aside.keeps::<T>() {
-            self.vacate(index);
-            return;
-        }
         let cell = &mut self.cells[index];
         cell.let_go();
         let stamp = cell.stamp();
+        mark::<T, A>(&mut self.deferred, index);
         if stamp < self.last {
             self.free.give(index);
             self.free_count += 1;
         }
         self.held_count -= 1;
-        self.aside.more(index);
     }
 
-    // Takes out what was set aside at a slot, if anything was.
-    fn take_aside_at(&mut self, index: usize) -> Option<T>
+    /// How many values wait for their drop.
+    #[inline(always)]
+    pub fn aside(&self) -> usize {
+        if mem::needs_drop::<T>() {
+            self.deferred.count()
+        } else {
+            0
+        }
+    }
+
+    /// Takes out a value that waits for its drop; none where none does.
+    pub fn take_aside(&mut self) -> Option<T>
         ensures { self.new ≡ self.old }
     {
+        let Some(index) = self.deferred.take() else {
+            return None;
+        };
         if index >= self.cells.len() {
             return None;
         }
@@ -414,45 +414,22 @@ impl<T: Drop, A: Allocator> Slots<T, A> {
         cell.take_aside()
     }
 
-    /// Takes out a value that is set aside, if there is one. It looks at slots that are told it, and passes each once
-    /// for a value that was let go there.
-    pub fn take_aside(&mut self) -> Option<T>
-        ensures { self.new ≡ self.old }
-    {
-        for _turn in 0..self.aside.most(self.cells.len()) {
-            let Some(index) = self.aside.next() else {
-                return None;
-            };
-            if let Some(value) = self.take_aside_at(index) {
-                self.aside.took(index);
-                return Some(value);
-            }
-        }
-        None
-    }
-
-    // Whether a slot holds nothing, and nothing is set aside there.
-    fn is_clean(&self, index: usize) -> bool {
-        if index >= self.cells.len() {
-            return false;
-        }
-        let cell = &self.cells[index];
-        cell.is_clean()
-    }
-
-    // Takes out a value that is set aside, where no slot is known that has a place for one.
+    // Takes out the value that is set aside where the next fill puts its own.
     #[inline(never)]
-    fn take_unless_clean(&mut self) -> Option<T>
+    fn take_from_next(&mut self) -> Option<T>
         ensures { self.new ≡ self.old }
     {
-        if self.is_clean(self.aside.clean()) {
+        let Some(index) = self.free.take() else {
             return None;
-        }
-        self.take_aside()
+        };
+        self.free.give(index);
+        let cell = &mut self.cells[index];
+        let crowded = cell.take_aside();
+        unmark(&mut self.deferred, index, &crowded);
+        crowded
     }
 
-    /// Takes out a value that is set aside, where a fill might find no other slot for one that is set aside in its
-    /// own.
+    /// Takes out the value that is set aside where the next fill puts its own, if one is.
     #[inline(always)]
     pub fn take_crowded(&mut self) -> Option<T>
         ensures { self.new ≡ self.old }
@@ -460,34 +437,7 @@ impl<T: Drop, A: Allocator> Slots<T, A> {
         if self.aside() == 0 {
             return None;
         }
-        self.take_unless_clean()
-    }
-
-    // Sets aside at another slot what was set aside at one that is filled. It is dropped where that has no place.
-    #[inline(never)]
-    fn put_aside_at(&mut self, index: usize, value: T)
-        ensures { self.new ≡ self.old }
-    {
-        if index >= self.cells.len() {
-            self.aside.fewer();
-            return;
-        }
-        let cell = &mut self.cells[index];
-        if cell.put_aside(value) {
-            self.aside.note(index);
-        } else {
-            self.aside.fewer();
-        }
-    }
-
-    #[inline(always)]
-    fn put_aside(&mut self, parted: Option<T>)
-        ensures { self.new ≡ self.old }
-    {
-        if let Some(value) = parted {
-            let clean = self.aside.clean();
-            self.put_aside_at(clean, value);
-        }
+        self.take_from_next()
     }
 
     /// Gives what a slot holds its next stamp.

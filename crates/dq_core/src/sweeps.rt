@@ -36,7 +36,7 @@ fn going_on(end: usize, capacity: usize) -> Option<usize>
     if end < capacity { Some(end) } else { None }
 }
 
-impl<T: Drop, W: Words, A: Allocator> DelayCore<T, W, A> {
+impl<T, W: Words, A: Allocator> DelayCore<T, W, A> {
     // Reaps the entry at a slot where it is found cancelled.
     fn reap_at(&mut self, index: usize) -> bool
         requires { index < length self.old.slots.rows }
@@ -58,9 +58,9 @@ impl<T: Drop, W: Words, A: Allocator> DelayCore<T, W, A> {
         true
     }
 
-    /// Reaps each linked entry that is found cancelled, and answers how many: their values are dropped, and their
-    /// slots are free for others, or worn. It looks at every slot.
-    pub fn sweep(&mut self) -> usize
+    /// Reaps each linked entry that is found cancelled, and returns how many. Their slots are free for others, or worn.
+    /// No value is dropped: each waits until it is taken out. It looks at every slot.
+    pub fn sweep_deferring(&mut self) -> usize
         // No entry is left that is known as cancelled, and so many are fewer.
         ensures reaped { NoneCancelled (machine self.new) }
         ensures fewer { linked_in self.new + result ≡ linked_in self.old }
@@ -85,10 +85,9 @@ impl<T: Drop, W: Words, A: Allocator> DelayCore<T, W, A> {
         reaped
     }
 
-    /// Reaps each linked entry that is found cancelled at `count` slots from `from` on, as `sweep` does at all of
-    /// them, and tells the slot to go on from. So many calls go round a queue as it has pieces, and each takes no
-    /// longer than its piece.
-    pub fn sweep_some(&mut self, from: usize, count: usize) -> Swept
+    /// Reaps each linked entry that is found cancelled at `count` slots from `from` on, and tells the slot to go on
+    /// from. No value is dropped: each waits until it is taken out.
+    pub fn sweep_some_deferring(&mut self, from: usize, count: usize) -> Swept
         // No entry is left there that is known as cancelled, so many are fewer, and no other slot changes.
         ensures reaped { (i : ℕ) → from ≤ i → i < from + count → NotCancelled (machine self.new) i }
         ensures fewer { linked_in self.new + result.reaped ≡ linked_in self.old }
@@ -128,12 +127,12 @@ impl<T: Drop, W: Words, A: Allocator> DelayCore<T, W, A> {
         }
     }
 
-    /// Reaps the entry of that name where it is found cancelled: its value is dropped, and its slot is free for
-    /// another, or worn. Constant time.
+    /// Reaps the entry of that name where it is found cancelled. Its value isn't dropped: it waits until it is taken
+    /// out. Constant time.
     ///
     /// # Errors
     /// `Missing` where no entry is linked with that shard, index and birth stamp; `Live` where it is found live.
-    pub fn reap(&mut self, entry: &EntryId) -> Result<(), ReapError>
+    pub fn reap_deferring(&mut self, entry: &EntryId) -> Result<(), ReapError>
         // It has left, and no other changes.
         ensures reaped { OnOk result (NotCancelled (machine self.new) entry.now.index) }
         ensures fewer { OnOk result (linked_in self.new + 1 ≡ linked_in self.old) }
@@ -195,9 +194,9 @@ impl<T: Drop, W: Words, A: Allocator> DelayCore<T, W, A> {
         }
     }
 
-    /// Ends every linked entry, and drops its value: each live one as removed, and those that were cancelled are
-    /// reaped. It answers how many it ended as removed, and goes over every slot.
-    pub fn clear(&mut self) -> usize
+    /// Ends every linked entry: each live one as removed, and those that were cancelled are reaped. It returns how many
+    /// it ended as removed, and goes over every slot. No value is dropped: each waits until it is taken out.
+    pub fn clear_deferring(&mut self) -> usize
         // Nothing is linked any more. So many removals are counted, and no other ending.
         ensures empty { NoneLinked (machine self.new) }
         ensures counts { self.new.counts ≡ removed_counts self.old.counts result }

@@ -60,8 +60,6 @@ fn fresh_rows<T: Drop, A: Allocator + Clone + Drop>(alloc: A, size: ShardSize) -
     };
     match FreshRows::new(alloc, keeper, size.last_stamp) {
         Ok(rows) => {
-            let mut rows = rows;
-            rows.set_aside();
             rows.law();
             Some(rows)
         }

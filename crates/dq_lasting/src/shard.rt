@@ -86,9 +86,6 @@ impl<T, A: Allocator> From<DelayCore<T, Keeper<A>, A>> for LastingShard<T, A> {
             removed: 0,
             cancelled: 0,
         };
-        // No value is dropped under the lock.
-        let mut core = core;
-        core.set_aside();
         LastingShard {
             attended: Attended { core, parked: None },
             takes: true,

@@ -64,7 +64,9 @@ impl<T: Drop, N: Until, A: Allocator> Attended<T, N, A> {
         ensures attends { Attends N.lasts self.old.core self.old.parked result.1.poller
             self.new.core self.new.parked }
     {
-        match self.core.insert(value, when) {
+        // Who inserts took a value that waits for its drop out before, so none comes out here.
+        let (answer, _crowded) = self.core.insert_deferring(value, when);
+        match answer {
             Ok(key) => (Ok(key), keep_or_leave(&self.core, &mut self.parked)),
             Err(refused) => (Err(refused), Leaver { poller: None }),
         }
@@ -99,7 +101,7 @@ impl<T: Drop, N: Until, A: Allocator> Attended<T, N, A> {
         ensures attends { Attends N.lasts self.old.core self.old.parked result.1.poller
             self.new.core self.new.parked }
     {
-        let answer = self.core.poll(tick);
+        let answer = self.core.poll_deferring(tick);
         (answer, keep_or_leave(&self.core, &mut self.parked))
     }
 
@@ -115,7 +117,7 @@ impl<T: Drop, N: Until, A: Allocator> Attended<T, N, A> {
         ensures attends { Attends N.lasts self.old.core self.old.parked result.1.poller
             self.new.core self.new.parked }
     {
-        let answer = self.core.poll_some(tick, most);
+        let answer = self.core.poll_some_deferring(tick, most);
         (answer, keep_or_leave(&self.core, &mut self.parked))
     }
 
@@ -144,7 +146,7 @@ impl<T: Drop, N: Until, A: Allocator> Attended<T, N, A> {
         ensures attends { Attends N.lasts self.old.core self.old.parked result.1.poller
             self.new.core self.new.parked }
     {
-        let reaped = self.core.sweep();
+        let reaped = self.core.sweep_deferring();
         (reaped, keep_or_leave(&self.core, &mut self.parked))
     }
 
@@ -158,7 +160,7 @@ impl<T: Drop, N: Until, A: Allocator> Attended<T, N, A> {
         ensures attends { Attends N.lasts self.old.core self.old.parked result.1.poller
             self.new.core self.new.parked }
     {
-        let swept = self.core.sweep_some(from, count);
+        let swept = self.core.sweep_some_deferring(from, count);
         (swept, keep_or_leave(&self.core, &mut self.parked))
     }
 
@@ -169,7 +171,7 @@ impl<T: Drop, N: Until, A: Allocator> Attended<T, N, A> {
             self.new.core self.new.parked }
         ensures missing { IsErrOf result.0 ReapError.Missing ↔ IsMissing self.old.core entry.now }
     {
-        let answer = self.core.reap(entry);
+        let answer = self.core.reap_deferring(entry);
         (answer, keep_or_leave(&self.core, &mut self.parked))
     }
 
@@ -179,7 +181,7 @@ impl<T: Drop, N: Until, A: Allocator> Attended<T, N, A> {
         ensures attends { Attends N.lasts self.old.core self.old.parked result.1.poller
             self.new.core self.new.parked }
     {
-        let removed = self.core.clear();
+        let removed = self.core.clear_deferring();
         (removed, keep_or_leave(&self.core, &mut self.parked))
     }
 }

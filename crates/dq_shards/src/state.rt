@@ -54,9 +54,6 @@ impl<T, A: Allocator> From<DelayCore<T, Keeper<A>, A>> for ShardState<T, A> {
     ghost from_gives = { λ core s. s ≡ record { core = core; parked = None } };
 
     fn from(core: DelayCore<T, Keeper<A>, A>) -> ShardState<T, A> {
-        // No value is dropped under the lock.
-        let mut core = core;
-        core.set_aside();
         ShardState {
             _apart: [0; 7],
             attended: Attended { core, parked: None },
@@ -203,7 +200,7 @@ impl<T: Drop, A: Allocator> ShardState<T, A> {
         // All that it does.
         ensures polls { ShardPolls self.old tick result self.new }
     {
-        let answer = self.attended.core.poll(tick);
+        let answer = self.attended.core.poll_deferring(tick);
         keep_or_leave(&self.attended.core, &mut self.attended.parked).wake();
         answer
     }
@@ -242,7 +239,7 @@ impl<T: Drop, A: Allocator> ShardState<T, A> {
         // All that it does.
         ensures polls { ShardPollsSome self.old tick most result self.new }
     {
-        let answer = self.attended.core.poll_some(tick, most);
+        let answer = self.attended.core.poll_some_deferring(tick, most);
         keep_or_leave(&self.attended.core, &mut self.attended.parked).wake();
         answer
     }
@@ -261,7 +258,7 @@ impl<T: Drop, A: Allocator> ShardState<T, A> {
         // All that it does.
         ensures sweeps { ShardSweeps self.old result self.new }
     {
-        let reaped = self.attended.core.sweep();
+        let reaped = self.attended.core.sweep_deferring();
         keep_or_leave(&self.attended.core, &mut self.attended.parked).wake();
         reaped
     }
@@ -288,7 +285,7 @@ impl<T: Drop, A: Allocator> ShardState<T, A> {
         // All that it does.
         ensures sweeps { ShardSweepsSome self.old from count result self.new }
     {
-        let swept = self.attended.core.sweep_some(from, count);
+        let swept = self.attended.core.sweep_some_deferring(from, count);
         keep_or_leave(&self.attended.core, &mut self.attended.parked).wake();
         swept
     }
@@ -313,7 +310,7 @@ impl<T: Drop, A: Allocator> ShardState<T, A> {
         // All that it does.
         ensures reaps { ShardReaps self.old entry.now result self.new }
     {
-        let answer = self.attended.core.reap(entry);
+        let answer = self.attended.core.reap_deferring(entry);
         keep_or_leave(&self.attended.core, &mut self.attended.parked).wake();
         answer
     }
@@ -330,7 +327,7 @@ impl<T: Drop, A: Allocator> ShardState<T, A> {
         // All that it does.
         ensures clears { ShardClears self.old result self.new }
     {
-        let removed = self.attended.core.clear();
+        let removed = self.attended.core.clear_deferring();
         keep_or_leave(&self.attended.core, &mut self.attended.parked).wake();
         removed
     }

@@ -32,7 +32,7 @@ pub enum ManyTurn {
 /// # Errors
 /// TickTooLarge beyond the last tick. Nothing changes then.
 #[inline]
-pub fn poll_into<T: Drop, A: Allocator>(
+pub fn poll_into<T, A: Allocator>(
     queue: &mut DelayCore<T, Keeper<A>, A>,
     tick: u64,
     row: &mut Vec<Expired<T>, A>,
@@ -54,7 +54,7 @@ pub fn poll_into<T: Drop, A: Allocator>(
         return Err(CoreError::TickTooLarge { limit: LAST_TICK });
     }
     for _place in row.len()..row.capacity() {
-        match queue.poll(tick) {
+        match queue.poll_deferring(tick) {
             Ok(Turn::Out(expired)) => row.push_reserved(expired),
             Ok(Turn::Waiting { next }) => return Ok(ManyTurn::Waiting { next }),
             Ok(Turn::Idle) => return Ok(ManyTurn::Idle),

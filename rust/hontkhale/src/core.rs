@@ -9,15 +9,15 @@
 //! [`PlainQueue`] is the slow twin: a plain list, which is short enough to be read and has the same answers.
 
 mod ahead;
-mod aside;
 mod callers;
+mod deferred;
 mod entries;
 mod errors;
 mod free_slots;
 mod front;
 mod key_calls;
-mod letting_go;
 mod outcomes;
+mod owner;
 mod packed_row;
 mod pieces;
 mod plain;

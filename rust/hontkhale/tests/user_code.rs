@@ -14,6 +14,8 @@ mod drops_that_call;
 mod drops_that_panic;
 #[path = "user_code/kit.rs"]
 mod kit;
+#[path = "user_code/owner_drops.rs"]
+mod owner_drops;
 #[path = "user_code/set_aside.rs"]
 mod set_aside;
 #[path = "user_code/swapped_shards.rs"]

@@ -4,7 +4,11 @@ use std::process::Abort;
 use std::test::Fail;
 
 fn fills(rt: &impl Abort, slots: &mut Slots<char>, value: char, answer: Result<usize, char>) {
-    same(rt, "fill", slots.fill(value), answer);
+    let filled = match slots.fill(value) {
+        Ok((index, _crowded)) => Ok(index),
+        Err(refused) => Err(refused),
+    };
+    same(rt, "fill", filled, answer);
 }
 
 fn counts(rt: &impl Abort, slots: &Slots<char>, linked: usize, worn: usize) {

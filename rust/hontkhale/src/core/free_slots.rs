@@ -16,7 +16,7 @@ const RECENT: usize = 64;
 const BITS: usize = 64;
 
 // A bit for each of 1,024 words.
-type Summary = [u64; 16];
+pub(crate) type Summary = [u64; 16];
 
 /// Which indexes are free.
 pub struct FreeSlots {
@@ -56,7 +56,7 @@ fn next_word(summary: &Summary, from: usize) -> Option<usize> {
 
 // A word of bits that isn't 0: the one that gave the last index, or the next that the summary knows.
 #[inline]
-fn filled_word(bits: &[u64], summary: &Summary, last: usize) -> Option<usize> {
+pub(crate) fn filled_word(bits: &[u64], summary: &Summary, last: usize) -> Option<usize> {
     // requires last < length bits.now
     // requires length bits.now ≤ 1024
     // requires IsSummed bits.now summary.now
@@ -69,7 +69,7 @@ fn filled_word(bits: &[u64], summary: &Summary, last: usize) -> Option<usize> {
 
 // Sets the bit of an index, and its word's in the summary where it is the word's first.
 #[inline]
-fn set_bit(bits: &mut [u64], summary: &mut Summary, index: usize) {
+pub(crate) fn set_bit(bits: &mut [u64], summary: &mut Summary, index: usize) {
     // requires index < 64 * length bits.old
     // requires length bits.old ≤ 1024
     // requires IsSummed bits.old summary.old
@@ -81,9 +81,31 @@ fn set_bit(bits: &mut [u64], summary: &mut Summary, index: usize) {
     }
 }
 
+// Whether the bit of an index is set.
+#[inline]
+pub(crate) fn has_bit(bits: &[u64], index: usize) -> bool {
+    // requires index < 64 * length bits.now
+    *nth(bits, index / BITS) >> (index % BITS) & 1 == 1
+}
+
+// Clears the bit of an index, and its word's in the summary where it was the word's only one.
+#[inline]
+pub(crate) fn clear_bit(bits: &mut [u64], summary: &mut Summary, index: usize) {
+    // requires index < 64 * length bits.old
+    // requires length bits.old ≤ 1024
+    // requires bit_of bits.old index ≡ 1
+    // requires IsSummed bits.old summary.old
+    let word = index / BITS;
+    let left = *nth(bits, word) & !(1 << (index % BITS));
+    *nth_mut(bits, word) = left;
+    if left == 0 {
+        *nth_mut(summary, word / BITS) &= !(1 << (word % BITS));
+    }
+}
+
 // Clears the lowest bit of a word that isn't 0, and the word's bit in the summary where it was its only one.
 #[inline]
-fn take_bit(bits: &mut [u64], summary: &mut Summary, word: usize) -> usize {
+pub(crate) fn take_bit(bits: &mut [u64], summary: &mut Summary, word: usize) -> usize {
     // requires word < length bits.old
     // requires length bits.old ≤ 1024
     // requires 0 < slice_index bits.old word

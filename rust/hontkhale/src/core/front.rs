@@ -3,8 +3,7 @@
 use crate::core::errors::{BadNumber, CoreConfig, CoreError};
 use crate::core::queue::DelayCore;
 use crate::core::vec_words::VecWords;
-use crate::core::words::Words;
-use crate::ticks::{Key, CAPACITY_LIMIT, LAST_STAMP};
+use crate::ticks::{CAPACITY_LIMIT, LAST_STAMP};
 
 impl CoreConfig {
     /// Shard 0, with that many slots, each of which may be used until the last stamp there is.
@@ -45,20 +44,6 @@ impl<T> DelayCore<T, VecWords> {
         let words = VecWords::new(capacity)?;
         match DelayCore::new(CoreConfig::of(capacity), words) {
             Ok(queue) => Ok(queue),
-            Err((error, _)) => Err(error),
-        }
-    }
-}
-
-impl<T, W: Words> DelayCore<T, W> {
-    /// As [`DelayCore::insert`], for callers that answer a refusal with `?`: the value is dropped then.
-    ///
-    /// # Errors
-    /// TooFar beyond the last tick, and else Full where no slot is free.
-    #[inline]
-    pub fn insert_or_drop(&mut self, value: T, when: u64) -> Result<Key, CoreError> {
-        match self.insert(value, when) {
-            Ok(key) => Ok(key),
             Err((error, _)) => Err(error),
         }
     }

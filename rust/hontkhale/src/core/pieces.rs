@@ -15,14 +15,12 @@ use crate::core::words::Words;
 use crate::ticks::{Mark, LAST_TICK};
 
 impl<T, W: Words> DelayCore<T, W> {
-    /// Does of a [`Self::poll`] at most `most` steps, each in constant time but for a value's drop. Call again while
-    /// it answers Working: each such call leaves at least so many steps fewer. Between the calls every other call may
-    /// be made.
+    /// Does of a poll at most `most` steps, each in constant time. No value is dropped: that of each cancelled entry
+    /// which it reaps waits until it is taken out. Over shared words an entry that is due may take two of these steps.
     ///
-    /// Over shared words an entry that is due may take two of these steps, a look and one that ends it.
-    ///
-    /// Who is told Working by a call of no step at all learns nothing. Refused as TickTooLarge beyond the last tick.
-    pub fn poll_some(&mut self, tick: u64, most: u32) -> Result<Piece<T>, CoreError> {
+    /// # Errors
+    /// TickTooLarge beyond the last tick, which is not noted then.
+    pub fn poll_some_deferring(&mut self, tick: u64, most: u32) -> Result<Piece<T>, CoreError> {
         if tick > LAST_TICK {
             return Err(CoreError::TickTooLarge { limit: LAST_TICK });
         }

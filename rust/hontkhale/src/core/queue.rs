@@ -58,11 +58,11 @@ fn wheel_and_slots<T>(capacity: usize, last: u32) -> Result<(Wheel, Slots<T>), A
     // requires capacity ≤ CAPACITY_LIMIT
     // requires 0 < last
     // requires last ≤ LAST_STAMP
+    let Ok(wheel) = Wheel::new(capacity) else {
+        return Err(AllocError);
+    };
     let slots = Slots::new(capacity, last)?;
-    match Wheel::new(capacity) {
-        Ok(wheel) => Ok((wheel, slots)),
-        Err(_) => Err(AllocError),
-    }
+    Ok((wheel, slots))
 }
 
 // Where a deadline is filed at a tick.
@@ -128,15 +128,18 @@ impl<T, W: Words> DelayCore<T, W> {
     }
 
     /// Puts an entry in that is live until `when`, a tick of one millisecond, or until the wheel's tick where `when`
-    /// lies before it, and answers its key. Constant time. Refused as TooFar beyond the last tick, and else as Full
-    /// where no slot is free; the value comes back then.
+    /// lies before it, and returns its key. No value is dropped: one that waits for its drop in the slot that the
+    /// entry takes comes out beside the key. Constant time.
+    ///
+    /// # Errors
+    /// TooFar beyond the last tick, and else Full where no slot is free. The value comes back then.
     #[inline(always)]
-    pub fn insert(&mut self, value: T, when: u64) -> Result<Key, (CoreError, T)> {
+    pub fn insert_deferring(&mut self, value: T, when: u64) -> (Result<Key, (CoreError, T)>, Option<T>) {
         if when > LAST_TICK {
-            return Err((CoreError::TooFar { limit: LAST_TICK }, value));
+            return (Err((CoreError::TooFar { limit: LAST_TICK }, value)), None);
         }
         match self.slots.fill(value) {
-            Ok(index) => {
+            Ok((index, crowded)) => {
                 let stamp = self.slots.stamp(index);
                 let tick = self.wheel.tick();
                 let base = when.max(tick);
@@ -144,14 +147,14 @@ impl<T, W: Words> DelayCore<T, W> {
                 self.wheel.link(index, filing_tick(tick, base));
                 self.inserted += 1;
                 let entry = EntryId::new(self.shard, index as u32, stamp);
-                Ok(Key::new(entry, stamp))
+                (Ok(Key::new(entry, stamp)), crowded)
             }
             Err(value) => {
                 let full = CoreError::Full {
                     linked: self.slots.linked(),
                     worn: self.slots.worn(),
                 };
-                Err((full, value))
+                (Err((full, value)), None)
             }
         }
     }
@@ -225,11 +228,13 @@ impl<T, W: Words> DelayCore<T, W> {
     }
 
     /// Notes a tick of one millisecond, and takes out one entry whose deadline in force is reached by the greatest
-    /// tick noted: call again until the answer is Waiting (nothing is due; `next` is the next tick at which there is
-    /// something to do) or Idle (nothing is linked). Refused as TickTooLarge beyond the last tick, which is not noted
-    /// then.
+    /// tick noted, or tells when to come again. No value is dropped: that of each cancelled entry which it reaps waits
+    /// until it is taken out.
+    ///
+    /// # Errors
+    /// TickTooLarge beyond the last tick, which is not noted then.
     #[inline(always)]
-    pub fn poll(&mut self, tick: u64) -> Result<Turn<T>, CoreError> {
+    pub fn poll_deferring(&mut self, tick: u64) -> Result<Turn<T>, CoreError> {
         if tick > LAST_TICK {
             return Err(CoreError::TickTooLarge { limit: LAST_TICK });
         }

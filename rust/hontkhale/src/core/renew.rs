@@ -70,12 +70,7 @@ impl<T, W: Words> FreshRows<T, W> {
     }
 }
 
-impl<T, W: Words> FreshRows<T, W> {
-    /// From now on the queue that goes on over them sets aside what it lets go, as by [`DelayCore::set_aside`].
-    pub fn set_aside(&mut self) {
-        self.slots.set_aside();
-    }
-}
+impl<T, W: Words> FreshRows<T, W> {}
 
 impl<T, W: Words> DelayCore<T, W> {
     /// Goes on over fresh words, under the number `shard`, and answers the words that it had. No slot is worn then,
@@ -139,8 +134,8 @@ impl<T, W: Words> DelayCore<T, W> {
     /// As [`DelayCore::renew`], with slots that were never used in the place of the queue's own, too. It answers the
     /// words and the slots that it had, which hold nothing.
     ///
-    /// It takes no memory and gives none back, and is of constant time. What is set aside goes with the old slots;
-    /// whether the queue sets aside is then as `FreshRows::set_aside` said of the new ones.
+    /// It takes no memory and gives none back, and is of constant time. The values that wait for their drop go with the
+    /// old slots.
     ///
     /// # Errors
     /// StillLinked where an entry is linked, then UsedNumber where the number isn't higher than the queue's, and then

@@ -4,10 +4,10 @@
 //! is held there. A slot that holds nothing at the last stamp is worn: it is never used again. All the memory is
 //! taken by `new`. Every other call is of constant time but `forget`, which goes over every slot.
 //!
-//! A value that is let go is dropped at once. In a row that sets aside it stays in its slot, which holds nothing from
-//! then on, until somebody takes it out: so whoever keeps the row behind a lock can drop it once the lock is free.
+//! A value that is let go stays in its slot, which holds nothing from then on, until somebody takes it out. No call
+//! drops a value: no impl here says that one may be dropped.
 
-use crate::core::aside::Aside;
+use crate::core::deferred::DeferredDrops;
 use crate::core::free_slots::FreeSlots;
 use crate::index::{nth, nth_mut};
 use crate::memory::{room_for, AllocError};
@@ -80,18 +80,13 @@ impl<T> Cell<T> {
         }
     }
 
-    // Puts a value in, and answers the one that was set aside here.
+    // Puts a value in, and returns the one that was set aside here.
     #[inline]
     fn fill(&mut self, value: T) -> Option<T> {
         // requires self.old.stamp + 1 < 2 ^ 32
         self.stamp += 1;
         self.born = self.stamp;
-        // A value without a drop is never set aside.
-        if mem::needs_drop::<T>() {
-            return self.value.replace(value);
-        }
-        self.value = Some(value);
-        None
+        self.value.replace(value)
     }
 
     #[inline]
@@ -116,20 +111,6 @@ impl<T> Cell<T> {
         self.value.take()
     }
 
-    // Whether it holds nothing, and nothing is set aside here.
-    fn is_clean(&self) -> bool {
-        self.born == 0 && self.value.is_none()
-    }
-
-    // Sets a value aside here. False where there is no place, and it is dropped.
-    fn put_aside(&mut self, value: T) -> bool {
-        if self.born > 0 || self.value.is_some() {
-            return false;
-        }
-        self.value = Some(value);
-        true
-    }
-
     // As if it had never been used; but what was set aside stays.
     fn forget(&mut self) {
         self.stamp = 0;
@@ -151,7 +132,7 @@ pub struct Slots<T> {
     free_count: usize,
     cells: Vec<Cell<T>>,
     free: FreeSlots,
-    aside: Aside,
+    deferred: DeferredDrops,
 }
 
 impl<T> Slots<T> {
@@ -160,8 +141,10 @@ impl<T> Slots<T> {
         // requires capacity ≤ CAPACITY_LIMIT
         // requires 0 < last
         // requires last ≤ LAST_STAMP
-        let mut cells = room_for(capacity)?;
+        let deferred = DeferredDrops::new(capacity)?;
         let mut free = FreeSlots::new(capacity)?;
+        // No cell is made before all memory is there: one might hold a value, for all that its type says.
+        let mut cells = room_for(capacity)?;
         for index in 0..capacity {
             cells.push(Cell::unused());
             free.set(index);
@@ -172,8 +155,26 @@ impl<T> Slots<T> {
             free_count: capacity,
             cells,
             free,
-            aside: Aside::new(),
+            deferred,
         })
+    }
+}
+
+// Notes that the value of a slot was let go there, and waits for its drop where it has one.
+#[inline(always)]
+fn mark<T>(deferred: &mut DeferredDrops, index: usize) {
+    // requires index < defers_room deferred.old
+    if mem::needs_drop::<T>() {
+        deferred.add(index);
+    }
+}
+
+// Notes that a value which waited for its drop, if one did, is out of its slot.
+#[inline(always)]
+fn unmark<T>(deferred: &mut DeferredDrops, index: usize, value: &Option<T>) {
+    // requires index < defers_room deferred.old
+    if mem::needs_drop::<T>() && value.is_some() {
+        deferred.remove(index);
     }
 }
 
@@ -186,19 +187,6 @@ impl<T> Beside for Slots<T> {
         }
         let cell = nth(&self.cells, index);
         cell.once_read(number)
-    }
-}
-
-impl<T> Slots<T> {
-    /// From now on what is let go is set aside, where its drop does anything.
-    pub fn set_aside(&mut self) {
-        self.aside.keep();
-    }
-
-    /// How many values are set aside.
-    #[inline(always)]
-    pub fn aside(&self) -> usize {
-        self.aside.count::<T>()
     }
 }
 
@@ -259,19 +247,19 @@ impl<T> Slots<T> {
         cell.held()
     }
 
-    /// Puts a value into a free slot, under that slot's next stamp, and answers its index; hands the value back where
-    /// no slot is free.
-    #[inline]
-    pub fn fill(&mut self, value: T) -> Result<usize, T> {
+    /// Puts a value into a free slot, under that slot's next stamp, and returns its index, with the value that was set
+    /// aside there, if one was. It hands the value back where no slot is free.
+    #[inline(always)]
+    pub fn fill(&mut self, value: T) -> Result<(usize, Option<T>), T> {
         let Some(index) = self.free.take() else {
             return Err(value);
         };
         let cell = nth_mut(&mut self.cells, index);
-        let parted = cell.fill(value);
+        let crowded = cell.fill(value);
         self.held_count += 1;
         self.free_count -= 1;
-        self.put_aside(parted);
-        Ok(index)
+        unmark(&mut self.deferred, index, &crowded);
+        Ok((index, crowded))
     }
 
     /// Takes out what a slot holds.
@@ -288,28 +276,34 @@ impl<T> Slots<T> {
         held
     }
 
-    /// Lets go of what a slot holds. The value is dropped, once all else is done; or it is set aside, where the row
-    /// does so.
+    /// Lets go of what a slot holds. The value is set aside in the slot, and waits for its drop where it has one.
     #[inline]
     pub fn let_go(&mut self, index: usize) {
         // requires is_held (row_at self.old.rows index) ≡ true
-        if !self.aside.keeps::<T>() {
-            self.vacate(index);
-            return;
-        }
         let cell = nth_mut(&mut self.cells, index);
         cell.let_go();
         let stamp = cell.stamp();
+        mark::<T>(&mut self.deferred, index);
         if stamp < self.last {
             self.free.give(index);
             self.free_count += 1;
         }
         self.held_count -= 1;
-        self.aside.more(index);
     }
 
-    // Takes out what was set aside at a slot, if anything was.
-    fn take_aside_at(&mut self, index: usize) -> Option<T> {
+    /// How many values wait for their drop.
+    #[inline(always)]
+    pub fn aside(&self) -> usize {
+        if mem::needs_drop::<T>() {
+            self.deferred.count()
+        } else {
+            0
+        }
+    }
+
+    /// Takes out a value that waits for its drop; none where none does.
+    pub fn take_aside(&mut self) -> Option<T> {
+        let index = self.deferred.take()?;
         if index >= self.cells.len() {
             return None;
         }
@@ -317,68 +311,24 @@ impl<T> Slots<T> {
         cell.take_aside()
     }
 
-    /// Takes out a value that is set aside, if there is one. It looks at slots that are told it, and passes each once
-    /// for a value that was let go there.
-    pub fn take_aside(&mut self) -> Option<T> {
-        for _turn in 0..self.aside.most(self.cells.len()) {
-            let index = self.aside.next()?;
-            if let Some(value) = self.take_aside_at(index) {
-                self.aside.took(index);
-                return Some(value);
-            }
-        }
-        None
-    }
-
-    // Whether a slot holds nothing, and nothing is set aside there.
-    fn is_clean(&self, index: usize) -> bool {
-        if index >= self.cells.len() {
-            return false;
-        }
-        let cell = nth(&self.cells, index);
-        cell.is_clean()
-    }
-
-    // Takes out a value that is set aside, where no slot is known that has a place for one.
+    // Takes out the value that is set aside where the next fill puts its own.
     #[inline(never)]
-    fn take_unless_clean(&mut self) -> Option<T> {
-        if self.is_clean(self.aside.clean()) {
-            return None;
-        }
-        self.take_aside()
+    fn take_from_next(&mut self) -> Option<T> {
+        let index = self.free.take()?;
+        self.free.give(index);
+        let cell = nth_mut(&mut self.cells, index);
+        let crowded = cell.take_aside();
+        unmark(&mut self.deferred, index, &crowded);
+        crowded
     }
 
-    /// Takes out a value that is set aside, where a fill might find no other slot for one that is set aside in its
-    /// own.
+    /// Takes out the value that is set aside where the next fill puts its own, if one is.
     #[inline(always)]
     pub fn take_crowded(&mut self) -> Option<T> {
         if self.aside() == 0 {
             return None;
         }
-        self.take_unless_clean()
-    }
-
-    // Sets aside at another slot what was set aside at one that is filled. It is dropped where that has no place.
-    #[inline(never)]
-    fn put_aside_at(&mut self, index: usize, value: T) {
-        if index >= self.cells.len() {
-            self.aside.fewer();
-            return;
-        }
-        let cell = nth_mut(&mut self.cells, index);
-        if cell.put_aside(value) {
-            self.aside.note(index);
-        } else {
-            self.aside.fewer();
-        }
-    }
-
-    #[inline(always)]
-    fn put_aside(&mut self, parted: Option<T>) {
-        if let Some(value) = parted {
-            let clean = self.aside.clean();
-            self.put_aside_at(clean, value);
-        }
+        self.take_from_next()
     }
 
     /// Gives what a slot holds its next stamp.

@@ -34,9 +34,9 @@ impl<T, W: Words> DelayCore<T, W> {
         true
     }
 
-    /// Reaps each linked entry that is found cancelled, and answers how many: their values are dropped, and their
-    /// slots are free for others, or worn. It looks at every slot.
-    pub fn sweep(&mut self) -> usize {
+    /// Reaps each linked entry that is found cancelled, and returns how many. Their slots are free for others, or worn.
+    /// No value is dropped: each waits until it is taken out. It looks at every slot.
+    pub fn sweep_deferring(&mut self) -> usize {
         let mut reaped = 0;
         for index in 0..self.slots.capacity() {
             if self.reap_at(index) {
@@ -46,10 +46,9 @@ impl<T, W: Words> DelayCore<T, W> {
         reaped
     }
 
-    /// Reaps each linked entry that is found cancelled at `count` slots from `from` on, as `sweep` does at all of
-    /// them, and tells the slot to go on from. So many calls go round a queue as it has pieces, and each takes no
-    /// longer than its piece.
-    pub fn sweep_some(&mut self, from: usize, count: usize) -> Swept {
+    /// Reaps each linked entry that is found cancelled at `count` slots from `from` on, and tells the slot to go on
+    /// from. No value is dropped: each waits until it is taken out.
+    pub fn sweep_some_deferring(&mut self, from: usize, count: usize) -> Swept {
         let capacity = self.slots.capacity();
         let first = from.min(capacity);
         let end = first + count.min(capacity - first);
@@ -65,12 +64,12 @@ impl<T, W: Words> DelayCore<T, W> {
         }
     }
 
-    /// Reaps the entry of that name where it is found cancelled: its value is dropped, and its slot is free for
-    /// another, or worn. Constant time.
+    /// Reaps the entry of that name where it is found cancelled. Its value isn't dropped: it waits until it is taken
+    /// out. Constant time.
     ///
     /// # Errors
     /// `Missing` where no entry is linked with that shard, index and birth stamp; `Live` where it is found live.
-    pub fn reap(&mut self, entry: &EntryId) -> Result<(), ReapError> {
+    pub fn reap_deferring(&mut self, entry: &EntryId) -> Result<(), ReapError> {
         let Some(at) = self.find(entry) else {
             return Err(ReapError::Missing);
         };
@@ -104,9 +103,9 @@ impl<T, W: Words> DelayCore<T, W> {
         }
     }
 
-    /// Ends every linked entry, and drops its value: each live one as removed, and those that were cancelled are
-    /// reaped. It answers how many it ended as removed, and goes over every slot.
-    pub fn clear(&mut self) -> usize {
+    /// Ends every linked entry: each live one as removed, and those that were cancelled are reaped. It returns how many
+    /// it ended as removed, and goes over every slot. No value is dropped: each waits until it is taken out.
+    pub fn clear_deferring(&mut self) -> usize {
         let mut removed = 0;
         for index in 0..self.slots.capacity() {
             if self.clear_at(index) {

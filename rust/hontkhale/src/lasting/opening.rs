@@ -44,11 +44,7 @@ fn fresh_rows<T>(size: ShardSize) -> Option<Rows<T>> {
         return None;
     };
     match FreshRows::new(keeper, size.last_stamp) {
-        Ok(rows) => {
-            let mut rows = rows;
-            rows.set_aside();
-            Some(rows)
-        }
+        Ok(rows) => Some(rows),
         Err(_refused) => None,
     }
 }

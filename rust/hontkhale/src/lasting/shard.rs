@@ -42,9 +42,6 @@ impl<T> From<DelayCore<T, Keeper>> for LastingShard<T> {
             removed: 0,
             cancelled: 0,
         };
-        // No value is dropped under the lock.
-        let mut core = core;
-        core.set_aside();
         LastingShard {
             attended: Attended { core, parked: None },
             takes: true,

@@ -33,7 +33,9 @@ impl<T, N: Until> Attended<T, N> {
     #[inline(always)]
     pub fn insert(&mut self, value: T, when: u64) -> (Result<Key, (CoreError, T)>, Leaver<N>) {
         // requires MayWait N.lasts self.old.core self.old.parked
-        match self.core.insert(value, when) {
+        // Who inserts took a value that waits for its drop out before, so none comes out here.
+        let (answer, _crowded) = self.core.insert_deferring(value, when);
+        match answer {
             Ok(key) => (Ok(key), keep_or_leave(&self.core, &mut self.parked)),
             Err(refused) => (Err(refused), Leaver { poller: None }),
         }
@@ -56,14 +58,14 @@ impl<T, N: Until> Attended<T, N> {
     /// As [`DelayCore::poll`].
     #[inline(always)]
     pub fn poll(&mut self, tick: u64) -> (Result<Turn<T>, CoreError>, Leaver<N>) {
-        let answer = self.core.poll(tick);
+        let answer = self.core.poll_deferring(tick);
         (answer, keep_or_leave(&self.core, &mut self.parked))
     }
 
     /// As [`DelayCore::poll_some`].
     #[inline]
     pub fn poll_some(&mut self, tick: u64, most: u32) -> (Result<Piece<T>, CoreError>, Leaver<N>) {
-        let answer = self.core.poll_some(tick, most);
+        let answer = self.core.poll_some_deferring(tick, most);
         (answer, keep_or_leave(&self.core, &mut self.parked))
     }
 
@@ -76,25 +78,25 @@ impl<T, N: Until> Attended<T, N> {
 
     /// As [`DelayCore::sweep`].
     pub fn sweep(&mut self) -> (usize, Leaver<N>) {
-        let reaped = self.core.sweep();
+        let reaped = self.core.sweep_deferring();
         (reaped, keep_or_leave(&self.core, &mut self.parked))
     }
 
     /// As [`DelayCore::sweep_some`].
     pub fn sweep_some(&mut self, from: usize, count: usize) -> (Swept, Leaver<N>) {
-        let swept = self.core.sweep_some(from, count);
+        let swept = self.core.sweep_some_deferring(from, count);
         (swept, keep_or_leave(&self.core, &mut self.parked))
     }
 
     /// As [`DelayCore::reap`].
     pub fn reap(&mut self, entry: &EntryId) -> (Result<(), ReapError>, Leaver<N>) {
-        let answer = self.core.reap(entry);
+        let answer = self.core.reap_deferring(entry);
         (answer, keep_or_leave(&self.core, &mut self.parked))
     }
 
     /// As [`DelayCore::clear`].
     pub fn clear(&mut self) -> (usize, Leaver<N>) {
-        let removed = self.core.clear();
+        let removed = self.core.clear_deferring();
         (removed, keep_or_leave(&self.core, &mut self.parked))
     }
 }

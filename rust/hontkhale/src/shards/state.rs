@@ -17,9 +17,6 @@ pub struct ShardState<T> {
 
 impl<T> From<DelayCore<T, Keeper>> for ShardState<T> {
     fn from(core: DelayCore<T, Keeper>) -> ShardState<T> {
-        // No value is dropped under the lock.
-        let mut core = core;
-        core.set_aside();
         ShardState {
             attended: Attended { core, parked: None },
         }
@@ -72,7 +69,7 @@ impl<T> ShardState<T> {
     /// then.
     #[inline(always)]
     pub fn poll(&mut self, tick: u64) -> Result<Turn<T>, CoreError> {
-        let answer = self.attended.core.poll(tick);
+        let answer = self.attended.core.poll_deferring(tick);
         keep_or_leave(&self.attended.core, &mut self.attended.parked).wake();
         answer
     }
@@ -84,7 +81,7 @@ impl<T> ShardState<T> {
     /// Whoever is told Working by a call of no step at all learns nothing. Refused as TickTooLarge beyond the last tick,
     /// which is not noted then.
     pub fn poll_some(&mut self, tick: u64, most: u32) -> Result<Piece<T>, CoreError> {
-        let answer = self.attended.core.poll_some(tick, most);
+        let answer = self.attended.core.poll_some_deferring(tick, most);
         keep_or_leave(&self.attended.core, &mut self.attended.parked).wake();
         answer
     }
@@ -92,7 +89,7 @@ impl<T> ShardState<T> {
     /// Reaps each linked entry that is found cancelled, and answers how many. Their values are dropped. It looks at every
     /// slot.
     pub fn sweep(&mut self) -> usize {
-        let reaped = self.attended.core.sweep();
+        let reaped = self.attended.core.sweep_deferring();
         keep_or_leave(&self.attended.core, &mut self.attended.parked).wake();
         reaped
     }
@@ -101,7 +98,7 @@ impl<T> ShardState<T> {
     /// tells the slot to go on from. So many calls go round a shard as it has pieces, and each takes no longer than its piece:
     /// the lock is free between them.
     pub fn sweep_some(&mut self, from: usize, count: usize) -> Swept {
-        let swept = self.attended.core.sweep_some(from, count);
+        let swept = self.attended.core.sweep_some_deferring(from, count);
         keep_or_leave(&self.attended.core, &mut self.attended.parked).wake();
         swept
     }
@@ -110,7 +107,7 @@ impl<T> ShardState<T> {
     /// worn. Constant time. Refused as Missing where no entry is linked with that shard, index and birth stamp, and as
     /// Live where it is found live.
     pub fn reap(&mut self, entry: &EntryId) -> Result<(), ReapError> {
-        let answer = self.attended.core.reap(entry);
+        let answer = self.attended.core.reap_deferring(entry);
         keep_or_leave(&self.attended.core, &mut self.attended.parked).wake();
         answer
     }
@@ -118,7 +115,7 @@ impl<T> ShardState<T> {
     /// Ends every linked entry, and drops its value: each live one as removed, and those that were cancelled are
     /// reaped. It answers how many it ended as removed, and goes over every slot. No poller is left parked.
     pub fn clear(&mut self) -> usize {
-        let removed = self.attended.core.clear();
+        let removed = self.attended.core.clear_deferring();
         keep_or_leave(&self.attended.core, &mut self.attended.parked).wake();
         removed
     }

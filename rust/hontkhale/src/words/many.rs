@@ -35,7 +35,7 @@ pub fn poll_into<T>(
         return Err(CoreError::TickTooLarge { limit: LAST_TICK });
     }
     for _place in row.len()..row.capacity() {
-        match queue.poll(tick) {
+        match queue.poll_deferring(tick) {
             Ok(Turn::Out(expired)) => row.push(expired),
             Ok(Turn::Waiting { next }) => return Ok(ManyTurn::Waiting { next }),
             Ok(Turn::Idle) => return Ok(ManyTurn::Idle),

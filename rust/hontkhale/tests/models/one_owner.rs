@@ -44,6 +44,7 @@ queues! {
     noted() -> u64,
     len() -> usize,
     worn() -> usize,
+    aside() -> usize,
     tally() -> Tally,
     ;
     insert_or_drop(value: Value, when: u64) -> Result<Key, CoreError>,
@@ -259,7 +260,11 @@ impl<Q: Queue, C: ByKey<Q>> Play<Q, C> {
         );
         assert_eq!((queue.len(), queue.worn()), (self.model.len(), self.model.worn()));
         assert_eq!((queue.tick(), queue.noted()), (self.model.tick, self.model.noted));
-        assert_eq!(self.living.count(), queue.len() as u64, "values that live");
+        assert_eq!(
+            self.living.count(),
+            (queue.len() + queue.aside()) as u64,
+            "values that live"
+        );
     }
 
     // Each entry is filed no later than its deadline, and the next wake is the start of the soonest's slot.

@@ -220,16 +220,15 @@ fn one_owner_sets_nothing_aside() {
     assert_eq!((queue.sweep(), drops.count()), (2, 4));
 }
 
-// One owner's queue that sets aside shows nothing of it, and each value is dropped once: taken out, or with the queue.
+// What a call lets go that drops nothing shows nowhere, and each value is dropped once: taken out, or with the queue.
 #[test]
 fn one_owner_may_set_aside() {
     let drops = Drops::default();
     let mut queue: DelayCore<Value, VecWords> = DelayCore::with_capacity(8).expect("a queue");
-    queue.set_aside();
     for when in 0..8 {
         assert!(queue.insert(drops.value(), when).is_ok());
     }
-    assert_eq!((queue.clear(), queue.aside(), drops.count()), (8, 8, 0));
+    assert_eq!((queue.clear_deferring(), queue.aside(), drops.count()), (8, 8, 0));
     assert_eq!((queue.len(), queue.entries().count()), (0, 0));
     drop(queue.take_crowded());
     let key = queue.insert(drops.value(), 9).map_err(|refused| refused.0);

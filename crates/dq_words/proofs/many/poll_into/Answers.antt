@@ -20,13 +20,13 @@ loop-place-preserved g c =
     let l = c.loop-place in
     let before = l.invariant in
     let pushed = c.push_reserved.ensures in
-    let poll = c.poll.ensures in
-    let polled = subst (λ x. Polls true l.queue c.args.tick x c.poll.new.self) (c.in-Ok-Out.is ∙ ap Ok c.in-Ok-Out.field-0-is) poll.polls in (
+    let poll = c.poll_deferring.ensures in
+    let polled = subst (λ x. Polls true l.queue c.args.tick x c.poll_deferring.new.self) (c.in-Ok-Out.is ∙ ap Ok c.in-Ok-Out.field-0-is) poll.polls in (
       omega (arith, before.0, pushed.len),
       before.1,
       omega (arith, before.2, pushed.capacity),
       before.3,
-      one_more_behind c.args.queue.now c.args.tick c.args.row.now.items l.row.items c.push_reserved.new.self.items c.in-Ok-Out.expired l.queue c.poll.new.self before.4 polled pushed.items,
+      one_more_behind c.args.queue.now c.args.tick c.args.row.now.items l.row.items c.push_reserved.new.self.items c.in-Ok-Out.expired l.queue c.poll_deferring.new.self before.4 polled pushed.items,
       (poll.same.0 ∙ before.5.0, poll.same.1 ∙ before.5.1, poll.same.2 ∙ before.5.2),
       poll.origin ∙ before.6,
       λ i s d h. poll.begun i s d (before.7 i s d h),

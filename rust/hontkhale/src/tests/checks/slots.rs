@@ -3,7 +3,11 @@ use super::same;
 use crate::core::Slots;
 
 fn fills(slots: &mut Slots<char>, value: char, answer: Result<usize, char>) {
-    same("fill", slots.fill(value), answer);
+    let filled = match slots.fill(value) {
+        Ok((index, _crowded)) => Ok(index),
+        Err(refused) => Err(refused),
+    };
+    same("fill", filled, answer);
 }
 
 fn counts(slots: &Slots<char>, linked: usize, worn: usize) {

@@ -1,6 +1,6 @@
-use Rattle.std.proofs.Common.{◌≡◌, ◌<◌, false, length, ap, arith}
+use Rattle.std.proofs.Common.{◌≡◌, ◌<◌, false, length, ap, arith, refl}
 use Rattle.dq_core.specs.Slots.{is_held, row_at}
-use Rattle.dq_core.proofs.SlotRows.{read_is}
+use Rattle.dq_core.proofs.SlotRows.{read_is, room_kept}
 use Rattle.dq_core.proofs.Renewing.{worn_forgotten}
 use Rattle.dq_core.proofs.slots.Slots.forget_at.Goals as goal
 
@@ -11,4 +11,4 @@ invariant_of-self g c =
     let r = read_is c.self.inside.cells.items c.args.index c.index_mut-cell.result.now inside c.index_mut-cell.ensures.value in
     let same = ap (λ r. r.stamp) r in
     let at = c.stamp.ensures in
-    rw c.forget.ensures (worn_forgotten c.self.invariant c.set.new.self c.args.index inside h (omega arith) c.set.ensures)
+    rw c.forget.ensures (worn_forgotten c.self.invariant.0 c.set.new.self c.args.index inside h (omega arith) c.set.ensures, room_kept c.self.inside.cells.items c.args.index _ _ _ c.self.invariant.1 refl)

@@ -25,11 +25,10 @@ fn drops_at_once<'heap>(queue: &mut Boxes<'heap>, heap: &'heap LocalHeap) -> Res
 
 // What is set aside is no entry any more, and has its memory until it is taken out.
 fn sets_aside<'heap>(queue: &mut Boxes<'heap>, heap: &'heap LocalHeap) -> Result<(), Fail> {
-    queue.set_aside();
     let one = put(queue, heap)?;
     let both = heap.used();
-    same("sweep", (queue.sweep(), heap.used()), (1, both));
-    same("clear", (queue.clear(), heap.used()), (1, both));
+    same("sweep", (queue.sweep_deferring(), heap.used()), (1, both));
+    same("clear", (queue.clear_deferring(), heap.used()), (1, both));
     same("aside", (queue.aside(), queue.len()), (2, 0));
     drop(queue.take_aside());
     same("take one", (queue.aside(), heap.used()), (1, one));

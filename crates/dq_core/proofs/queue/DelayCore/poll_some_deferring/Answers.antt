@@ -1,0 +1,50 @@
+use Rattle.std.proofs.Common.{ap, ◌∙◌, arith, subst}
+use Rattle.dq_core.specs.Pieces.{IsPieceBy}
+use Rattle.dq_core.proofs.PieceSteps.{piece_init, piece_more, out_due, piece_out, piece_waiting, piece_idle}
+use Rattle.dq_core.proofs.queue.DelayCore.poll_some_deferring.Goals as goal
+
+pub loop-made-init : goal.loop-made-init
+loop-made-init g c = (
+  omega arith,
+  piece_init g.W.Words.shared c.args.self.now c.note.new.self c.args.tick (omega (arith, c.if-tick-gt-LAST_TICK.false)) c.note.ensures,
+  ap (λ q. g.W.Words.origin q.words) c.note.ensures,
+  λ i s d b. rw (ap (λ q. q.words) c.note.ensures) b,
+  rw (ap (λ q. q.words) c.note.ensures) (omega arith),
+)
+
+pub loop-made-preserved : goal.loop-made-preserved
+loop-made-preserved g c =
+    let made = c.look_then_step-progress.result.1 in
+    let step = c.look_then_step-progress.ensures in
+    let piece = subst (λ m. IsPieceBy g.W.Words.shared c.loop-made.self made m c.look_then_step-progress.new.self) c.in-Went.is step.piece in (
+      omega (arith, c.loop-made.invariant.0, step.few),
+      piece_more g.W.Words.shared c.args.self.now c.loop-made.self c.look_then_step-progress.new.self c.args.tick c.loop-made.made made c.loop-made.invariant.1 step.some step.same step.noted piece,
+      step.origin ∙ c.loop-made.invariant.2,
+      λ i s d b. step.begun i s d (c.loop-made.invariant.3 i s d b),
+      omega (arith, step.few_steps, c.loop-made.invariant.4),
+    )
+
+pub returns-in-Gave-clause-polls : goal.returns-in-Gave-clause-polls
+returns-in-Gave-clause-polls g c =
+    let step = c.look_then_step-progress.ensures in
+    let piece = subst (λ m. IsPieceBy g.W.Words.shared c.loop-made.self c.look_then_step-progress.result.1 m c.look_then_step-progress.new.self) c.in-Gave.is step.piece in
+    piece_out g.W.Words.shared c.args.self.now c.loop-made.self c.look_then_step-progress.new.self c.args.tick c.loop-made.made c.args.most c.in-Gave.expired c.loop-made.invariant.1 piece step.noted
+    (omega (arith, c.loop-made-test.true))
+
+pub returns-in-Gave-clause-out : goal.returns-in-Gave-clause-out
+returns-in-Gave-clause-out g c =
+    let step = c.look_then_step-progress.ensures in
+    let piece = subst (λ m. IsPieceBy g.W.Words.shared c.loop-made.self c.look_then_step-progress.result.1 m c.look_then_step-progress.new.self) c.in-Gave.is step.piece in
+    out_due g.W.Words.shared c.loop-made.self c.look_then_step-progress.new.self c.in-Gave.expired piece
+
+pub returns-in-Some-clause-polls : goal.returns-in-Some-clause-polls
+returns-in-Some-clause-polls g c =
+    let step = c.look_then_step-progress.ensures in
+    let piece = subst (λ m. IsPieceBy g.W.Words.shared c.loop-made.self c.look_then_step-progress.result.1 m c.look_then_step-progress.new.self) c.in-Rests.is step.piece in
+    piece_waiting g.W.Words.shared c.args.self.now c.loop-made.self c.look_then_step-progress.new.self c.args.tick c.loop-made.made c.args.most c.in-Some.next c.loop-made.invariant.1 c.loop-made.invariant.0 piece c.in-Some.ensures.wake c.in-Some.ensures.ahead
+
+pub returns-in-None-clause-polls : goal.returns-in-None-clause-polls
+returns-in-None-clause-polls g c =
+    let step = c.look_then_step-progress.ensures in
+    let piece = subst (λ m. IsPieceBy g.W.Words.shared c.loop-made.self c.look_then_step-progress.result.1 m c.look_then_step-progress.new.self) c.in-Rests.is step.piece in
+    piece_idle g.W.Words.shared c.args.self.now c.loop-made.self c.look_then_step-progress.new.self c.args.tick c.loop-made.made c.args.most c.loop-made.invariant.1 c.loop-made.invariant.0 piece c.in-None.ensures.wake

@@ -1,0 +1,99 @@
+//! Which slots have a value that was let go and isn't dropped yet.
+//!
+//! A value's drop is a user's code: it may take long, call the queue or panic, so it runs only where a call is done
+//! with the queue. Until then the value stays in its slot: a row of its own would take as much memory again as all
+//! values do, and to move a value there and back would cost what its drop is put off for. A slot that waits for its
+//! drop may be filled again; the value then goes out beside the new one.
+//!
+//! The slots are bits of words, with a bit of a summary for each word that isn't 0, and a count of them. Each call
+//! takes constant time.
+ghost use Rattle.std.specs.Prelude.{◌≡◌, ℕ, ◌+◌, ◌*◌, ◌<◌, ◌≤◌, length, IfOk};
+ghost use Rattle.dq_core.specs.Deferred.{Deferred, deferred_at, Defers, Undefers, TakesDeferred, defers_room};
+
+use crate::free_slots::{Summary, clear_bit, filled_word, has_bit, set_bit, take_bit};
+use std::alloc::{AllocError, Allocator, Global};
+use std::marker::Model;
+
+/// The slots whose value waits for its drop.
+#[derive(Drop)]
+pub struct DeferredDrops<A: Allocator = Global> {
+    bits: Vec<u64, A>,
+    summary: Summary,
+    /// The word that gave the last slot.
+    current: usize,
+    count: usize,
+}
+
+impl<A: Allocator> Model for DeferredDrops<A> {
+    ghost use Rattle.dq_core.specs.Deferred.{Deferred, IsDeferredKept};
+
+    ghost Value = { Deferred };
+
+    ghost view = { λ a. record { bits = a.bits.items; count = a.count } };
+
+    ghost invariant = { λ a. IsDeferredKept a.bits.items a.summary a.current a.count };
+}
+
+impl<A: Allocator> DeferredDrops<A> {
+    ghost use Rattle.dq_ticks.specs.declared.TheConstants.{CAPACITY_LIMIT};
+
+    /// Room for the slots below `capacity`, of which none waits.
+    pub fn new(alloc: A, capacity: usize) -> Result<DeferredDrops<A>, AllocError>
+        requires { capacity ≤ CAPACITY_LIMIT }
+        ensures { IfOk result (λ d. (capacity ≤ defers_room d) × (d.count ≡ 0)) }
+    {
+        let words = capacity.saturating_sub(1) / 64 + 1;
+        let bits = vec![in alloc; 0; words]?;
+        Ok(DeferredDrops {
+            bits,
+            summary: [0; 16],
+            current: 0,
+            count: 0,
+        })
+    }
+
+    /// How many slots wait.
+    #[inline(always)]
+    pub fn count(&self) -> usize
+        ensures { result ≡ self.now.count }
+    {
+        self.count
+    }
+
+    /// From now on a slot waits.
+    pub fn add(&mut self, index: usize)
+        requires { index < defers_room self.old }
+        ensures { Defers self.old index self.new }
+    {
+        if has_bit(&self.bits, index) {
+            return;
+        }
+        set_bit(self.bits.as_mut_slice(), &mut self.summary, index);
+        self.count += 1;
+    }
+
+    /// A slot waits no more.
+    pub fn remove(&mut self, index: usize)
+        requires { index < defers_room self.old }
+        ensures { Undefers self.old index self.new }
+    {
+        if !has_bit(&self.bits, index) {
+            return;
+        }
+        clear_bit(self.bits.as_mut_slice(), &mut self.summary, index);
+        self.count -= 1;
+    }
+
+    /// Takes out a slot that waits; none comes exactly where the count is 0.
+    pub fn take(&mut self) -> Option<usize>
+        ensures { TakesDeferred self.old result self.new }
+    {
+        let Some(word) = filled_word(&self.bits, &self.summary, self.current) else {
+            return None;
+        };
+        self.current = word;
+        let index = take_bit(self.bits.as_mut_slice(), &mut self.summary, word);
+        self.count -= 1;
+        Some(index)
+    }
+}
