@@ -168,7 +168,9 @@ int main(void) {
     }
     WANT(dq_deadline(&queue, &key).first == 100 && dq_len(&queue).first == 1);
     WANT(is_code(dq_free(&queue), DQ_OK));
-    WANT(dq_extend(&caller, &key, 200).code == DQ_OK && is_code(dq_give_back(&caller), DQ_OK) && held == 0);
+    dq_answer ended = dq_extend(&caller, &key, 200);
+    WANT(ended.code == DQ_ENDED && ended.first == DQ_REMOVED && ended.second == 100);
+    WANT(is_code(dq_give_back(&caller), DQ_OK) && held == 0);
     empty_handles(&queue, &caller);
     printf("%ld allocations of a making, %ld of an issue and %ld of a renewal were refused in turn\n", made, issued, renewed);
     return 0;

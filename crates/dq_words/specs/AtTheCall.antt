@@ -77,8 +77,8 @@ cancels_of c = cancels_in c.view.calls
 
 -- what is left of a caller that was given back: its table, and all that it knew, with the step
 -- that counts it as gone
-abbrev pub IsGone : Sat → Sat → Type 0
-IsGone c g = (g.table ≡ c.table) × (g.view ≡ giving_back c.view)
+abbrev pub IsGivenBack : Sat → Sat → Type 0
+IsGivenBack c g = (g.table ≡ c.table) × (g.view ≡ giving_back c.view)
 
 -- nothing is known yet: no step was made, no call accepted, nothing written, and nobody issued
 abbrev pub KnowsNothing : Sat → Type 0

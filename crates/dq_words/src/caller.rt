@@ -2,7 +2,7 @@
 ghost use Rattle.std.specs.Prelude.{◌≡◌, ◌+◌, ◌<◌, ◌≤◌, [], length, false, IfErr, IfOk};
 ghost use Rattle.std.specs.Prelude.{MatchOption, MatchResult};
 ghost use Rattle.dq_ticks.specs.Word.{stamp_of, mark_of, field_of};
-ghost use Rattle.dq_words.specs.AtTheCall.{cancels_of, AgreesWithCalls, ExtendRefusedByWord, IsGone};
+ghost use Rattle.dq_words.specs.AtTheCall.{cancels_of, AgreesWithCalls, ExtendRefusedByWord, IsGivenBack};
 ghost use Rattle.dq_words.specs.AtTheCall.{KeepsPromises, LookRefusedByWord, RefusedByWord};
 ghost use Rattle.dq_words.specs.AtTheCall.{SeesCancelled, SeesEntry, SeesLive, StepsAtMost};
 ghost use Rattle.dq_words.specs.CallerCalls.{IsCaller, IsForged, Refuses, CallerExtends};
@@ -206,7 +206,7 @@ impl<A: Allocator> Caller<A> {
     pub fn leave(self) -> (u64, Gone)
         ensures cancels { result.0 ≡ cancels_of self }
         ensures few { result.0 ≤ most_begins }
-        ensures gone { IsGone self result.1 }
+        ensures gone { IsGivenBack self result.1 }
     {
         let Caller { seat, cancels } = self;
         (cancels, seat.leave(cancels))

@@ -1,6 +1,6 @@
 //! Callers that were given back, for contracts and proofs.
 ghost use Rattle.std.specs.Prelude.{◌≡◌, ◌≤◌, true, false};
-ghost use Rattle.dq_words.specs.AtTheCall.{IsGone};
+ghost use Rattle.dq_words.specs.AtTheCall.{IsGivenBack};
 ghost use Rattle.dq_words.specs.Counts.{most_begins, cancels_in};
 ghost use Rattle.dq_words.specs.Keeping.{Knew};
 
@@ -45,7 +45,7 @@ impl<A: Allocator> Seated<A> {
         requires caller { (self.view.keeps ≡ false) × (self.view.gone ≡ false) }
         requires cancels { cancels ≡ cancels_in self.view.calls }
         requires few { cancels ≤ most_begins }
-        ensures { IsGone self result }
+        ensures { IsGivenBack self result }
     {
         self.give_back(cancels);
         let Seated {
