@@ -83,6 +83,17 @@ fn place_of(tick: u64, home: u16) -> Place {
     }
 }
 
+// The first list that holds something, with its start, where that isn't after the limit.
+fn next_stop(lists: &Lists, tick: u64, limit: u64) -> Option<(usize, u64)> {
+    let own = digit(tick, LEVELS - 1) as usize;
+    let list = lists.first_filled(own)?;
+    let start = start_of(tick, list);
+    if start > limit {
+        return None;
+    }
+    Some((list, start))
+}
+
 impl Wheel {
     /// A wheel at tick 0 with nothing linked, over 1 to [`CAPACITY_LIMIT`] indexes. Another capacity is `BadConfig`;
     /// where an allocation is refused it is `NoMemory`. No other call takes memory.
@@ -198,18 +209,11 @@ impl Wheel {
     /// Goes on as [`Self::advance`] does. Where it opens a list of level 1 in a large wheel it reads what lies beside its
     /// indexes, so that whoever takes them off soon doesn't wait for memory.
     pub fn advance_reading<B: Beside>(&mut self, limit: u64, beside: &B) -> bool {
-        let own = digit(self.tick, LEVELS - 1) as usize;
-        let Some(list) = self.lists.first_filled(own) else {
+        let Some((list, start)) = next_stop(&self.lists, self.tick, limit) else {
             self.tick = limit;
             self.lists.close();
             return false;
         };
-        let start = start_of(self.tick, list);
-        if limit < start {
-            self.tick = limit;
-            self.lists.close();
-            return false;
-        }
         self.tick = start;
         // All that stands in a list of level 0 is due at its start, where that list is the due list.
         if list < SLOTS {
@@ -225,24 +229,17 @@ impl Wheel {
     /// Goes on as [`Self::advance`] does, in constant time. Where the wake was reached each index of its slot counts from
     /// now on as filed at that tick, so it is due, and none is moved.
     pub fn arrive(&mut self, limit: u64) -> bool {
-        let own = digit(self.tick, LEVELS - 1) as usize;
-        let Some(list) = self.lists.first_filled(own) else {
-            self.lists.close();
+        let Some((list, start)) = next_stop(&self.lists, self.tick, limit) else {
             self.tick = limit;
+            self.lists.close();
             return false;
         };
-        let begin = start_of(self.tick, list);
-        if begin > limit {
-            self.lists.close();
-            self.tick = limit;
-            return false;
-        }
-        self.tick = begin;
+        self.tick = start;
         // All that stands in a list of level 0 is due at its start already, where that list is the due list.
-        if SLOTS > list {
+        if list < SLOTS {
             self.lists.close();
         } else {
-            self.lists.hang(list, begin);
+            self.lists.hang(list, start);
         }
         true
     }
