@@ -102,10 +102,7 @@ impl<K> Timers<K> {
     // Gives a timer another deadline, and its slot's next stamp; none where the slot has none left. A reset is
     // refused for nothing else: the timer is there, and nobody cancels it.
     pub(crate) fn restart(&mut self, key: &Key, when: u64) -> Option<Key> {
-        match self.queue.reset(&key.entry(), when) {
-            Ok(next) => Some(next),
-            Err(_) => None,
-        }
+        self.queue.reset(&key.entry(), when).ok()
     }
 
     // Stops a timer.
