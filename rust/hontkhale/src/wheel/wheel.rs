@@ -170,8 +170,7 @@ impl Wheel {
     /// due at any other tick was filed at just that tick.
     #[inline]
     pub fn first_open(&self) -> Option<usize> {
-        let index = self.lists.first_open(due_list(self.tick))?;
-        Some(index)
+        self.lists.first_open(due_list(self.tick))
     }
 
     /// Files a loose index at a tick from the wheel's own on, at most [`REACH`] ticks ahead. It has not moved then.
@@ -196,8 +195,7 @@ impl Wheel {
 
     /// Takes one index off the due list, or tells that nothing is filed at the tick.
     pub fn pop_due(&mut self) -> Option<usize> {
-        let index = self.lists.take_first(due_list(self.tick))?;
-        Some(index)
+        self.lists.take_first(due_list(self.tick))
     }
 
     /// Goes on to the next wake, but not past the limit, once nothing is due. True where the wake was reached: its list
