@@ -285,6 +285,23 @@ def tails(tokens):
     return tokens
 
 
+def wholes(tokens):
+    """`let name = value?; Some(name) }` is `value }`: two contracts stood between the two."""
+    at = 0
+    while at < len(tokens) - 9:
+        if tokens[at].text == "let" and tokens[at + 1].kind == "word" and tokens[at + 2].text == "=":
+            end = at + 3
+            while tokens[end].text not in (";", "else", "}"):
+                if tokens[end].kind == "other" and tokens[end].text in OPENS:
+                    end = close_of(tokens, end)
+                end += 1
+            if tokens[end - 1].text == "?" and words_at(tokens, end, ";", "Some", "(", tokens[at + 1].text, ")", "}"):
+                tokens[at + 3].before = tokens[at].before
+                tokens[at:end + 5] = tokens[at + 3:end - 1]
+        at += 1
+    return tokens
+
+
 def sharing(tokens):
     """A step on the table of shared words names its kind and its seat, which are for proofs. A peek is a load."""
     at = 0
@@ -345,4 +362,4 @@ def rewritten(tokens):
     for at, token in enumerate(tokens):
         if token.text == "Fail" and tokens[at - 1].text != "::":
             token.text = "AllocError"
-    return questions(tokens)
+    return wholes(questions(tokens))

@@ -1,6 +1,6 @@
 -- The ways on which the wheel goes to another tick, from what callers see. Nothing is due.
 
-use Rattle.std.proofs.Common.{◌≡◌, ℕ, ◌+◌, ◌/◌, ◌%◌, ◌<◌, ◌≤◌, List, get_or, min, arith, ap, Some}
+use Rattle.std.proofs.Common.{◌≡◌, ℕ, ◌+◌, ◌/◌, ◌%◌, ◌<◌, ◌≤◌, List, get_or, min, arith, ap, refl, inl, inr, Some}
 use Rattle.dq_ticks.specs.Digits.{digit_of, start, start_for}
 use Rattle.dq_ticks.specs.declared.TheConstants.{LAST_TICK}
 use Rattle.dq_wheel.specs.State.{Filing, filed_at, NoneFiledAt, NoneFiledBefore}
@@ -8,6 +8,7 @@ use Rattle.dq_wheel.specs.Moves.{ReachesLimit, ReachesWake}
 use Rattle.dq_wheel.specs.Filed.{filed_ticks}
 use Rattle.dq_wheel.specs.Lists.{StandsIn, IsListEmpty}
 use Rattle.dq_wheel.specs.Maps.{IsFirstFilled}
+use Rattle.dq_wheel.specs.Wakes.{StopsLater}
 use Rattle.dq_wheel.specs.Homes.{CanGo, IsLawfulFiling, IsOpened}
 use Rattle.dq_wheel.specs.declared.TheConstants.{LISTS}
 use Rattle.dq_wheel.proofs.Lawful.{filing_of}
@@ -70,3 +71,8 @@ module _ (e : ℕ) (numbers moves homes : List ℕ) (ok : IsLawfulFiling e (file
 
       pub none_before_open : NoneFiledBefore (filed_ticks numbers) begin
       none_before_open = none_before begin (filed_ticks numbers) moves2 homes2 lawful_open
+
+  -- the first list that is filled starts after the limit, or none is
+  pub starts_past : StopsLater e limit homes → StartsLater
+  starts_past (inl empty) = starts_never empty
+  starts_past (inr (list, first, short)) = starts_later (digit_of e 5) list (start e (list / 64) (list % 64)) refl first refl short

@@ -123,10 +123,8 @@ impl<A: Allocator> Lists<A> {
             (IsListEmpty self.now.homes list)
             (λ x. StandsIn self.now.homes list x) }
     {
-        match self.circles.first(list) {
-            Some(first) => Some(first),
-            None => None,
-        }
+        let first = self.circles.first(list)?;
+        Some(first)
     }
 
     /// The first index of a list while a slot is open, or none, which tells nothing.
@@ -135,10 +133,8 @@ impl<A: Allocator> Lists<A> {
         requires { list < LISTS }
         ensures { IfSome result (λ x. StandsIn self.now.homes list x) }
     {
-        match self.circles.first_open(list) {
-            Some(first) => Some(first),
-            None => None,
-        }
+        let first = self.circles.first_open(list)?;
+        Some(first)
     }
 
     /// An index of a list that is filed least there.
@@ -171,10 +167,8 @@ impl<A: Allocator> Lists<A> {
             ((p : ℕ) → p < LISTS → IsListEmpty self.now.homes p)
             (λ q. IsFirstFilled own self.now.homes q) }
     {
-        match first_list(&self.maps, own) {
-            Some(list) => Some(list),
-            None => None,
-        }
+        let list = first_list(&self.maps, own)?;
+        Some(list)
     }
 
     /// Puts a loose index at the end of a list, filed at a tick.

@@ -6,7 +6,7 @@ ghost use Rattle.dq_wheel.specs.State.{filed_at, fresh_filing, linked, unlinked,
 ghost use Rattle.dq_wheel.specs.Places.{place_for, IsSlotFilled};
 ghost use Rattle.dq_wheel.specs.Moves.{ReachesLimit, ReachesWake};
 ghost use Rattle.dq_wheel.specs.Arrivals.{AreFiledByThen, ArrivesAtWake};
-ghost use Rattle.dq_wheel.specs.Wakes.{IsNextWake, IsWithin, WakesAreAhead};
+ghost use Rattle.dq_wheel.specs.Wakes.{IsNextWake, IsStop, IsWithin, StopsLater, WakesAreAhead};
 ghost use Rattle.dq_wheel.specs.Filed.{filed_by};
 ghost use Rattle.dq_wheel.specs.Homes.{place_of_home};
 ghost use Rattle.dq_wheel.specs.Lawful.{IsLawfulWheel};
@@ -120,6 +120,22 @@ fn place_of(tick: u64, home: u16) -> Place
             slot: list % SLOTS,
         }
     }
+}
+
+// The first list that holds something, with its start, where that isn't after the limit.
+fn next_stop<A: Allocator>(lists: &Lists<A>, tick: u64, limit: u64) -> Option<(usize, u64)>
+    requires { tick ≤ LAST_TICK }
+    ensures { MatchOption result
+        (StopsLater tick limit lists.now.homes)
+        (λ s. IsStop tick limit lists.now.homes s.0 s.1) }
+{
+    let own = digit(tick, LEVELS - 1) as usize;
+    let list = lists.first_filled(own)?;
+    let start = start_of(tick, list);
+    if start > limit {
+        return None;
+    }
+    Some((list, start))
 }
 
 impl<A: Allocator> Wheel<A> {
@@ -364,18 +380,11 @@ impl<A: Allocator> Wheel<A> {
             (ReachesWake self.old.filing limit self.new.filing)
             (ReachesLimit self.old.filing limit self.new.filing) }
     {
-        let own = digit(self.tick, LEVELS - 1) as usize;
-        let Some(list) = self.lists.first_filled(own) else {
+        let Some((list, start)) = next_stop(&self.lists, self.tick, limit) else {
             self.tick = limit;
             self.lists.close();
             return false;
         };
-        let start = start_of(self.tick, list);
-        if limit < start {
-            self.tick = limit;
-            self.lists.close();
-            return false;
-        }
         self.tick = start;
         // All that stands in a list of level 0 is due at its start, where that list is the due list.
         if list < SLOTS {
@@ -406,24 +415,17 @@ impl<A: Allocator> Wheel<A> {
             (ArrivesAtWake self.old.filing limit self.new.filing)
             (ReachesLimit self.old.filing limit self.new.filing) }
     {
-        let own = digit(self.tick, LEVELS - 1) as usize;
-        let Some(list) = self.lists.first_filled(own) else {
-            self.lists.close();
+        let Some((list, start)) = next_stop(&self.lists, self.tick, limit) else {
             self.tick = limit;
+            self.lists.close();
             return false;
         };
-        let begin = start_of(self.tick, list);
-        if begin > limit {
-            self.lists.close();
-            self.tick = limit;
-            return false;
-        }
-        self.tick = begin;
+        self.tick = start;
         // All that stands in a list of level 0 is due at its start already, where that list is the due list.
-        if SLOTS > list {
+        if list < SLOTS {
             self.lists.close();
         } else {
-            self.lists.hang(list, begin);
+            self.lists.hang(list, start);
         }
         true
     }

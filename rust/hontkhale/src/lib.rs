@@ -67,9 +67,7 @@
     clippy::enum_variant_names,
     clippy::manual_find,
     clippy::manual_map,
-    clippy::manual_ok_err,
-    clippy::module_inception,
-    clippy::question_mark
+    clippy::module_inception
 )]
 
 extern crate alloc;

@@ -47,9 +47,7 @@ where
         if !wants_stamps(&error) {
             return Err(error);
         }
-        if let Err(refused) = self.refresh() {
-            return Err(refused);
-        }
+        self.refresh()?;
         self.renew(key, ttl, now)
     }
 

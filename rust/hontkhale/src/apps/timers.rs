@@ -110,10 +110,7 @@ impl<K> Timers<K> {
         // requires when ≤ LAST_TICK
         // requires self.old.noted ≤ when
         // requires IsTimer self.old.slots key.now
-        match self.queue.reset(&key.entry(), when) {
-            Ok(next) => Some(next),
-            Err(_) => None,
-        }
+        self.queue.reset(&key.entry(), when).ok()
     }
 
     // Whether a timer is set.

@@ -65,20 +65,14 @@ impl Lists {
     /// The first index of a list.
     pub fn first(&self, list: usize) -> Option<usize> {
         // requires list < LISTS
-        match self.circles.first(list) {
-            Some(first) => Some(first),
-            None => None,
-        }
+        self.circles.first(list)
     }
 
     /// The first index of a list while a slot is open, or none, which tells nothing.
     #[inline]
     pub fn first_open(&self, list: usize) -> Option<usize> {
         // requires list < LISTS
-        match self.circles.first_open(list) {
-            Some(first) => Some(first),
-            None => None,
-        }
+        self.circles.first_open(list)
     }
 
     /// An index of a list that is filed least there.
@@ -99,10 +93,7 @@ impl Lists {
     /// The filled list of the lowest level that has one, there the first after the own one.
     pub fn first_filled(&self, own: usize) -> Option<usize> {
         // requires own < 64
-        match first_list(&self.maps, own) {
-            Some(list) => Some(list),
-            None => None,
-        }
+        first_list(&self.maps, own)
     }
 
     /// Puts a loose index at the end of a list, filed at a tick.

@@ -114,7 +114,8 @@ pub fn once_near(rows: &[Row], index: usize, number: u32) -> u32 {
     let row = row_at(rows, index);
     let before = row_at(rows, row.prev as usize);
     let after = row_at(rows, row.next as usize);
-    number + (before.next - after.prev)
+    let zero = before.next - after.prev;
+    number + zero
 }
 
 /// Takes the entry that follows the head of a list out of it.

@@ -85,6 +85,18 @@ fn place_of(tick: u64, home: u16) -> Place {
     }
 }
 
+// The first list that holds something, with its start, where that isn't after the limit.
+fn next_stop(lists: &Lists, tick: u64, limit: u64) -> Option<(usize, u64)> {
+    // requires tick ≤ LAST_TICK
+    let own = digit(tick, LEVELS - 1) as usize;
+    let list = lists.first_filled(own)?;
+    let start = start_of(tick, list);
+    if start > limit {
+        return None;
+    }
+    Some((list, start))
+}
+
 impl Wheel {
     /// A wheel at tick 0 with nothing linked, over 1 to [`CAPACITY_LIMIT`] indexes. Another capacity is `BadConfig`;
     /// where an allocation is refused it is `NoMemory`. No other call takes memory.
@@ -165,8 +177,7 @@ impl Wheel {
     /// due at any other tick was filed at just that tick.
     #[inline]
     pub fn first_open(&self) -> Option<usize> {
-        let index = self.lists.first_open(due_list(self.tick))?;
-        Some(index)
+        self.lists.first_open(due_list(self.tick))
     }
 
     /// Files a loose index at a tick from the wheel's own on, at most [`REACH`] ticks ahead. It has not moved then.
@@ -200,8 +211,7 @@ impl Wheel {
 
     /// Takes one index off the due list, or tells that nothing is filed at the tick.
     pub fn pop_due(&mut self) -> Option<usize> {
-        let index = self.lists.take_first(due_list(self.tick))?;
-        Some(index)
+        self.lists.take_first(due_list(self.tick))
     }
 
     /// Goes on to the next wake, but not past the limit, once nothing is due. True where the wake was reached: its list
@@ -219,18 +229,11 @@ impl Wheel {
         // requires NoneFiledAt self.old.filing.filed self.old.filing.tick
         // requires self.old.filing.tick ≤ limit
         // requires limit ≤ LAST_TICK
-        let own = digit(self.tick, LEVELS - 1) as usize;
-        let Some(list) = self.lists.first_filled(own) else {
+        let Some((list, start)) = next_stop(&self.lists, self.tick, limit) else {
             self.tick = limit;
             self.lists.close();
             return false;
         };
-        let start = start_of(self.tick, list);
-        if limit < start {
-            self.tick = limit;
-            self.lists.close();
-            return false;
-        }
         self.tick = start;
         // All that stands in a list of level 0 is due at its start, where that list is the due list.
         if list < SLOTS {
@@ -249,24 +252,17 @@ impl Wheel {
         // requires NoneFiledAt self.old.filing.filed self.old.filing.tick
         // requires self.old.filing.tick ≤ limit
         // requires limit ≤ LAST_TICK
-        let own = digit(self.tick, LEVELS - 1) as usize;
-        let Some(list) = self.lists.first_filled(own) else {
-            self.lists.close();
+        let Some((list, start)) = next_stop(&self.lists, self.tick, limit) else {
             self.tick = limit;
+            self.lists.close();
             return false;
         };
-        let begin = start_of(self.tick, list);
-        if begin > limit {
-            self.lists.close();
-            self.tick = limit;
-            return false;
-        }
-        self.tick = begin;
+        self.tick = start;
         // All that stands in a list of level 0 is due at its start already, where that list is the due list.
-        if SLOTS > list {
+        if list < SLOTS {
             self.lists.close();
         } else {
-            self.lists.hang(list, begin);
+            self.lists.hang(list, start);
         }
         true
     }

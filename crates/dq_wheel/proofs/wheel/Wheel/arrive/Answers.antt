@@ -1,13 +1,13 @@
-use Rattle.std.proofs.Common.{ap, arith}
-use Rattle.dq_wheel.proofs.Arriving.{comes_earlier, hang_arrives, lawful_arrival, low_arrives, no_due_list, none_before_arrival, stays_filed, unnamed_arrival}
-use Rattle.dq_wheel.proofs.Going.{begins_after, lawful_at_limit, lawful_open, low_opened, none_before_limit, none_before_open, reaches_limit, starts_later, starts_never}
+use Rattle.std.proofs.Common.{ap, arith, refl}
+use Rattle.dq_wheel.proofs.Arriving.{comes_earlier, hang_arrives, lawful_arrival, low_arrives, no_due_list, none_before_arrival, unnamed_arrival}
+use Rattle.dq_wheel.proofs.Going.{begins_after, lawful_at_limit, lawful_open, low_opened, none_before_limit, none_before_open, reaches_limit, starts_past}
 use Rattle.dq_wheel.proofs.wheel.Wheel.arrive.Goals as goal
 
 pub invariant_of-self : goal.invariant_of-self
 invariant_of-self g c =
     rw (c.close.ensures.homes, c.close.ensures.filed, c.close.ensures.moves, c.close.ensures.shut) (
       lawful_at_limit _ _ _ _ c.self.invariant.0 _ _ (ap (λ w. w.filing) c.self.view_is) c.requires.none_due _ c.requires.not_before c.requires.in_range (omega arith)
-          (starts_never _ _ _ _ c.self.invariant.0 _ _ (ap (λ w. w.filing) c.self.view_is) c.requires.none_due _ c.requires.not_before c.requires.in_range (omega arith) c.in_default.ensures),
+          (starts_past _ _ _ _ c.self.invariant.0 _ _ (ap (λ w. w.filing) c.self.view_is) c.requires.none_due _ c.requires.not_before c.requires.in_range (omega arith) c.in_default.ensures),
       tt,
     )
 
@@ -15,44 +15,13 @@ pub returns-in_default-clause-none_before : goal.returns-in_default-clause-none_
 returns-in_default-clause-none_before g c =
     rw c.close.ensures.filed
     (none_before_limit _ _ _ _ c.self.invariant.0 _ _ (ap (λ w. w.filing) c.self.view_is) c.requires.none_due _ c.requires.not_before c.requires.in_range (omega arith)
-    (starts_never _ _ _ _ c.self.invariant.0 _ _ (ap (λ w. w.filing) c.self.view_is) c.requires.none_due _ c.requires.not_before c.requires.in_range (omega arith) c.in_default.ensures))
+    (starts_past _ _ _ _ c.self.invariant.0 _ _ (ap (λ w. w.filing) c.self.view_is) c.requires.none_due _ c.requires.not_before c.requires.in_range (omega arith) c.in_default.ensures))
 
 pub returns-in_default-clause-way : goal.returns-in_default-clause-way
 returns-in_default-clause-way g c =
     rw (c.close.ensures.filed, c.close.ensures.moves)
     (reaches_limit _ _ _ _ c.self.invariant.0 _ _ (ap (λ w. w.filing) c.self.view_is) c.requires.none_due _ c.requires.not_before c.requires.in_range (omega arith)
-    (starts_never _ _ _ _ c.self.invariant.0 _ _ (ap (λ w. w.filing) c.self.view_is) c.requires.none_due _ c.requires.not_before c.requires.in_range (omega arith) c.in_default.ensures))
-
-pub invariant_of-self-then-begin-limit : goal.invariant_of-self-then-begin-limit
-invariant_of-self-then-begin-limit g c =
-    rw (c.close-then-begin-limit.ensures.homes, c.close-then-begin-limit.ensures.filed, c.close-then-begin-limit.ensures.moves, c.close-then-begin-limit.ensures.shut) (
-      lawful_at_limit _ _ _ _ c.self.invariant.0 _ _ (ap (λ w. w.filing) c.self.view_is) c.requires.none_due _ c.requires.not_before c.requires.in_range (omega arith)
-          (starts_later _ _ _ _ c.self.invariant.0 _ _ (ap (λ w. w.filing) c.self.view_is) c.requires.none_due _ c.requires.not_before c.requires.in_range (omega arith)
-          _ _ _ c.digit-own.ensures c.in-Some.ensures c.start_of-begin.ensures c.if-begin-limit.true),
-      tt,
-    )
-
-pub returns-then-begin-limit-clause-none_before : goal.returns-then-begin-limit-clause-none_before
-returns-then-begin-limit-clause-none_before g c =
-    rw c.close-then-begin-limit.ensures.filed
-    (none_before_limit _ _ _ _ c.self.invariant.0 _ _ (ap (λ w. w.filing) c.self.view_is) c.requires.none_due _ c.requires.not_before c.requires.in_range (omega arith)
-    (starts_later _ _ _ _ c.self.invariant.0 _ _ (ap (λ w. w.filing) c.self.view_is) c.requires.none_due _ c.requires.not_before c.requires.in_range (omega arith)
-    _ _ _ c.digit-own.ensures c.in-Some.ensures c.start_of-begin.ensures c.if-begin-limit.true))
-
-pub returns-then-begin-limit-clause-way : goal.returns-then-begin-limit-clause-way
-returns-then-begin-limit-clause-way g c =
-    rw (c.close-then-begin-limit.ensures.filed, c.close-then-begin-limit.ensures.moves)
-    (reaches_limit _ _ _ _ c.self.invariant.0 _ _ (ap (λ w. w.filing) c.self.view_is) c.requires.none_due _ c.requires.not_before c.requires.in_range (omega arith)
-    (starts_later _ _ _ _ c.self.invariant.0 _ _ (ap (λ w. w.filing) c.self.view_is) c.requires.none_due _ c.requires.not_before c.requires.in_range (omega arith)
-    _ _ _ c.digit-own.ensures c.in-Some.ensures c.start_of-begin.ensures c.if-begin-limit.true))
-
-pub returns-then-begin-limit-clause-earlier : goal.returns-then-begin-limit-clause-earlier
-returns-then-begin-limit-clause-earlier g c =
-    rw c.close-then-begin-limit.ensures.filed (stays_filed _ _ _ _ c.self.invariant.0 _ _ (ap (λ w. w.filing) c.self.view_is) c.requires.none_due)
-
-pub close-requires-then-begin-limit : goal.close-requires-then-begin-limit
-close-requires-then-begin-limit g c =
-    no_due_list _ _ _ _ c.self.invariant.0 _ _ (ap (λ w. w.filing) c.self.view_is) c.requires.none_due
+    (starts_past _ _ _ _ c.self.invariant.0 _ _ (ap (λ w. w.filing) c.self.view_is) c.requires.none_due _ c.requires.not_before c.requires.in_range (omega arith) c.in_default.ensures))
 
 pub close-requires-then-list-lt-SLOTS : goal.close-requires-then-list-lt-SLOTS
 close-requires-then-list-lt-SLOTS g c =
@@ -66,9 +35,9 @@ pub invariant_of-self-then-list-lt-SLOTS : goal.invariant_of-self-then-list-lt-S
 invariant_of-self-then-list-lt-SLOTS g c =
     rw (c.close-then-list-lt-SLOTS.ensures.homes, c.close-then-list-lt-SLOTS.ensures.filed, c.close-then-list-lt-SLOTS.ensures.moves, c.close-then-list-lt-SLOTS.ensures.shut) (
       lawful_open _ _ _ _ c.self.invariant.0 _ _ (ap (λ w. w.filing) c.self.view_is) c.requires.none_due _ c.requires.not_before c.requires.in_range (omega arith)
-          _ _ _ c.digit-own.ensures c.in-Some.ensures c.start_of-begin.ensures _ _ _
+          _ _ _ refl c.in-Some.ensures.0 c.in-Some.ensures.1 _ _ _
           (low_opened _ _ _ _ c.self.invariant.0 _ _ (ap (λ w. w.filing) c.self.view_is) c.requires.none_due _ c.requires.not_before c.requires.in_range (omega arith)
-          _ _ _ c.digit-own.ensures c.in-Some.ensures c.start_of-begin.ensures c.if-list-lt-SLOTS.true),
+          _ _ _ refl c.in-Some.ensures.0 c.in-Some.ensures.1 c.if-list-lt-SLOTS.true),
       tt,
     )
 
@@ -76,49 +45,52 @@ pub returns-then-list-lt-SLOTS-clause-none_before : goal.returns-then-list-lt-SL
 returns-then-list-lt-SLOTS-clause-none_before g c =
     rw c.close-then-list-lt-SLOTS.ensures.filed
     (none_before_open _ _ _ _ c.self.invariant.0 _ _ (ap (λ w. w.filing) c.self.view_is) c.requires.none_due _ c.requires.not_before c.requires.in_range (omega arith)
-    _ _ _ c.digit-own.ensures c.in-Some.ensures c.start_of-begin.ensures _ _ _
+    _ _ _ refl c.in-Some.ensures.0 c.in-Some.ensures.1 _ _ _
     (low_opened _ _ _ _ c.self.invariant.0 _ _ (ap (λ w. w.filing) c.self.view_is) c.requires.none_due _ c.requires.not_before c.requires.in_range (omega arith)
-    _ _ _ c.digit-own.ensures c.in-Some.ensures c.start_of-begin.ensures c.if-list-lt-SLOTS.true))
+    _ _ _ refl c.in-Some.ensures.0 c.in-Some.ensures.1 c.if-list-lt-SLOTS.true))
 
 pub returns-then-list-lt-SLOTS-clause-way : goal.returns-then-list-lt-SLOTS-clause-way
 returns-then-list-lt-SLOTS-clause-way g c =
     rw (c.close-then-list-lt-SLOTS.ensures.filed, c.close-then-list-lt-SLOTS.ensures.moves)
     (low_arrives _ _ _ _ c.self.invariant.0 _ _ (ap (λ w. w.filing) c.self.view_is) c.requires.none_due
-    _ _ _ c.digit-own.ensures c.in-Some.ensures c.start_of-begin.ensures c.if-list-lt-SLOTS.true _ c.if-begin-limit.false)
+    _ _ _ refl c.in-Some.ensures.0 c.in-Some.ensures.1 c.if-list-lt-SLOTS.true _ c.in-Some.ensures.2)
 
 pub returns-then-list-lt-SLOTS-clause-onward : goal.returns-then-list-lt-SLOTS-clause-onward
 returns-then-list-lt-SLOTS-clause-onward g c below =
     begins_after _ _ _ _ c.self.invariant.0 _ _ (ap (λ w. w.filing) c.self.view_is) c.requires.none_due _ c.requires.not_before c.requires.in_range (omega arith)
-    _ _ _ c.digit-own.ensures c.in-Some.ensures c.start_of-begin.ensures
+    _ _ _ refl c.in-Some.ensures.0 c.in-Some.ensures.1
 
 pub returns-else-list-lt-SLOTS-clause-onward : goal.returns-else-list-lt-SLOTS-clause-onward
 returns-else-list-lt-SLOTS-clause-onward g c below =
     begins_after _ _ _ _ c.self.invariant.0 _ _ (ap (λ w. w.filing) c.self.view_is) c.requires.none_due _ c.requires.not_before c.requires.in_range (omega arith)
-    _ _ _ c.digit-own.ensures c.in-Some.ensures c.start_of-begin.ensures
+    _ _ _ refl c.in-Some.ensures.0 c.in-Some.ensures.1
 
 pub invariant_of-self-else-list-lt-SLOTS : goal.invariant_of-self-else-list-lt-SLOTS
 invariant_of-self-else-list-lt-SLOTS g c =
     rw (c.hang.ensures.homes, c.hang.ensures.filed, c.hang.ensures.moves, c.hang.ensures.opened) (
       lawful_arrival _ _ _ _ c.self.invariant.0 _ _ (ap (λ w. w.filing) c.self.view_is) c.requires.none_due
-          _ _ _ c.digit-own.ensures c.in-Some.ensures c.start_of-begin.ensures (omega (arith, c.if-list-lt-SLOTS.false)),
+          _ _ _ refl c.in-Some.ensures.0 c.in-Some.ensures.1 (omega (arith, c.if-list-lt-SLOTS.false)),
       unnamed_arrival _ _ _ _ c.self.invariant.0 _ _ (ap (λ w. w.filing) c.self.view_is) c.requires.none_due
-          _ _ _ c.digit-own.ensures c.in-Some.ensures c.start_of-begin.ensures (omega (arith, c.if-list-lt-SLOTS.false)),
+          _ _ _ refl c.in-Some.ensures.0 c.in-Some.ensures.1 (omega (arith, c.if-list-lt-SLOTS.false)),
     )
 
 pub returns-else-list-lt-SLOTS-clause-none_before : goal.returns-else-list-lt-SLOTS-clause-none_before
 returns-else-list-lt-SLOTS-clause-none_before g c =
     rw c.hang.ensures.filed
     (none_before_arrival _ _ _ _ c.self.invariant.0 _ _ (ap (λ w. w.filing) c.self.view_is) c.requires.none_due
-    _ _ _ c.digit-own.ensures c.in-Some.ensures c.start_of-begin.ensures (omega (arith, c.if-list-lt-SLOTS.false)))
+    _ _ _ refl c.in-Some.ensures.0 c.in-Some.ensures.1 (omega (arith, c.if-list-lt-SLOTS.false)))
 
 pub returns-else-list-lt-SLOTS-clause-earlier : goal.returns-else-list-lt-SLOTS-clause-earlier
 returns-else-list-lt-SLOTS-clause-earlier g c =
     rw c.hang.ensures.filed
     (comes_earlier _ _ _ _ c.self.invariant.0 _ _ (ap (λ w. w.filing) c.self.view_is) c.requires.none_due
-    _ _ _ c.digit-own.ensures c.in-Some.ensures c.start_of-begin.ensures)
+    _ _ _ refl c.in-Some.ensures.0 c.in-Some.ensures.1)
 
 pub returns-else-list-lt-SLOTS-clause-way : goal.returns-else-list-lt-SLOTS-clause-way
 returns-else-list-lt-SLOTS-clause-way g c =
     rw (c.hang.ensures.filed, c.hang.ensures.moves)
     (hang_arrives _ _ _ _ c.self.invariant.0 _ _ (ap (λ w. w.filing) c.self.view_is) c.requires.none_due
-    _ _ _ c.digit-own.ensures c.in-Some.ensures c.start_of-begin.ensures _ c.if-begin-limit.false)
+    _ _ _ refl c.in-Some.ensures.0 c.in-Some.ensures.1 _ c.in-Some.ensures.2)
+
+pub close-requires : goal.close-requires
+close-requires g c = no_due_list _ _ _ _ c.self.invariant.0 _ _ (ap (λ w. w.filing) c.self.view_is) c.requires.none_due
