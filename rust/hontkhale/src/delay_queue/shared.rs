@@ -536,7 +536,7 @@ impl<T> Shared<T> {
     pub fn use_quiet_moment(&self) {
         let cancels = self.front.cancels.load(SeqCst);
         if self.swept.swap(cancels, SeqCst) != cancels {
-            let sweeps = |segment: &Segment<T>| segment.capacity() / SWEPT + segment.rows.len();
+            let sweeps = |segment: &Segment<T>| segment.capacity / SWEPT + segment.rows.len();
             let sweeps = self.segments().map(|(_, segment)| sweeps(segment)).sum();
             self.sweeps_left.store(sweeps, SeqCst);
         }
