@@ -1,24 +1,27 @@
-//! A lease that another thread extends while its owner waits for it.
+//! Sessions that are closed once they were idle for a while. One is extended meanwhile, by another thread.
 
-use hontkhale::{Clock, QueueConfig, SharedDelayQueue, Turn};
+use hontkhale::DelayQueue;
 use std::error::Error;
 use std::thread;
 use std::time::Duration;
 
 fn main() -> Result<(), Box<dyn Error>> {
-    let clock = Clock::start();
-    let queue = SharedDelayQueue::new(QueueConfig::of(1, 1_000))?;
-    let key = queue.insert_or_drop(0, "lease", clock.after(Duration::from_millis(30)))?;
+    let queue = DelayQueue::new();
+    let ann = queue.insert("ann", Duration::from_millis(30))?;
+    queue.insert("bob", Duration::from_millis(50))?;
 
-    let mut handle = queue.handle()?;
-    let deadline = thread::spawn(move || handle.extend(&key, clock.after(Duration::from_millis(80))));
-    println!("extended to tick {}", deadline.join().unwrap()?);
+    // Any thread may insert, extend and cancel. An insert that comes sooner wakes whoever waits below.
+    let clone = queue.clone();
+    thread::spawn(move || clone.extend(&ann, Duration::from_millis(80)))
+        .join()
+        .unwrap()?;
 
-    loop {
-        match queue.poll(0, clock.tick())? {
-            Turn::Out(expired) => println!("{} expired at tick {}", expired.value, expired.deadline),
-            Turn::Waiting { next } => thread::sleep(clock.until(next)),
-            Turn::Idle => return Ok(()),
+    // Any number of threads may run this loop.
+    while let Some(expired) = queue.recv() {
+        println!("{} was idle", expired.value);
+        if queue.is_empty() {
+            queue.close();
         }
     }
+    Ok(())
 }

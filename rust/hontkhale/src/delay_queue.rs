@@ -128,7 +128,7 @@ impl<T> DelayQueue<T> {
             .map_err(|(kind, value)| InsertError::new(kind, value))
     }
 
-    /// Puts a value in, to come out at `when`, or at once where that is over.
+    /// Puts a value in, to come out at `when`, or at once where that is over. It reads no clock.
     ///
     /// # Errors
     /// As [`insert`](DelayQueue::insert) returns them.

@@ -3,36 +3,40 @@
 //!
 #![cfg_attr(feature = "std", doc = "```")]
 #![cfg_attr(not(feature = "std"), doc = "```ignore")]
-//! use hontkhale::{QueueConfig, SharedDelayQueue, Turn};
+//! use hontkhale::DelayQueue;
 //! use std::thread;
+//! use std::time::Duration;
 //!
-//! let queue = SharedDelayQueue::new(QueueConfig::of(1, 1_000))?;
-//! let key = queue.insert_or_drop(0, "lease", 30_000)?;
+//! let queue = DelayQueue::new();
+//! let lease = queue.insert("lease", Duration::from_millis(30))?;
 //!
-//! let mut handle = queue.handle()?;
-//! let extended = thread::scope(|scope| scope.spawn(|| handle.extend(&key, 45_000)).join().unwrap());
-//! assert_eq!(extended, Ok(45_000));
+//! let holder = queue.clone();
+//! let extended = thread::spawn(move || holder.extend(&lease, Duration::from_millis(45)));
+//! let deadline = extended.join().unwrap()?;
 //!
-//! assert!(matches!(queue.poll(0, 30_000)?, Turn::Waiting { next } if next <= 45_000));
-//! assert!(matches!(queue.poll(0, 45_000)?, Turn::Out(expired) if expired.value == "lease"));
-//! # Ok::<(), hontkhale::QueueError>(())
+//! let expired = queue.recv().expect("the queue is open");
+//! assert_eq!((expired.value, expired.deadline), ("lease", deadline));
+//! # Ok::<(), Box<dyn std::error::Error>>(())
 //! ```
 //!
-//! A tick is one millisecond. A queue reads no clock: it is told the tick, by a [`Clock`] or by whatever a program
-//! counts by. Its memory is taken when it is made; inserts, resets, removals and polls take none, and take constant
+//! [`DelayQueue`] is the queue that a server just uses. It stands over the queues below.
+//!
+//! Of these a tick is one millisecond. They read no clock: they are told the tick, by a [`Clock`] or by whatever a program
+//! counts by. A queue's memory is taken when it is made; inserts, resets, removals and polls take none, and take constant
 //! time but for the slots that a poll opens.
 //!
 //! # Which queue
 //!
 //! | Who has it | Type |
 //! |---|---|
+//! | any number of threads, in most servers | [`DelayQueue`] |
 //! | one owner | [`DelayCore`] over [`VecWords`], made by [`DelayCore::with_capacity`] |
 //! | one owner, whose entries any thread extends and cancels | [`shared_queue`], with a [`Caller`] for each thread |
 //! | many threads, shards behind locks | [`SharedDelayQueue`], with a [`Handle`] for each thread |
 //! | the same, for years | [`LastingQueue`], whose shards are renewed one by one |
 //!
-//! [`ExpiredStream`] and [`LastingStream`] give what expires to a task, [`Receiver`] to a thread that waits; [`TtlCache`] keeps values until their
-//! deadlines, [`IdleSessions`] ends what nobody touched, [`HandlePool`] lends handles, [`Wheel`] is the timing wheel
+//! [`ExpiredStream`] and [`LastingStream`] give what expires to a task; [`TtlCache`] keeps values until their deadlines,
+//! [`IdleSessions`] ends what nobody touched, [`HandlePool`] lends handles, [`Wheel`] is the timing wheel
 //! alone. A stream has a call `poll_next` of its own, since the crate depends on no other; the crate hontkhale-streams
 //! makes a `Stream` of each, as `futures::stream::poll_fn(|cx| stream.poll_next(cx))` does.
 //!
@@ -40,9 +44,10 @@
 //!
 //! # What is proved
 //!
-//! The queue is written in Rattle, which is Rust with contracts, and each function is proved before it is built. This
-//! crate is that source with its contracts erased, line by line, by a script that is compared with it at each change.
+//! The queues below are written in Rattle, which is Rust with contracts, and each function is proved before it is built.
+//! This crate is that source with its contracts erased, line by line, by a script that is compared with it at each change.
 //! So what is trusted is that script and rustc. The README has one function side by side, and what the script rewrites.
+//! [`DelayQueue`] shares proved shards among threads by code that is written by hand, and tested.
 //!
 //! # Features
 //!
@@ -84,8 +89,6 @@ mod index;
 #[cfg(feature = "std")]
 mod locks;
 mod memory;
-#[cfg(feature = "std")]
-mod receiver;
 mod refused;
 
 mod core;
@@ -134,8 +137,6 @@ pub use crate::lasting::{
 };
 #[cfg(feature = "std")]
 pub use crate::pool::{HandlePool, Lent};
-#[cfg(feature = "std")]
-pub use crate::receiver::{Closer, Receiver};
 #[cfg(feature = "std")]
 pub use crate::shards::{
     Handle, HandlesOut, LockedShard, Parked, QueueConfig, QueueError, ShardState, SharedDelayQueue, Totals, SHARD_LIMIT,

@@ -24,6 +24,8 @@ pub(crate) struct Row {
 pub(crate) struct Segment<T> {
     pub queue: LastingQueue<T>,
     pub rows: Box<[Row]>,
+    /// How many slots there are in all shards.
+    pub capacity: usize,
     /// Whether a shard is worn, or drains.
     pub is_worn: AtomicBool,
     /// Whether values are set aside in one of the shards.
@@ -67,6 +69,7 @@ impl<T> Segment<T> {
         Ok(Segment {
             queue: LastingQueue::new(config)?,
             rows: (0..config.shards).map(|_| row()).collect(),
+            capacity: config.shards * config.capacity,
             is_worn: AtomicBool::new(false),
             has_aside: AtomicBool::new(false),
             is_renewed: AtomicBool::new(false),
@@ -143,11 +146,6 @@ impl<T> Segment<T> {
         let born = |slot: usize| Some((slot, core.slots.held(slot)?.0));
         let (slot, born) = (from..core.capacity()).find_map(born)?;
         Some((EntryId::new(core.shard(), slot as u32, born), slot + 1))
-    }
-
-    /// How many slots there are.
-    pub fn capacity(&self) -> usize {
-        self.rows.len() * self.enter(0).capacity()
     }
 }
 

@@ -9,7 +9,7 @@ use crate::delay_queue::segment::{Locked, Segment};
 use crate::delay_queue::waking::NEVER;
 use crate::lasting::{Kept, LastingConfig, LastingHandle};
 use crate::ticks::{self, EntryId, CAPACITY_LIMIT};
-use std::sync::atomic::{AtomicBool, AtomicU64, AtomicUsize, Ordering::SeqCst};
+use std::sync::atomic::{AtomicU64, AtomicUsize, Ordering::SeqCst};
 use std::sync::{Arc, Mutex, MutexGuard, OnceLock, PoisonError};
 
 /// The most segments of a queue.
@@ -291,12 +291,12 @@ impl<T> Shared<T> {
 
     /// An insert at a place. The value comes back where there is no room.
     fn insert_at(&self, at: usize, segment: &Segment<T>, place: usize, value: T, tick: u64) -> Result<Key, T> {
+        // Values may be dropped here. Where a drop panics the entry isn't in yet, and no key of it is lost.
+        self.renew_where_due(segment, at);
         let mut shard = segment.enter_clean(place);
         match shard.insert(value, tick) {
             Ok(key) => {
                 shard.lower_hint(tick);
-                drop(shard);
-                self.renew_where_due(segment, at);
                 Ok(self.key(at, &key))
             }
             Err((_, back)) => Err(back),
@@ -536,7 +536,7 @@ impl<T> Shared<T> {
     pub fn use_quiet_moment(&self) {
         let cancels = self.front.cancels.load(SeqCst);
         if self.swept.swap(cancels, SeqCst) != cancels {
-            let sweeps = |segment: &Segment<T>| segment.capacity() / SWEPT + segment.rows.len();
+            let sweeps = |segment: &Segment<T>| segment.capacity / SWEPT + segment.rows.len();
             let sweeps = self.segments().map(|(_, segment)| sweeps(segment)).sum();
             self.sweeps_left.store(sweeps, SeqCst);
         }
@@ -578,15 +578,14 @@ impl<T> Shared<T> {
         if segment.is_renewed.swap(true, SeqCst) {
             return;
         }
-        let _claim = Claim(&segment.is_renewed);
+        let _claim = Claim(segment);
         segment
             .renew_at
             .store(self.front.time.tick().saturating_add(RENEW_PAUSE), SeqCst);
         for _ in 0..4 * segment.rows.len() {
             match segment.queue.keep_going() {
                 Ok(Kept::Fine) => return segment.is_worn.store(false, SeqCst),
-                // What the shard has room for is noted as its lock is let go.
-                Ok(Kept::Closed { place } | Kept::Reopened { place }) => drop(segment.enter(place)),
+                Ok(Kept::Closed { .. } | Kept::Reopened { .. }) => {}
                 Ok(Kept::Drains { place, .. }) if self.empties(segment, at, place) => {}
                 Ok(Kept::Drains { .. }) | Err(_) => return,
             }
@@ -631,12 +630,14 @@ impl<T> Drop for Shared<T> {
     }
 }
 
-/// What one thread does at a time, until this is dropped.
-struct Claim<'a>(&'a AtomicBool);
+/// The renewal of a segment, which one thread makes at a time, until this is dropped.
+struct Claim<'s, T>(&'s Segment<T>);
 
-impl Drop for Claim<'_> {
+impl<T> Drop for Claim<'_, T> {
     fn drop(&mut self) {
-        self.0.store(false, SeqCst);
+        // Which shards have room is noted as their locks are let go, also after a value's drop that panicked.
+        (0..self.0.rows.len()).for_each(|place| drop(self.0.enter(place)));
+        self.0.is_renewed.store(false, SeqCst);
     }
 }
 

@@ -61,7 +61,7 @@ impl<T> Segment<T> {
 
     fn memory(&self) -> usize {
         let slot = size_of::<(u32, u32, Option<T>)>() + SLOT_BYTES;
-        self.rows.len() * SHARD_BYTES + self.capacity() * slot
+        self.rows.len() * SHARD_BYTES + self.capacity * slot
     }
 }
 

@@ -114,28 +114,25 @@ impl Time {
         rounded_down(self.passed())
     }
 
-    /// The first tick that isn't before a moment, or the present one where the moment is over; none beyond the last.
+    /// The first tick that isn't before a moment, none beyond the last. It reads no clock.
     #[inline]
     pub fn tick_at(&self, when: Instant) -> Option<u64> {
-        self.tick_after(self.passed(), when.saturating_duration_since(self.start))
+        rounded_up(when.saturating_duration_since(self.start))
     }
 
-    /// The same of the moment that comes after a duration.
+    /// The same of the moment that comes after a duration, or the present tick where it comes at once.
     #[inline]
     pub fn tick_in(&self, after: Duration) -> Option<u64> {
         let passed = self.passed();
-        self.tick_after(passed, passed.checked_add(after)?)
+        if after.is_zero() {
+            return Some(rounded_down(passed));
+        }
+        rounded_up(passed.checked_add(after)?)
     }
 
+    #[inline]
     fn passed(&self) -> Duration {
         self.now().saturating_duration_since(self.start)
-    }
-
-    fn tick_after(&self, passed: Duration, deadline: Duration) -> Option<u64> {
-        if deadline <= passed {
-            return Some(rounded_down(deadline));
-        }
-        rounded_up(deadline)
     }
 
     /// The moment at which a tick begins.
@@ -160,13 +157,21 @@ impl Time {
     }
 }
 
+#[inline]
 fn rounded_down(length: Duration) -> u64 {
-    u64::try_from(length.as_millis()).map_or(LAST_TICK, |tick| tick.min(LAST_TICK))
+    let millis = length
+        .as_secs()
+        .saturating_mul(1_000)
+        .saturating_add(u64::from(length.subsec_millis()));
+    millis.min(LAST_TICK)
 }
 
+#[inline]
 fn rounded_up(length: Duration) -> Option<u64> {
-    let millis = length.as_nanos().checked_add(999_999)? / 1_000_000;
-    u64::try_from(millis).ok().filter(|tick| *tick <= LAST_TICK)
+    let rest = length.subsec_nanos();
+    let millis = u64::from(rest / 1_000_000) + u64::from(rest % 1_000_000 > 0);
+    let tick = length.as_secs().checked_mul(1_000)?.checked_add(millis)?;
+    Some(tick).filter(|tick| *tick <= LAST_TICK)
 }
 
 #[cfg(test)]

@@ -6,6 +6,8 @@ use crate::kit::{ms, Drops, Value};
 use hontkhale::delay_queue::{Handle, InsertErrorKind, Key, KeyError, ManualClock};
 use hontkhale::DelayQueue;
 use std::collections::HashMap;
+use std::panic::{catch_unwind, set_hook, take_hook, AssertUnwindSafe};
+use std::thread;
 use std::time::{Duration, Instant};
 
 /// What a run is made by.
@@ -15,6 +17,8 @@ struct Setting {
     most: usize,
     /// How far deadlines are.
     reach: u64,
+    /// Of how many values one has a drop that panics.
+    panics_one_in: u64,
 }
 
 struct Run {
@@ -57,6 +61,22 @@ impl Run {
         ms(self.draw.below(self.setting.reach))
     }
 
+    /// A value whose drop may panic, and calls the queue.
+    fn value(&mut self) -> Value {
+        let value = self.drops.value(self.inserted);
+        if !self.draw.one_in(self.setting.panics_one_in) {
+            return value;
+        }
+        let handle = self.handle.clone();
+        let key = self.keys.last().copied();
+        value.then(move || {
+            let _ = key.map(|key| handle.deadline(&key));
+            if !thread::panicking() {
+                panic!("a drop that panics");
+            }
+        })
+    }
+
     fn some_key(&mut self) -> Option<Key> {
         let keys = self.keys.len() as u64;
         (keys > 0).then(|| self.keys[self.draw.below(keys) as usize])
@@ -64,8 +84,12 @@ impl Run {
 
     fn insert(&mut self) {
         let after = self.after();
-        let value = self.drops.value(self.inserted);
-        match self.queue.insert(value, after) {
+        let value = self.value();
+        let Some(inserted) = caught(|| self.queue.insert(value, after)) else {
+            self.inserted += 1;
+            return;
+        };
+        match inserted {
             Ok(key) => {
                 let before = self.waits.insert(key, (self.clock.now() + after, self.inserted));
                 assert!(before.is_none(), "a key is given once");
@@ -77,7 +101,9 @@ impl Run {
             Err(refused) => {
                 assert_eq!(refused.kind(), InsertErrorKind::Full);
                 assert_eq!(self.waits.len(), self.setting.most);
-                assert_eq!(refused.into_inner().number, self.inserted);
+                let value = refused.into_inner();
+                assert_eq!(value.number, self.inserted);
+                caught(|| drop(value));
             }
         }
         self.inserted += 1;
@@ -104,7 +130,9 @@ impl Run {
 
     fn reset(&mut self, key: Key) {
         let after = self.after();
-        let made = self.queue.reset(&key, after);
+        let Some(made) = caught(|| self.queue.reset(&key, after)) else {
+            return;
+        };
         assert_eq!(made, self.known(&key).map(|_| key));
         if let Some(waits) = self.waits.get_mut(&key) {
             waits.0 = self.clock.now() + after;
@@ -129,22 +157,26 @@ impl Run {
     fn remove(&mut self, key: Key) {
         let made = self.queue.remove(&key);
         let known = self.waits.remove(&key);
-        assert_eq!(made.ok().map(|value| value.number), known.map(|waits| waits.1));
+        assert_eq!(made.as_ref().ok().map(|value| value.number), known.map(|waits| waits.1));
+        caught(|| drop(made));
     }
 
     fn came_out(&mut self, expired: hontkhale::delay_queue::Expired<Value>) {
         let (deadline, number) = self.waits.remove(&expired.key).expect("an entry that waits");
         assert_eq!((expired.deadline, expired.value.number), (deadline, number));
         assert!(deadline <= self.clock.now());
+        caught(|| drop(expired));
     }
 
     fn receive(&mut self) {
         let most = self.draw.below(50) as usize;
         let mut row = Vec::new();
         while row.len() < most {
-            match self.queue.try_recv() {
-                Some(expired) => row.push(expired),
-                None => break,
+            match caught(|| self.queue.try_recv()) {
+                Some(Some(expired)) => row.push(expired),
+                Some(None) => break,
+                // Nothing was in hand.
+                None => {}
             }
         }
         let is_all = row.len() < most;
@@ -165,8 +197,17 @@ impl Run {
     }
 
     fn drain(&mut self) {
-        for (key, deadline, value) in self.queue.drain() {
-            assert_eq!(self.waits.remove(&key), Some((deadline, value.number)));
+        let queue = self.queue.clone();
+        let mut drain = queue.drain();
+        loop {
+            match caught(|| drain.next()) {
+                Some(Some((key, deadline, value))) => {
+                    assert_eq!(self.waits.remove(&key), Some((deadline, value.number)));
+                    caught(|| drop(value));
+                }
+                Some(None) => break,
+                None => {}
+            }
         }
         assert!(self.waits.is_empty());
     }
@@ -184,36 +225,77 @@ impl Run {
             (94..=98, Some(_)) => self.clock.advance(ms(self.draw.below(self.setting.reach / 4 + 2))),
             (_, Some(_)) if self.draw.one_in(50) => self.drain(),
             _ => {
-                self.queue
-                    .recv_timeout(Duration::ZERO)
-                    .into_iter()
-                    .for_each(|expired| self.came_out(expired));
+                let expired = caught(|| self.queue.recv_timeout(Duration::ZERO)).flatten();
+                expired.into_iter().for_each(|expired| self.came_out(expired));
             }
         }
     }
 }
 
+/// What a call returns, none where a value's drop panicked in it.
+fn caught<R>(call: impl FnOnce() -> R) -> Option<R> {
+    catch_unwind(AssertUnwindSafe(call)).ok()
+}
+
+/// Makes so many drawn calls, and looks that each value was dropped once.
+fn run(setting: Setting, seed: u64, calls: u64) {
+    let mut run = Run::new(setting, seed);
+    for _ in 0..calls {
+        run.call();
+    }
+    assert!(
+        run.queue.stats().memory < 20_000_000,
+        "{setting:?}: {}",
+        run.queue.stats()
+    );
+    run.drain();
+    let Run {
+        queue,
+        handle,
+        drops,
+        inserted,
+        ..
+    } = run;
+    drop((queue, handle));
+    assert!(drops.are_once(inserted), "{setting:?}");
+}
+
 #[test]
 fn drawn_calls_are_those_of_a_map() {
     let (stamps, mosts) = ([1, 2, 7, 100, 1_000, u32::MAX], [usize::MAX, 300]);
-    let calls = calls() / 12;
-    for (number, last_stamp) in (0..).zip(stamps) {
+    for (seed, last_stamp) in (0..).zip(stamps) {
         for most in mosts {
-            let setting = Setting {
-                last_stamp,
-                most,
-                reach: [20, 1_000, 300_000][number % 3],
-            };
-            let mut run = Run::new(setting, number as u64);
-            for _ in 0..calls {
-                run.call();
-            }
-            let Run {
-                queue, drops, inserted, ..
-            } = run;
-            assert!(queue.stats().memory < 20_000_000, "{setting:?}: {}", queue.stats());
-            drop((queue, run.handle));
-            assert!(drops.are_once(inserted), "{setting:?}");
+            let reach = [20, 1_000, 300_000][seed as usize % 3];
+            run(
+                Setting {
+                    last_stamp,
+                    most,
+                    reach,
+                    panics_one_in: u64::MAX,
+                },
+                seed,
+                calls() / 12,
+            );
         }
+    }
+}
+
+/// The panics are told nobody, since there are so many.
+#[test]
+fn drawn_calls_are_those_of_a_map_where_drops_panic() {
+    let before = take_hook();
+    set_hook(Box::new(move |told| {
+        if told.payload().downcast_ref::<&str>() != Some(&"a drop that panics") {
+            before(told);
+        }
+    }));
+    for (seed, last_stamp) in (0..).zip([1, 3, 1_000]) {
+        let setting = Setting {
+            last_stamp,
+            most: 500,
+            reach: 1_000,
+            panics_one_in: 4,
+        };
+        run(setting, 100 + seed, calls() / 12);
     }
 }

@@ -138,46 +138,43 @@ fn receive(queue: &DelayQueue<Value>, clock: &ManualClock, known: &Known, way: u
     }
 }
 
-fn run(last_stamp: u32, calls: u64) {
-    let (clock, drops) = (ManualClock::new(), Drops::default());
-    let queue = DelayQueue::builder()
-        .clock(&clock)
-        .shards(4)
-        .last_stamp(last_stamp)
-        .build();
-    let many = THREADS * calls;
-    let known = Arc::new(Known {
-        start: clock.now(),
-        ends: (0..many).map(|_| AtomicU8::new(0)).collect(),
-        floors: (0..many).map(|_| AtomicU64::new(0)).collect(),
-        is_over: AtomicBool::new(false),
-    });
-    let server = |thread: u64| Server {
-        queue: queue.clone(),
-        clock: clock.clone(),
-        known: Arc::clone(&known),
-        drops: drops.clone(),
-        draw: Draw::new(u64::from(last_stamp) * THREADS + thread),
-        mine: HashMap::new(),
-        next: thread * calls,
-    };
-    let inserted: Vec<(u64, u64)> = thread::scope(|scope| {
-        let receivers: Vec<_> = (0..3)
-            .map(|way| {
-                scope.spawn({
-                    let (queue, clock, known) = (&queue, &clock, &known);
-                    move || receive(queue, clock, known, way)
-                })
-            })
-            .collect();
-        let servers: Vec<_> = (0..THREADS).map(|thread| (thread, server(thread))).collect();
-        let servers: Vec<_> = servers
+impl Server {
+    fn new(queue: &DelayQueue<Value>, clock: &ManualClock, known: &Arc<Known>, drops: &Drops, seed: u64) -> Server {
+        Server {
+            queue: queue.clone(),
+            clock: clock.clone(),
+            known: Arc::clone(known),
+            drops: drops.clone(),
+            draw: Draw::new(seed),
+            mine: HashMap::new(),
+            next: 0,
+        }
+    }
+}
+
+impl Known {
+    fn new(start: Instant, entries: u64) -> Known {
+        Known {
+            start,
+            ends: (0..entries).map(|_| AtomicU8::new(0)).collect(),
+            floors: (0..entries).map(|_| AtomicU64::new(0)).collect(),
+            is_over: AtomicBool::new(false),
+        }
+    }
+}
+
+/// Has all threads make their calls, and gives which entries were put in.
+fn serve(queue: &DelayQueue<Value>, clock: &ManualClock, known: &Known, servers: Vec<Server>, calls: u64) -> Vec<u64> {
+    thread::scope(|scope| {
+        let receiver = |way| scope.spawn(move || receive(queue, clock, known, way));
+        let receivers: Vec<_> = (0..3).map(receiver).collect();
+        let served: Vec<_> = servers
             .into_iter()
-            .map(|(thread, server)| (thread * calls, scope.spawn(move || server.serve(calls))))
+            .map(|server| (server.next, scope.spawn(move || server.serve(calls))))
             .collect();
-        let inserted = servers
+        let inserted = served
             .into_iter()
-            .map(|(first, server)| (first, server.join().unwrap()))
+            .flat_map(|(first, server)| first..server.join().unwrap())
             .collect();
         // All that waits comes due.
         clock.advance(ms(1_000));
@@ -188,11 +185,27 @@ fn run(last_stamp: u32, calls: u64) {
         queue.close();
         receivers.into_iter().for_each(|receiver| receiver.join().unwrap());
         inserted
+    })
+}
+
+fn run(last_stamp: u32, calls: u64) {
+    let (clock, drops) = (ManualClock::new(), Drops::default());
+    let builder = DelayQueue::builder().clock(&clock).shards(4);
+    let queue = builder.last_stamp(last_stamp).build();
+    let known = Arc::new(Known::new(clock.now(), THREADS * calls));
+    let servers = (0..THREADS).map(|thread| {
+        let seed = u64::from(last_stamp) * THREADS + thread;
+        let server = Server::new(&queue, &clock, &known, &drops, seed);
+        Server {
+            next: thread * calls,
+            ..server
+        }
     });
+    let inserted = serve(&queue, &clock, &known, servers.collect(), calls);
     // What was cancelled is dropped, and with it the clones that it has.
     queue.clear();
     drop(queue);
-    for number in inserted.into_iter().flat_map(|(first, end)| first..end) {
+    for number in inserted {
         assert_eq!(known.ends[number as usize].load(SeqCst), 1, "{number} is lost");
         assert_eq!(drops.count(number), 1, "{number} is dropped once");
     }

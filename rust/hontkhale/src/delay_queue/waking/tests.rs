@@ -139,10 +139,15 @@ impl World {
                 Some(other) if plant != Plant::NoHandingOn => Thread::Wakes(other),
                 _ => Thread::Done,
             },
-            Thread::Wakes(other) => {
-                self.woken[other] = true;
-                Thread::Done
-            }
+            other => self.wake(&bell, other, plant),
+        };
+        self.threads[thread] = next;
+        self.keep(bell);
+    }
+
+    /// One step of a thread that inserts, closes, or wakes others.
+    fn wake(&mut self, bell: &Bell<usize>, thread: Thread, plant: Plant) -> Thread {
+        match thread {
             Thread::Lowers(tick) => {
                 self.hints[1] = self.hints[1].min(tick);
                 if plant == Plant::AsksFirst {
@@ -153,18 +158,18 @@ impl World {
             }
             Thread::Compares(tick) if bell.sleeps_beyond(tick) => Thread::Rings,
             Thread::Compares(tick) if plant == Plant::AsksFirst => Thread::Lowers(tick),
-            Thread::Compares(_) => Thread::Done,
             Thread::Rings => bell.ring().map_or(Thread::Done, Thread::Wakes),
             Thread::Closes => Thread::WakesAll(bell.close().iter().map(|other| 1 << other).sum()),
-            Thread::WakesAll(0) => Thread::Done,
-            Thread::WakesAll(bits) => {
+            Thread::Wakes(other) => {
+                self.woken[other] = true;
+                Thread::Done
+            }
+            Thread::WakesAll(bits) if bits > 0 => {
                 self.woken[bits.trailing_zeros() as usize] = true;
                 Thread::WakesAll(bits & (bits - 1))
             }
-            Thread::Done => unreachable!("it has ended"),
-        };
-        self.threads[thread] = next;
-        self.keep(bell);
+            _ => Thread::Done,
+        }
     }
 
     fn wait(&mut self, bell: &Bell<usize>, mut wait: Wait, plant: Plant) -> Thread {
