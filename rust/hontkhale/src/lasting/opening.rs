@@ -43,10 +43,7 @@ fn fresh_rows<T>(size: ShardSize) -> Option<Rows<T>> {
     let Ok(keeper) = Keeper::new(size.capacity) else {
         return None;
     };
-    match FreshRows::new(keeper, size.last_stamp) {
-        Ok(rows) => Some(rows),
-        Err(_refused) => None,
-    }
+    FreshRows::new(keeper, size.last_stamp).ok()
 }
 
 impl<T> LastingShard<T> {
