@@ -32,13 +32,14 @@ GATES = [
     ({"c/check": ("a hash differs", 1)}, "0 passed, 1 failed", 1, "a hash differs"),
 ]
 PUT = "if self.handles.len() == self.most {"
-# Edits of `src/idle.rt` of dq_pool: the function, the old and the new text of each, and how the run has to tell of it; none
-# where it has to be refused.
+# Edits of `src/idle.rt` of dq_pool: the function that each names, its old and its new text, and how the run has to tell of
+# it; none where it has to be refused.
 EDITS = {
     "take_by_way_of_a_name": ("Idle::take", "self.handles.pop()", "let last = self.handles.pop(); last", "NOT REFUSED"),
     "put_where_no_field_is": ("Idle::put", PUT, "if self.handles.len() == self.least {", "BAD EDIT"),
     "put_of_a_text_that_is_gone": ("Idle::put", "self.handles.push_back(handle);", "let _ = handle;", "BAD EDIT"),
     "put_of_another_functions_text": ("Idle::put", "self.handles.pop()", "self.handles.pop().or(None)", "BAD EDIT"),
+    "put_that_no_line_names": ("", PUT, "if self.handles.len() != self.most {", "BAD EDIT"),
     "push_that_is_no_function": ("Idle::push", PUT, "if self.handles.len() != self.most {", "BAD EDIT"),
     "len_of_a_text_that_put_has_too": ("Idle::len", "self.handles.len()", "self.most", None),
     "len_promises_nothing": ("Idle::len", "result ≡ length self.now.handles", "result ≡ result", "NOT REFUSED"),
@@ -100,7 +101,7 @@ def lay_out(folder):
     shutil.copytree(TOP / "crates" / "dq_pool", folder / "crates" / "dq_pool")
     for name, (function, old, new, _) in EDITS.items():
         lines = [f"fails: {FAILS[name]}\n"] if name in FAILS else []
-        lines += [f"file: src/idle.rt\nin: {function}\nold: {old}\nnew: {new}\n"]
+        lines += ["file: src/idle.rt\n", f"in: {function}\n" if function else "", f"old: {old}\nnew: {new}\n"]
         (folder / "crates" / "dq_pool" / "edits" / f"{name}.edit").write_text("".join(lines), encoding="utf-8")
 
 
