@@ -89,7 +89,6 @@ impl<T, W: Words> DelayCore<T, W> {
         let stamp = self.slots.stamp(index);
         let ended = self.words.finish(index, stamp);
         self.wheel.unlink(index);
-        // It is counted before its value is let go: a drop that panics leaves all whole.
         match ended {
             Some(_) => {
                 self.removed += 1;
