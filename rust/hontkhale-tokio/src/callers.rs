@@ -1,10 +1,33 @@
 //! The callers of a shared queue, which its handles share: any number of handles is served by a few of them.
 
-use crate::seats::{own_row, ROWS};
 use hontkhale::{CallError, HandleError, LastingHandle, LastingQueue};
+use std::cell::Cell;
 use std::mem;
 use std::sync::atomic::{AtomicU64, AtomicUsize, Ordering::SeqCst};
 use std::sync::{Mutex, MutexGuard, OnceLock, PoisonError};
+
+/// How many threads find a row of their own.
+const ROWS: usize = 16;
+
+/// The number of the next thread that calls a handle.
+static NEXT_THREAD: AtomicUsize = AtomicUsize::new(0);
+
+thread_local! {
+    /// The row of this thread in every queue, [`ROWS`] where it has none yet.
+    static ROW: Cell<usize> = const { Cell::new(ROWS) };
+}
+
+/// The row of this thread.
+#[inline]
+fn own_row() -> usize {
+    ROW.with(|row| if row.get() < ROWS { row.get() } else { next_row(row) })
+}
+
+#[cold]
+fn next_row(row: &Cell<usize>) -> usize {
+    row.set(NEXT_THREAD.fetch_add(1, SeqCst) % ROWS);
+    row.get()
+}
 
 /// Rows of callers. Each of a queue's first handles brings one, and each thread calls from the row that is its own.
 #[derive(Default)]

@@ -17,13 +17,13 @@ mod numbers;
 mod part;
 mod parts;
 mod queue;
-mod seats;
 mod sharded;
 mod shared;
 mod shared_key;
 mod stream;
 #[cfg(test)]
 mod tests;
+mod thread_callers;
 mod timer;
 
 pub use handle::{EntryError, Handle};

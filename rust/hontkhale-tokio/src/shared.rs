@@ -1,22 +1,27 @@
-//! What the handles of a queue share with its owner: the links of its parts, seats at them, and the new places of the entries
-//! that were moved.
+//! What the handles of a queue share with its owner: the links of its parts, and the new places of the entries that were
+//! moved.
 
 use crate::clock::Clock;
+use crate::draws::Draws;
 use crate::key::Key;
 use crate::link::{Link, Refusal, Step};
-use crate::seats::{Seat, Seats, ROWS};
+use crate::thread_callers;
 use std::collections::HashMap;
 use std::sync::atomic::{AtomicBool, AtomicUsize, Ordering};
 use std::sync::{Arc, Mutex, MutexGuard, PoisonError};
 
 /// The callers that a part has at first.
-const FIRST_CALLERS: usize = 8;
-/// The most callers that a part is given: one for each row of seats, and one that stays.
-const MOST_CALLERS: usize = ROWS + 1;
+const FIRST_CALLERS: usize = 16;
+/// The most callers that a part is given: one for each thread, and one that stays. A queue of hontkhale's issues 1,024.
+const MOST_CALLERS: usize = 1_000;
+
+/// The numbers of the program's queues: 0 is nobody's.
+static QUEUES: Draws = Draws::from_one();
 
 pub(crate) struct Shared {
     pub clock: Clock,
-    pub seats: Seats,
+    /// The queue's number.
+    number: u64,
     links: Mutex<Links>,
     /// Whether a part has something for the owner to heed.
     has_news: AtomicBool,
@@ -37,7 +42,7 @@ impl Shared {
     pub fn new() -> Shared {
         Shared {
             clock: Clock::new(),
-            seats: Seats::default(),
+            number: QUEUES.draw(),
             links: Mutex::default(),
             has_news: AtomicBool::new(false),
             cancels: AtomicUsize::new(0),
@@ -62,18 +67,18 @@ impl Shared {
     /// From here on handles find nothing at a part's place.
     pub fn close(&self, spot: usize) {
         let mut links = self.links();
-        if let Some(link) = links.row.get_mut(spot) {
-            *link = None;
-            self.seats.leave(spot);
-        }
+        let gone = links.row.get_mut(spot).and_then(Option::take);
+        drop(links);
+        drop(gone);
     }
 
     /// Takes all away that handles have of the queue.
     pub fn close_all(&self) {
         let mut links = self.links();
         let gone = std::mem::take(&mut *links);
-        self.seats.leave_all();
+        gone.row.iter().flatten().for_each(|link| link.end());
         drop(links);
+        self.forget_callers();
         drop(gone);
     }
 
@@ -109,37 +114,30 @@ impl Shared {
         self.callers.load(Ordering::SeqCst)
     }
 
-    /// A step from this thread's seat at the entry's part, none where it has no seat.
+    /// A step from this thread's caller at the entry's part.
     #[inline(always)]
-    pub fn step(&self, key: &Key, step: Step) -> Option<Result<u64, Refusal>> {
-        self.seats.at(key, |seat| seat.link.step(&mut seat.caller, key, step))
+    pub fn step(&self, key: &Key, step: Step) -> Result<u64, Refusal> {
+        thread_callers::step(self.number, key, step)
     }
 
-    /// The step where the thread has no seat, or the entry was moved. The thread gets a seat, if there is one to give.
+    /// The queue has gone, so the thread needs none of its callers.
+    pub fn forget_callers(&self) {
+        thread_callers::forget(self.number);
+    }
+
+    /// The step where the thread has no caller, or the entry was moved. The thread gets a caller, if there is one to give.
     #[cold]
     pub fn step_by_links(&self, key: &Key, step: Step) -> Result<u64, Refusal> {
         let links = self.links();
         let place = links.moved.get(key).unwrap_or(key);
         let link = links.of(place).ok_or(Refusal::Ended)?;
-        let mut seats = self.seats.own();
-        if seats.len() <= place.spot() {
-            seats.resize_with(place.spot() + 1, || None);
+        let made = thread_callers::first_step(self.number, place, link, step);
+        if made != Err(Refusal::NoCaller) {
+            return made;
         }
-        let seat = &mut seats[place.spot()];
-        if seat.is_none() {
-            let mut spare = link.spare();
-            // The last caller stays, for threads that come while there is no other.
-            match spare.len() {
-                0 | 1 => {
-                    self.want_callers(link);
-                    let caller = spare.last_mut().ok_or(Refusal::Ended)?;
-                    return link.step(caller, place, step);
-                }
-                _ => *seat = spare.pop().map(|caller| Seat { part: link.part, link: Arc::clone(link), caller }),
-            }
-        }
-        let seat = seat.as_mut().expect("a seat that was just given");
-        link.step(&mut seat.caller, place, step)
+        self.want_callers(link);
+        let mut spare = link.spare();
+        link.step(spare.last_mut().ok_or(Refusal::Ended)?, place, step)
     }
 
     /// A handle's note that a part has no caller to give.
