@@ -1,5 +1,6 @@
 //! A part of the queue: a queue of hontkhale's for one owner, of a fixed number of slots. Its values stand in it.
 
+use crate::budget::Limit;
 use crate::clock::Clock;
 use crate::draws::Draws;
 use crate::key::{Expired, Key};
@@ -140,12 +141,12 @@ impl<T> Part<T> {
 
     /// Polls the queue at a tick, by at most so many steps. An entry that comes out is written to `out`.
     #[inline]
-    pub fn poll(&mut self, tick: u64, most: u32, out: &mut Option<Expired<T>>) -> Step {
+    pub fn poll(&mut self, tick: u64, most: Limit, out: &mut Option<Expired<T>>) -> Step {
         // Until there is an answer nothing is known of it, so it is polled on.
         self.is_stale = true;
         match most {
-            u32::MAX => self.poll_whole(tick, out),
-            _ => self.poll_some(tick, most, out),
+            Limit::None => self.poll_whole(tick, out),
+            Limit::Steps(most) => self.poll_some(tick, most, out),
         }
     }
 

@@ -6,7 +6,7 @@
 //! No value is dropped while a lock is held, nor where a key is in hand that its panic would take along: a part that goes
 //! with cancelled entries in it stays aside until a poll drops their values.
 
-use crate::budget::Budget;
+use crate::budget::{Budget, Limit};
 use crate::key::{Expired, Key};
 use crate::moves::Moves;
 use crate::part::{Part, Step, FIRST_SLOTS};
@@ -415,7 +415,7 @@ impl<T> Parts<T> {
         }
         for part in self.gone.iter_mut().chain(self.row.iter_mut().flatten()) {
             while part.link.has_cancels() {
-                let Some(most) = budget.piece() else {
+                let Some(most) = budget.piece().map(Limit::steps) else {
                     return false;
                 };
                 let reaped = part.reap(most);
