@@ -1,0 +1,221 @@
+//! Room for entries: parts that are added, worn out, compacted and let go, and entries that are moved between them.
+
+use super::{Parts, NEVER, PARTS_LIMIT};
+use crate::key::Key;
+use crate::part::{Part, FIRST_SLOTS};
+use hontkhale::{CoreError, CAPACITY_LIMIT};
+use std::mem;
+use std::sync::Arc;
+
+impl<T> Parts<T> {
+    /// The part that has the most room, or a new one.
+    pub(super) fn find_room(&mut self) -> usize {
+        let roomy = self.parts().filter(|part| !part.is_left).map(|part| (part.free(), part.spot));
+        match roomy.filter(|it| it.0 > 0).max() {
+            Some((_, spot)) => spot,
+            None if self.promised == 0 => self.add_part(self.next_slots()),
+            None => {
+                let slots = self.promised.min(CAPACITY_LIMIT);
+                let spot = self.add_part(slots);
+                self.promised -= slots;
+                spot
+            }
+        }
+    }
+
+    /// How many slots the next part has, by the entries that there are: twice the last part's where no slot is worn.
+    fn next_slots(&self) -> usize {
+        (self.len() + 1).next_power_of_two().clamp(FIRST_SLOTS, CAPACITY_LIMIT)
+    }
+
+    /// Adds a part for the first of so many slots, and notes the others: their parts are added as they are needed.
+    ///
+    /// # Panics
+    /// Where there can't be so many, before any memory is taken; where memory is refused.
+    pub(super) fn add_slots(&mut self, slots: usize) {
+        let most = (PARTS_LIMIT - self.parts().count()).saturating_mul(CAPACITY_LIMIT);
+        assert!(self.promised <= most && slots <= most - self.promised, "capacity overflow");
+        let first = slots.min(CAPACITY_LIMIT);
+        if first < slots {
+            // It is given back untouched: what the others will take can be had now.
+            Vec::<(T, [u64; 6])>::new().try_reserve_exact(slots).expect("memory for more entries");
+        }
+        if first > 0 {
+            self.add_part(first);
+            self.promised += slots - first;
+        }
+    }
+
+    fn add_part(&mut self, slots: usize) -> usize {
+        let free = self.row.iter().position(Option::is_none).unwrap_or(self.row.len());
+        assert!(free < PARTS_LIMIT, "max entries exceeded");
+        let mut part = Part::new(slots, self.last_stamp, self.shared.clock, self.tick);
+        part.spot = free;
+        if self.has_handles {
+            part.share(&self.shared);
+        }
+        if free == self.row.len() {
+            self.row.push(None);
+            self.wakes.push(NEVER);
+        }
+        self.row[free] = Some(part);
+        free
+    }
+
+    /// Takes a part out, in which at most cancelled entries are left.
+    fn take_part(&mut self, spot: usize) -> Option<Part<T>> {
+        let part = self.row[spot].take();
+        self.wakes[spot] = NEVER;
+        if self.has_handles {
+            self.shared.close(spot);
+        }
+        self.reaped_of_gone += part.as_ref().map_or(0, |part| part.reaped() + part.len());
+        part
+    }
+
+    /// Moves what is left out of the parts of which half the slots are worn, and takes them out.
+    pub(super) fn leave_worn_parts(&mut self) {
+        let worn: Vec<usize> = self.parts().filter(|part| part.is_worn()).map(|part| part.spot).collect();
+        self.leave_parts(worn);
+    }
+
+    /// Moves every entry of these parts to others, and takes the parts out. No value is dropped: a poll does that of those that
+    /// cancelled entries are left in.
+    fn leave_parts(&mut self, spots: Vec<usize>) {
+        for &spot in &spots {
+            if let Some(part) = &mut self.row[spot] {
+                part.is_left = true;
+            }
+        }
+        for spot in spots {
+            let places: Vec<Key> = self.row[spot].iter().flat_map(Part::places).collect();
+            for place in places {
+                // A handle may have cancelled it meanwhile.
+                let _ = self.carry(place, None);
+            }
+            if let Some(part) = self.take_part(spot).filter(|part| part.len() > 0) {
+                self.gone.push(part);
+                self.shared.tell();
+            }
+        }
+    }
+
+    /// Drops the values in the parts that went. Where a drop panics, those that are left are dropped by the next poll.
+    pub(super) fn drop_gone(&mut self) {
+        while let Some(part) = self.gone.last_mut() {
+            part.sweep();
+            self.gone.pop();
+        }
+    }
+
+    /// Moves an entry to another slot, under the same user's key, and under another deadline where one is given.
+    pub(super) fn carry(&mut self, place: Key, when: Option<u64>) -> Result<(), CoreError> {
+        self.open = self.find_room();
+        let shared = Arc::clone(&self.shared);
+        // A handle that finds the entry moved waits until its new place is noted. No value is dropped meanwhile, since the room
+        // was found before.
+        let mut links = if self.has_handles { Some(shared.links()) } else { None };
+        let part = self.part_mut(&place).ok_or(CoreError::Missing)?;
+        part.link.note_moved(&place);
+        let mut taken = None;
+        part.remove(&place, &mut taken);
+        let taken = taken.ok_or(CoreError::Missing)?;
+        let key = self.moves.key(place);
+        let deadline = when.unwrap_or(taken.tick);
+        let new = self.put(self.open, &mut Some(taken.data), deadline).expect("a part that has a free slot");
+        self.moves.note(key, new);
+        if let Some(links) = &mut links {
+            links.moved.insert(key, new);
+        }
+        Ok(())
+    }
+
+    /// The slots that aren't worn, those among them whose parts are yet to be added.
+    pub fn capacity(&self) -> usize {
+        self.promised + self.parts().map(Part::slots).sum::<usize>()
+    }
+
+    /// The worn slots.
+    pub fn worn(&self) -> usize {
+        self.parts().map(Part::worn).sum()
+    }
+
+    /// Makes room for so many more entries.
+    pub fn reserve(&mut self, additional: usize) {
+        let free = self.promised + self.parts().map(Part::free).sum::<usize>();
+        if free < additional {
+            self.add_slots((additional - free).max(self.next_slots()));
+        }
+    }
+
+    /// Takes every entry out. Where a value's drop panics, the entries that are left stay as they are.
+    pub fn clear(&mut self) {
+        self.drop_gone();
+        for spot in 0..self.row.len() {
+            let places: Vec<Key> = self.row[spot].iter().flat_map(Part::places).collect();
+            for place in places {
+                let mut out = None;
+                self.take_out(place, &mut out);
+            }
+            if let Some(part) = &mut self.row[spot] {
+                part.sweep();
+                if part.len() == 0 {
+                    self.wakes[spot] = NEVER;
+                }
+            }
+        }
+    }
+
+    /// Lets the empty parts go.
+    pub fn shrink_to_fit(&mut self) {
+        self.promised = 0;
+        for spot in 0..self.row.len() {
+            if self.row[spot].as_ref().is_some_and(|part| part.len() == 0) {
+                drop(self.take_part(spot));
+            }
+        }
+        self.cut_row();
+        self.moves.shrink_to_fit();
+    }
+
+    /// Moves the entries of sparse parts to free slots of others, or to parts of no more slots than they need.
+    pub fn compact(&mut self) {
+        // The values of cancelled entries are dropped first, while nothing else is under way.
+        self.row.iter_mut().flatten().for_each(Part::sweep);
+        self.promised = 0;
+        let (left, stay): (Vec<&Part<T>>, Vec<&Part<T>>) = self.parts().partition(|part| part.is_sparse());
+        let entries: usize = left.iter().map(|part| part.len()).sum();
+        let free: usize = stay.iter().map(|part| part.free()).sum();
+        let left: Vec<usize> = left.iter().map(|part| part.spot).collect();
+        let mut wanted = entries.saturating_sub(free);
+        while wanted > 0 {
+            let slots = wanted.min(CAPACITY_LIMIT);
+            self.add_part(slots);
+            wanted -= slots;
+        }
+        self.leave_parts(left);
+        self.cut_row();
+        self.forget_the_ended();
+        self.drop_gone();
+    }
+
+    /// Forgets the places of moved entries that handles cancelled.
+    fn forget_the_ended(&mut self) {
+        let mut moves = mem::take(&mut self.moves);
+        moves.retain(|place| self.part(place).is_some_and(|part| part.deadline(place).is_some()));
+        moves.shrink_to_fit();
+        if self.has_handles {
+            self.shared.links().moved = moves.iter().collect();
+        }
+        self.moves = moves;
+    }
+
+    /// Lets the places at the end of the row go that no part has.
+    fn cut_row(&mut self) {
+        let held = self.row.iter().rposition(Option::is_some).map_or(0, |spot| spot + 1);
+        self.row.truncate(held);
+        self.wakes.truncate(held);
+        self.row.shrink_to_fit();
+        self.wakes.shrink_to_fit();
+    }
+}
