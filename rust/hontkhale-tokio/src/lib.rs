@@ -6,7 +6,6 @@ mod budget;
 mod callers;
 mod clock;
 mod doors;
-mod draws;
 mod handle;
 mod held;
 mod keeping;
@@ -25,6 +24,7 @@ mod stream;
 mod tests;
 mod thread_callers;
 mod timer;
+mod unique_ids;
 
 pub use handle::{EntryError, Handle};
 pub use numbers::Numbers;

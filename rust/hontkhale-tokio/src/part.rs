@@ -2,10 +2,10 @@
 
 use crate::budget::Limit;
 use crate::clock::Clock;
-use crate::draws::Draws;
 use crate::key::{Expired, Key};
 use crate::link::Link;
 use crate::shared::Shared;
+use crate::unique_ids::UniqueIds;
 use hontkhale::{CallError, Caller, CoreConfig, CoreError, DelayCore, Keeper, Look, Piece, Turn};
 use std::sync::{Arc, Mutex, PoisonError};
 
@@ -13,7 +13,7 @@ use std::sync::{Arc, Mutex, PoisonError};
 pub(crate) const FIRST_SLOTS: usize = 64;
 
 /// The numbers of the parts of the program's queues.
-static PARTS: Draws = Draws::from_one();
+static PARTS: UniqueIds = UniqueIds::from_one();
 
 pub(crate) struct Part<T> {
     queue: DelayCore<T, Keeper>,

@@ -1,13 +1,13 @@
 use crate::callers::Callers;
 use crate::clock::Clock;
 use crate::doors::Door;
-use crate::draws::Draws;
 use crate::held::{Held, Lane, Leavings};
 use crate::keeping::Keeping;
 use crate::numbers::{Latest, Numbers};
 use crate::shared_key::{InsertError, Key};
 use crate::shared_queue::Expired;
 use crate::stream::ExpiredStream;
+use crate::unique_ids::UniqueIds;
 use hontkhale::{
     CallError, CoreError, HandleError, LastingConfig, LastingError, LastingHandle, LastingQueue, QueueConfig,
     QueueError,
@@ -19,7 +19,7 @@ use std::time::Duration;
 use tokio::time::Instant;
 
 /// The numbers of the program's queues.
-static QUEUES: Draws = Draws::from_one();
+static QUEUES: UniqueIds = UniqueIds::from_one();
 
 /// A delay queue that many tasks and threads fill, and whose entries come out of a stream: [`hontkhale::SharedDelayQueue`]
 /// under tokio's clock. The values stand in it.

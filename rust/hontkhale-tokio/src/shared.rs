@@ -2,10 +2,10 @@
 //! moved.
 
 use crate::clock::Clock;
-use crate::draws::Draws;
 use crate::key::Key;
 use crate::link::{Link, Refusal, Step};
 use crate::thread_callers;
+use crate::unique_ids::UniqueIds;
 use std::collections::HashMap;
 use std::sync::atomic::{AtomicBool, AtomicUsize, Ordering};
 use std::sync::{Arc, Mutex, MutexGuard, PoisonError};
@@ -16,7 +16,7 @@ const FIRST_CALLERS: usize = 16;
 const MOST_CALLERS: usize = 1_000;
 
 /// The numbers of the program's queues: 0 is nobody's.
-static QUEUES: Draws = Draws::from_one();
+static QUEUES: UniqueIds = UniqueIds::from_one();
 
 pub(crate) struct Shared {
     pub clock: Clock,
