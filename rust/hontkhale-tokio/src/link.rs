@@ -36,7 +36,7 @@ pub(crate) enum Step {
 pub(crate) enum Refusal {
     TooFar,
     Ended,
-    /// The entry went to another place, which only the queue's moves tell.
+    /// The entry went to another place, which only the queue's relocations tell.
     Moved,
     /// The queue has gone.
     Over,

@@ -7,8 +7,8 @@
 //! with cancelled entries in it stays aside until a poll drops their values.
 
 use crate::key::{Expired, Key};
-use crate::moves::Moves;
 use crate::part::Part;
+use crate::relocations::Relocations;
 use crate::shared::Shared;
 use hontkhale::{CoreError, LAST_TICK};
 use std::mem;
@@ -42,7 +42,7 @@ pub(crate) struct Parts<T> {
     left: usize,
     /// The slots that are asked for and not yet in a part.
     promised: usize,
-    moves: Moves,
+    relocations: Relocations,
     /// What is put in comes out no earlier: the deadline of what came out last, or the tick up to which nothing was left.
     tick: u64,
     last_stamp: u32,
@@ -86,7 +86,7 @@ impl<T> Parts<T> {
             open: 0,
             left: 0,
             promised: 0,
-            moves: Moves::default(),
+            relocations: Relocations::default(),
             tick: 0,
             last_stamp,
             shared: Owner(Arc::new(shared)),
@@ -111,7 +111,7 @@ impl<T> Parts<T> {
         for part in self.row.iter_mut().flatten() {
             part.share(&self.shared);
         }
-        self.shared.links().moved.extend(self.moves.iter());
+        self.shared.links().moved.extend(self.relocations.iter());
     }
 
     /// Puts a value in. It stands where the caller has it until it is in its slot: a large one is moved as seldom as may be.
@@ -171,7 +171,7 @@ impl<T> Parts<T> {
         if when > LAST_TICK {
             return Err(CoreError::TooFar { limit: LAST_TICK });
         }
-        let place = self.moves.place(key);
+        let place = self.relocations.place(key);
         let part = self.part_mut(&place).ok_or(CoreError::Missing)?;
         match part.reset(&place, when) {
             Ok(()) => {
@@ -195,7 +195,7 @@ impl<T> Parts<T> {
     /// Takes the entry of a key out and writes it to `out`. False where there is none.
     #[inline]
     pub fn remove(&mut self, key: &Key, out: &mut Option<Expired<T>>) -> bool {
-        let place = self.moves.place(key);
+        let place = self.relocations.place(key);
         self.take_out(place, out)
     }
 
@@ -213,14 +213,14 @@ impl<T> Parts<T> {
     /// Notes that the entry at a place has ended, and gives the user's key.
     #[inline]
     fn end(&mut self, place: &mut Key) {
-        if !self.moves.is_empty() {
+        if !self.relocations.is_empty() {
             *place = self.forget(*place);
         }
     }
 
     #[cold]
     fn forget(&mut self, place: Key) -> Key {
-        match self.moves.end(&place) {
+        match self.relocations.end(&place) {
             Some(key) => {
                 if self.has_handles {
                     self.shared.links().moved.remove(&key);
@@ -233,7 +233,7 @@ impl<T> Parts<T> {
 
     /// The deadline in force of the entry of a key.
     pub fn deadline(&self, key: &Key) -> Option<u64> {
-        let place = self.moves.place(key);
+        let place = self.relocations.place(key);
         self.part(&place)?.deadline(&place)
     }
 

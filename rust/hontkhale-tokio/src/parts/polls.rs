@@ -164,7 +164,7 @@ impl<T> Parts<T> {
             return known;
         }
         let first = self.parts().filter_map(Part::first).min_by_key(|first| first.0);
-        *peeked = first.map(|(_, place)| self.moves.key(place));
+        *peeked = first.map(|(_, place)| self.relocations.key(place));
         self.peeked_at.store(first.map_or(0, |(deadline, _)| deadline), Ordering::Relaxed);
         *peeked
     }

@@ -120,10 +120,10 @@ impl<T> Parts<T> {
         let mut taken = None;
         part.remove(&place, &mut taken);
         let taken = taken.ok_or(CoreError::Missing)?;
-        let key = self.moves.key(place);
+        let key = self.relocations.key(place);
         let deadline = when.unwrap_or(taken.tick);
         let new = self.put(self.open, &mut Some(taken.data), deadline).expect("a part that has a free slot");
-        self.moves.note(key, new);
+        self.relocations.note(key, new);
         if let Some(links) = &mut links {
             links.moved.insert(key, new);
         }
@@ -175,7 +175,7 @@ impl<T> Parts<T> {
             }
         }
         self.cut_row();
-        self.moves.shrink_to_fit();
+        self.relocations.shrink_to_fit();
     }
 
     /// Moves the entries of sparse parts to free slots of others, or to parts of no more slots than they need.
@@ -201,13 +201,13 @@ impl<T> Parts<T> {
 
     /// Forgets the places of moved entries that handles cancelled.
     fn forget_the_ended(&mut self) {
-        let mut moves = mem::take(&mut self.moves);
-        moves.retain(|place| self.part(place).is_some_and(|part| part.deadline(place).is_some()));
-        moves.shrink_to_fit();
+        let mut relocations = mem::take(&mut self.relocations);
+        relocations.retain(|place| self.part(place).is_some_and(|part| part.deadline(place).is_some()));
+        relocations.shrink_to_fit();
         if self.has_handles {
-            self.shared.links().moved = moves.iter().collect();
+            self.shared.links().moved = relocations.iter().collect();
         }
-        self.moves = moves;
+        self.relocations = relocations;
     }
 
     /// Lets the places at the end of the row go that no part has.
