@@ -17,8 +17,8 @@ pub struct Key {
 impl Key {
     /// The name of an entry of a part. A part has at most 65,536 slots.
     #[inline]
-    pub(crate) fn of(part: u64, spot: usize, slot: u32, born: u32) -> Key {
-        Key { part, name: u64::from(born) << 32 | (spot as u64) << 16 | u64::from(slot as u16) }
+    pub(crate) fn of(part: u64, index: usize, slot: u32, born: u32) -> Key {
+        Key { part, name: u64::from(born) << 32 | (index as u64) << 16 | u64::from(slot as u16) }
     }
 
     /// The part's number.
@@ -34,7 +34,7 @@ impl Key {
 
     /// The part's place in the row.
     #[inline]
-    pub(crate) fn spot(&self) -> usize {
+    pub(crate) fn index(&self) -> usize {
         usize::from((self.name >> 16) as u16)
     }
 

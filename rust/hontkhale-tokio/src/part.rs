@@ -20,7 +20,7 @@ pub(crate) struct Part<T> {
     /// The part's number.
     pub number: u64,
     /// The part's place in the row.
-    pub spot: usize,
+    pub index: usize,
     /// Whether its entries are being moved out, so that nothing is put in.
     pub is_left: bool,
     /// Whether a reset or a remove may have left nothing at the part's wake.
@@ -52,7 +52,7 @@ impl<T> Part<T> {
         let reader = Mutex::new(queue.issue().expect("a queue's first caller"));
         let link = Arc::new(Link::new(number, slots));
         let (is_left, is_stale, is_shared) = (false, false, false);
-        let mut part = Part { queue, number, spot: 0, is_left, is_stale, link, is_shared, clock, reader };
+        let mut part = Part { queue, number, index: 0, is_left, is_stale, link, is_shared, clock, reader };
         part.note(tick);
         part
     }
@@ -78,7 +78,7 @@ impl<T> Part<T> {
         }
         self.is_shared = true;
         self.issue(shared);
-        shared.add(self.spot, Arc::clone(&self.link));
+        shared.add(self.index, Arc::clone(&self.link));
     }
 
     /// Issues the callers that are wanted.
@@ -130,7 +130,7 @@ impl<T> Part<T> {
             Ok(key) => {
                 let (slot, born) = (key.entry().index(), key.stamp());
                 self.link.note(slot as usize, born, born);
-                Some(Key::of(self.number, self.spot, slot, born))
+                Some(Key::of(self.number, self.index, slot, born))
             }
             Err((_, back)) => {
                 *value = Some(back);
@@ -173,7 +173,7 @@ impl<T> Part<T> {
         match turn {
             Turn::Out(expired) => {
                 let entry = expired.key.entry();
-                let key = Key::of(self.number, self.spot, entry.index(), entry.born());
+                let key = Key::of(self.number, self.index, entry.index(), entry.born());
                 *out = Some(Expired { key, tick: expired.deadline, clock: self.clock, data: expired.value });
                 Step::Out
             }
@@ -192,7 +192,7 @@ impl<T> Part<T> {
     #[inline]
     pub fn key(&self, key: hontkhale::Key) -> Key {
         let entry = key.entry();
-        Key::of(self.number, self.spot, entry.index(), entry.born())
+        Key::of(self.number, self.index, entry.index(), entry.born())
     }
 
     /// Gives an entry another deadline.
@@ -283,7 +283,7 @@ impl<T> Part<T> {
     /// The places of the entries, those among them that were cancelled and not yet reaped. It goes over all slots.
     pub fn places(&self) -> impl Iterator<Item = Key> + '_ {
         let births = (0..self.queue.capacity()).filter_map(|slot| Some((slot, self.link.born(slot)?)));
-        let keys = births.map(|(slot, born)| Key::of(self.number, self.spot, slot as u32, born));
+        let keys = births.map(|(slot, born)| Key::of(self.number, self.index, slot as u32, born));
         keys.filter(|key| self.queue.filed(&key.entry()).is_some())
     }
 

@@ -141,12 +141,12 @@ impl<T> Parts<T> {
 
     /// Puts a value into a part, where a slot is free and the deadline isn't beyond the last tick.
     #[cfg_attr(not(debug_assertions), inline(always))]
-    fn put(&mut self, spot: usize, value: &mut Option<T>, when: u64) -> Option<Key> {
-        let part = match self.row.get_mut(spot) {
+    fn put(&mut self, index: usize, value: &mut Option<T>, when: u64) -> Option<Key> {
+        let part = match self.row.get_mut(index) {
             Some(Some(part)) if !part.is_left => part,
             _ => return None,
         };
-        let wake = &mut self.wakes[spot];
+        let wake = &mut self.wakes[index];
         if *wake == NEVER && part.noted() + BEHIND < self.tick {
             part.note(self.tick);
         }
@@ -175,7 +175,7 @@ impl<T> Parts<T> {
         let part = self.part_mut(&place).ok_or(CoreError::Missing)?;
         match part.reset(&place, when) {
             Ok(()) => {
-                let wake = &mut self.wakes[place.spot()];
+                let wake = &mut self.wakes[place.index()];
                 *wake = (*wake).min(when);
             }
             Err(CoreError::Worn) => self.reset_elsewhere(place, when)?,
@@ -204,7 +204,7 @@ impl<T> Parts<T> {
     fn take_out(&mut self, place: Key, out: &mut Option<Expired<T>>) -> bool {
         let is_out = self.part_mut(&place).is_some_and(|part| part.remove(&place, out));
         if let Some(out) = out {
-            self.left = place.spot();
+            self.left = place.index();
             self.end(&mut out.key);
         }
         is_out
@@ -259,12 +259,12 @@ impl<T> Parts<T> {
 
     #[inline]
     fn part(&self, place: &Key) -> Option<&Part<T>> {
-        self.row.get(place.spot())?.as_ref().filter(|part| part.number == place.part())
+        self.row.get(place.index())?.as_ref().filter(|part| part.number == place.part())
     }
 
     #[inline]
     fn part_mut(&mut self, place: &Key) -> Option<&mut Part<T>> {
-        self.row.get_mut(place.spot())?.as_mut().filter(|part| part.number == place.part())
+        self.row.get_mut(place.index())?.as_mut().filter(|part| part.number == place.part())
     }
 
     fn parts(&self) -> impl Iterator<Item = &Part<T>> {

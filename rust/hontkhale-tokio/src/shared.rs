@@ -56,18 +56,18 @@ impl Shared {
     }
 
     /// From here on handles find a part's entries.
-    pub fn add(&self, spot: usize, link: Arc<Link>) {
+    pub fn add(&self, index: usize, link: Arc<Link>) {
         let mut links = self.links();
-        if links.row.len() <= spot {
-            links.row.resize(spot + 1, None);
+        if links.row.len() <= index {
+            links.row.resize(index + 1, None);
         }
-        links.row[spot] = Some(link);
+        links.row[index] = Some(link);
     }
 
     /// From here on handles find nothing at a part's place.
-    pub fn close(&self, spot: usize) {
+    pub fn close(&self, index: usize) {
         let mut links = self.links();
-        let gone = links.row.get_mut(spot).and_then(Option::take);
+        let gone = links.row.get_mut(index).and_then(Option::take);
         drop(links);
         drop(gone);
     }
@@ -153,6 +153,6 @@ impl Shared {
 impl Links {
     /// The link of the entry's part.
     fn of(&self, place: &Key) -> Option<&Arc<Link>> {
-        self.row.get(place.spot())?.as_ref().filter(|link| link.part == place.part())
+        self.row.get(place.index())?.as_ref().filter(|link| link.part == place.part())
     }
 }

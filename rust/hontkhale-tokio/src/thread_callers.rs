@@ -69,7 +69,7 @@ pub(crate) fn step(queue: u64, key: &Key, step: Step) -> Result<u64, Refusal> {
     let mut deadline = 0;
     let made = KEPT.try_with(|kept| {
         let kept = &mut kept.borrow_mut()[queue as usize % PLACES];
-        let made = match kept.callers.get_mut(key.spot()) {
+        let made = match kept.callers.get_mut(key.index()) {
             Some(Some(caller)) if caller.link.part == key.part() && kept.queue == queue => caller.step(key, step),
             _ => Err(Refusal::NoCaller),
         };
@@ -85,10 +85,10 @@ pub(crate) fn first_step(queue: u64, key: &Key, link: &Arc<Link>, step: Step) ->
         if kept.queue != queue {
             *kept = Kept { queue, callers: Vec::new() };
         }
-        if kept.callers.len() <= key.spot() {
-            kept.callers.resize_with(key.spot() + 1, || None);
+        if kept.callers.len() <= key.index() {
+            kept.callers.resize_with(key.index() + 1, || None);
         }
-        let caller = &mut kept.callers[key.spot()];
+        let caller = &mut kept.callers[key.index()];
         if caller.as_ref().is_some_and(|caller| caller.link.part != link.part) {
             *caller = None;
         }

@@ -44,12 +44,12 @@ impl<T> Parts<T> {
     #[inline]
     fn poll_parts(&mut self, reached: u64, budget: &mut Budget, out: &mut Option<Expired<T>>) -> Found {
         loop {
-            let (spot, wake, second) = self.soonest();
+            let (index, wake, second) = self.soonest();
             if wake == NEVER {
                 self.tick = self.tick.max(reached);
                 return Found::Idle;
             }
-            let part = self.row[spot].as_mut().expect("only a part has a wake");
+            let part = self.row[index].as_mut().expect("only a part has a wake");
             if wake > reached && part.noted() >= reached && !part.is_stale {
                 return self.waiting(wake, reached);
             }
@@ -58,15 +58,15 @@ impl<T> Parts<T> {
                 None => return Found::Working,
             };
             match part.poll(reached.min(second), most, out) {
-                Step::Out => return self.came_out(spot, out),
+                Step::Out => return self.came_out(index, out),
                 Step::Waiting(next) => {
                     let wake = wake.max(next);
-                    self.wakes[spot] = wake;
+                    self.wakes[index] = wake;
                     if reached < wake && wake < second {
                         return self.waiting(wake, reached);
                     }
                 }
-                Step::Idle => self.wakes[spot] = NEVER,
+                Step::Idle => self.wakes[index] = NEVER,
                 Step::Working => budget.grow(),
             }
         }
@@ -100,10 +100,10 @@ impl<T> Parts<T> {
 
     /// What came out of a part.
     #[inline]
-    fn came_out(&mut self, spot: usize, out: &mut Option<Expired<T>>) -> Found {
-        self.left = spot;
+    fn came_out(&mut self, index: usize, out: &mut Option<Expired<T>>) -> Found {
+        self.left = index;
         if let Some(out) = out {
-            self.wakes[spot] = out.tick;
+            self.wakes[index] = out.tick;
             self.tick = out.tick;
             self.end(&mut out.key);
         }
@@ -116,15 +116,15 @@ impl<T> Parts<T> {
         if let [wake] = self.wakes[..] {
             return (0, wake, NEVER);
         }
-        let (mut spot, mut wake, mut second) = (0, NEVER, NEVER);
+        let (mut index, mut wake, mut second) = (0, NEVER, NEVER);
         for (it, &at) in self.wakes.iter().enumerate() {
             if at < wake {
-                (spot, second, wake) = (it, wake, at);
+                (index, second, wake) = (it, wake, at);
             } else if at < second {
                 second = at;
             }
         }
-        (spot, wake, second)
+        (index, wake, second)
     }
 
     /// Whether a part has a step to make before a tick.

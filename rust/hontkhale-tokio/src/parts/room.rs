@@ -10,15 +10,15 @@ use std::sync::Arc;
 impl<T> Parts<T> {
     /// The part that has the most room, or a new one.
     pub(super) fn find_room(&mut self) -> usize {
-        let roomy = self.parts().filter(|part| !part.is_left).map(|part| (part.free(), part.spot));
+        let roomy = self.parts().filter(|part| !part.is_left).map(|part| (part.free(), part.index));
         match roomy.filter(|it| it.0 > 0).max() {
-            Some((_, spot)) => spot,
+            Some((_, index)) => index,
             None if self.promised == 0 => self.add_part(self.next_slots()),
             None => {
                 let slots = self.promised.min(CAPACITY_LIMIT);
-                let spot = self.add_part(slots);
+                let index = self.add_part(slots);
                 self.promised -= slots;
-                spot
+                index
             }
         }
     }
@@ -50,7 +50,7 @@ impl<T> Parts<T> {
         let free = self.row.iter().position(Option::is_none).unwrap_or(self.row.len());
         assert!(free < PARTS_LIMIT, "max entries exceeded");
         let mut part = Part::new(slots, self.last_stamp, self.shared.clock, self.tick);
-        part.spot = free;
+        part.index = free;
         if self.has_handles {
             part.share(&self.shared);
         }
@@ -63,11 +63,11 @@ impl<T> Parts<T> {
     }
 
     /// Takes a part out, in which at most cancelled entries are left.
-    fn take_part(&mut self, spot: usize) -> Option<Part<T>> {
-        let part = self.row[spot].take();
-        self.wakes[spot] = NEVER;
+    fn take_part(&mut self, index: usize) -> Option<Part<T>> {
+        let part = self.row[index].take();
+        self.wakes[index] = NEVER;
         if self.has_handles {
-            self.shared.close(spot);
+            self.shared.close(index);
         }
         self.reaped_of_gone += part.as_ref().map_or(0, |part| part.reaped() + part.len());
         part
@@ -75,25 +75,25 @@ impl<T> Parts<T> {
 
     /// Moves what is left out of the parts of which half the slots are worn, and takes them out.
     pub(super) fn leave_worn_parts(&mut self) {
-        let worn: Vec<usize> = self.parts().filter(|part| part.is_worn()).map(|part| part.spot).collect();
+        let worn: Vec<usize> = self.parts().filter(|part| part.is_worn()).map(|part| part.index).collect();
         self.leave_parts(worn);
     }
 
     /// Moves every entry of these parts to others, and takes the parts out. No value is dropped: a poll does that of those that
     /// cancelled entries are left in.
-    fn leave_parts(&mut self, spots: Vec<usize>) {
-        for &spot in &spots {
-            if let Some(part) = &mut self.row[spot] {
+    fn leave_parts(&mut self, indices: Vec<usize>) {
+        for &index in &indices {
+            if let Some(part) = &mut self.row[index] {
                 part.is_left = true;
             }
         }
-        for spot in spots {
-            let places: Vec<Key> = self.row[spot].iter().flat_map(Part::places).collect();
+        for index in indices {
+            let places: Vec<Key> = self.row[index].iter().flat_map(Part::places).collect();
             for place in places {
                 // A handle may have cancelled it meanwhile.
                 let _ = self.carry(place, None);
             }
-            if let Some(part) = self.take_part(spot).filter(|part| part.len() > 0) {
+            if let Some(part) = self.take_part(index).filter(|part| part.len() > 0) {
                 self.gone.push(part);
                 self.shared.tell();
             }
@@ -151,16 +151,16 @@ impl<T> Parts<T> {
     /// Takes every entry out. Where a value's drop panics, the entries that are left stay as they are.
     pub fn clear(&mut self) {
         self.drop_gone();
-        for spot in 0..self.row.len() {
-            let places: Vec<Key> = self.row[spot].iter().flat_map(Part::places).collect();
+        for index in 0..self.row.len() {
+            let places: Vec<Key> = self.row[index].iter().flat_map(Part::places).collect();
             for place in places {
                 let mut out = None;
                 self.take_out(place, &mut out);
             }
-            if let Some(part) = &mut self.row[spot] {
+            if let Some(part) = &mut self.row[index] {
                 part.sweep();
                 if part.len() == 0 {
-                    self.wakes[spot] = NEVER;
+                    self.wakes[index] = NEVER;
                 }
             }
         }
@@ -169,9 +169,9 @@ impl<T> Parts<T> {
     /// Lets the empty parts go.
     pub fn shrink_to_fit(&mut self) {
         self.promised = 0;
-        for spot in 0..self.row.len() {
-            if self.row[spot].as_ref().is_some_and(|part| part.len() == 0) {
-                drop(self.take_part(spot));
+        for index in 0..self.row.len() {
+            if self.row[index].as_ref().is_some_and(|part| part.len() == 0) {
+                drop(self.take_part(index));
             }
         }
         self.cut_row();
@@ -186,7 +186,7 @@ impl<T> Parts<T> {
         let (left, stay): (Vec<&Part<T>>, Vec<&Part<T>>) = self.parts().partition(|part| part.is_sparse());
         let entries: usize = left.iter().map(|part| part.len()).sum();
         let free: usize = stay.iter().map(|part| part.free()).sum();
-        let left: Vec<usize> = left.iter().map(|part| part.spot).collect();
+        let left: Vec<usize> = left.iter().map(|part| part.index).collect();
         let mut wanted = entries.saturating_sub(free);
         while wanted > 0 {
             let slots = wanted.min(CAPACITY_LIMIT);
@@ -212,7 +212,7 @@ impl<T> Parts<T> {
 
     /// Lets the places at the end of the row go that no part has.
     fn cut_row(&mut self) {
-        let held = self.row.iter().rposition(Option::is_some).map_or(0, |spot| spot + 1);
+        let held = self.row.iter().rposition(Option::is_some).map_or(0, |index| index + 1);
         self.row.truncate(held);
         self.wakes.truncate(held);
         self.row.shrink_to_fit();
