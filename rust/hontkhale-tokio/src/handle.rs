@@ -1,6 +1,6 @@
 use crate::key::Key;
-use crate::link::{Refusal, Step};
 use crate::shared::Shared;
+use crate::shared_state::{Refusal, Step};
 use std::error::Error;
 use std::fmt;
 use std::sync::Arc;
@@ -114,7 +114,7 @@ impl Handle {
     #[cold]
     fn step_again(&self, key: &Key, step: Step, refused: Refusal) -> Result<u64, EntryError> {
         let refused = match refused {
-            Refusal::Moved | Refusal::NoCaller => match self.shared.step_by_links(key, step) {
+            Refusal::Moved | Refusal::NoCaller => match self.shared.step_by_states(key, step) {
                 Ok(deadline) => return Ok(deadline),
                 Err(refused) => refused,
             },

@@ -10,7 +10,6 @@ mod handle;
 mod held;
 mod keeping;
 mod key;
-mod link;
 mod numbers;
 mod part;
 mod parts;
@@ -19,6 +18,7 @@ mod relocations;
 mod sharded;
 mod shared;
 mod shared_key;
+mod shared_state;
 mod stream;
 #[cfg(test)]
 mod tests;

@@ -3,8 +3,8 @@
 use crate::budget::Limit;
 use crate::clock::Clock;
 use crate::key::{Expired, Key};
-use crate::link::Link;
 use crate::shared::Shared;
+use crate::shared_state::SharedState;
 use crate::unique_ids::UniqueIds;
 use hontkhale::{CallError, Caller, CoreConfig, CoreError, DelayCore, Keeper, Look, Piece, Turn};
 use std::sync::{Arc, Mutex, PoisonError};
@@ -26,7 +26,7 @@ pub(crate) struct Part<T> {
     /// Whether a reset or a remove may have left nothing at the part's wake.
     pub is_stale: bool,
     /// What handles need of the part, and the births of its entries. While no handle was made it knows of no reset.
-    pub link: Arc<Link>,
+    pub state: Arc<SharedState>,
     is_shared: bool,
     clock: Clock,
     /// Looks at deadlines on behalf of calls that change nothing.
@@ -50,9 +50,9 @@ impl<T> Part<T> {
         let config = CoreConfig { shard: 0, capacity: slots, last_stamp };
         let mut queue = hontkhale::numbered_queue(config).expect("memory for more entries");
         let reader = Mutex::new(queue.issue().expect("a queue's first caller"));
-        let link = Arc::new(Link::new(number, slots));
+        let state = Arc::new(SharedState::new(number, slots));
         let (is_left, is_stale, is_shared) = (false, false, false);
-        let mut part = Part { queue, number, index: 0, is_left, is_stale, link, is_shared, clock, reader };
+        let mut part = Part { queue, number, index: 0, is_left, is_stale, state, is_shared, clock, reader };
         part.note(tick);
         part
     }
@@ -73,18 +73,18 @@ impl<T> Part<T> {
     pub fn share(&mut self, shared: &Shared) {
         for place in self.places().collect::<Vec<Key>>() {
             if let Some(stamp) = self.stamp(&place) {
-                self.link.note(place.slot(), place.born(), stamp);
+                self.state.note(place.slot(), place.born(), stamp);
             }
         }
         self.is_shared = true;
         self.issue(shared);
-        shared.add(self.index, Arc::clone(&self.link));
+        shared.add(self.index, Arc::clone(&self.state));
     }
 
     /// Issues the callers that are wanted.
     pub fn issue(&mut self, shared: &Shared) {
         let queue = &mut self.queue;
-        self.link.issue(shared.callers(), || queue.issue().ok());
+        self.state.issue(shared.callers(), || queue.issue().ok());
     }
 
     /// The slots that aren't worn.
@@ -129,7 +129,7 @@ impl<T> Part<T> {
         match self.queue.insert(value.take()?, when) {
             Ok(key) => {
                 let (slot, born) = (key.entry().index(), key.stamp());
-                self.link.note(slot as usize, born, born);
+                self.state.note(slot as usize, born, born);
                 Some(Key::of(self.number, self.index, slot, born))
             }
             Err((_, back)) => {
@@ -209,15 +209,15 @@ impl<T> Part<T> {
     /// The same where handles may be calling: one that meets the new stamp finds it noted, or the old one for as long as that
     /// is in force.
     fn reset_shared(&mut self, place: &Key, when: u64) -> Result<(), CoreError> {
-        let stamp = self.link.stamp(place).ok_or(CoreError::Missing)?;
-        self.link.note(place.slot(), place.born(), stamp + 1);
+        let stamp = self.state.stamp(place).ok_or(CoreError::Missing)?;
+        self.state.note(place.slot(), place.born(), stamp + 1);
         match self.queue.reset(&place.entry(), when) {
             Ok(_) => {
                 self.is_stale = true;
                 Ok(())
             }
             Err(error) => {
-                self.link.note(place.slot(), place.born(), stamp);
+                self.state.note(place.slot(), place.born(), stamp);
                 Err(error)
             }
         }
@@ -246,7 +246,7 @@ impl<T> Part<T> {
     pub fn reap(&mut self, most: u32) -> u32 {
         self.is_stale = true;
         let queue = &mut self.queue;
-        self.link.take_cancelled(most, |slot| {
+        self.state.take_cancelled(most, |slot| {
             queue.sweep_some(slot, 1);
         })
     }
@@ -282,7 +282,7 @@ impl<T> Part<T> {
 
     /// The places of the entries, those among them that were cancelled and not yet reaped. It goes over all slots.
     pub fn places(&self) -> impl Iterator<Item = Key> + '_ {
-        let births = (0..self.queue.capacity()).filter_map(|slot| Some((slot, self.link.born(slot)?)));
+        let births = (0..self.queue.capacity()).filter_map(|slot| Some((slot, self.state.born(slot)?)));
         let keys = births.map(|(slot, born)| Key::of(self.number, self.index, slot as u32, born));
         keys.filter(|key| self.queue.filed(&key.entry()).is_some())
     }

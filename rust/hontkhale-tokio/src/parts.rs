@@ -111,7 +111,7 @@ impl<T> Parts<T> {
         for part in self.row.iter_mut().flatten() {
             part.share(&self.shared);
         }
-        self.shared.links().moved.extend(self.relocations.iter());
+        self.shared.states().moved.extend(self.relocations.iter());
     }
 
     /// Puts a value in. It stands where the caller has it until it is in its slot: a large one is moved as seldom as may be.
@@ -223,7 +223,7 @@ impl<T> Parts<T> {
         match self.relocations.end(&place) {
             Some(key) => {
                 if self.has_handles {
-                    self.shared.links().moved.remove(&key);
+                    self.shared.states().moved.remove(&key);
                 }
                 key
             }

@@ -1,9 +1,9 @@
-//! What the handles of a queue share with its owner: the links of its parts, and the new places of the entries that were
-//! moved.
+//! What the handles of a queue share with its owner: the shared states of its parts, and the new places of the entries
+//! that were moved.
 
 use crate::clock::Clock;
 use crate::key::Key;
-use crate::link::{Link, Refusal, Step};
+use crate::shared_state::{Refusal, SharedState, Step};
 use crate::thread_callers;
 use crate::unique_ids::UniqueIds;
 use std::collections::HashMap;
@@ -22,7 +22,7 @@ pub(crate) struct Shared {
     pub clock: Clock,
     /// The queue's number.
     number: u64,
-    links: Mutex<Links>,
+    states: Mutex<SharedStates>,
     /// Whether a part has something for the owner to heed.
     has_news: AtomicBool,
     /// The cancels of handles that were accepted.
@@ -31,10 +31,10 @@ pub(crate) struct Shared {
     callers: AtomicUsize,
 }
 
-/// The links of a queue's parts, by their places, and where moved entries are now, by their keys.
+/// The states of a queue's parts, by their places, and where moved entries are now, by their keys.
 #[derive(Default)]
-pub(crate) struct Links {
-    row: Vec<Option<Arc<Link>>>,
+pub(crate) struct SharedStates {
+    row: Vec<Option<Arc<SharedState>>>,
     pub moved: HashMap<Key, Key>,
 }
 
@@ -43,41 +43,41 @@ impl Shared {
         Shared {
             clock: Clock::new(),
             number: QUEUES.draw(),
-            links: Mutex::default(),
+            states: Mutex::default(),
             has_news: AtomicBool::new(false),
             cancels: AtomicUsize::new(0),
             callers: AtomicUsize::new(FIRST_CALLERS),
         }
     }
 
-    /// The links, for a moment: nobody's code runs while they are held.
-    pub fn links(&self) -> MutexGuard<'_, Links> {
-        self.links.lock().unwrap_or_else(PoisonError::into_inner)
+    /// The states, for a moment: nobody's code runs while they are held.
+    pub fn states(&self) -> MutexGuard<'_, SharedStates> {
+        self.states.lock().unwrap_or_else(PoisonError::into_inner)
     }
 
     /// From here on handles find a part's entries.
-    pub fn add(&self, index: usize, link: Arc<Link>) {
-        let mut links = self.links();
-        if links.row.len() <= index {
-            links.row.resize(index + 1, None);
+    pub fn add(&self, index: usize, state: Arc<SharedState>) {
+        let mut states = self.states();
+        if states.row.len() <= index {
+            states.row.resize(index + 1, None);
         }
-        links.row[index] = Some(link);
+        states.row[index] = Some(state);
     }
 
     /// From here on handles find nothing at a part's place.
     pub fn close(&self, index: usize) {
-        let mut links = self.links();
-        let gone = links.row.get_mut(index).and_then(Option::take);
-        drop(links);
+        let mut states = self.states();
+        let gone = states.row.get_mut(index).and_then(Option::take);
+        drop(states);
         drop(gone);
     }
 
     /// Takes all away that handles have of the queue.
     pub fn close_all(&self) {
-        let mut links = self.links();
-        let gone = std::mem::take(&mut *links);
-        gone.row.iter().flatten().for_each(|link| link.end());
-        drop(links);
+        let mut states = self.states();
+        let gone = std::mem::take(&mut *states);
+        gone.row.iter().flatten().for_each(|state| state.end());
+        drop(states);
         self.forget_callers();
         drop(gone);
     }
@@ -127,22 +127,22 @@ impl Shared {
 
     /// The step where the thread has no caller, or the entry was moved. The thread gets a caller, if there is one to give.
     #[cold]
-    pub fn step_by_links(&self, key: &Key, step: Step) -> Result<u64, Refusal> {
-        let links = self.links();
-        let place = links.moved.get(key).unwrap_or(key);
-        let link = links.of(place).ok_or(Refusal::Ended)?;
-        let made = thread_callers::first_step(self.number, place, link, step);
+    pub fn step_by_states(&self, key: &Key, step: Step) -> Result<u64, Refusal> {
+        let states = self.states();
+        let place = states.moved.get(key).unwrap_or(key);
+        let state = states.of(place).ok_or(Refusal::Ended)?;
+        let made = thread_callers::first_step(self.number, place, state, step);
         if made != Err(Refusal::NoCaller) {
             return made;
         }
-        self.want_callers(link);
-        let mut spare = link.spare();
-        link.step(spare.last_mut().ok_or(Refusal::Ended)?, place, step)
+        self.want_callers(state);
+        let mut spare = state.spare();
+        state.step(spare.last_mut().ok_or(Refusal::Ended)?, place, step)
     }
 
     /// A handle's note that a part has no caller to give.
-    fn want_callers(&self, link: &Link) {
-        let issued = link.issued();
+    fn want_callers(&self, state: &SharedState) {
+        let issued = state.issued();
         if issued < MOST_CALLERS {
             self.callers.fetch_max((2 * issued).min(MOST_CALLERS), Ordering::SeqCst);
             self.tell();
@@ -150,9 +150,9 @@ impl Shared {
     }
 }
 
-impl Links {
-    /// The link of the entry's part.
-    fn of(&self, place: &Key) -> Option<&Arc<Link>> {
-        self.row.get(place.index())?.as_ref().filter(|link| link.part == place.part())
+impl SharedStates {
+    /// The state of the entry's part.
+    fn of(&self, place: &Key) -> Option<&Arc<SharedState>> {
+        self.row.get(place.index())?.as_ref().filter(|state| state.part == place.part())
     }
 }

@@ -4,7 +4,7 @@
 //! needs the place for another queue.
 
 use crate::key::Key;
-use crate::link::{Link, Refusal, Step};
+use crate::shared_state::{Refusal, SharedState, Step};
 use hontkhale::Caller;
 use std::cell::RefCell;
 use std::sync::Arc;
@@ -31,26 +31,26 @@ impl Kept {
 
 /// A part's caller that a thread has for itself.
 pub(crate) struct ThreadCaller {
-    pub link: Arc<Link>,
+    pub state: Arc<SharedState>,
     /// None while it is given back.
     caller: Option<Caller>,
 }
 
 impl ThreadCaller {
     /// One of the spare callers, if there are several: the last one stays, for threads that come while there is no other.
-    pub fn of(link: &Arc<Link>) -> Option<ThreadCaller> {
-        let mut spare = link.spare();
+    pub fn of(state: &Arc<SharedState>) -> Option<ThreadCaller> {
+        let mut spare = state.spare();
         if spare.len() < 2 {
             return None;
         }
         let caller = spare.pop();
-        Some(ThreadCaller { link: Arc::clone(link), caller })
+        Some(ThreadCaller { state: Arc::clone(state), caller })
     }
 
     #[inline(always)]
     fn step(&mut self, key: &Key, step: Step) -> Result<u64, Refusal> {
         match &mut self.caller {
-            Some(caller) => self.link.step(caller, key, step),
+            Some(caller) => self.state.step(caller, key, step),
             None => Err(Refusal::NoCaller),
         }
     }
@@ -58,7 +58,7 @@ impl ThreadCaller {
 
 impl Drop for ThreadCaller {
     fn drop(&mut self) {
-        self.link.spare().extend(self.caller.take());
+        self.state.spare().extend(self.caller.take());
     }
 }
 
@@ -70,7 +70,7 @@ pub(crate) fn step(queue: u64, key: &Key, step: Step) -> Result<u64, Refusal> {
     let made = KEPT.try_with(|kept| {
         let kept = &mut kept.borrow_mut()[queue as usize % PLACES];
         let made = match kept.callers.get_mut(key.index()) {
-            Some(Some(caller)) if caller.link.part == key.part() && kept.queue == queue => caller.step(key, step),
+            Some(Some(caller)) if caller.state.part == key.part() && kept.queue == queue => caller.step(key, step),
             _ => Err(Refusal::NoCaller),
         };
         made.map(|reached| deadline = reached)
@@ -79,7 +79,7 @@ pub(crate) fn step(queue: u64, key: &Key, step: Step) -> Result<u64, Refusal> {
 }
 
 /// The same at a part where the thread may have no caller yet.
-pub(crate) fn first_step(queue: u64, key: &Key, link: &Arc<Link>, step: Step) -> Result<u64, Refusal> {
+pub(crate) fn first_step(queue: u64, key: &Key, state: &Arc<SharedState>, step: Step) -> Result<u64, Refusal> {
     let made = KEPT.try_with(|kept| {
         let kept = &mut kept.borrow_mut()[queue as usize % PLACES];
         if kept.queue != queue {
@@ -89,11 +89,11 @@ pub(crate) fn first_step(queue: u64, key: &Key, link: &Arc<Link>, step: Step) ->
             kept.callers.resize_with(key.index() + 1, || None);
         }
         let caller = &mut kept.callers[key.index()];
-        if caller.as_ref().is_some_and(|caller| caller.link.part != link.part) {
+        if caller.as_ref().is_some_and(|caller| caller.state.part != state.part) {
             *caller = None;
         }
         if caller.is_none() {
-            *caller = ThreadCaller::of(link);
+            *caller = ThreadCaller::of(state);
         }
         caller.as_mut().map_or(Err(Refusal::NoCaller), |caller| caller.step(key, step))
     });
@@ -116,7 +116,7 @@ pub(crate) fn forget(queue: u64) {
 mod tests {
     use super::{first_step, forget, step, PLACES};
     use crate::key::Key;
-    use crate::link::{Link, Refusal, Step};
+    use crate::shared_state::{Refusal, SharedState, Step};
     use hontkhale::{CoreConfig, DelayCore, Keeper};
     use std::sync::Arc;
     use std::thread;
@@ -126,30 +126,30 @@ mod tests {
     const NO_CALLER: Result<u64, Refusal> = Err(Refusal::NoCaller);
 
     /// A part of one entry, with so many callers.
-    fn part(number: u64, callers: usize) -> (DelayCore<(), Keeper>, Arc<Link>, Key) {
+    fn part(number: u64, callers: usize) -> (DelayCore<(), Keeper>, Arc<SharedState>, Key) {
         let config = CoreConfig { shard: 0, capacity: 64, last_stamp: 1_000 };
         let mut queue = hontkhale::numbered_queue::<()>(config).expect("memory");
         let entry = queue.insert_or_drop((), 100).expect("a free slot");
-        let link = Arc::new(Link::new(number, 64));
-        link.issue(callers, || queue.issue().ok());
+        let state = Arc::new(SharedState::new(number, 64));
+        state.issue(callers, || queue.issue().ok());
         let key = Key::of(number, 0, entry.entry().index(), entry.stamp());
-        (queue, link, key)
+        (queue, state, key)
     }
 
     #[test]
     fn a_thread_that_ends_gives_its_callers_back() {
-        let (_queue, link, key) = part(1, 3);
+        let (_queue, state, key) = part(1, 3);
         for _ in 0..100 {
-            let link = Arc::clone(&link);
+            let state = Arc::clone(&state);
             let thread = thread::spawn(move || {
                 assert_eq!(step(1, &key, EXTEND), NO_CALLER);
-                assert_eq!(first_step(1, &key, &link, EXTEND), EXTENDED);
-                assert_eq!((step(1, &key, EXTEND), link.spare().len()), (EXTENDED, 2));
+                assert_eq!(first_step(1, &key, &state, EXTEND), EXTENDED);
+                assert_eq!((step(1, &key, EXTEND), state.spare().len()), (EXTENDED, 2));
             });
             thread.join().expect("it ends");
         }
-        assert_eq!(link.spare().len(), 3);
-        assert_eq!(Arc::strong_count(&link), 1);
+        assert_eq!(state.spare().len(), 3);
+        assert_eq!(Arc::strong_count(&state), 1);
     }
 
     #[test]
@@ -178,16 +178,16 @@ mod tests {
 
     #[test]
     fn the_last_caller_stays_for_those_who_have_none() {
-        let (_queue, link, key) = part(21, 1);
-        assert_eq!(first_step(4, &key, &link, EXTEND), NO_CALLER);
-        assert_eq!(link.spare().len(), 1);
+        let (_queue, state, key) = part(21, 1);
+        assert_eq!(first_step(4, &key, &state, EXTEND), NO_CALLER);
+        assert_eq!(state.spare().len(), 1);
     }
 
     #[test]
     fn a_queue_that_has_gone_accepts_no_step() {
-        let (_queue, link, key) = part(31, 2);
-        assert_eq!(first_step(5, &key, &link, EXTEND), EXTENDED);
-        link.end();
+        let (_queue, state, key) = part(31, 2);
+        assert_eq!(first_step(5, &key, &state, EXTEND), EXTENDED);
+        state.end();
         assert_eq!(step(5, &key, EXTEND), Err(Refusal::Over));
         forget(5);
     }

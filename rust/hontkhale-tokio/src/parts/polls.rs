@@ -142,7 +142,7 @@ impl<T> Parts<T> {
             part.issue(again.0);
         }
         for part in self.gone.iter_mut().chain(self.row.iter_mut().flatten()) {
-            while part.link.has_cancels() {
+            while part.state.has_cancels() {
                 let Some(most) = budget.piece().map(Limit::steps) else {
                     return false;
                 };

@@ -114,9 +114,9 @@ impl<T> Parts<T> {
         let shared = Arc::clone(&self.shared);
         // A handle that finds the entry moved waits until its new place is noted. No value is dropped meanwhile, since the room
         // was found before.
-        let mut links = if self.has_handles { Some(shared.links()) } else { None };
+        let mut states = if self.has_handles { Some(shared.states()) } else { None };
         let part = self.part_mut(&place).ok_or(CoreError::Missing)?;
-        part.link.note_moved(&place);
+        part.state.note_moved(&place);
         let mut taken = None;
         part.remove(&place, &mut taken);
         let taken = taken.ok_or(CoreError::Missing)?;
@@ -124,8 +124,8 @@ impl<T> Parts<T> {
         let deadline = when.unwrap_or(taken.tick);
         let new = self.put(self.open, &mut Some(taken.data), deadline).expect("a part that has a free slot");
         self.relocations.note(key, new);
-        if let Some(links) = &mut links {
-            links.moved.insert(key, new);
+        if let Some(states) = &mut states {
+            states.moved.insert(key, new);
         }
         Ok(())
     }
@@ -205,7 +205,7 @@ impl<T> Parts<T> {
         relocations.retain(|place| self.part(place).is_some_and(|part| part.deadline(place).is_some()));
         relocations.shrink_to_fit();
         if self.has_handles {
-            self.shared.links().moved = relocations.iter().collect();
+            self.shared.states().moved = relocations.iter().collect();
         }
         self.relocations = relocations;
     }

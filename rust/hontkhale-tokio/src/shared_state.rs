@@ -8,7 +8,7 @@ use std::sync::{Mutex, MutexGuard, PoisonError};
 /// The bits of a word.
 const BITS: usize = 64;
 
-pub(crate) struct Link {
+pub(crate) struct SharedState {
     /// The part's number.
     pub part: u64,
     stamps: Box<[StampWord]>,
@@ -72,9 +72,9 @@ impl StampWord {
     }
 }
 
-impl Link {
-    pub fn new(part: u64, slots: usize) -> Link {
-        Link {
+impl SharedState {
+    pub fn new(part: u64, slots: usize) -> SharedState {
+        SharedState {
             part,
             stamps: (0..slots).map(|_| StampWord(AtomicU64::new(0))).collect(),
             cancelled: (0..(slots + BITS - 1) / BITS).map(|_| AtomicU64::new(0)).collect(),
