@@ -10,14 +10,14 @@ use tokio::time::Instant;
 /// Extends and cancels the entries of one [`DelayQueue`](crate::DelayQueue) from any thread, while its owner inserts,
 /// polls, or waits. It serves entries that came after it, too, and may outlive its queue, whose entries have ended then.
 ///
-/// A call is one atomic step beside a few loads, by a caller that the thread keeps for each part of the queue. A lock is
-/// taken in three cases: at the first call of a thread at each part; for an entry that
+/// A call is one atomic step beside a few loads, by a caller that the thread keeps for each segment of the queue. A lock is
+/// taken in three cases: at the first call of a thread at each segment; for an entry that
 /// [`compact`](crate::DelayQueue::compact) or a worn slot moved; and where more threads come than there are callers, until
 /// the owner's next poll issues more. There are 16 at first, and 1,000 at most. The owner holds that lock while it adds, moves
-/// or drops a part, and not in a poll.
+/// or drops a segment, and not in a poll.
 ///
 /// A thread keeps callers of eight queues at most. It gives them back when it ends, when it calls a handle of a ninth, or of
-/// one that has gone; until then it holds on to 16 bytes for each slot of the parts that it called at.
+/// one that has gone; until then it holds on to 16 bytes for each slot of the segments that it called at.
 ///
 /// Nobody is woken: the owner comes upon an extended entry when it would have been due, and files it anew. No value is
 /// dropped by a handle's call.
@@ -101,7 +101,7 @@ impl Handle {
         Ok(self.shared.clock.moment(deadline))
     }
 
-    /// The step from this thread's caller at the entry's part.
+    /// The step from this thread's caller at the entry's segment.
     #[inline(always)]
     fn step(&self, key: &Key, step: Step) -> Result<u64, EntryError> {
         match self.shared.step(key, step) {

@@ -1,4 +1,4 @@
-//! What the handles of a queue share with its owner: the shared states of its parts, and the new places of the entries
+//! What the handles of a queue share with its owner: the shared states of its segments, and the new places of the entries
 //! that were moved.
 
 use crate::clock::Clock;
@@ -10,9 +10,9 @@ use std::collections::HashMap;
 use std::sync::atomic::{AtomicBool, AtomicUsize, Ordering};
 use std::sync::{Arc, Mutex, MutexGuard, PoisonError};
 
-/// The callers that a part has at first.
+/// The callers that a segment has at first.
 const FIRST_CALLERS: usize = 16;
-/// The most callers that a part is given: one for each thread, and one that stays. A queue of hontkhale's issues 1,024.
+/// The most callers that a segment is given: one for each thread, and one that stays. A queue of hontkhale's issues 1,024.
 const MOST_CALLERS: usize = 1_000;
 
 /// The numbers of the program's queues: 0 is nobody's.
@@ -23,15 +23,15 @@ pub(crate) struct Shared {
     /// The queue's number.
     number: u64,
     states: Mutex<SharedStates>,
-    /// Whether a part has something for the owner to heed.
+    /// Whether a segment has something for the owner to heed.
     has_news: AtomicBool,
     /// The cancels of handles that were accepted.
     cancels: AtomicUsize,
-    /// How many callers each part should have.
+    /// How many callers each segment should have.
     callers: AtomicUsize,
 }
 
-/// The states of a queue's parts, by their places, and where moved entries are now, by their keys.
+/// The states of a queue's segments, by their places, and where moved entries are now, by their keys.
 #[derive(Default)]
 pub(crate) struct SharedStates {
     row: Vec<Option<Arc<SharedState>>>,
@@ -55,7 +55,7 @@ impl Shared {
         self.states.lock().unwrap_or_else(PoisonError::into_inner)
     }
 
-    /// From here on handles find a part's entries.
+    /// From here on handles find a segment's entries.
     pub fn add(&self, index: usize, state: Arc<SharedState>) {
         let mut states = self.states();
         if states.row.len() <= index {
@@ -64,7 +64,7 @@ impl Shared {
         states.row[index] = Some(state);
     }
 
-    /// From here on handles find nothing at a part's place.
+    /// From here on handles find nothing at a segment's place.
     pub fn close(&self, index: usize) {
         let mut states = self.states();
         let gone = states.row.get_mut(index).and_then(Option::take);
@@ -93,7 +93,7 @@ impl Shared {
         self.has_news.swap(false, Ordering::SeqCst);
     }
 
-    /// A note that a part has something for the owner.
+    /// A note that a segment has something for the owner.
     pub fn tell(&self) {
         self.has_news.store(true, Ordering::SeqCst);
     }
@@ -109,12 +109,12 @@ impl Shared {
         self.cancels.load(Ordering::SeqCst)
     }
 
-    /// How many callers each part should have.
+    /// How many callers each segment should have.
     pub fn callers(&self) -> usize {
         self.callers.load(Ordering::SeqCst)
     }
 
-    /// A step from this thread's caller at the entry's part.
+    /// A step from this thread's caller at the entry's segment.
     #[inline(always)]
     pub fn step(&self, key: &Key, step: Step) -> Result<u64, Refusal> {
         thread_callers::step(self.number, key, step)
@@ -140,7 +140,7 @@ impl Shared {
         state.step(spare.last_mut().ok_or(Refusal::Ended)?, place, step)
     }
 
-    /// A handle's note that a part has no caller to give.
+    /// A handle's note that a segment has no caller to give.
     fn want_callers(&self, state: &SharedState) {
         let issued = state.issued();
         if issued < MOST_CALLERS {
@@ -151,8 +151,8 @@ impl Shared {
 }
 
 impl SharedStates {
-    /// The state of the entry's part.
+    /// The state of the entry's segment.
     fn of(&self, place: &Key) -> Option<&Arc<SharedState>> {
-        self.row.get(place.index())?.as_ref().filter(|state| state.part == place.part())
+        self.row.get(place.index())?.as_ref().filter(|state| state.segment == place.segment())
     }
 }

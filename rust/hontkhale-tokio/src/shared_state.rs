@@ -1,4 +1,4 @@
-//! What handles need of one part of a queue: the stamps of its entries, callers, and where they note what they cancelled.
+//! What handles need of one segment of a queue: the stamps of its entries, callers, and where they note what they cancelled.
 
 use crate::key::Key;
 use hontkhale::{CallError, Caller};
@@ -9,8 +9,8 @@ use std::sync::{Mutex, MutexGuard, PoisonError};
 const BITS: usize = 64;
 
 pub(crate) struct SharedState {
-    /// The part's number.
-    pub part: u64,
+    /// The segment's number.
+    pub segment: u64,
     stamps: Box<[StampWord]>,
     /// A bit for each slot: whether a handle cancelled an entry there that the owner hasn't looked at yet.
     cancelled: Box<[AtomicU64]>,
@@ -19,7 +19,7 @@ pub(crate) struct SharedState {
     is_over: AtomicBool,
     /// The callers that no thread has.
     spare: Mutex<Vec<Caller>>,
-    /// How many callers the part's owner issued.
+    /// How many callers the segment's owner issued.
     issued: AtomicUsize,
 }
 
@@ -31,7 +31,7 @@ pub(crate) enum Step {
     Cancel,
 }
 
-/// Why a handle's step at a part isn't made.
+/// Why a handle's step at a segment isn't made.
 #[derive(Clone, Copy, Debug, PartialEq, Eq)]
 pub(crate) enum Refusal {
     TooFar,
@@ -73,9 +73,9 @@ impl StampWord {
 }
 
 impl SharedState {
-    pub fn new(part: u64, slots: usize) -> SharedState {
+    pub fn new(segment: u64, slots: usize) -> SharedState {
         SharedState {
-            part,
+            segment,
             stamps: (0..slots).map(|_| StampWord(AtomicU64::new(0))).collect(),
             cancelled: (0..(slots + BITS - 1) / BITS).map(|_| AtomicU64::new(0)).collect(),
             has_cancels: AtomicBool::new(false),

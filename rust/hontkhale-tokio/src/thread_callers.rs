@@ -1,6 +1,6 @@
 //! From where handles call: callers that each thread keeps for itself, so that a call takes no lock.
 //!
-//! A thread takes a part's caller at its first call there, out of the part's spare ones, and gives it back when it ends or
+//! A thread takes a segment's caller at its first call there, out of the segment's spare ones, and gives it back when it ends or
 //! needs the place for another queue.
 
 use crate::key::Key;
@@ -16,7 +16,7 @@ thread_local! {
     static KEPT: RefCell<[Kept; PLACES]> = const { RefCell::new([const { Kept::none() }; PLACES]) };
 }
 
-/// A thread's callers of a queue, one for each part by its place in the queue's row.
+/// A thread's callers of a queue, one for each segment by its place in the queue's row.
 struct Kept {
     /// The queue's number, 0 where it is nobody's.
     queue: u64,
@@ -29,7 +29,7 @@ impl Kept {
     }
 }
 
-/// A part's caller that a thread has for itself.
+/// A segment's caller that a thread has for itself.
 pub(crate) struct ThreadCaller {
     pub state: Arc<SharedState>,
     /// None while it is given back.
@@ -62,7 +62,7 @@ impl Drop for ThreadCaller {
     }
 }
 
-/// Makes a step from the thread's caller at the entry's part.
+/// Makes a step from the thread's caller at the entry's segment.
 #[inline(always)]
 pub(crate) fn step(queue: u64, key: &Key, step: Step) -> Result<u64, Refusal> {
     // The deadline goes by a place of its own: a `Result` would be copied by loads that wait for two stores each.
@@ -70,7 +70,9 @@ pub(crate) fn step(queue: u64, key: &Key, step: Step) -> Result<u64, Refusal> {
     let made = KEPT.try_with(|kept| {
         let kept = &mut kept.borrow_mut()[queue as usize % PLACES];
         let made = match kept.callers.get_mut(key.index()) {
-            Some(Some(caller)) if caller.state.part == key.part() && kept.queue == queue => caller.step(key, step),
+            Some(Some(caller)) if caller.state.segment == key.segment() && kept.queue == queue => {
+                caller.step(key, step)
+            }
             _ => Err(Refusal::NoCaller),
         };
         made.map(|reached| deadline = reached)
@@ -78,7 +80,7 @@ pub(crate) fn step(queue: u64, key: &Key, step: Step) -> Result<u64, Refusal> {
     made.unwrap_or(Err(Refusal::NoCaller)).map(|()| deadline)
 }
 
-/// The same at a part where the thread may have no caller yet.
+/// The same at a segment where the thread may have no caller yet.
 pub(crate) fn first_step(queue: u64, key: &Key, state: &Arc<SharedState>, step: Step) -> Result<u64, Refusal> {
     let made = KEPT.try_with(|kept| {
         let kept = &mut kept.borrow_mut()[queue as usize % PLACES];
@@ -89,7 +91,7 @@ pub(crate) fn first_step(queue: u64, key: &Key, state: &Arc<SharedState>, step: 
             kept.callers.resize_with(key.index() + 1, || None);
         }
         let caller = &mut kept.callers[key.index()];
-        if caller.as_ref().is_some_and(|caller| caller.state.part != state.part) {
+        if caller.as_ref().is_some_and(|caller| caller.state.segment != state.segment) {
             *caller = None;
         }
         if caller.is_none() {
@@ -125,8 +127,8 @@ mod tests {
     const EXTENDED: Result<u64, Refusal> = Ok(100);
     const NO_CALLER: Result<u64, Refusal> = Err(Refusal::NoCaller);
 
-    /// A part of one entry, with so many callers.
-    fn part(number: u64, callers: usize) -> (DelayCore<(), Keeper>, Arc<SharedState>, Key) {
+    /// A segment of one entry, with so many callers.
+    fn segment(number: u64, callers: usize) -> (DelayCore<(), Keeper>, Arc<SharedState>, Key) {
         let config = CoreConfig { shard: 0, capacity: 64, last_stamp: 1_000 };
         let mut queue = hontkhale::numbered_queue::<()>(config).expect("memory");
         let entry = queue.insert_or_drop((), 100).expect("a free slot");
@@ -138,7 +140,7 @@ mod tests {
 
     #[test]
     fn a_thread_that_ends_gives_its_callers_back() {
-        let (_queue, state, key) = part(1, 3);
+        let (_queue, state, key) = segment(1, 3);
         for _ in 0..100 {
             let state = Arc::clone(&state);
             let thread = thread::spawn(move || {
@@ -154,8 +156,8 @@ mod tests {
 
     #[test]
     fn a_place_that_another_queue_needs_is_given_back() {
-        let (_ones, one, ones_key) = part(1, 2);
-        let (_others, other, others_key) = part(2, 2);
+        let (_ones, one, ones_key) = segment(1, 2);
+        let (_others, other, others_key) = segment(2, 2);
         let others_number = 7 + PLACES as u64;
         assert_eq!(first_step(7, &ones_key, &one, EXTEND), EXTENDED);
         assert_eq!(step(others_number, &ones_key, EXTEND), NO_CALLER, "no caller of another queue is taken");
@@ -167,8 +169,8 @@ mod tests {
     }
 
     #[test]
-    fn a_part_that_came_in_the_place_of_another_has_its_own_caller() {
-        let ((_before, before, old), (_after, after, new)) = (part(11, 2), part(12, 2));
+    fn a_segment_that_came_in_the_place_of_another_has_its_own_caller() {
+        let ((_before, before, old), (_after, after, new)) = (segment(11, 2), segment(12, 2));
         assert_eq!(first_step(3, &old, &before, EXTEND), EXTENDED);
         assert_eq!(step(3, &new, EXTEND), NO_CALLER);
         assert_eq!(first_step(3, &new, &after, EXTEND), EXTENDED);
@@ -178,14 +180,14 @@ mod tests {
 
     #[test]
     fn the_last_caller_stays_for_those_who_have_none() {
-        let (_queue, state, key) = part(21, 1);
+        let (_queue, state, key) = segment(21, 1);
         assert_eq!(first_step(4, &key, &state, EXTEND), NO_CALLER);
         assert_eq!(state.spare().len(), 1);
     }
 
     #[test]
     fn a_queue_that_has_gone_accepts_no_step() {
-        let (_queue, state, key) = part(31, 2);
+        let (_queue, state, key) = segment(31, 2);
         assert_eq!(first_step(5, &key, &state, EXTEND), EXTENDED);
         state.end();
         assert_eq!(step(5, &key, EXTEND), Err(Refusal::Over));

@@ -1,39 +1,39 @@
-//! Room for entries: parts that are added, worn out, compacted and let go, and entries that are moved between them.
+//! Room for entries: segments that are added, worn out, compacted and let go, and entries that are moved between them.
 
-use super::{Parts, NEVER, PARTS_LIMIT};
+use super::{Segments, NEVER, SEGMENTS_LIMIT};
 use crate::key::Key;
-use crate::part::{Part, FIRST_SLOTS};
+use crate::segment::{Segment, FIRST_SLOTS};
 use hontkhale::{CoreError, CAPACITY_LIMIT};
 use std::mem;
 use std::sync::Arc;
 
-impl<T> Parts<T> {
-    /// The part that has the most room, or a new one.
+impl<T> Segments<T> {
+    /// The segment that has the most room, or a new one.
     pub(super) fn find_room(&mut self) -> usize {
-        let roomy = self.parts().filter(|part| !part.is_left).map(|part| (part.free(), part.index));
+        let roomy = self.segments().filter(|segment| !segment.is_left).map(|segment| (segment.free(), segment.index));
         match roomy.filter(|it| it.0 > 0).max() {
             Some((_, index)) => index,
-            None if self.promised == 0 => self.add_part(self.next_slots()),
+            None if self.promised == 0 => self.add_segment(self.next_slots()),
             None => {
                 let slots = self.promised.min(CAPACITY_LIMIT);
-                let index = self.add_part(slots);
+                let index = self.add_segment(slots);
                 self.promised -= slots;
                 index
             }
         }
     }
 
-    /// How many slots the next part has, by the entries that there are: twice the last part's where no slot is worn.
+    /// How many slots the next segment has, by the entries that there are: twice the last segment's where no slot is worn.
     fn next_slots(&self) -> usize {
         (self.len() + 1).next_power_of_two().clamp(FIRST_SLOTS, CAPACITY_LIMIT)
     }
 
-    /// Adds a part for the first of so many slots, and notes the others: their parts are added as they are needed.
+    /// Adds a segment for the first of so many slots, and notes the others: their segments are added as they are needed.
     ///
     /// # Panics
     /// Where there can't be so many, before any memory is taken; where memory is refused.
     pub(super) fn add_slots(&mut self, slots: usize) {
-        let most = (PARTS_LIMIT - self.parts().count()).saturating_mul(CAPACITY_LIMIT);
+        let most = (SEGMENTS_LIMIT - self.segments().count()).saturating_mul(CAPACITY_LIMIT);
         assert!(self.promised <= most && slots <= most - self.promised, "capacity overflow");
         let first = slots.min(CAPACITY_LIMIT);
         if first < slots {
@@ -41,69 +41,70 @@ impl<T> Parts<T> {
             Vec::<(T, [u64; 6])>::new().try_reserve_exact(slots).expect("memory for more entries");
         }
         if first > 0 {
-            self.add_part(first);
+            self.add_segment(first);
             self.promised += slots - first;
         }
     }
 
-    fn add_part(&mut self, slots: usize) -> usize {
+    fn add_segment(&mut self, slots: usize) -> usize {
         let free = self.row.iter().position(Option::is_none).unwrap_or(self.row.len());
-        assert!(free < PARTS_LIMIT, "max entries exceeded");
-        let mut part = Part::new(slots, self.last_stamp, self.shared.clock, self.tick);
-        part.index = free;
+        assert!(free < SEGMENTS_LIMIT, "max entries exceeded");
+        let mut segment = Segment::new(slots, self.last_stamp, self.shared.clock, self.tick);
+        segment.index = free;
         if self.has_handles {
-            part.share(&self.shared);
+            segment.share(&self.shared);
         }
         if free == self.row.len() {
             self.row.push(None);
             self.wakes.push(NEVER);
         }
-        self.row[free] = Some(part);
+        self.row[free] = Some(segment);
         free
     }
 
-    /// Takes a part out, in which at most cancelled entries are left.
-    fn take_part(&mut self, index: usize) -> Option<Part<T>> {
-        let part = self.row[index].take();
+    /// Takes a segment out, in which at most cancelled entries are left.
+    fn take_segment(&mut self, index: usize) -> Option<Segment<T>> {
+        let segment = self.row[index].take();
         self.wakes[index] = NEVER;
         if self.has_handles {
             self.shared.close(index);
         }
-        self.reaped_of_gone += part.as_ref().map_or(0, |part| part.reaped() + part.len());
-        part
+        self.reaped_of_gone += segment.as_ref().map_or(0, |segment| segment.reaped() + segment.len());
+        segment
     }
 
-    /// Moves what is left out of the parts of which half the slots are worn, and takes them out.
-    pub(super) fn leave_worn_parts(&mut self) {
-        let worn: Vec<usize> = self.parts().filter(|part| part.is_worn()).map(|part| part.index).collect();
-        self.leave_parts(worn);
+    /// Moves what is left out of the segments of which half the slots are worn, and takes them out.
+    pub(super) fn leave_worn_segments(&mut self) {
+        let worn: Vec<usize> =
+            self.segments().filter(|segment| segment.is_worn()).map(|segment| segment.index).collect();
+        self.leave_segments(worn);
     }
 
-    /// Moves every entry of these parts to others, and takes the parts out. No value is dropped: a poll does that of those that
+    /// Moves every entry of these segments to others, and takes the segments out. No value is dropped: a poll does that of those that
     /// cancelled entries are left in.
-    fn leave_parts(&mut self, indices: Vec<usize>) {
+    fn leave_segments(&mut self, indices: Vec<usize>) {
         for &index in &indices {
-            if let Some(part) = &mut self.row[index] {
-                part.is_left = true;
+            if let Some(segment) = &mut self.row[index] {
+                segment.is_left = true;
             }
         }
         for index in indices {
-            let places: Vec<Key> = self.row[index].iter().flat_map(Part::places).collect();
+            let places: Vec<Key> = self.row[index].iter().flat_map(Segment::places).collect();
             for place in places {
                 // A handle may have cancelled it meanwhile.
                 let _ = self.carry(place, None);
             }
-            if let Some(part) = self.take_part(index).filter(|part| part.len() > 0) {
-                self.gone.push(part);
+            if let Some(segment) = self.take_segment(index).filter(|segment| segment.len() > 0) {
+                self.gone.push(segment);
                 self.shared.tell();
             }
         }
     }
 
-    /// Drops the values in the parts that went. Where a drop panics, those that are left are dropped by the next poll.
+    /// Drops the values in the segments that went. Where a drop panics, those that are left are dropped by the next poll.
     pub(super) fn drop_gone(&mut self) {
-        while let Some(part) = self.gone.last_mut() {
-            part.sweep();
+        while let Some(segment) = self.gone.last_mut() {
+            segment.sweep();
             self.gone.pop();
         }
     }
@@ -115,14 +116,14 @@ impl<T> Parts<T> {
         // A handle that finds the entry moved waits until its new place is noted. No value is dropped meanwhile, since the room
         // was found before.
         let mut states = if self.has_handles { Some(shared.states()) } else { None };
-        let part = self.part_mut(&place).ok_or(CoreError::Missing)?;
-        part.state.note_moved(&place);
+        let segment = self.segment_mut(&place).ok_or(CoreError::Missing)?;
+        segment.state.note_moved(&place);
         let mut taken = None;
-        part.remove(&place, &mut taken);
+        segment.remove(&place, &mut taken);
         let taken = taken.ok_or(CoreError::Missing)?;
         let key = self.relocations.key(place);
         let deadline = when.unwrap_or(taken.tick);
-        let new = self.put(self.open, &mut Some(taken.data), deadline).expect("a part that has a free slot");
+        let new = self.put(self.open, &mut Some(taken.data), deadline).expect("a segment that has a free slot");
         self.relocations.note(key, new);
         if let Some(states) = &mut states {
             states.moved.insert(key, new);
@@ -130,19 +131,19 @@ impl<T> Parts<T> {
         Ok(())
     }
 
-    /// The slots that aren't worn, those among them whose parts are yet to be added.
+    /// The slots that aren't worn, those among them whose segments are yet to be added.
     pub fn capacity(&self) -> usize {
-        self.promised + self.parts().map(Part::slots).sum::<usize>()
+        self.promised + self.segments().map(Segment::slots).sum::<usize>()
     }
 
     /// The worn slots.
     pub fn worn(&self) -> usize {
-        self.parts().map(Part::worn).sum()
+        self.segments().map(Segment::worn).sum()
     }
 
     /// Makes room for so many more entries.
     pub fn reserve(&mut self, additional: usize) {
-        let free = self.promised + self.parts().map(Part::free).sum::<usize>();
+        let free = self.promised + self.segments().map(Segment::free).sum::<usize>();
         if free < additional {
             self.add_slots((additional - free).max(self.next_slots()));
         }
@@ -152,48 +153,49 @@ impl<T> Parts<T> {
     pub fn clear(&mut self) {
         self.drop_gone();
         for index in 0..self.row.len() {
-            let places: Vec<Key> = self.row[index].iter().flat_map(Part::places).collect();
+            let places: Vec<Key> = self.row[index].iter().flat_map(Segment::places).collect();
             for place in places {
                 let mut out = None;
                 self.take_out(place, &mut out);
             }
-            if let Some(part) = &mut self.row[index] {
-                part.sweep();
-                if part.len() == 0 {
+            if let Some(segment) = &mut self.row[index] {
+                segment.sweep();
+                if segment.len() == 0 {
                     self.wakes[index] = NEVER;
                 }
             }
         }
     }
 
-    /// Lets the empty parts go.
+    /// Lets the empty segments go.
     pub fn shrink_to_fit(&mut self) {
         self.promised = 0;
         for index in 0..self.row.len() {
-            if self.row[index].as_ref().is_some_and(|part| part.len() == 0) {
-                drop(self.take_part(index));
+            if self.row[index].as_ref().is_some_and(|segment| segment.len() == 0) {
+                drop(self.take_segment(index));
             }
         }
         self.cut_row();
         self.relocations.shrink_to_fit();
     }
 
-    /// Moves the entries of sparse parts to free slots of others, or to parts of no more slots than they need.
+    /// Moves the entries of sparse segments to free slots of others, or to segments of no more slots than they need.
     pub fn compact(&mut self) {
         // The values of cancelled entries are dropped first, while nothing else is under way.
-        self.row.iter_mut().flatten().for_each(Part::sweep);
+        self.row.iter_mut().flatten().for_each(Segment::sweep);
         self.promised = 0;
-        let (left, stay): (Vec<&Part<T>>, Vec<&Part<T>>) = self.parts().partition(|part| part.is_sparse());
-        let entries: usize = left.iter().map(|part| part.len()).sum();
-        let free: usize = stay.iter().map(|part| part.free()).sum();
-        let left: Vec<usize> = left.iter().map(|part| part.index).collect();
+        let (left, stay): (Vec<&Segment<T>>, Vec<&Segment<T>>) =
+            self.segments().partition(|segment| segment.is_sparse());
+        let entries: usize = left.iter().map(|segment| segment.len()).sum();
+        let free: usize = stay.iter().map(|segment| segment.free()).sum();
+        let left: Vec<usize> = left.iter().map(|segment| segment.index).collect();
         let mut wanted = entries.saturating_sub(free);
         while wanted > 0 {
             let slots = wanted.min(CAPACITY_LIMIT);
-            self.add_part(slots);
+            self.add_segment(slots);
             wanted -= slots;
         }
-        self.leave_parts(left);
+        self.leave_segments(left);
         self.cut_row();
         self.forget_the_ended();
         self.drop_gone();
@@ -202,7 +204,7 @@ impl<T> Parts<T> {
     /// Forgets the places of moved entries that handles cancelled.
     fn forget_the_ended(&mut self) {
         let mut relocations = mem::take(&mut self.relocations);
-        relocations.retain(|place| self.part(place).is_some_and(|part| part.deadline(place).is_some()));
+        relocations.retain(|place| self.segment(place).is_some_and(|segment| segment.deadline(place).is_some()));
         relocations.shrink_to_fit();
         if self.has_handles {
             self.shared.states().moved = relocations.iter().collect();
@@ -210,7 +212,7 @@ impl<T> Parts<T> {
         self.relocations = relocations;
     }
 
-    /// Lets the places at the end of the row go that no part has.
+    /// Lets the places at the end of the row go that no segment has.
     fn cut_row(&mut self) {
         let held = self.row.iter().rposition(Option::is_some).map_or(0, |index| index + 1);
         self.row.truncate(held);

@@ -1,14 +1,14 @@
-//! The queue without its clock: a row of parts that grows, in ticks of one millisecond.
+//! The queue without its clock: a row of segments that grows, in ticks of one millisecond.
 //!
-//! An entry stays in its part until it ends, but that `compact` or a worn slot moves it. What comes out is merged by the
-//! parts' wakes: no part is polled beyond the tick at which another may have something.
+//! An entry stays in its segment until it ends, but that `compact` or a worn slot moves it. What comes out is merged by the
+//! segments' wakes: no segment is polled beyond the tick at which another may have something.
 //!
-//! No value is dropped while a lock is held, nor where a key is in hand that its panic would take along: a part that goes
+//! No value is dropped while a lock is held, nor where a key is in hand that its panic would take along: a segment that goes
 //! with cancelled entries in it stays aside until a poll drops their values.
 
 use crate::key::{Expired, Key};
-use crate::part::Part;
 use crate::relocations::Relocations;
+use crate::segment::Segment;
 use crate::shared::Shared;
 use hontkhale::{CoreError, LAST_TICK};
 use std::mem;
@@ -21,26 +21,26 @@ mod room;
 
 pub(crate) use polls::Found;
 
-/// As many parts as a key can tell apart.
-const PARTS_LIMIT: usize = 65_536;
-/// The wake of a part that is empty.
+/// As many segments as a key can tell apart.
+const SEGMENTS_LIMIT: usize = 65_536;
+/// The wake of a segment that is empty.
 pub(crate) const NEVER: u64 = u64::MAX;
-/// How far an empty part may be behind.
+/// How far an empty segment may be behind.
 const BEHIND: u64 = 64;
 
-pub(crate) struct Parts<T> {
+pub(crate) struct Segments<T> {
     shared: Owner,
-    /// A part keeps its place, which its keys name. The place of a part that went is taken by a later one.
-    row: Vec<Option<Part<T>>>,
-    /// Parts that went with cancelled entries in them, whose values a poll drops.
-    gone: Vec<Part<T>>,
-    /// For each part a tick before which nothing comes out of it.
+    /// A segment keeps its place, which its keys name. The place of a segment that went is taken by a later one.
+    row: Vec<Option<Segment<T>>>,
+    /// Segments that went with cancelled entries in them, whose values a poll drops.
+    gone: Vec<Segment<T>>,
+    /// For each segment a tick before which nothing comes out of it.
     wakes: Vec<u64>,
-    /// The part that takes the next insert.
+    /// The segment that takes the next insert.
     open: usize,
-    /// The part that an entry left last.
+    /// The segment that an entry left last.
     left: usize,
-    /// The slots that are asked for and not yet in a part.
+    /// The slots that are asked for and not yet in a segment.
     promised: usize,
     relocations: Relocations,
     /// What is put in comes out no earlier: the deadline of what came out last, or the tick up to which nothing was left.
@@ -48,7 +48,7 @@ pub(crate) struct Parts<T> {
     last_stamp: u32,
     /// Whether there was ever a handle.
     has_handles: bool,
-    /// The cancelled entries that were reaped in the parts that went, or went with them.
+    /// The cancelled entries that were reaped in the segments that went, or went with them.
     reaped_of_gone: usize,
     /// The key of what comes out next, since it was asked for, and its deadline: 0 where nobody asked.
     peeked: Mutex<Option<Key>>,
@@ -76,10 +76,10 @@ impl Drop for Owner {
     }
 }
 
-impl<T> Parts<T> {
-    /// Parts of so many slots together.
-    pub fn new(capacity: usize, last_stamp: u32, shared: Shared) -> Parts<T> {
-        let mut parts = Parts {
+impl<T> Segments<T> {
+    /// Segments of so many slots together.
+    pub fn new(capacity: usize, last_stamp: u32, shared: Shared) -> Segments<T> {
+        let mut segments = Segments {
             row: Vec::new(),
             gone: Vec::new(),
             wakes: Vec::new(),
@@ -95,8 +95,8 @@ impl<T> Parts<T> {
             peeked: Mutex::default(),
             peeked_at: AtomicU64::new(0),
         };
-        parts.add_slots(capacity);
-        parts
+        segments.add_slots(capacity);
+        segments
     }
 
     pub fn shared(&self) -> &Arc<Shared> {
@@ -108,8 +108,8 @@ impl<T> Parts<T> {
         if mem::replace(&mut self.has_handles, true) {
             return;
         }
-        for part in self.row.iter_mut().flatten() {
-            part.share(&self.shared);
+        for segment in self.row.iter_mut().flatten() {
+            segment.share(&self.shared);
         }
         self.shared.states().moved.extend(self.relocations.iter());
     }
@@ -135,22 +135,22 @@ impl<T> Parts<T> {
             return Ok(key);
         }
         let key = self.put_somewhere(value, when);
-        self.leave_worn_parts();
+        self.leave_worn_segments();
         Ok(key)
     }
 
-    /// Puts a value into a part, where a slot is free and the deadline isn't beyond the last tick.
+    /// Puts a value into a segment, where a slot is free and the deadline isn't beyond the last tick.
     #[cfg_attr(not(debug_assertions), inline(always))]
     fn put(&mut self, index: usize, value: &mut Option<T>, when: u64) -> Option<Key> {
-        let part = match self.row.get_mut(index) {
-            Some(Some(part)) if !part.is_left => part,
+        let segment = match self.row.get_mut(index) {
+            Some(Some(segment)) if !segment.is_left => segment,
             _ => return None,
         };
         let wake = &mut self.wakes[index];
-        if *wake == NEVER && part.noted() + BEHIND < self.tick {
-            part.note(self.tick);
+        if *wake == NEVER && segment.noted() + BEHIND < self.tick {
+            segment.note(self.tick);
         }
-        let key = part.insert(value, when)?;
+        let key = segment.insert(value, when)?;
         *wake = (*wake).min(when);
         Some(key)
     }
@@ -172,8 +172,8 @@ impl<T> Parts<T> {
             return Err(CoreError::TooFar { limit: LAST_TICK });
         }
         let place = self.relocations.place(key);
-        let part = self.part_mut(&place).ok_or(CoreError::Missing)?;
-        match part.reset(&place, when) {
+        let segment = self.segment_mut(&place).ok_or(CoreError::Missing)?;
+        match segment.reset(&place, when) {
             Ok(()) => {
                 let wake = &mut self.wakes[place.index()];
                 *wake = (*wake).min(when);
@@ -188,7 +188,7 @@ impl<T> Parts<T> {
     #[cold]
     fn reset_elsewhere(&mut self, place: Key, when: u64) -> Result<(), CoreError> {
         self.carry(place, Some(when))?;
-        self.leave_worn_parts();
+        self.leave_worn_segments();
         Ok(())
     }
 
@@ -202,7 +202,7 @@ impl<T> Parts<T> {
     /// Takes the entry at a place out.
     #[inline]
     fn take_out(&mut self, place: Key, out: &mut Option<Expired<T>>) -> bool {
-        let is_out = self.part_mut(&place).is_some_and(|part| part.remove(&place, out));
+        let is_out = self.segment_mut(&place).is_some_and(|segment| segment.remove(&place, out));
         if let Some(out) = out {
             self.left = place.index();
             self.end(&mut out.key);
@@ -234,12 +234,12 @@ impl<T> Parts<T> {
     /// The deadline in force of the entry of a key.
     pub fn deadline(&self, key: &Key) -> Option<u64> {
         let place = self.relocations.place(key);
-        self.part(&place)?.deadline(&place)
+        self.segment(&place)?.deadline(&place)
     }
 
     /// The entries, those among them that were cancelled and not yet reaped.
     pub fn len(&self) -> usize {
-        self.parts().map(Part::len).sum()
+        self.segments().map(Segment::len).sum()
     }
 
     pub fn is_empty(&self) -> bool {
@@ -248,7 +248,7 @@ impl<T> Parts<T> {
 
     /// The entries that handles cancelled and that weren't reaped yet.
     pub fn cancelled(&self) -> usize {
-        let reaped = self.reaped_of_gone + self.parts().map(Part::reaped).sum::<usize>();
+        let reaped = self.reaped_of_gone + self.segments().map(Segment::reaped).sum::<usize>();
         self.shared.cancels().saturating_sub(reaped).min(self.len())
     }
 
@@ -258,16 +258,16 @@ impl<T> Parts<T> {
     }
 
     #[inline]
-    fn part(&self, place: &Key) -> Option<&Part<T>> {
-        self.row.get(place.index())?.as_ref().filter(|part| part.number == place.part())
+    fn segment(&self, place: &Key) -> Option<&Segment<T>> {
+        self.row.get(place.index())?.as_ref().filter(|segment| segment.number == place.segment())
     }
 
     #[inline]
-    fn part_mut(&mut self, place: &Key) -> Option<&mut Part<T>> {
-        self.row.get_mut(place.index())?.as_mut().filter(|part| part.number == place.part())
+    fn segment_mut(&mut self, place: &Key) -> Option<&mut Segment<T>> {
+        self.row.get_mut(place.index())?.as_mut().filter(|segment| segment.number == place.segment())
     }
 
-    fn parts(&self) -> impl Iterator<Item = &Part<T>> {
+    fn segments(&self) -> impl Iterator<Item = &Segment<T>> {
         self.row.iter().flatten()
     }
 }

@@ -1,4 +1,4 @@
-//! A part of the queue: a queue of hontkhale's for one owner, of a fixed number of slots. Its values stand in it.
+//! A segment of the queue: a queue of hontkhale's for one owner, of a fixed number of slots. Its values stand in it.
 
 use crate::budget::Limit;
 use crate::clock::Clock;
@@ -9,23 +9,23 @@ use crate::unique_ids::UniqueIds;
 use hontkhale::{CallError, Caller, CoreConfig, CoreError, DelayCore, Keeper, Look, Piece, Turn};
 use std::sync::{Arc, Mutex, PoisonError};
 
-/// The slots of the first part. Each later one has twice as many, up to hontkhale's limit.
+/// The slots of the first segment. Each later one has twice as many, up to hontkhale's limit.
 pub(crate) const FIRST_SLOTS: usize = 64;
 
-/// The numbers of the parts of the program's queues.
-static PARTS: UniqueIds = UniqueIds::from_one();
+/// The numbers of the segments of the program's queues.
+static SEGMENTS: UniqueIds = UniqueIds::from_one();
 
-pub(crate) struct Part<T> {
+pub(crate) struct Segment<T> {
     queue: DelayCore<T, Keeper>,
-    /// The part's number.
+    /// The segment's number.
     pub number: u64,
-    /// The part's place in the row.
+    /// The segment's place in the row.
     pub index: usize,
     /// Whether its entries are being moved out, so that nothing is put in.
     pub is_left: bool,
-    /// Whether a reset or a remove may have left nothing at the part's wake.
+    /// Whether a reset or a remove may have left nothing at the segment's wake.
     pub is_stale: bool,
-    /// What handles need of the part, and the births of its entries. While no handle was made it knows of no reset.
+    /// What handles need of the segment, and the births of its entries. While no handle was made it knows of no reset.
     pub state: Arc<SharedState>,
     is_shared: bool,
     clock: Clock,
@@ -33,7 +33,7 @@ pub(crate) struct Part<T> {
     reader: Mutex<Caller>,
 }
 
-/// What a poll of a part comes to.
+/// What a poll of a segment comes to.
 pub(crate) enum Step {
     Out,
     /// Nothing before that tick.
@@ -43,27 +43,27 @@ pub(crate) enum Step {
     Working,
 }
 
-impl<T> Part<T> {
-    /// A part of so many slots, at a tick.
-    pub fn new(slots: usize, last_stamp: u32, clock: Clock, tick: u64) -> Part<T> {
-        let number = PARTS.draw();
+impl<T> Segment<T> {
+    /// A segment of so many slots, at a tick.
+    pub fn new(slots: usize, last_stamp: u32, clock: Clock, tick: u64) -> Segment<T> {
+        let number = SEGMENTS.draw();
         let config = CoreConfig { shard: 0, capacity: slots, last_stamp };
         let mut queue = hontkhale::numbered_queue(config).expect("memory for more entries");
         let reader = Mutex::new(queue.issue().expect("a queue's first caller"));
         let state = Arc::new(SharedState::new(number, slots));
         let (is_left, is_stale, is_shared) = (false, false, false);
-        let mut part = Part { queue, number, index: 0, is_left, is_stale, state, is_shared, clock, reader };
-        part.note(tick);
-        part
+        let mut segment = Segment { queue, number, index: 0, is_left, is_stale, state, is_shared, clock, reader };
+        segment.note(tick);
+        segment
     }
 
-    /// Brings an empty part to a tick, so that its entries are filed near to it.
+    /// Brings an empty segment to a tick, so that its entries are filed near to it.
     pub fn note(&mut self, tick: u64) {
         let turn = self.queue.poll(tick);
-        debug_assert!(matches!(turn, Ok(Turn::Idle)), "an empty part has nothing to do");
+        debug_assert!(matches!(turn, Ok(Turn::Idle)), "an empty segment has nothing to do");
     }
 
-    /// The greatest tick that the part was polled at.
+    /// The greatest tick that the segment was polled at.
     #[inline]
     pub fn noted(&self) -> u64 {
         self.queue.noted()
@@ -112,13 +112,13 @@ impl<T> Part<T> {
         self.queue.len()
     }
 
-    /// The cancelled entries whose places were freed since the part was made.
+    /// The cancelled entries whose places were freed since the segment was made.
     pub fn reaped(&self) -> usize {
         self.queue.tally().cancelled as usize
     }
 
     /// Whether less than a quarter of the slots have an entry. The notes of where moved entries are take more memory than the
-    /// free slots of a fuller part.
+    /// free slots of a fuller segment.
     pub fn is_sparse(&self) -> bool {
         4 * self.queue.len() < self.queue.capacity()
     }
@@ -275,7 +275,7 @@ impl<T> Part<T> {
         }
     }
 
-    /// The tick at which the part has something to do, none where it is empty.
+    /// The tick at which the segment has something to do, none where it is empty.
     pub fn next_wake(&self) -> Option<u64> {
         self.queue.next_wake()
     }

@@ -1,9 +1,9 @@
-//! What comes out, merged by the parts' wakes, and what comes out next.
+//! What comes out, merged by the segments' wakes, and what comes out next.
 
-use super::{Parts, NEVER};
+use super::{Segments, NEVER};
 use crate::budget::{Budget, Limit};
 use crate::key::{Expired, Key};
-use crate::part::{Part, Step};
+use crate::segment::{Segment, Step};
 use crate::shared::Shared;
 use std::mem;
 use std::sync::atomic::Ordering;
@@ -28,7 +28,7 @@ impl Drop for Again<'_> {
     }
 }
 
-impl<T> Parts<T> {
+impl<T> Segments<T> {
     /// Notes how late it is, and takes out what is due first, within a budget. It is written to `out`.
     #[inline]
     pub fn poll(&mut self, reached: u64, budget: &mut Budget, out: &mut Option<Expired<T>>) -> Found {
@@ -36,28 +36,28 @@ impl<T> Parts<T> {
             return Found::Working;
         }
         match *self.peeked_at.get_mut() {
-            0 => self.poll_parts(reached, budget, out),
+            0 => self.poll_segments(reached, budget, out),
             deadline => self.poll_peeked(deadline, reached, budget, out),
         }
     }
 
     #[inline]
-    fn poll_parts(&mut self, reached: u64, budget: &mut Budget, out: &mut Option<Expired<T>>) -> Found {
+    fn poll_segments(&mut self, reached: u64, budget: &mut Budget, out: &mut Option<Expired<T>>) -> Found {
         loop {
             let (index, wake, second) = self.soonest();
             if wake == NEVER {
                 self.tick = self.tick.max(reached);
                 return Found::Idle;
             }
-            let part = self.row[index].as_mut().expect("only a part has a wake");
-            if wake > reached && part.noted() >= reached && !part.is_stale {
+            let segment = self.row[index].as_mut().expect("only a segment has a wake");
+            if wake > reached && segment.noted() >= reached && !segment.is_stale {
                 return self.waiting(wake, reached);
             }
             let most = match budget.piece() {
                 Some(most) => most,
                 None => return Found::Working,
             };
-            match part.poll(reached.min(second), most, out) {
+            match segment.poll(reached.min(second), most, out) {
                 Step::Out => return self.came_out(index, out),
                 Step::Waiting(next) => {
                     let wake = wake.max(next);
@@ -77,16 +77,16 @@ impl<T> Parts<T> {
     fn poll_peeked(&mut self, deadline: u64, reached: u64, budget: &mut Budget, out: &mut Option<Expired<T>>) -> Found {
         let key = self.peeked.get_mut().unwrap_or_else(PoisonError::into_inner).filter(|_| deadline <= reached);
         let Some(key) = key.filter(|key| self.deadline(key) == Some(deadline)) else {
-            return self.poll_parts(reached, budget, out);
+            return self.poll_segments(reached, budget, out);
         };
-        let found = self.poll_parts(deadline - 1, budget, out);
+        let found = self.poll_segments(deadline - 1, budget, out);
         if let Found::Out | Found::Working = found {
             return found;
         }
         self.forget_peek();
         if !self.remove(&key, out) {
             // A handle cancelled it just now.
-            return self.poll_parts(reached, budget, out);
+            return self.poll_segments(reached, budget, out);
         }
         self.tick = self.tick.max(deadline);
         Found::Out
@@ -98,7 +98,7 @@ impl<T> Parts<T> {
         Found::Waiting(wake)
     }
 
-    /// What came out of a part.
+    /// What came out of a segment.
     #[inline]
     fn came_out(&mut self, index: usize, out: &mut Option<Expired<T>>) -> Found {
         self.left = index;
@@ -110,7 +110,7 @@ impl<T> Parts<T> {
         Found::Out
     }
 
-    /// The part with the least wake, that wake, and the least of the others'.
+    /// The segment with the least wake, that wake, and the least of the others'.
     #[inline]
     fn soonest(&self) -> (usize, u64, u64) {
         if let [wake] = self.wakes[..] {
@@ -127,9 +127,9 @@ impl<T> Parts<T> {
         (index, wake, second)
     }
 
-    /// Whether a part has a step to make before a tick.
+    /// Whether a segment has a step to make before a tick.
     pub fn has_step_before(&self, tick: u64) -> bool {
-        self.parts().any(|part| part.next_wake().is_some_and(|next| next < tick))
+        self.segments().any(|segment| segment.next_wake().is_some_and(|next| next < tick))
     }
 
     /// Reaps what handles cancelled, and issues the callers that are wanted. False where the budget is spent before.
@@ -138,15 +138,15 @@ impl<T> Parts<T> {
         self.shared.heed();
         // Where the budget is spent, or a value's drop panics, the next poll goes on.
         let again = Again(&self.shared);
-        for part in self.row.iter_mut().flatten() {
-            part.issue(again.0);
+        for segment in self.row.iter_mut().flatten() {
+            segment.issue(again.0);
         }
-        for part in self.gone.iter_mut().chain(self.row.iter_mut().flatten()) {
-            while part.state.has_cancels() {
+        for segment in self.gone.iter_mut().chain(self.row.iter_mut().flatten()) {
+            while segment.state.has_cancels() {
                 let Some(most) = budget.piece().map(Limit::steps) else {
                     return false;
                 };
-                let reaped = part.reap(most);
+                let reaped = segment.reap(most);
                 budget.give_back(most - reaped);
             }
         }
@@ -163,7 +163,7 @@ impl<T> Parts<T> {
         if known.is_some() {
             return known;
         }
-        let first = self.parts().filter_map(Part::first).min_by_key(|first| first.0);
+        let first = self.segments().filter_map(Segment::first).min_by_key(|first| first.0);
         *peeked = first.map(|(_, place)| self.relocations.key(place));
         self.peeked_at.store(first.map_or(0, |(deadline, _)| deadline), Ordering::Relaxed);
         *peeked
