@@ -3,16 +3,32 @@
 /// The steps of a poll where no other number is set, as many as tokio lets a task have of its own resources.
 pub(crate) const DEFAULT_BUDGET: u32 = 128;
 
-/// The most steps that a call of the library is given. It doesn't tell how many it made, so all of them are counted.
+/// The most steps that a call of the library is given at first. It doesn't tell how many it made, so all of them are counted.
 const PIECE: u32 = 8;
 
-/// The steps of a poll that makes all that there are. The library's crate makes a whole poll of so many.
-const WHOLE: u32 = u32::MAX;
+/// How many steps there may be.
+#[derive(Clone, Copy)]
+pub(crate) enum Limit {
+    Steps(u32),
+    /// As many as there are: a call makes its whole poll.
+    None,
+}
+
+impl Limit {
+    /// The most steps of a call that counts them.
+    #[inline]
+    pub fn steps(self) -> u32 {
+        match self {
+            Limit::Steps(steps) => steps,
+            Limit::None => u32::MAX,
+        }
+    }
+}
 
 /// The steps that are left of a task's poll.
 #[derive(Clone, Copy)]
 pub(crate) struct Budget {
-    left: u32,
+    left: Limit,
     /// The most steps of the next call.
     piece: u32,
 }
@@ -21,33 +37,35 @@ impl Budget {
     /// So many steps, at least one: with none a task would come again for ever.
     #[inline]
     pub fn of(steps: u32) -> Budget {
-        Budget { left: steps.max(1), piece: PIECE }
+        Budget { left: Limit::Steps(steps.max(1)), piece: PIECE }
     }
 
-    /// The same, but that without a limit each call is a whole poll.
+    /// The same, but that the greatest number is no limit.
     #[inline]
     pub fn of_or_whole(steps: u32) -> Budget {
-        let piece = if steps == WHOLE { WHOLE } else { PIECE };
-        Budget { left: steps.max(1), piece }
+        match steps {
+            u32::MAX => Budget { left: Limit::None, piece: PIECE },
+            _ => Budget::of(steps),
+        }
     }
 
-    /// The steps of the next call, none where all are given.
+    /// The steps of the next call, nothing where all are given.
     #[inline]
-    pub fn piece(&mut self) -> Option<u32> {
-        let piece = self.left.min(self.piece);
-        if piece == 0 {
-            return None;
+    pub fn piece(&mut self) -> Option<Limit> {
+        match &mut self.left {
+            Limit::None => Some(Limit::None),
+            Limit::Steps(left) => {
+                let piece = self.piece.min(*left);
+                *left -= piece;
+                (piece > 0).then_some(Limit::Steps(piece))
+            }
         }
-        if piece != WHOLE {
-            self.left -= piece;
-        }
-        Some(piece)
     }
 
     /// Takes steps back that a call wasn't given after all, or didn't make.
     pub fn give_back(&mut self, steps: u32) {
-        if self.piece != WHOLE {
-            self.left += steps;
+        if let Limit::Steps(left) = &mut self.left {
+            *left += steps;
         }
     }
 

@@ -7,13 +7,13 @@
 //! it is being looked at, before the look takes the shard's lock: what comes after that takes the note away, and then the
 //! stream looks again.
 
-use crate::draws::Draws;
+use crate::unique_ids::UniqueIds;
 use std::sync::atomic::{AtomicU64, Ordering::SeqCst};
 use std::sync::{Arc, Mutex, MutexGuard, PoisonError};
 use std::task::Waker;
 
 /// The numbers of the program's seats: 0 is nobody's.
-static SEATS: Draws = Draws::from_one();
+static SEATS: UniqueIds = UniqueIds::from_one();
 /// The wake of an empty shard.
 pub(crate) const NEVER: u64 = u64::MAX;
 /// That a stream looks at its shard, which is more than every tick.

@@ -1,6 +1,6 @@
 use crate::key::Key;
-use crate::link::{Refusal, Step};
 use crate::shared::Shared;
+use crate::shared_state::{Refusal, Step};
 use std::error::Error;
 use std::fmt;
 use std::sync::Arc;
@@ -8,14 +8,16 @@ use std::time::Duration;
 use tokio::time::Instant;
 
 /// Extends and cancels the entries of one [`DelayQueue`](crate::DelayQueue) from any thread, while its owner inserts,
-/// polls, or waits. It serves entries that came after it, too, and may outlive its queue, whose entries have ended then and
-/// whose memory is given back.
+/// polls, or waits. It serves entries that came after it, too, and may outlive its queue, whose entries have ended then.
 ///
-/// A call is one atomic step beside a few loads. The owner is waited for in three cases: at the first call of a thread at
-/// each part of the queue; for an entry that [`compact`](crate::DelayQueue::compact) or a worn slot moved; and where more
-/// threads come than there are callers, until the owner's next poll issues more. It holds that lock while it adds, moves or
-/// drops a part, and not in a poll. Threads wait for each other for the length of such a step, where more than 16 of them
-/// call handles.
+/// A call is one atomic step beside a few loads, by a caller that the thread keeps for each segment of the queue. A lock is
+/// taken in three cases: at the first call of a thread at each segment; for an entry that
+/// [`compact`](crate::DelayQueue::compact) or a worn slot moved; and where more threads come than there are callers, until
+/// the owner's next poll issues more. There are 16 at first, and 1,000 at most. The owner holds that lock while it adds, moves
+/// or drops a segment, and not in a poll.
+///
+/// A thread keeps callers of eight queues at most. It gives them back when it ends, when it calls a handle of a ninth, or of
+/// one that has gone; until then it holds on to 16 bytes for each slot of the segments that it called at.
 ///
 /// Nobody is woken: the owner comes upon an extended entry when it would have been due, and files it anew. No value is
 /// dropped by a handle's call.
@@ -99,29 +101,33 @@ impl Handle {
         Ok(self.shared.clock.moment(deadline))
     }
 
-    /// The step from this thread's seat at the entry's part.
+    /// The step from this thread's caller at the entry's segment.
     #[inline(always)]
     fn step(&self, key: &Key, step: Step) -> Result<u64, EntryError> {
         match self.shared.step(key, step) {
-            Some(Ok(deadline)) => Ok(deadline),
-            refused => self.step_again(key, step, refused.and_then(Result::err)),
+            Ok(deadline) => Ok(deadline),
+            Err(refused) => self.step_again(key, step, refused),
         }
     }
 
-    /// The step anew, where it wasn't made at once: it is refused, or the thread has no seat, or the entry was moved.
+    /// The step anew, where it wasn't made at once: it is refused, or the thread has no caller, or the entry was moved.
     #[cold]
-    fn step_again(&self, key: &Key, step: Step, refused: Option<Refusal>) -> Result<u64, EntryError> {
+    fn step_again(&self, key: &Key, step: Step, refused: Refusal) -> Result<u64, EntryError> {
         let refused = match refused {
-            Some(Refusal::Moved) | None => match self.shared.step_by_links(key, step) {
+            Refusal::Moved | Refusal::NoCaller => match self.shared.step_by_states(key, step) {
                 Ok(deadline) => return Ok(deadline),
                 Err(refused) => refused,
             },
-            Some(refused) => refused,
+            refused => refused,
         };
-        Err(match refused {
-            Refusal::TooFar => EntryError::TooFar,
-            Refusal::Ended | Refusal::Moved => EntryError::Ended,
-        })
+        match refused {
+            Refusal::TooFar => Err(EntryError::TooFar),
+            Refusal::Over => {
+                self.shared.forget_callers();
+                Err(EntryError::Ended)
+            }
+            _ => Err(EntryError::Ended),
+        }
     }
 }
 

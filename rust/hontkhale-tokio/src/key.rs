@@ -7,24 +7,24 @@ use tokio::time::Instant;
 /// good, and no key is ever taken for another entry.
 #[derive(Clone, Copy, PartialEq, Eq, Hash)]
 pub struct Key {
-    /// The number of the part, which no other part of any queue of the program has.
-    part: u64,
-    /// The stamp of the entry's birth in the high half, the part's place in the row of its queue, and the slot. Two numbers in
+    /// The number of the segment, which no other segment of any queue of the program has.
+    segment: u64,
+    /// The stamp of the entry's birth in the high half, the segment's place in the row of its queue, and the slot. Two numbers in
     /// all: a key that was just made is copied from two stores, and not from four, for which a wider load would wait.
     name: u64,
 }
 
 impl Key {
-    /// The name of an entry of a part. A part has at most 65,536 slots.
+    /// The name of an entry of a segment. A segment has at most 65,536 slots.
     #[inline]
-    pub(crate) fn of(part: u64, spot: usize, slot: u32, born: u32) -> Key {
-        Key { part, name: u64::from(born) << 32 | (spot as u64) << 16 | u64::from(slot as u16) }
+    pub(crate) fn of(segment: u64, index: usize, slot: u32, born: u32) -> Key {
+        Key { segment, name: u64::from(born) << 32 | (index as u64) << 16 | u64::from(slot as u16) }
     }
 
-    /// The part's number.
+    /// The segment's number.
     #[inline]
-    pub(crate) fn part(&self) -> u64 {
-        self.part
+    pub(crate) fn segment(&self) -> u64 {
+        self.segment
     }
 
     #[inline]
@@ -32,9 +32,9 @@ impl Key {
         (self.name >> 32) as u32
     }
 
-    /// The part's place in the row.
+    /// The segment's place in the row.
     #[inline]
-    pub(crate) fn spot(&self) -> usize {
+    pub(crate) fn index(&self) -> usize {
         usize::from((self.name >> 16) as u16)
     }
 
@@ -43,13 +43,13 @@ impl Key {
         usize::from(self.name as u16)
     }
 
-    /// The name under which the part's own queue has the entry.
+    /// The name under which the segment's own queue has the entry.
     #[inline]
     pub(crate) fn entry(&self) -> EntryId {
         EntryId::new(0, self.slot() as u32, self.born())
     }
 
-    /// The key of a stamp under which callers of the part's queue have the entry.
+    /// The key of a stamp under which callers of the segment's queue have the entry.
     #[inline]
     pub(crate) fn stamped(&self, stamp: u32) -> hontkhale::Key {
         hontkhale::Key::new(self.entry(), stamp)
@@ -58,7 +58,11 @@ impl Key {
 
 impl fmt::Debug for Key {
     fn fmt(&self, f: &mut fmt::Formatter<'_>) -> fmt::Result {
-        f.debug_struct("Key").field("part", &self.part).field("slot", &self.slot()).field("born", &self.born()).finish()
+        f.debug_struct("Key")
+            .field("segment", &self.segment)
+            .field("slot", &self.slot())
+            .field("born", &self.born())
+            .finish()
     }
 }
 

@@ -2,7 +2,7 @@ use crate::budget::{Budget, DEFAULT_BUDGET};
 use crate::handle::{EntryError, Handle};
 use crate::key::{Expired, Key};
 use crate::numbers::{Latest, Numbers};
-use crate::parts::{Found, Parts, TooFar, NEVER};
+use crate::segments::{Found, Segments, TooFar, NEVER};
 use crate::shared::Shared;
 use crate::timer::Timer;
 use futures_core::{ready, Stream};
@@ -40,7 +40,7 @@ use tokio::time::Instant;
 ///
 /// [peer]: https://docs.rs/tokio-util/latest/tokio_util/time/delay_queue/struct.DelayQueue.html
 pub struct DelayQueue<T> {
-    parts: Parts<T>,
+    segments: Segments<T>,
     /// The greatest tick that is known to be over.
     reached: u64,
     timer: Timer,
@@ -93,9 +93,9 @@ impl<T> DelayQueue<T> {
 
     /// A queue whose slots wear out sooner than they have to.
     pub(crate) fn with_last_stamp(capacity: usize, last_stamp: u32) -> DelayQueue<T> {
-        let parts = Parts::new(capacity, last_stamp, Shared::new());
+        let segments = Segments::new(capacity, last_stamp, Shared::new());
         DelayQueue {
-            parts,
+            segments,
             reached: 0,
             timer: Timer::default(),
             waker: None,
@@ -158,8 +158,8 @@ impl<T> DelayQueue<T> {
     /// ```
     #[track_caller]
     pub fn insert_at(&mut self, value: T, when: Instant) -> Key {
-        let tick = self.parts.shared().clock.tick_at(when);
-        match self.parts.insert(&mut Some(value), tick) {
+        let tick = self.segments.shared().clock.tick_at(when);
+        match self.segments.insert(&mut Some(value), tick) {
             Ok(key) => {
                 self.wake_before(tick);
                 key
@@ -188,7 +188,7 @@ impl<T> DelayQueue<T> {
         let mut budget = self.fresh;
         let mut out = None;
         loop {
-            match self.parts.poll(self.reached, &mut budget, &mut out) {
+            match self.segments.poll(self.reached, &mut budget, &mut out) {
                 Found::Out => {
                     self.armed = 0;
                     self.timer.leave();
@@ -222,13 +222,13 @@ impl<T> DelayQueue<T> {
 
     /// The tick that the clock shows is left to the timer, which rounds a moment within it up.
     fn note_clock(&mut self) {
-        let over = self.parts.shared().clock.tick_over();
+        let over = self.segments.shared().clock.tick_over();
         self.reached = self.reached.max(over.saturating_sub(1).min(LAST_TICK));
     }
 
     /// Sleeps until a tick. Ready where it is reached.
     fn poll_sleep(&mut self, wake: u64, cx: &mut Context<'_>) -> Poll<()> {
-        let moment = self.parts.shared().clock.moment(wake);
+        let moment = self.segments.shared().clock.moment(wake);
         if !self.waits_as(cx.waker()) {
             self.timer.leave();
         }
@@ -270,9 +270,9 @@ impl<T> DelayQueue<T> {
     fn wake_to_step(&mut self) {
         if self.armed > 0 && !self.has_resets {
             self.has_resets = true;
-            if self.parts.has_step_before(self.armed) {
+            if self.segments.has_step_before(self.armed) {
                 self.note_clock();
-                if self.parts.has_step_before(self.armed.min(self.reached + 1)) {
+                if self.segments.has_step_before(self.armed.min(self.reached + 1)) {
                     self.wake();
                 }
             }
@@ -313,7 +313,7 @@ impl<T> DelayQueue<T> {
     /// ```
     pub fn try_remove(&mut self, key: &Key) -> Option<Expired<T>> {
         let mut out = None;
-        if self.parts.remove(key, &mut out) && self.armed > 0 && self.parts.holds_none_live() {
+        if self.segments.remove(key, &mut out) && self.armed > 0 && self.segments.holds_none_live() {
             self.wake();
         }
         out
@@ -351,8 +351,8 @@ impl<T> DelayQueue<T> {
     /// `TooFar`, `Ended`.
     #[inline]
     pub fn try_reset_at(&mut self, key: &Key, when: Instant) -> Result<(), EntryError> {
-        let tick = self.parts.shared().clock.tick_at(when);
-        match self.parts.reset(key, tick) {
+        let tick = self.segments.shared().clock.tick_at(when);
+        match self.segments.reset(key, tick) {
             Ok(()) => {
                 self.wake_before(tick);
                 self.wake_to_step();
@@ -386,8 +386,8 @@ impl<T> DelayQueue<T> {
 
     /// The deadline of an entry, where it is there yet.
     pub fn try_deadline(&self, key: &Key) -> Option<Instant> {
-        let tick = self.parts.deadline(key)?;
-        Some(self.parts.shared().clock.moment(tick))
+        let tick = self.segments.deadline(key)?;
+        Some(self.segments.shared().clock.moment(tick))
     }
 
     /// The key of the entry that the next poll gives, unless one that comes sooner is put in before, or a [`Handle`] extends
@@ -408,14 +408,14 @@ impl<T> DelayQueue<T> {
     /// # }
     /// ```
     pub fn peek(&self) -> Option<Key> {
-        self.parts.peek()
+        self.segments.peek()
     }
 
     /// Takes every entry out and drops its value. The room stays. A task that waits for an entry is woken for the end.
     ///
     /// Where a value's drop panics, the entries behind it stay in the queue, under their keys: none is lost.
     pub fn clear(&mut self) {
-        self.parts.clear();
+        self.segments.clear();
         if self.armed > 0 && self.armed < NEVER {
             self.wake();
         }
@@ -423,20 +423,20 @@ impl<T> DelayQueue<T> {
 
     /// How many entries fit in without growth.
     pub fn capacity(&self) -> usize {
-        self.parts.capacity()
+        self.segments.capacity()
     }
 
     /// The number of entries; one that a [`Handle`] cancelled counts until the queue comes upon its place.
     pub fn len(&self) -> usize {
-        self.parts.len()
+        self.segments.len()
     }
 
     /// Whether there is no entry.
     pub fn is_empty(&self) -> bool {
-        self.parts.is_empty()
+        self.segments.is_empty()
     }
 
-    /// Makes room for at least so many more entries, in one part of the queue or several, for which memory is taken as in
+    /// Makes room for at least so many more entries, in one segment of the queue or several, for which memory is taken as in
     /// [`with_capacity`](DelayQueue::with_capacity). No entry is moved.
     ///
     /// # Panics
@@ -452,12 +452,12 @@ impl<T> DelayQueue<T> {
     /// # }
     /// ```
     pub fn reserve(&mut self, additional: usize) {
-        self.parts.reserve(additional);
+        self.segments.reserve(additional);
     }
 
-    /// Moves the entries of parts of the queue that are less than a quarter full together, under the keys that they have, and
-    /// lets those parts go: so there is room for at most four times as many entries as there are. It goes over every slot. A
-    /// moved entry takes 150 bytes more until it ends, 230 where there is a [`Handle`]; those of fuller parts stay.
+    /// Moves the entries of segments of the queue that are less than a quarter full together, under the keys that they have, and
+    /// lets those segments go: so there is room for at most four times as many entries as there are. It goes over every slot. A
+    /// moved entry takes 150 bytes more until it ends, 230 where there is a [`Handle`]; those of fuller segments stay.
     ///
     /// ```
     /// # #[tokio::main(flavor = "current_thread")]
@@ -473,12 +473,12 @@ impl<T> DelayQueue<T> {
     /// # }
     /// ```
     pub fn compact(&mut self) {
-        self.parts.compact();
+        self.segments.compact();
     }
 
-    /// Lets room go that is in empty parts of the queue. No entry is moved; see [`compact`](DelayQueue::compact).
+    /// Lets room go that is in empty segments of the queue. No entry is moved; see [`compact`](DelayQueue::compact).
     pub fn shrink_to_fit(&mut self) {
-        self.parts.shrink_to_fit();
+        self.segments.shrink_to_fit();
     }
 
     /// What a server watches, by one call: how much waits, how late it is, and what is held. It looks through the entries
@@ -499,15 +499,15 @@ impl<T> DelayQueue<T> {
     /// # }
     /// ```
     pub fn numbers(&self) -> Numbers {
-        let clock = &self.parts.shared().clock;
-        let cancelled = self.parts.cancelled();
-        let late = self.parts.least().map_or(0, |deadline| clock.tick_over().saturating_sub(deadline));
+        let clock = &self.segments.shared().clock;
+        let cancelled = self.segments.cancelled();
+        let late = self.segments.least().map_or(0, |deadline| clock.tick_over().saturating_sub(deadline));
         self.latest.note_late(late);
         Numbers {
             waiting: self.len() - cancelled,
             cancelled,
-            worn: self.parts.worn(),
-            handles: Arc::strong_count(self.parts.shared()) - 1,
+            worn: self.segments.worn(),
+            handles: Arc::strong_count(self.segments.shared()) - 1,
             late: Duration::from_millis(late),
             latest: self.latest.ask(),
         }
@@ -528,8 +528,8 @@ impl<T> DelayQueue<T> {
     /// # }
     /// ```
     pub fn handle(&mut self) -> Handle {
-        self.parts.share();
-        Handle::of(self.parts.shared().clone())
+        self.segments.share();
+        Handle::of(self.segments.shared().clone())
     }
 }
 

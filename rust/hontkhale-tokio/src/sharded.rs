@@ -1,13 +1,13 @@
 use crate::callers::Callers;
 use crate::clock::Clock;
 use crate::doors::Door;
-use crate::draws::Draws;
 use crate::held::{Held, Lane, Leavings};
 use crate::keeping::Keeping;
 use crate::numbers::{Latest, Numbers};
 use crate::shared_key::{InsertError, Key};
 use crate::shared_queue::Expired;
 use crate::stream::ExpiredStream;
+use crate::unique_ids::UniqueIds;
 use hontkhale::{
     CallError, CoreError, HandleError, LastingConfig, LastingError, LastingHandle, LastingQueue, QueueConfig,
     QueueError,
@@ -19,7 +19,7 @@ use std::time::Duration;
 use tokio::time::Instant;
 
 /// The numbers of the program's queues.
-static QUEUES: Draws = Draws::from_one();
+static QUEUES: UniqueIds = UniqueIds::from_one();
 
 /// A delay queue that many tasks and threads fill, and whose entries come out of a stream: [`hontkhale::SharedDelayQueue`]
 /// under tokio's clock. The values stand in it.
@@ -192,6 +192,9 @@ impl<T> Inner<T> {
     /// The same for a stream at a tick, from time to time.
     #[inline]
     pub fn keep_at(&self, tick: u64) {
+        if self.callers.wants_more() {
+            self.callers.add_more(&self.queue);
+        }
         if self.keeping.is_due_at(tick) {
             self.keep();
         }
@@ -247,12 +250,13 @@ impl<T> SharedDelayQueue<T> {
         let QueueConfig { shards, capacity, last_stamp } = config;
         let queue = LastingQueue::new(LastingConfig { shards, capacity, last_stamp })?;
         let leavings = Arc::<Leavings<T>>::default();
+        let number = QUEUES.draw();
         let inner = Inner {
             queue,
-            number: QUEUES.draw(),
+            number,
             clock: Clock::new(),
             doors: (0..shards).map(|_| Door::default()).collect(),
-            callers: Arc::default(),
+            callers: Arc::new(Callers::new(number)),
             keeping: Keeping::new(shards, capacity, last_stamp),
             lanes: leavings.lanes(shards),
             leavings,
@@ -355,8 +359,8 @@ impl<T> SharedDelayQueue<T> {
         Ok(ExpiredStream::of(Arc::clone(&self.inner), shard..shard + 1))
     }
 
-    /// A handle, which extends and cancels entries from any thread. Any number of them may be out: they share callers of the
-    /// queue, 16 at most.
+    /// A handle, which extends and cancels entries from any thread. Any number of them may be out: it is threads that have
+    /// callers of the queue, and not handles.
     ///
     /// # Errors
     /// `NoMemory`.
@@ -432,9 +436,14 @@ impl<T> fmt::Debug for SharedDelayQueue<T> {
     }
 }
 
-/// Extends and cancels entries of a [`SharedDelayQueue`] from any thread, and takes no lock but that of its thread's row of
-/// callers, which up to 16 threads have for themselves. It may be cloned, and outlives its queue, whose entries have ended
-/// then. It wakes nobody: a stream comes upon an extended entry when it would have been due.
+/// Extends and cancels entries of a [`SharedDelayQueue`] from any thread. It may be cloned, and outlives its queue, whose entries
+/// have ended then. It wakes nobody: a stream comes upon an extended entry when it would have been due.
+///
+/// A call takes no lock: its thread keeps callers of its own, of eight queues at most. It takes one, for the length of a
+/// step, at the first call of a thread in the queue, at the first after a shard was renewed, for an entry that has ended so
+/// long ago, and where more threads come than there are callers. Those are as many as handles were asked for at first, 2 to
+/// 16, and a poll of a stream adds more where threads lack them, up to 256. A thread gives them back when it ends, when it
+/// calls a handle of a ninth queue, or of one that has gone; until then it holds on to 8 bytes for each slot of the queue.
 ///
 /// ```
 /// # #[tokio::main(flavor = "current_thread", start_paused = true)]
@@ -491,11 +500,7 @@ impl SharedHandle {
     }
 
     #[inline]
-    fn call(
-        &self,
-        key: &Key,
-        call: impl FnOnce(&mut LastingHandle) -> Result<u64, CallError>,
-    ) -> Result<u64, CallError> {
+    fn call(&self, key: &Key, call: impl Fn(&mut LastingHandle) -> Result<u64, CallError>) -> Result<u64, CallError> {
         if key.queue() != self.number {
             return Err(CallError::Unknown);
         }

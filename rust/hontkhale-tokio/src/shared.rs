@@ -1,35 +1,40 @@
-//! What the handles of a queue share with its owner: the links of its parts, seats at them, and the new places of the entries
+//! What the handles of a queue share with its owner: the shared states of its segments, and the new places of the entries
 //! that were moved.
 
 use crate::clock::Clock;
 use crate::key::Key;
-use crate::link::{Link, Refusal, Step};
-use crate::seats::{Seat, Seats, ROWS};
+use crate::shared_state::{Refusal, SharedState, Step};
+use crate::thread_callers;
+use crate::unique_ids::UniqueIds;
 use std::collections::HashMap;
 use std::sync::atomic::{AtomicBool, AtomicUsize, Ordering};
 use std::sync::{Arc, Mutex, MutexGuard, PoisonError};
 
-/// The callers that a part has at first.
-const FIRST_CALLERS: usize = 8;
-/// The most callers that a part is given: one for each row of seats, and one that stays.
-const MOST_CALLERS: usize = ROWS + 1;
+/// The callers that a segment has at first.
+const FIRST_CALLERS: usize = 16;
+/// The most callers that a segment is given: one for each thread, and one that stays. A queue of hontkhale's issues 1,024.
+const MOST_CALLERS: usize = 1_000;
+
+/// The numbers of the program's queues: 0 is nobody's.
+static QUEUES: UniqueIds = UniqueIds::from_one();
 
 pub(crate) struct Shared {
     pub clock: Clock,
-    pub seats: Seats,
-    links: Mutex<Links>,
-    /// Whether a part has something for the owner to heed.
+    /// The queue's number.
+    number: u64,
+    states: Mutex<SharedStates>,
+    /// Whether a segment has something for the owner to heed.
     has_news: AtomicBool,
     /// The cancels of handles that were accepted.
     cancels: AtomicUsize,
-    /// How many callers each part should have.
+    /// How many callers each segment should have.
     callers: AtomicUsize,
 }
 
-/// The links of a queue's parts, by their places, and where moved entries are now, by their keys.
+/// The states of a queue's segments, by their places, and where moved entries are now, by their keys.
 #[derive(Default)]
-pub(crate) struct Links {
-    row: Vec<Option<Arc<Link>>>,
+pub(crate) struct SharedStates {
+    row: Vec<Option<Arc<SharedState>>>,
     pub moved: HashMap<Key, Key>,
 }
 
@@ -37,43 +42,43 @@ impl Shared {
     pub fn new() -> Shared {
         Shared {
             clock: Clock::new(),
-            seats: Seats::default(),
-            links: Mutex::default(),
+            number: QUEUES.draw(),
+            states: Mutex::default(),
             has_news: AtomicBool::new(false),
             cancels: AtomicUsize::new(0),
             callers: AtomicUsize::new(FIRST_CALLERS),
         }
     }
 
-    /// The links, for a moment: nobody's code runs while they are held.
-    pub fn links(&self) -> MutexGuard<'_, Links> {
-        self.links.lock().unwrap_or_else(PoisonError::into_inner)
+    /// The states, for a moment: nobody's code runs while they are held.
+    pub fn states(&self) -> MutexGuard<'_, SharedStates> {
+        self.states.lock().unwrap_or_else(PoisonError::into_inner)
     }
 
-    /// From here on handles find a part's entries.
-    pub fn add(&self, spot: usize, link: Arc<Link>) {
-        let mut links = self.links();
-        if links.row.len() <= spot {
-            links.row.resize(spot + 1, None);
+    /// From here on handles find a segment's entries.
+    pub fn add(&self, index: usize, state: Arc<SharedState>) {
+        let mut states = self.states();
+        if states.row.len() <= index {
+            states.row.resize(index + 1, None);
         }
-        links.row[spot] = Some(link);
+        states.row[index] = Some(state);
     }
 
-    /// From here on handles find nothing at a part's place.
-    pub fn close(&self, spot: usize) {
-        let mut links = self.links();
-        if let Some(link) = links.row.get_mut(spot) {
-            *link = None;
-            self.seats.leave(spot);
-        }
+    /// From here on handles find nothing at a segment's place.
+    pub fn close(&self, index: usize) {
+        let mut states = self.states();
+        let gone = states.row.get_mut(index).and_then(Option::take);
+        drop(states);
+        drop(gone);
     }
 
     /// Takes all away that handles have of the queue.
     pub fn close_all(&self) {
-        let mut links = self.links();
-        let gone = std::mem::take(&mut *links);
-        self.seats.leave_all();
-        drop(links);
+        let mut states = self.states();
+        let gone = std::mem::take(&mut *states);
+        gone.row.iter().flatten().for_each(|state| state.end());
+        drop(states);
+        self.forget_callers();
         drop(gone);
     }
 
@@ -88,7 +93,7 @@ impl Shared {
         self.has_news.swap(false, Ordering::SeqCst);
     }
 
-    /// A note that a part has something for the owner.
+    /// A note that a segment has something for the owner.
     pub fn tell(&self) {
         self.has_news.store(true, Ordering::SeqCst);
     }
@@ -104,47 +109,40 @@ impl Shared {
         self.cancels.load(Ordering::SeqCst)
     }
 
-    /// How many callers each part should have.
+    /// How many callers each segment should have.
     pub fn callers(&self) -> usize {
         self.callers.load(Ordering::SeqCst)
     }
 
-    /// A step from this thread's seat at the entry's part, none where it has no seat.
+    /// A step from this thread's caller at the entry's segment.
     #[inline(always)]
-    pub fn step(&self, key: &Key, step: Step) -> Option<Result<u64, Refusal>> {
-        self.seats.at(key, |seat| seat.link.step(&mut seat.caller, key, step))
+    pub fn step(&self, key: &Key, step: Step) -> Result<u64, Refusal> {
+        thread_callers::step(self.number, key, step)
     }
 
-    /// The step where the thread has no seat, or the entry was moved. The thread gets a seat, if there is one to give.
+    /// The queue has gone, so the thread needs none of its callers.
+    pub fn forget_callers(&self) {
+        thread_callers::forget(self.number);
+    }
+
+    /// The step where the thread has no caller, or the entry was moved. The thread gets a caller, if there is one to give.
     #[cold]
-    pub fn step_by_links(&self, key: &Key, step: Step) -> Result<u64, Refusal> {
-        let links = self.links();
-        let place = links.moved.get(key).unwrap_or(key);
-        let link = links.of(place).ok_or(Refusal::Ended)?;
-        let mut seats = self.seats.own();
-        if seats.len() <= place.spot() {
-            seats.resize_with(place.spot() + 1, || None);
+    pub fn step_by_states(&self, key: &Key, step: Step) -> Result<u64, Refusal> {
+        let states = self.states();
+        let place = states.moved.get(key).unwrap_or(key);
+        let state = states.of(place).ok_or(Refusal::Ended)?;
+        let made = thread_callers::first_step(self.number, place, state, step);
+        if made != Err(Refusal::NoCaller) {
+            return made;
         }
-        let seat = &mut seats[place.spot()];
-        if seat.is_none() {
-            let mut spare = link.spare();
-            // The last caller stays, for threads that come while there is no other.
-            match spare.len() {
-                0 | 1 => {
-                    self.want_callers(link);
-                    let caller = spare.last_mut().ok_or(Refusal::Ended)?;
-                    return link.step(caller, place, step);
-                }
-                _ => *seat = spare.pop().map(|caller| Seat { part: link.part, link: Arc::clone(link), caller }),
-            }
-        }
-        let seat = seat.as_mut().expect("a seat that was just given");
-        link.step(&mut seat.caller, place, step)
+        self.want_callers(state);
+        let mut spare = state.spare();
+        state.step(spare.last_mut().ok_or(Refusal::Ended)?, place, step)
     }
 
-    /// A handle's note that a part has no caller to give.
-    fn want_callers(&self, link: &Link) {
-        let issued = link.issued();
+    /// A handle's note that a segment has no caller to give.
+    fn want_callers(&self, state: &SharedState) {
+        let issued = state.issued();
         if issued < MOST_CALLERS {
             self.callers.fetch_max((2 * issued).min(MOST_CALLERS), Ordering::SeqCst);
             self.tell();
@@ -152,9 +150,9 @@ impl Shared {
     }
 }
 
-impl Links {
-    /// The link of the entry's part.
-    fn of(&self, place: &Key) -> Option<&Arc<Link>> {
-        self.row.get(place.spot())?.as_ref().filter(|link| link.part == place.part())
+impl SharedStates {
+    /// The state of the entry's segment.
+    fn of(&self, place: &Key) -> Option<&Arc<SharedState>> {
+        self.row.get(place.index())?.as_ref().filter(|state| state.segment == place.segment())
     }
 }

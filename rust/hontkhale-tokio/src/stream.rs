@@ -1,4 +1,4 @@
-use crate::budget::{Budget, DEFAULT_BUDGET};
+use crate::budget::{Budget, Limit, DEFAULT_BUDGET};
 use crate::doors::{Bells, NEVER};
 use crate::sharded::Inner;
 use crate::shared_queue::Expired;
@@ -147,9 +147,8 @@ impl<T> ExpiredStream<T> {
             if wake > self.reached {
                 return Found::Waiting(wake);
             }
-            let most = match budget.piece() {
-                Some(most) => most,
-                None => return Found::Working,
+            let Some(most) = budget.piece().map(Limit::steps) else {
+                return Found::Working;
             };
             let limit = self.reached.min(second).min(LAST_TICK);
             if let Some(out) = self.places[at].poll(&self.inner, limit, most) {

@@ -1,10 +1,10 @@
-//! The parts beside a plain model, with slots that wear out after a few stamps, so that entries move all the time.
+//! The segments beside a plain model, with slots that wear out after a few stamps, so that entries move all the time.
 
 use crate::budget::Budget;
 use crate::doors::{Bells, Door};
 use crate::handle::{EntryError, Handle};
 use crate::key::{Expired, Key};
-use crate::parts::{Found, Parts};
+use crate::segments::{Found, Segments};
 use crate::shared::Shared;
 use std::cell::Cell;
 use std::collections::HashMap;
@@ -23,16 +23,16 @@ impl Dice {
     }
 }
 
-fn removed<T>(parts: &mut Parts<T>, key: &Key) -> Option<Expired<T>> {
+fn removed<T>(segments: &mut Segments<T>, key: &Key) -> Option<Expired<T>> {
     let mut out = None;
-    assert_eq!(parts.remove(key, &mut out), out.is_some());
+    assert_eq!(segments.remove(key, &mut out), out.is_some());
     out
 }
 
 /// What is in, by its key: the deadline in force and the value, which is also `held` until it is dropped.
 struct Twin {
     dice: Dice,
-    parts: Parts<Rc<u64>>,
+    segments: Segments<Rc<u64>>,
     handle: Handle,
     has_handle: bool,
     entries: HashMap<Key, (u64, Rc<u64>)>,
@@ -50,14 +50,14 @@ struct Twin {
 impl Twin {
     fn new(seed: u64, last_stamp: u32, has_handle: bool, most: usize) -> Twin {
         let mut dice = Dice(seed);
-        let mut parts = Parts::new(dice.below(3) as usize, last_stamp, Shared::new());
+        let mut segments = Segments::new(dice.below(3) as usize, last_stamp, Shared::new());
         if has_handle {
-            parts.share();
+            segments.share();
         }
         Twin {
             dice,
-            handle: Handle::of(parts.shared().clone()),
-            parts,
+            handle: Handle::of(segments.shared().clone()),
+            segments,
             has_handle,
             entries: HashMap::new(),
             row: Vec::new(),
@@ -93,7 +93,7 @@ impl Twin {
         let when = self.tick_ahead();
         let value = Rc::new(self.next);
         self.next += 1;
-        let key = self.parts.insert(&mut Some(value.clone()), when).unwrap();
+        let key = self.segments.insert(&mut Some(value.clone()), when).unwrap();
         assert!(self.entries.insert(key, (when.max(self.tick), value)).is_none(), "a key is given twice");
         assert!(!self.ended.contains(&key), "a key is given again");
         self.row.push(key);
@@ -101,39 +101,39 @@ impl Twin {
 
     fn reset(&mut self, key: Key) {
         let when = self.tick_ahead();
-        self.parts.reset(&key, when).unwrap();
+        self.segments.reset(&key, when).unwrap();
         self.entries.get_mut(&key).unwrap().0 = when.max(self.tick);
     }
 
     fn remove(&mut self, key: Key) {
-        let out = removed(&mut self.parts, &key).unwrap();
+        let out = removed(&mut self.segments, &key).unwrap();
         let (deadline, value) = self.end(key);
         assert_eq!((out.key, out.tick, &out.data), (key, deadline, &value));
     }
 
     fn extend(&mut self, key: Key) {
         let when = self.tick_ahead();
-        let moment = self.parts.shared().clock.moment(when);
+        let moment = self.segments.shared().clock.moment(when);
         let deadline = self.handle.extend_at(&key, moment).unwrap();
         let entry = self.entries.get_mut(&key).unwrap();
         entry.0 = entry.0.max(when);
-        assert_eq!(deadline, self.parts.shared().clock.moment(entry.0));
+        assert_eq!(deadline, self.segments.shared().clock.moment(entry.0));
     }
 
     fn cancel(&mut self, key: Key) {
         let given_up = self.handle.cancel(&key).unwrap();
         let (deadline, value) = self.end(key);
-        assert_eq!(given_up, self.parts.shared().clock.moment(deadline));
+        assert_eq!(given_up, self.segments.shared().clock.moment(deadline));
         self.cancelled.push(value);
     }
 
     fn refuse(&mut self) {
         if let Some(&key) = self.ended.get(self.dice.below(1 + self.ended.len() as u64) as usize) {
-            assert!(self.parts.reset(&key, self.now).is_err());
-            assert!(removed(&mut self.parts, &key).is_none());
-            assert!(self.parts.deadline(&key).is_none());
+            assert!(self.segments.reset(&key, self.now).is_err());
+            assert!(removed(&mut self.segments, &key).is_none());
+            assert!(self.segments.deadline(&key).is_none());
             let ended = Err(EntryError::Ended);
-            assert_eq!(self.handle.extend_at(&key, self.parts.shared().clock.moment(self.now)), ended);
+            assert_eq!(self.handle.extend_at(&key, self.segments.shared().clock.moment(self.now)), ended);
             assert_eq!(self.handle.cancel(&key), ended);
         }
     }
@@ -147,7 +147,7 @@ impl Twin {
                 steps => steps,
             });
             let mut out = None;
-            match self.parts.poll(self.now, &mut budget, &mut out) {
+            match self.segments.poll(self.now, &mut budget, &mut out) {
                 Found::Out => {
                     let out = out.expect("what came out");
                     let (deadline, value) = self.end(out.key);
@@ -170,7 +170,7 @@ impl Twin {
         for value in self.cancelled.drain(..) {
             assert_eq!(Rc::strong_count(&value), 1, "a cancelled value stays");
         }
-        assert_eq!(self.parts.len(), self.row.len(), "a poll frees the places of cancelled entries");
+        assert_eq!(self.segments.len(), self.row.len(), "a poll frees the places of cancelled entries");
     }
 
     fn call(&mut self) {
@@ -184,32 +184,32 @@ impl Twin {
             (74..=79, _) => self.refuse(),
             (80..=94, _) => self.poll(),
             (95, _) => {
-                self.parts.compact();
-                assert!(self.parts.capacity() <= 4 * self.row.len());
+                self.segments.compact();
+                assert!(self.segments.capacity() <= 4 * self.row.len());
             }
-            (96, _) => self.parts.shrink_to_fit(),
-            (97, _) => self.parts.reserve(self.next as usize % 100),
+            (96, _) => self.segments.shrink_to_fit(),
+            (97, _) => self.segments.reserve(self.next as usize % 100),
             (98, _) if self.dice.below(20) == 0 => {
-                self.parts.clear();
+                self.segments.clear();
                 self.ended.append(&mut self.row);
                 self.entries.clear();
                 self.poll();
             }
             _ => {}
         }
-        let len = self.parts.len();
-        assert_eq!(len - self.parts.cancelled(), self.row.len(), "what handles cancelled is counted as it is there");
+        let len = self.segments.len();
+        assert_eq!(len - self.segments.cancelled(), self.row.len(), "what handles cancelled is counted as it is there");
         assert!(self.has_handle || len == self.row.len());
         for key in self.row.iter().take(3) {
-            assert_eq!(self.parts.deadline(key), Some(self.entries[key].0));
+            assert_eq!(self.segments.deadline(key), Some(self.entries[key].0));
         }
-        let first = self.parts.peek().map(|key| self.entries[&key].0);
+        let first = self.segments.peek().map(|key| self.entries[&key].0);
         assert_eq!(first, self.entries.values().map(|entry| entry.0).min());
     }
 }
 
 #[test]
-fn parts_with_slots_that_wear_out_agree_with_a_model() {
+fn segments_with_slots_that_wear_out_agree_with_a_model() {
     for seed in 1..=60 {
         let last_stamp = [1, 2, 3, 7, 1_000_000][seed as usize % 5];
         let most = [1, 3, 70, 300][seed as usize / 5 % 4];
@@ -221,16 +221,16 @@ fn parts_with_slots_that_wear_out_agree_with_a_model() {
 }
 
 #[test]
-fn worn_parts_go() {
-    let mut parts = Parts::new(0, 2, Shared::new());
-    parts.share();
-    let stays = parts.insert(&mut Some(0), 1_000_000).unwrap();
+fn worn_segments_go() {
+    let mut segments = Segments::new(0, 2, Shared::new());
+    segments.share();
+    let stays = segments.insert(&mut Some(0), 1_000_000).unwrap();
     for value in 1..100_000 {
-        let key = parts.insert(&mut Some(value), 10).unwrap();
-        assert!(removed(&mut parts, &key).is_some());
+        let key = segments.insert(&mut Some(value), 10).unwrap();
+        assert!(removed(&mut segments, &key).is_some());
     }
-    assert!(parts.capacity() < 1_000, "{}", parts.capacity());
-    assert_eq!(removed(&mut parts, &stays).map(|out| out.data), Some(0));
+    assert!(segments.capacity() < 1_000, "{}", segments.capacity());
+    assert_eq!(removed(&mut segments, &stays).map(|out| out.data), Some(0));
 }
 
 /// A value that counts the drops within a call that isn't to drop any.
@@ -247,25 +247,25 @@ impl Drop for Watched {
 
 /// A panic of a value's drop would take along the key that an insert is about to give.
 #[test]
-fn a_worn_part_goes_in_no_insert_or_reset_with_the_values_that_were_cancelled_in_it() {
+fn a_worn_segment_goes_in_no_insert_or_reset_with_the_values_that_were_cancelled_in_it() {
     for by_reset in [false, true] {
         let (is_in_call, drops_in_calls) = (Rc::<Cell<bool>>::default(), Rc::<Cell<usize>>::default());
         let value = || Watched { is_in_call: is_in_call.clone(), drops_in_calls: drops_in_calls.clone() };
-        let mut parts = Parts::new(0, 2, Shared::new());
-        parts.share();
-        let handle = Handle::of(parts.shared().clone());
+        let mut segments = Segments::new(0, 2, Shared::new());
+        segments.share();
+        let handle = Handle::of(segments.shared().clone());
         for _ in 0..20 {
-            let keys: Vec<Key> = (0..100).map(|_| parts.insert(&mut Some(value()), 1_000).unwrap()).collect();
+            let keys: Vec<Key> = (0..100).map(|_| segments.insert(&mut Some(value()), 1_000).unwrap()).collect();
             keys[..50].iter().for_each(|key| assert!(handle.cancel(key).is_ok()));
             is_in_call.set(true);
             if by_reset {
-                keys[50..].iter().cycle().take(500).for_each(|key| parts.reset(key, 2_000).unwrap());
+                keys[50..].iter().cycle().take(500).for_each(|key| segments.reset(key, 2_000).unwrap());
             }
-            let more: Vec<Key> = (0..100).map(|_| parts.insert(&mut Some(value()), 1_000).unwrap()).collect();
+            let more: Vec<Key> = (0..100).map(|_| segments.insert(&mut Some(value()), 1_000).unwrap()).collect();
             is_in_call.set(false);
-            keys[50..].iter().chain(&more).for_each(|key| assert!(removed(&mut parts, key).is_some()));
-            assert!(matches!(parts.poll(0, &mut Budget::of_or_whole(u32::MAX), &mut None), Found::Idle));
-            assert_eq!((drops_in_calls.get(), Rc::strong_count(&is_in_call), parts.len()), (0, 1, 0), "{by_reset}");
+            keys[50..].iter().chain(&more).for_each(|key| assert!(removed(&mut segments, key).is_some()));
+            assert!(matches!(segments.poll(0, &mut Budget::of_or_whole(u32::MAX), &mut None), Found::Idle));
+            assert_eq!((drops_in_calls.get(), Rc::strong_count(&is_in_call), segments.len()), (0, 1, 0), "{by_reset}");
         }
     }
 }

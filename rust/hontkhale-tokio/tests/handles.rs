@@ -340,3 +340,26 @@ fn a_sooner_insert_or_reset_wakes_the_task() {
         });
     });
 }
+
+#[test]
+fn a_thread_calls_handles_of_many_queues_in_turns() {
+    ends(|| {
+        running().block_on(async {
+            let mut queues: Vec<_> = (0..40).map(|_| DelayQueue::new()).collect();
+            let handles: Vec<_> = queues.iter_mut().map(DelayQueue::handle).collect();
+            let keys: Vec<Key> = queues.iter_mut().map(|queue| queue.insert((), ms(60_000))).collect();
+            for round in 0..3 {
+                for (at, handle) in handles.iter().enumerate() {
+                    let told = handle.extend(&keys[at], ms(100_000 + round)).unwrap();
+                    assert_eq!(queues[at].deadline(&keys[at]), told);
+                    assert_eq!(handle.extend(&keys[(at + 8) % 40], ms(100_000)), Err(EntryError::Ended));
+                }
+            }
+            // Those that go end their entries alone.
+            queues.drain(..20);
+            for (at, handle) in handles.iter().enumerate() {
+                assert_eq!(handle.extend(&keys[at], ms(200_000)).is_ok(), at >= 20);
+            }
+        });
+    });
+}

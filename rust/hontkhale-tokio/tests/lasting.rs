@@ -3,7 +3,7 @@
 
 mod common;
 
-use common::{ms, paused, Dice};
+use common::{ends, ms, paused, running, Dice};
 use hontkhale_tokio::shared_queue::{CallError, CoreError, Key, QueueConfig, QueueError};
 use hontkhale_tokio::{ExpiredStream, SharedDelayQueue, SharedHandle};
 use std::ops::Range;
@@ -12,7 +12,7 @@ use std::sync::Arc;
 use std::task::{Context, Poll, Waker};
 use std::thread::{self, JoinHandle};
 use tokio::runtime::Runtime;
-use tokio::time::{advance, Instant};
+use tokio::time::{advance, timeout, Instant};
 
 /// A queue of few slots, each of which is worn after a few stamps.
 fn wearing<T>(shards: usize, capacity: usize, last_stamp: u32) -> SharedDelayQueue<T> {
@@ -226,4 +226,42 @@ fn threads_call_while_shards_are_renewed() {
         assert_eq!(ends.times.iter().position(|times| times.load(SeqCst) != 1), None, "each value ends once");
         assert_eq!(ends.refused.load(SeqCst), 0, "an insert was refused");
     });
+}
+
+/// More threads than there are callers at first, each of which extends what it just put in, while shards are renewed all the
+/// time: no key is unknown to a handle, before and after a stream's poll adds callers.
+#[test]
+fn every_thread_extends_what_it_put_into_a_renewed_shard() {
+    ends(|| {
+        running().block_on(async {
+            let queue = wearing(4, 64, 20);
+            let (handle, mut stream) = (queue.handle().unwrap(), queue.stream());
+            for _ in 0..3 {
+                thread::scope(|scope| {
+                    (0..24).for_each(|at| {
+                        let (queue, handle) = (&queue, &handle);
+                        scope.spawn(move || extends_its_own(queue, handle, at));
+                    })
+                });
+                assert!(timeout(ms(5), stream.next()).await.is_err());
+            }
+            assert!(queue.numbers().worn < 4 * 64);
+        });
+    });
+}
+
+fn extends_its_own(queue: &SharedDelayQueue<u64>, handle: &SharedHandle, thread: u64) {
+    for route in 0..400 {
+        let key = loop {
+            // Where all shards drain just now there is no room.
+            match queue.insert(thread + route, route, ms(60_000)) {
+                Ok(key) => break key,
+                Err(_) => thread::yield_now(),
+            }
+        };
+        let told = handle.extend(&key, ms(90_000)).expect("an entry that is there");
+        assert_eq!(queue.deadline(&key), Ok(told));
+        assert_eq!(queue.remove(&key).expect("an entry that is there").into_inner(), route);
+        assert!(handle.extend(&key, ms(95_000)).is_err());
+    }
 }

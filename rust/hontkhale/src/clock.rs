@@ -8,6 +8,9 @@ use std::time::{Duration, Instant};
 ///
 /// A deadline is rounded up and the present tick down, so nothing comes out before its time.
 ///
+/// It goes by [`Instant`], which stands while the machine is suspended on Linux (`CLOCK_MONOTONIC`, and not
+/// `CLOCK_BOOTTIME`): what is due meanwhile comes out that much later. A step of the wall clock doesn't move it.
+///
 /// ```
 /// use hontkhale::{Clock, DelayCore, Turn};
 /// use std::time::Duration;
@@ -30,7 +33,7 @@ impl Clock {
         Clock::since(Instant::now())
     }
 
-    /// A clock whose tick 0 was, or is, at that instant.
+    /// A clock whose tick 0 was, or will be, at that instant. Until then the present tick is 0.
     pub fn since(start: Instant) -> Clock {
         Clock { start }
     }
@@ -47,12 +50,24 @@ impl Clock {
 
     /// The first tick that isn't before this moment and a duration, at most [`LAST_TICK`].
     pub fn after(&self, duration: Duration) -> u64 {
-        rounded_up(self.start.elapsed().saturating_add(duration))
+        self.until_start().map_or_else(
+            || rounded_up(self.start.elapsed().saturating_add(duration)),
+            |to_come| rounded_up(duration.saturating_sub(to_come)),
+        )
     }
 
     /// How long it is from this moment to a tick: nothing where it has passed.
     pub fn until(&self, tick: u64) -> Duration {
-        Duration::from_millis(tick).saturating_sub(self.start.elapsed())
+        let length = Duration::from_millis(tick);
+        self.until_start().map_or_else(
+            || length.saturating_sub(self.start.elapsed()),
+            |to_come| length.saturating_add(to_come),
+        )
+    }
+
+    // How long it is to tick 0, none where it isn't to come.
+    fn until_start(&self) -> Option<Duration> {
+        self.start.checked_duration_since(Instant::now())
     }
 }
 
@@ -67,5 +82,34 @@ fn rounded_up(length: Duration) -> u64 {
 impl TickSource for Clock {
     fn now(&mut self) -> u64 {
         self.tick()
+    }
+}
+
+#[cfg(test)]
+mod tests {
+    use super::Clock;
+    use std::time::{Duration, Instant};
+
+    const SECOND: Duration = Duration::from_secs(1);
+
+    /// What is due 5 seconds from now is due as the clock begins, and not 5 seconds after that.
+    #[test]
+    fn a_clock_that_begins_later_is_late_by_nothing() {
+        let clock = Clock::since(Instant::now() + 5 * SECOND);
+        assert_eq!((clock.tick(), clock.after(SECOND), clock.at(Instant::now())), (0, 0, 0));
+        // Some of a second may go by between the calls, and no more.
+        let (after, until) = (clock.after(7 * SECOND), clock.until(2_000));
+        assert!((2_000..3_000).contains(&after), "{after}");
+        assert!((6 * SECOND..7 * SECOND).contains(&until), "{until:?}");
+    }
+
+    #[test]
+    fn a_clock_that_began_counts_from_there() {
+        let clock = Clock::since(Instant::now() - 5 * SECOND);
+        let (after, until) = (clock.after(7 * SECOND), clock.until(7_000));
+        assert!((12_000..13_000).contains(&after), "{after}");
+        assert!((SECOND..=2 * SECOND).contains(&until), "{until:?}");
+        assert_eq!(clock.until(3_000), Duration::ZERO);
+        assert_eq!(clock.after(Duration::MAX), crate::LAST_TICK);
     }
 }

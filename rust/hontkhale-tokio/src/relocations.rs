@@ -4,14 +4,14 @@ use crate::key::Key;
 use std::collections::HashMap;
 
 #[derive(Default)]
-pub(crate) struct Moves {
+pub(crate) struct Relocations {
     /// The present place by the user's key.
     places: HashMap<Key, Key>,
     /// The user's key by the present place.
     keys: HashMap<Key, Key>,
 }
 
-impl Moves {
+impl Relocations {
     /// Where the entry of a key is.
     #[inline]
     pub fn place(&self, key: &Key) -> Key {

@@ -1,4 +1,4 @@
-//! What handles need of one part of a queue: the stamps of its entries, callers, and where they note what they cancelled.
+//! What handles need of one segment of a queue: the stamps of its entries, callers, and where they note what they cancelled.
 
 use crate::key::Key;
 use hontkhale::{CallError, Caller};
@@ -8,16 +8,18 @@ use std::sync::{Mutex, MutexGuard, PoisonError};
 /// The bits of a word.
 const BITS: usize = 64;
 
-pub(crate) struct Link {
-    /// The part's number.
-    pub part: u64,
+pub(crate) struct SharedState {
+    /// The segment's number.
+    pub segment: u64,
     stamps: Box<[StampWord]>,
     /// A bit for each slot: whether a handle cancelled an entry there that the owner hasn't looked at yet.
     cancelled: Box<[AtomicU64]>,
     has_cancels: AtomicBool,
-    /// The callers that no thread has yet.
+    /// Whether the queue has gone, whose entries have ended with it.
+    is_over: AtomicBool,
+    /// The callers that no thread has.
     spare: Mutex<Vec<Caller>>,
-    /// How many callers the part's owner issued.
+    /// How many callers the segment's owner issued.
     issued: AtomicUsize,
 }
 
@@ -29,13 +31,17 @@ pub(crate) enum Step {
     Cancel,
 }
 
-/// Why a handle's step at a part isn't made.
+/// Why a handle's step at a segment isn't made.
 #[derive(Clone, Copy, Debug, PartialEq, Eq)]
 pub(crate) enum Refusal {
     TooFar,
     Ended,
-    /// The entry went to another place, which only the queue's moves tell.
+    /// The entry went to another place, which only the queue's relocations tell.
     Moved,
+    /// The queue has gone.
+    Over,
+    /// The thread has no caller there.
+    NoCaller,
 }
 
 /// The birth and the present stamp of the entry that a slot got last.
@@ -66,13 +72,14 @@ impl StampWord {
     }
 }
 
-impl Link {
-    pub fn new(part: u64, slots: usize) -> Link {
-        Link {
-            part,
+impl SharedState {
+    pub fn new(segment: u64, slots: usize) -> SharedState {
+        SharedState {
+            segment,
             stamps: (0..slots).map(|_| StampWord(AtomicU64::new(0))).collect(),
             cancelled: (0..(slots + BITS - 1) / BITS).map(|_| AtomicU64::new(0)).collect(),
             has_cancels: AtomicBool::new(false),
+            is_over: AtomicBool::new(false),
             spare: Mutex::default(),
             issued: AtomicUsize::new(0),
         }
@@ -124,6 +131,9 @@ impl Link {
     /// A step of a caller on an entry, under the stamp of its birth: one that was never reset has no other.
     #[inline(always)]
     pub fn step(&self, caller: &mut Caller, key: &Key, step: Step) -> Result<u64, Refusal> {
+        if self.is_over.load(Ordering::SeqCst) {
+            return Err(Refusal::Over);
+        }
         match step.make(caller, &key.stamped(key.born())) {
             Ok(deadline) => Ok(self.made(key, step, deadline)),
             Err(_) => self.step_again(caller, key, step),
@@ -161,13 +171,19 @@ impl Link {
         }
     }
 
-    #[inline]
+    #[inline(always)]
     fn made(&self, key: &Key, step: Step, deadline: u64) -> u64 {
         if let Step::Cancel = step {
             self.cancelled[key.slot() / BITS].fetch_or(1 << (key.slot() % BITS), Ordering::SeqCst);
             self.has_cancels.store(true, Ordering::SeqCst);
         }
         deadline
+    }
+
+    /// The queue goes: from here on no step is accepted.
+    pub fn end(&self) {
+        self.is_over.store(true, Ordering::SeqCst);
+        *self.spare() = Vec::new();
     }
 
     /// Whether there is a slot to hand over.

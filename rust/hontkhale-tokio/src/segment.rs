@@ -1,38 +1,39 @@
-//! A part of the queue: a queue of hontkhale's for one owner, of a fixed number of slots. Its values stand in it.
+//! A segment of the queue: a queue of hontkhale's for one owner, of a fixed number of slots. Its values stand in it.
 
+use crate::budget::Limit;
 use crate::clock::Clock;
-use crate::draws::Draws;
 use crate::key::{Expired, Key};
-use crate::link::Link;
 use crate::shared::Shared;
+use crate::shared_state::SharedState;
+use crate::unique_ids::UniqueIds;
 use hontkhale::{CallError, Caller, CoreConfig, CoreError, DelayCore, Keeper, Look, Piece, Turn};
 use std::sync::{Arc, Mutex, PoisonError};
 
-/// The slots of the first part. Each later one has twice as many, up to hontkhale's limit.
+/// The slots of the first segment. Each later one has twice as many, up to hontkhale's limit.
 pub(crate) const FIRST_SLOTS: usize = 64;
 
-/// The numbers of the parts of the program's queues.
-static PARTS: Draws = Draws::from_one();
+/// The numbers of the segments of the program's queues.
+static SEGMENTS: UniqueIds = UniqueIds::from_one();
 
-pub(crate) struct Part<T> {
+pub(crate) struct Segment<T> {
     queue: DelayCore<T, Keeper>,
-    /// The part's number.
+    /// The segment's number.
     pub number: u64,
-    /// The part's place in the row.
-    pub spot: usize,
+    /// The segment's place in the row.
+    pub index: usize,
     /// Whether its entries are being moved out, so that nothing is put in.
     pub is_left: bool,
-    /// Whether a reset or a remove may have left nothing at the part's wake.
+    /// Whether a reset or a remove may have left nothing at the segment's wake.
     pub is_stale: bool,
-    /// What handles need of the part, and the births of its entries. While no handle was made it knows of no reset.
-    pub link: Arc<Link>,
+    /// What handles need of the segment, and the births of its entries. While no handle was made it knows of no reset.
+    pub state: Arc<SharedState>,
     is_shared: bool,
     clock: Clock,
     /// Looks at deadlines on behalf of calls that change nothing.
     reader: Mutex<Caller>,
 }
 
-/// What a poll of a part comes to.
+/// What a poll of a segment comes to.
 pub(crate) enum Step {
     Out,
     /// Nothing before that tick.
@@ -42,27 +43,27 @@ pub(crate) enum Step {
     Working,
 }
 
-impl<T> Part<T> {
-    /// A part of so many slots, at a tick.
-    pub fn new(slots: usize, last_stamp: u32, clock: Clock, tick: u64) -> Part<T> {
-        let number = PARTS.draw();
+impl<T> Segment<T> {
+    /// A segment of so many slots, at a tick.
+    pub fn new(slots: usize, last_stamp: u32, clock: Clock, tick: u64) -> Segment<T> {
+        let number = SEGMENTS.draw();
         let config = CoreConfig { shard: 0, capacity: slots, last_stamp };
         let mut queue = hontkhale::numbered_queue(config).expect("memory for more entries");
         let reader = Mutex::new(queue.issue().expect("a queue's first caller"));
-        let link = Arc::new(Link::new(number, slots));
+        let state = Arc::new(SharedState::new(number, slots));
         let (is_left, is_stale, is_shared) = (false, false, false);
-        let mut part = Part { queue, number, spot: 0, is_left, is_stale, link, is_shared, clock, reader };
-        part.note(tick);
-        part
+        let mut segment = Segment { queue, number, index: 0, is_left, is_stale, state, is_shared, clock, reader };
+        segment.note(tick);
+        segment
     }
 
-    /// Brings an empty part to a tick, so that its entries are filed near to it.
+    /// Brings an empty segment to a tick, so that its entries are filed near to it.
     pub fn note(&mut self, tick: u64) {
         let turn = self.queue.poll(tick);
-        debug_assert!(matches!(turn, Ok(Turn::Idle)), "an empty part has nothing to do");
+        debug_assert!(matches!(turn, Ok(Turn::Idle)), "an empty segment has nothing to do");
     }
 
-    /// The greatest tick that the part was polled at.
+    /// The greatest tick that the segment was polled at.
     #[inline]
     pub fn noted(&self) -> u64 {
         self.queue.noted()
@@ -72,18 +73,18 @@ impl<T> Part<T> {
     pub fn share(&mut self, shared: &Shared) {
         for place in self.places().collect::<Vec<Key>>() {
             if let Some(stamp) = self.stamp(&place) {
-                self.link.note(place.slot(), place.born(), stamp);
+                self.state.note(place.slot(), place.born(), stamp);
             }
         }
         self.is_shared = true;
         self.issue(shared);
-        shared.add(self.spot, Arc::clone(&self.link));
+        shared.add(self.index, Arc::clone(&self.state));
     }
 
     /// Issues the callers that are wanted.
     pub fn issue(&mut self, shared: &Shared) {
         let queue = &mut self.queue;
-        self.link.issue(shared.callers(), || queue.issue().ok());
+        self.state.issue(shared.callers(), || queue.issue().ok());
     }
 
     /// The slots that aren't worn.
@@ -111,13 +112,13 @@ impl<T> Part<T> {
         self.queue.len()
     }
 
-    /// The cancelled entries whose places were freed since the part was made.
+    /// The cancelled entries whose places were freed since the segment was made.
     pub fn reaped(&self) -> usize {
         self.queue.tally().cancelled as usize
     }
 
     /// Whether less than a quarter of the slots have an entry. The notes of where moved entries are take more memory than the
-    /// free slots of a fuller part.
+    /// free slots of a fuller segment.
     pub fn is_sparse(&self) -> bool {
         4 * self.queue.len() < self.queue.capacity()
     }
@@ -128,8 +129,8 @@ impl<T> Part<T> {
         match self.queue.insert(value.take()?, when) {
             Ok(key) => {
                 let (slot, born) = (key.entry().index(), key.stamp());
-                self.link.note(slot as usize, born, born);
-                Some(Key::of(self.number, self.spot, slot, born))
+                self.state.note(slot as usize, born, born);
+                Some(Key::of(self.number, self.index, slot, born))
             }
             Err((_, back)) => {
                 *value = Some(back);
@@ -140,12 +141,12 @@ impl<T> Part<T> {
 
     /// Polls the queue at a tick, by at most so many steps. An entry that comes out is written to `out`.
     #[inline]
-    pub fn poll(&mut self, tick: u64, most: u32, out: &mut Option<Expired<T>>) -> Step {
+    pub fn poll(&mut self, tick: u64, most: Limit, out: &mut Option<Expired<T>>) -> Step {
         // Until there is an answer nothing is known of it, so it is polled on.
         self.is_stale = true;
         match most {
-            u32::MAX => self.poll_whole(tick, out),
-            _ => self.poll_some(tick, most, out),
+            Limit::None => self.poll_whole(tick, out),
+            Limit::Steps(most) => self.poll_some(tick, most, out),
         }
     }
 
@@ -172,7 +173,7 @@ impl<T> Part<T> {
         match turn {
             Turn::Out(expired) => {
                 let entry = expired.key.entry();
-                let key = Key::of(self.number, self.spot, entry.index(), entry.born());
+                let key = Key::of(self.number, self.index, entry.index(), entry.born());
                 *out = Some(Expired { key, tick: expired.deadline, clock: self.clock, data: expired.value });
                 Step::Out
             }
@@ -191,7 +192,7 @@ impl<T> Part<T> {
     #[inline]
     pub fn key(&self, key: hontkhale::Key) -> Key {
         let entry = key.entry();
-        Key::of(self.number, self.spot, entry.index(), entry.born())
+        Key::of(self.number, self.index, entry.index(), entry.born())
     }
 
     /// Gives an entry another deadline.
@@ -208,15 +209,15 @@ impl<T> Part<T> {
     /// The same where handles may be calling: one that meets the new stamp finds it noted, or the old one for as long as that
     /// is in force.
     fn reset_shared(&mut self, place: &Key, when: u64) -> Result<(), CoreError> {
-        let stamp = self.link.stamp(place).ok_or(CoreError::Missing)?;
-        self.link.note(place.slot(), place.born(), stamp + 1);
+        let stamp = self.state.stamp(place).ok_or(CoreError::Missing)?;
+        self.state.note(place.slot(), place.born(), stamp + 1);
         match self.queue.reset(&place.entry(), when) {
             Ok(_) => {
                 self.is_stale = true;
                 Ok(())
             }
             Err(error) => {
-                self.link.note(place.slot(), place.born(), stamp);
+                self.state.note(place.slot(), place.born(), stamp);
                 Err(error)
             }
         }
@@ -245,7 +246,7 @@ impl<T> Part<T> {
     pub fn reap(&mut self, most: u32) -> u32 {
         self.is_stale = true;
         let queue = &mut self.queue;
-        self.link.take_cancelled(most, |slot| {
+        self.state.take_cancelled(most, |slot| {
             queue.sweep_some(slot, 1);
         })
     }
@@ -274,15 +275,15 @@ impl<T> Part<T> {
         }
     }
 
-    /// The tick at which the part has something to do, none where it is empty.
+    /// The tick at which the segment has something to do, none where it is empty.
     pub fn next_wake(&self) -> Option<u64> {
         self.queue.next_wake()
     }
 
     /// The places of the entries, those among them that were cancelled and not yet reaped. It goes over all slots.
     pub fn places(&self) -> impl Iterator<Item = Key> + '_ {
-        let births = (0..self.queue.capacity()).filter_map(|slot| Some((slot, self.link.born(slot)?)));
-        let keys = births.map(|(slot, born)| Key::of(self.number, self.spot, slot as u32, born));
+        let births = (0..self.queue.capacity()).filter_map(|slot| Some((slot, self.state.born(slot)?)));
+        let keys = births.map(|(slot, born)| Key::of(self.number, self.index, slot as u32, born));
         keys.filter(|key| self.queue.filed(&key.entry()).is_some())
     }
 
