@@ -157,6 +157,7 @@ BODIES = [
     ("a_stranger_sends_as_much_as_any", CONNECTION, "self.parser.is_narrow = !self.session.is_admitted();", "", "nothing_is_done_before_the_password"),
     ("an_address_for_others_is_open", OPTIONS, "if is_open && options.is_protected {", "if is_open && options.keys > 1 << 30 {",
      "an_address_for_others_wants_a_password"),
+    ("holes_stop_what_is_counted", OPTIONS, "counted + self.memory / 8;", "counted + self.memory / 80;", "what_is_counted_goes_in_whole"),
     ("silence_lasts_for_ever", CONNECTION, "self.heard.elapsed() >= timeout", "self.heard.elapsed() >= timeout * 1000",
      "a_silent_connection_is_closed"),
     ("whoever_asks_is_silent", CONNECTION, "        self.heard = Instant::now();\n", "", "a_silent_connection_is_closed"),

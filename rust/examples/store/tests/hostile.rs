@@ -371,6 +371,23 @@ fn an_address_for_others_wants_a_password() {
     }
 }
 
+/// Where the process may hold little more than what is counted, this goes in whole: no hole is taken for too much.
+#[test]
+fn what_is_counted_goes_in_whole() {
+    assert!(refusal(&["--memory", "64", "--keys", "0", "--most", "103"], None).starts_with("store: --most is 105 MiB"));
+    let store = Store::new(&["--memory", "64", "--keys", "0", "--most", "105"]);
+    let (mut stream, value) = (store.connect(), [b'v'; 3_000]);
+    for at in 0.. {
+        let names = (at * 100..at * 100 + 100).map(|it| format!("name:{it}"));
+        let told = ask_all(&mut stream, &names.map(|it| request(&[b"SET", it.as_bytes(), &value])).collect::<Vec<_>>());
+        if let Some(told) = told.iter().find(|it| *it != "+OK") {
+            assert_eq!(told, "-OOM command not allowed when used memory > 'maxmemory'.");
+            break;
+        }
+    }
+    assert!(store.held() < 105 << 10);
+}
+
 #[test]
 fn nothing_is_done_before_the_password_is_told() {
     let mut command = Command::new(env!("CARGO_BIN_EXE_store"));
@@ -491,7 +508,7 @@ fn half_commands_hold_no_more_than_the_memory_that_was_given() {
 /// Values of one size after another, of which each twentieth stays, so that what goes leaves holes too small for the next.
 #[test]
 fn values_whose_sizes_change_hold_no_more_than_the_process_may() {
-    let store = Store::new(&["--memory", "64", "--keys", "10000", "--most", "97"]);
+    let store = Store::new(&["--memory", "64", "--keys", "10000", "--most", "106"]);
     let (mut stream, mut refused) = (store.connect(), 0);
     for size in [100, 400, 1_600, 6_400, 25_600, 102_400, 409_600] {
         let (at_once, value, mut set) = ((400_000 / size).clamp(1, 500), vec![b'v'; size], 0);
@@ -499,7 +516,7 @@ fn values_whose_sizes_change_hold_no_more_than_the_process_may() {
             let names = (set..set + at_once).map(|at| format!("{size}:{at}"));
             let told =
                 ask_all(&mut stream, &names.map(|it| request(&[b"SET", it.as_bytes(), &value])).collect::<Vec<_>>());
-            assert!(store.held() < 97 << 10, "{} KiB are held", store.held());
+            assert!(store.held() < 106 << 10, "{} KiB are held", store.held());
             set += told.iter().filter(|it| *it == "+OK").count();
             if let Some(told) = told.into_iter().find(|it| it != "+OK") {
                 break told;
