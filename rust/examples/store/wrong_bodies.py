@@ -99,6 +99,8 @@ BODIES = [
     ("a_reason_is_taken_back", CONNECTION, "            true if self.talk.is_refused => self.linger(),\n", "", "whoever_sends_too_much_reads_why"),
     ("a_sender_is_heard_for_ever", CONNECTION, "is_past(self.lingers, LINGER)", "is_past(self.lingers, LINGER * 1000)",
      "whoever_sends_too_much_reads_why"),
+    ("a_turn_is_as_long_as_its_piece", CONNECTION, "begun.elapsed() >= SLICE && ", "begun.elapsed() >= SLICE * 1000 && ",
+     "many_long_requests_leave_others_their_turn"),
     ("no_patience_ends", CONNECTION, "is_past(self.stuck, PATIENCE)", "is_past(self.stuck, PATIENCE * 1000)", "a_client_that_stops_reading"),
     ("seats_are_never_given_back", SEATS, "        self.seats.taken.fetch_sub(1, SeqCst);", "", "a_thousand_connections"),
     ("a_web_page_is_served", COMMAND, "if ATTACKS.iter().any(", "if words.is_empty() && ATTACKS.iter().any(", "a_web_page_reads_and_writes_nothing"),

@@ -249,6 +249,37 @@ fn a_client_that_leaves_many_values_unread_holds_one() {
     store.is_well();
 }
 
+/// Four hundred requests come in one piece, each of which looks at a thousand names and tells none, and then another
+/// client asks: how many of them are done when it is answered. The middle of eleven rounds counts, since other work may
+/// keep it from asking in time.
+#[test]
+fn many_long_requests_leave_others_their_turn() {
+    let store = Store::new(&["--threads", "1"]);
+    let (mut long, mut short) = (store.connect(), store.connect());
+    for at in 0..20 {
+        let sets = (at * 1_000..at * 1_000 + 1_000).map(|it| request(&[b"SET", format!("name:{it}").as_bytes(), b"v"]));
+        ask_all(&mut long, &sets.collect::<Vec<_>>());
+    }
+    let scan = b"SCAN 0 COUNT 1024 MATCH none\r\n";
+    let mut done: Vec<usize> = (0..11)
+        .map(|_| {
+            long.write_all(&scan.repeat(400)).unwrap();
+            assert_eq!(ask(&mut short, &[b"PING"]), "+PONG\r\n");
+            let mut told = vec![0; 1 << 20];
+            let first = long.read(&mut told).unwrap();
+            let lines = |bytes: &[u8]| bytes.windows(4).filter(|it| it == b"*0\r\n").count();
+            let done = lines(&told[..first]);
+            let mut all = first;
+            while lines(&told[..all]) < 400 {
+                all += long.read(&mut told[all..]).unwrap();
+            }
+            done
+        })
+        .collect();
+    done.sort_unstable();
+    assert!(done[5] < 200, "{done:?} of 400 are done first");
+}
+
 #[test]
 fn a_thousand_connections_are_served_and_the_next_is_refused_by_name() {
     let store = Store::new(&["--keys", "10000"]);
