@@ -181,6 +181,7 @@ BODIES = [
     ("exec_watches_on", TRANSACTION, "std::mem::take(&mut self.watched)",
      "self.watched.clone()", "nothing_is_done_where_a_watched_key"),
     ("a_transaction_counts_for_nothing", TRANSACTION, " + self.watched_bytes + self.reply_bytes", "", "what_a_transaction_holds_counts"),
+    ("replies_of_a_transaction_count_for_nothing", TRANSACTION, " + self.reply_bytes", "", "unread_transactions_hold_no_more"),
     ("memory_without_end", ROOM, "new <= old || *it <= self.most", "*it < usize::MAX", "no_room_is_an_error_by_name"),
     ("an_empty_store_takes_nothing", ROOM, "if !is_little && ", "if ", "a_process_that_is_too_large_takes_little"),
     ("a_process_without_end", ROOM, "            read + bytes <= most\n", "            read + bytes > 0\n",

@@ -582,6 +582,30 @@ fn unread_values_hold_no_more_than_the_memory_that_was_given() {
     store.is_well();
 }
 
+/// A transaction holds all the values that it asks for, which are overwritten meanwhile: whoever leaves them unread is
+/// closed where they are too many.
+#[test]
+fn unread_transactions_hold_no_more_than_the_memory_that_was_given() {
+    let store = Store::new(&["--memory", "64", "--keys", "10000", "--threads", "1"]);
+    let names: Vec<String> = (0..24).map(|at| format!("name:{at}")).collect();
+    let gets = names.iter().map(|it| request(&[b"GET", it.as_bytes()]));
+    let asked = [vec![request(&[b"MULTI"])], gets.collect(), vec![request(&[b"EXEC"])]].concat().concat();
+    let (mut unread, mut writer) = (Vec::new(), store.connect());
+    for round in 0..8 {
+        for name in &names {
+            assert_eq!(ask(&mut writer, &[b"SET", name.as_bytes(), &vec![b'a' + round; 1 << 20]]), "+OK\r\n");
+        }
+        let mut stream = store.connect();
+        stream.write_all(&asked).unwrap();
+        // What is queued is told, and then the values begin.
+        let _ = stream.read_exact(&mut [0; 5 + 24 * 9 + 5]);
+        unread.push(stream);
+        assert!(store.held() < (64 << 10) + MARGIN, "{} KiB are held", store.held());
+    }
+    drop(unread);
+    store.is_well();
+}
+
 /// Replies that are too short to be held as values, of which each request of a piece has one.
 #[test]
 fn many_short_replies_are_held_a_few_at_a_time() {
