@@ -129,9 +129,21 @@ class Draw:
         name = self.one(["get", "set", "incr", "expire", "ttl", "echo", "persist", "mget", "del", "what", "dbsize", "ping"])
         return [name, *[self.name() for _ in range(self.one([3, 4] if name == "dbsize" else [0, 3, 4]))]]
 
+    def transaction(self):
+        """Some commands by MULTI, after a WATCH of what one of them may change or another did before."""
+        def some():
+            one = self.one(["get", "set", "incr", "del", "exists", "mget", "persist", "getset", "what"])
+            return [self.word(one), self.name(), *[self.value()] * (one in ("set", "getset"))]
+
+        before = [["watch", self.name(), self.name()], *[some() for _ in range(self.one([0, 1]))]] if self.random.random() < 0.6 else []
+        end = self.one([["exec"], ["exec"], ["exec"], ["discard"], ["exec", "what"]])
+        return [*before, ["multi"], *[some() for _ in range(self.one([0, 1, 3]))], end, ["exec"]]
+
     def commands(self):
-        """The next command, or two that belong together."""
+        """The next command, or some that belong together."""
         kind = self.random.random()
+        if self.random.random() < 0.02:
+            return self.transaction()
         if kind < 0.28:
             return [self.set()]
         if kind < 0.52:

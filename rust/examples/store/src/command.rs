@@ -234,7 +234,7 @@ impl Client<'_> {
             None => Refusal::Unknown(told(words)),
             Some(it) if words.len() < it.1 || words.len() > it.1 && !it.2 => Refusal::WordCount(it.0),
             Some(it) if !self.session.is_admitted && !OPEN.contains(&it.0) => Refusal::NO_AUTH,
-            Some(it) if transaction.takes(it.0) => match transaction.queue(words) {
+            Some(it) if transaction.takes(it.0) => match transaction.queue(it.0, words) {
                 Ok(reply) => return Ok(reply),
                 Err(refusal) => refusal,
             },

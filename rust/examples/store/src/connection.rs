@@ -16,6 +16,10 @@ const PIECE: usize = 16 << 10;
 const LONG_PIECE: usize = 64 << 10;
 /// How often a connection's replies are sent in one turn.
 const SENDS: usize = 8;
+/// After what time a connection's further requests wait for its next turn, and how many requests there are from one look
+/// at the clock to the next.
+const SLICE: Duration = Duration::from_millis(1);
+const UNLOOKED: usize = 8;
 /// By how much at most the room for a request that has begun grows at a time.
 const STEP: usize = 128 << 10;
 /// How long a client may leave its replies unread.
@@ -275,9 +279,14 @@ impl Talk {
         socket: &mut TcpStream,
         has_more: &mut bool,
     ) -> io::Result<usize> {
-        let (mut used, mut sends) = (0, 0);
+        let (mut used, mut sends, mut count, begun) = (0, 0, 0, Instant::now());
         *has_more = false;
         while !self.is_over {
+            count += 1;
+            if count % UNLOOKED == 0 && begun.elapsed() >= SLICE && self.told == 0 {
+                *has_more = true;
+                break;
+            }
             if self.output.is_full() {
                 self.output.send(socket)?;
                 sends += 1;

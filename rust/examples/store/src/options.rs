@@ -114,13 +114,14 @@ impl Options {
         Ok(())
     }
 
-    /// The most bytes that the process may hold.
+    /// The most bytes that the process may hold: more than what is counted, so that this goes in whole.
     pub fn most(&self) -> Result<usize, String> {
         let counted = self.memory + self.keys * PER_DEADLINE + BESIDE;
+        let least = counted + self.memory / 8;
         match self.most {
             None => Ok(counted + self.memory),
-            Some(most) if most >= counted => Ok(most),
-            Some(_) => Err(format!("--most is {} MiB at least, for what is counted", (counted >> 20) + 1)),
+            Some(most) if most >= least => Ok(most),
+            Some(_) => Err(format!("--most is {} MiB at least, for what is counted", (least >> 20) + 1)),
         }
     }
 }

@@ -339,12 +339,7 @@ impl Reply {
     pub fn write(&self, to: &mut Vec<u8>, protocol: Protocol, long: usize) -> Option<Arc<[u8]>> {
         match self {
             Reply::Status(text) => line(to, format_args!("+{text}")),
-            Reply::Error(text) => {
-                to.push(b'-');
-                // A line that a client sent within it would end the reply, and begin another.
-                to.extend(text.chars().map(|it| if matches!(it, '\r' | '\n') { b' ' } else { it as u8 }));
-                to.extend_from_slice(b"\r\n");
-            }
+            Reply::Error(text) => error(to, text),
             Reply::Integer(number) => line(to, format_args!(":{number}")),
             Reply::Bulk(content) => {
                 line(to, format_args!("${}", content.len()));
@@ -385,6 +380,13 @@ impl Reply {
         let left = self.write(to, protocol, usize::MAX);
         debug_assert!(left.is_none());
     }
+}
+
+/// A line that a client sent within it would end the reply, and begin another.
+fn error(to: &mut Vec<u8>, text: &str) {
+    to.push(b'-');
+    to.extend(text.chars().map(|it| if matches!(it, '\r' | '\n') { b' ' } else { it as u8 }));
+    to.extend_from_slice(b"\r\n");
 }
 
 fn line(to: &mut Vec<u8>, text: fmt::Arguments<'_>) {

@@ -60,6 +60,8 @@ impl Room {
     }
 }
 
+const STATUS: &str = "/proc/self/status";
+
 /// What the machine counts as the process's own. It is read only where what was written since could be too much.
 pub struct Resident {
     told: File,
@@ -74,9 +76,10 @@ pub struct Resident {
 impl Resident {
     /// At most so many bytes, and beside them what connections hold.
     pub fn new(most: usize, seats: Arc<Seats>) -> io::Result<Resident> {
+        let named = |error: io::Error| io::Error::new(error.kind(), format!("{STATUS} can't be read: {error}"));
         let (read, written) = Default::default();
-        let resident = Resident { told: File::open("/proc/self/status")?, most, seats, read, written };
-        resident.read.store(resident.bytes()?, SeqCst);
+        let resident = Resident { told: File::open(STATUS).map_err(named)?, most, seats, read, written };
+        resident.read.store(resident.bytes().map_err(named)?, SeqCst);
         Ok(resident)
     }
 

@@ -249,6 +249,37 @@ fn a_client_that_leaves_many_values_unread_holds_one() {
     store.is_well();
 }
 
+/// Four hundred requests come in one piece, each of which looks at a thousand names and tells none, and then another
+/// client asks: how many of them are done when it is answered. The middle of eleven rounds counts, since other work may
+/// keep it from asking in time.
+#[test]
+fn many_long_requests_leave_others_their_turn() {
+    let store = Store::new(&["--threads", "1"]);
+    let (mut long, mut short) = (store.connect(), store.connect());
+    for at in 0..20 {
+        let sets = (at * 1_000..at * 1_000 + 1_000).map(|it| request(&[b"SET", format!("name:{it}").as_bytes(), b"v"]));
+        ask_all(&mut long, &sets.collect::<Vec<_>>());
+    }
+    let scan = b"SCAN 0 COUNT 1024 MATCH none\r\n";
+    let mut done: Vec<usize> = (0..11)
+        .map(|_| {
+            long.write_all(&scan.repeat(400)).unwrap();
+            assert_eq!(ask(&mut short, &[b"PING"]), "+PONG\r\n");
+            let mut told = vec![0; 1 << 20];
+            let first = long.read(&mut told).unwrap();
+            let lines = |bytes: &[u8]| bytes.windows(4).filter(|it| it == b"*0\r\n").count();
+            let done = lines(&told[..first]);
+            let mut all = first;
+            while lines(&told[..all]) < 400 {
+                all += long.read(&mut told[all..]).unwrap();
+            }
+            done
+        })
+        .collect();
+    done.sort_unstable();
+    assert!(done[5] < 200, "{done:?} of 400 are done first");
+}
+
 #[test]
 fn a_thousand_connections_are_served_and_the_next_is_refused_by_name() {
     let store = Store::new(&["--keys", "10000"]);
@@ -371,6 +402,23 @@ fn an_address_for_others_wants_a_password() {
     }
 }
 
+/// Where the process may hold little more than what is counted, this goes in whole: no hole is taken for too much.
+#[test]
+fn what_is_counted_goes_in_whole() {
+    assert!(refusal(&["--memory", "64", "--keys", "0", "--most", "103"], None).starts_with("store: --most is 105 MiB"));
+    let store = Store::new(&["--memory", "64", "--keys", "0", "--most", "105"]);
+    let (mut stream, value) = (store.connect(), [b'v'; 3_000]);
+    for at in 0.. {
+        let names = (at * 100..at * 100 + 100).map(|it| format!("name:{it}"));
+        let told = ask_all(&mut stream, &names.map(|it| request(&[b"SET", it.as_bytes(), &value])).collect::<Vec<_>>());
+        if let Some(told) = told.iter().find(|it| *it != "+OK") {
+            assert_eq!(told, "-OOM command not allowed when used memory > 'maxmemory'.");
+            break;
+        }
+    }
+    assert!(store.held() < 105 << 10);
+}
+
 #[test]
 fn nothing_is_done_before_the_password_is_told() {
     let mut command = Command::new(env!("CARGO_BIN_EXE_store"));
@@ -491,7 +539,7 @@ fn half_commands_hold_no_more_than_the_memory_that_was_given() {
 /// Values of one size after another, of which each twentieth stays, so that what goes leaves holes too small for the next.
 #[test]
 fn values_whose_sizes_change_hold_no_more_than_the_process_may() {
-    let store = Store::new(&["--memory", "64", "--keys", "10000", "--most", "97"]);
+    let store = Store::new(&["--memory", "64", "--keys", "10000", "--most", "106"]);
     let (mut stream, mut refused) = (store.connect(), 0);
     for size in [100, 400, 1_600, 6_400, 25_600, 102_400, 409_600] {
         let (at_once, value, mut set) = ((400_000 / size).clamp(1, 500), vec![b'v'; size], 0);
@@ -499,7 +547,7 @@ fn values_whose_sizes_change_hold_no_more_than_the_process_may() {
             let names = (set..set + at_once).map(|at| format!("{size}:{at}"));
             let told =
                 ask_all(&mut stream, &names.map(|it| request(&[b"SET", it.as_bytes(), &value])).collect::<Vec<_>>());
-            assert!(store.held() < 97 << 10, "{} KiB are held", store.held());
+            assert!(store.held() < 106 << 10, "{} KiB are held", store.held());
             set += told.iter().filter(|it| *it == "+OK").count();
             if let Some(told) = told.into_iter().find(|it| it != "+OK") {
                 break told;
@@ -527,6 +575,30 @@ fn unread_values_hold_no_more_than_the_memory_that_was_given() {
         let mut stream = store.connect();
         let _ = stream.write_all(&request(&[b"GET", b"v"]).repeat(20));
         let _ = stream.read_exact(&mut [0; 5]);
+        unread.push(stream);
+        assert!(store.held() < (64 << 10) + MARGIN, "{} KiB are held", store.held());
+    }
+    drop(unread);
+    store.is_well();
+}
+
+/// A transaction holds all the values that it asks for, which are overwritten meanwhile: whoever leaves them unread is
+/// closed where they are too many.
+#[test]
+fn unread_transactions_hold_no_more_than_the_memory_that_was_given() {
+    let store = Store::new(&["--memory", "64", "--keys", "10000", "--threads", "1"]);
+    let names: Vec<String> = (0..24).map(|at| format!("name:{at}")).collect();
+    let gets = names.iter().map(|it| request(&[b"GET", it.as_bytes()]));
+    let asked = [vec![request(&[b"MULTI"])], gets.collect(), vec![request(&[b"EXEC"])]].concat().concat();
+    let (mut unread, mut writer) = (Vec::new(), store.connect());
+    for round in 0..8 {
+        for name in &names {
+            assert_eq!(ask(&mut writer, &[b"SET", name.as_bytes(), &vec![b'a' + round; 1 << 20]]), "+OK\r\n");
+        }
+        let mut stream = store.connect();
+        stream.write_all(&asked).unwrap();
+        // What is queued is told, and then the values begin.
+        let _ = stream.read_exact(&mut [0; 5 + 24 * 9 + 5]);
         unread.push(stream);
         assert!(store.held() < (64 << 10) + MARGIN, "{} KiB are held", store.held());
     }

@@ -17,6 +17,8 @@ pub enum Refusal {
     LibraryName(&'static str),
     HelloOption(String),
     WithoutMulti(&'static str),
+    InMulti(String),
+    ManyNames(usize),
     AbortedExec(Box<Refusal>),
 }
 
@@ -47,7 +49,6 @@ impl Refusal {
     );
     pub const NO_SCRIPT: Refusal = Refusal::Plain("NOSCRIPT No matching script. Please use EVAL.");
     pub const NESTED: Refusal = Refusal::Plain("ERR MULTI calls can not be nested");
-    pub const WATCH_IN_MULTI: Refusal = Refusal::Plain("ERR WATCH inside MULTI is not allowed");
     pub const LONG_TRANSACTION: Refusal = Refusal::Plain("ERR the transaction is too long");
     pub const ABORTED: Refusal = Refusal::Plain("EXECABORT Transaction discarded because of previous errors.");
     pub const MEMORY: Refusal = Refusal::Plain("OOM command not allowed when used memory > 'maxmemory'.");
@@ -74,6 +75,8 @@ impl Refusal {
             Refusal::LibraryName(what) => format!("ERR {what} cannot contain spaces, newlines or special characters."),
             Refusal::HelloOption(text) => format!("ERR Syntax error in HELLO option '{text}'"),
             Refusal::WithoutMulti(name) => format!("ERR {name} without MULTI"),
+            Refusal::InMulti(name) => format!("ERR {name} inside MULTI is not allowed"),
+            Refusal::ManyNames(most) => format!("ERR more than {most} names fit: SCAN tells them"),
             Refusal::AbortedExec(why) => {
                 let why = why.text();
                 let why = why.strip_prefix("ERR ").unwrap_or(&why);

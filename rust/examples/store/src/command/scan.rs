@@ -7,6 +7,8 @@ use std::str;
 /// How many names a call is asked for where it doesn't say, and how many it tells at most.
 const ASKED: usize = 10;
 const MOST: usize = 1_024;
+/// How many names KEYS tells at most: they are all held at a time.
+const MOST_KEYS: usize = 1 << 16;
 
 pub fn scan(client: &mut Client<'_>, words: Words<'_>) -> Answer {
     let cursor = cursor(words[1]).ok_or(Refusal::CURSOR)?;
@@ -47,7 +49,8 @@ fn cursor(text: &[u8]) -> Option<u64> {
 
 /// The names of all keys that fit a pattern, which are told one by one.
 pub fn keys(client: &mut Client<'_>, words: Words<'_>) -> Answer {
-    let names: Vec<_> = client.desk.keyspace.names(|name| is_match(words[1], name));
+    let names = client.desk.keyspace.names(|name| is_match(words[1], name), MOST_KEYS);
+    let names = names.ok_or(Refusal::ManyNames(MOST_KEYS))?;
     let count = names.len();
     names.into_iter().for_each(|name| client.session.transaction.keep(Reply::Bulk(name)));
     Ok(Reply::Begun(count))

@@ -3,14 +3,15 @@
 use super::{keys, named, Answer, Client, Desk, Refusal, Words};
 use crate::keyspace::{Life, Value};
 use crate::resp::{Reply, PER_WORD, REQUEST_LIMIT};
-use std::collections::VecDeque;
+use std::collections::{HashMap, VecDeque};
 
 /// What a connection's client has queued and what it watches.
 #[derive(Default)]
 pub struct Transaction {
     /// The requests since MULTI.
     queue: Option<Queue>,
-    watched: Vec<Watched>,
+    /// What is watched by its name, as it was then.
+    watched: HashMap<Vec<u8>, Seen>,
     watched_bytes: usize,
     /// What EXEC or KEYS is answered and isn't written yet.
     replies: VecDeque<Reply>,
@@ -25,32 +26,29 @@ struct Queue {
     is_broken: bool,
 }
 
-/// A key as it was when it was watched. While its value is held no other has its address: who sets it, sets another.
-struct Watched {
-    name: Vec<u8>,
-    seen: Option<(Value, Life)>,
-}
+/// A key as it was when it was watched, none where there was none. While its value is held no other has its address: who
+/// sets it, sets another.
+type Seen = Option<(Value, Life)>;
 
-impl Watched {
-    fn new(desk: &mut Desk, name: &[u8]) -> Watched {
-        Watched { name: name.to_vec(), seen: seen(desk, name) }
-    }
-
-    fn is_unchanged(&self, desk: &mut Desk) -> bool {
-        match (&self.seen, seen(desk, &self.name)) {
-            (None, None) => true,
-            (Some((value, life)), Some((now, life_now))) => Value::ptr_eq(value, &now) && *life == life_now,
-            _ => false,
-        }
-    }
-}
-
-fn seen(desk: &mut Desk, name: &[u8]) -> Option<(Value, Life)> {
+fn seen(desk: &mut Desk, name: &[u8]) -> Seen {
     desk.keyspace.view(&mut desk.handle, name, |record, life| (record.value.clone(), life))
 }
 
+fn is_same(one: &Seen, other: &Seen) -> bool {
+    match (one, other) {
+        (None, None) => true,
+        (Some((value, life)), Some((now, life_now))) => Value::ptr_eq(value, now) && *life == *life_now,
+        _ => false,
+    }
+}
+
+/// What a watched key takes beside its name and its value.
+const PER_WATCHED: usize = 128;
 /// Commands that are done at once after MULTI too.
 const AT_ONCE: [&str; 5] = ["multi", "exec", "discard", "watch", super::QUIT];
+
+/// Commands whose replies are long whatever they are asked: those of a transaction are all held at a time.
+const MANY_NAMES: [&str; 2] = ["scan", "keys"];
 
 impl Transaction {
     /// The memory that it holds.
@@ -63,7 +61,10 @@ impl Transaction {
         self.queue.is_some() && !AT_ONCE.contains(&command)
     }
 
-    pub fn queue(&mut self, words: Words<'_>) -> Answer {
+    pub fn queue(&mut self, command: &str, words: Words<'_>) -> Answer {
+        if MANY_NAMES.contains(&command) {
+            return Err(Refusal::InMulti(command.to_ascii_uppercase()));
+        }
         let queue = self.queue.get_or_insert_with(Queue::default);
         queue.bytes += words.iter().map(|word| word.len() + PER_WORD).sum::<usize>();
         if queue.bytes > REQUEST_LIMIT {
@@ -86,15 +87,11 @@ impl Transaction {
 
     /// Keeps a reply until the others before it are written.
     pub fn keep(&mut self, reply: Reply) {
-        self.keep_at(self.replies.len(), reply);
-    }
-
-    fn keep_at(&mut self, at: usize, reply: Reply) {
         self.reply_bytes += reply.held();
-        self.replies.insert(at, reply);
+        self.replies.push_back(reply);
     }
 
-    fn unwatch(&mut self) -> Vec<Watched> {
+    fn unwatch(&mut self) -> HashMap<Vec<u8>, Seen> {
         self.watched_bytes = 0;
         std::mem::take(&mut self.watched)
     }
@@ -117,14 +114,14 @@ pub fn discard(client: &mut Client<'_>, _: Words<'_>) -> Answer {
 
 pub fn watch(client: &mut Client<'_>, words: Words<'_>) -> Answer {
     if client.session.transaction.queue.is_some() {
-        return Err(Refusal::WATCH_IN_MULTI);
+        return Err(Refusal::InMulti("WATCH".into()));
     }
     for name in &words[1..] {
-        let watched = Watched::new(client.desk, name);
-        let transaction = &mut client.session.transaction;
-        if transaction.watched.iter().all(|it| it.name != *name) {
-            transaction.watched_bytes += name.len() + PER_WORD + watched.seen.as_ref().map_or(0, |it| it.0.len());
-            transaction.watched.push(watched);
+        let Client { desk, session } = client;
+        if !session.transaction.watched.contains_key(*name) {
+            let seen = seen(desk, name);
+            session.transaction.watched_bytes += name.len() + PER_WATCHED + seen.as_ref().map_or(0, |it| it.0.len());
+            session.transaction.watched.insert(name.to_vec(), seen);
         }
     }
     Ok(Reply::Status("OK"))
@@ -144,15 +141,13 @@ pub fn exec(client: &mut Client<'_>, _: Words<'_>) -> Answer {
     }
     let keyspace = client.desk.keyspace.clone();
     keyspace.alone(|| {
-        if !watched.iter().all(|it| it.is_unchanged(client.desk)) {
+        if !watched.iter().all(|(name, then)| is_same(then, &seen(client.desk, name))) {
             return Ok(Reply::NilArray);
         }
         for request in &queue.requests {
             let words: Vec<&[u8]> = request.iter().map(Vec::as_slice).collect();
-            let at = client.session.transaction.replies.len();
             let reply = client.answer(&words);
-            // What follows the beginning of its reply is kept already, or comes now.
-            client.session.transaction.keep_at(at, reply);
+            client.session.transaction.keep(reply);
             for name in named(&words) {
                 let value = keys::value(client, name);
                 client.session.transaction.keep(value);

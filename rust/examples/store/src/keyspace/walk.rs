@@ -50,14 +50,18 @@ impl Keyspace {
         &self.shards[shard]
     }
 
-    /// The names of live keys that fit, each shard's by themselves.
-    pub fn names(&self, is_fit: impl Fn(&[u8]) -> bool) -> Vec<Name> {
-        let now = self.clock.now();
-        let shards = (0..SHARDS).map(|shard| self.present(shard, now).read());
-        shards.fold(Vec::new(), |mut all, names| {
-            all.extend(names.records.keys().filter(|name| is_fit(name)).cloned());
-            all
-        })
+    /// The names of live keys that fit, each shard's by themselves, none where there are too many.
+    pub fn names(&self, is_fit: impl Fn(&[u8]) -> bool, most: usize) -> Option<Vec<Name>> {
+        let (now, mut all) = (self.clock.now(), Vec::new());
+        for shard in 0..SHARDS {
+            let names = self.present(shard, now).read();
+            let fitting = names.records.keys().filter(|name| is_fit(name));
+            all.extend(fitting.take(most + 1 - all.len()).cloned());
+            if all.len() > most {
+                return None;
+            }
+        }
+        Some(all)
     }
 
     /// About so many names of live keys from a position on, and the position to go on from, 0 behind the last. A name
