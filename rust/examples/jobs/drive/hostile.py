@@ -168,7 +168,7 @@ def flood(it):
     worker = it.spawn("worker", "--effect", EFFECT)
     it.wait_for_owners(1)
     told = """
-        SELECT pg_notify('jobs', CASE i % 4 WHEN 0 THEN '*' WHEN 1 THEN repeat('x', 7000) || i
+        SELECT pg_notify('jobs_' || 'jobs'::regclass::oid, CASE i % 4 WHEN 0 THEN '*' WHEN 1 THEN repeat('x', 7000) || i
             WHEN 2 THEN (1000000 + i) || ' ' || (extract(epoch FROM clock_timestamp()) * 1000000)::bigint
             ELSE i || ' 99999999999999999999' END)
         FROM generate_series(1, 2000) i;"""
@@ -236,6 +236,27 @@ def selected_effect(it):
     print("hostile: an effect that is a SELECT was had of 100 jobs, by a worker and by a poller", flush=True)
 
 
+def row_without_lease(it):
+    """A running row that nobody has taken is refused; where the table can't refuse it, a worker ends and isn't half."""
+    empty(it)
+    bad = "INSERT INTO jobs (state) VALUES ('running')"
+    for row in (bad, "INSERT INTO jobs (state, lease_until) VALUES ('running', 'infinity')"):
+        try:
+            it.sql(row)
+        except AssertionError as error:
+            assert "jobs_lease_ends" in str(error), error
+        else:
+            raise AssertionError(f"{row} is accepted")
+    it.sql(f"ALTER TABLE jobs DROP CONSTRAINT jobs_lease_ends; {bad}")
+    worker = it.spawn("worker", "--effect", EFFECT)
+    assert worker.wait(30) != 0, "a worker that has lost a task ends"
+    it.sql(
+        "TRUNCATE jobs; ALTER TABLE jobs ADD CONSTRAINT jobs_lease_ends CHECK (state <> 'running' OR lease_until IS "
+        "NOT NULL AND isfinite(lease_until))"
+    )
+    print("hostile: running rows without a lease that ends are refused; a worker that reads one ends", flush=True)
+
+
 def memory(process):
     """The most memory that a process had, in MiB."""
     with open(f"/proc/{process.pid}/status") as it:
@@ -285,7 +306,7 @@ def full_table(it, count):
 
 def main(quick):
     with cluster() as it:
-        for case in [one_name, wrong_clock, great_payload, lost_lock, flood, bad_job, selected_effect]:
+        for case in [one_name, wrong_clock, great_payload, lost_lock, flood, bad_job, selected_effect, row_without_lease]:
             case(it)
         full_table(it, 100_000 if quick else 1_000_000)
 

@@ -1,5 +1,6 @@
 //! The words behind `jobs`.
 
+use crate::db::{Database, CONNECT};
 use std::net::SocketAddr;
 use std::time::Duration;
 use tokio_postgres::Config;
@@ -15,6 +16,8 @@ pub const HELP: &str = "jobs VERB [OPTION..]: delayed jobs and leases in Postgre
     --name TEXT              told by `jobs status`, `worker` where none is given
     --lease MS               how long a job is given out without a heartbeat, 10000 where none is given
     --write-every MS         how often heartbeats are written to the table, 2000 where none is given
+    --drain MS               how long SIGTERM waits for what is under way, 20000 where none is given; a second SIGTERM
+                             doesn't wait
     --attempts N             after so many attempts a job is dead, 5 where none is given
     --metrics IP:PORT        numbers for Prometheus, at /metrics
   jobs enqueue N           enqueues N jobs
@@ -26,6 +29,12 @@ pub const HELP: &str = "jobs VERB [OPTION..]: delayed jobs and leases in Postgre
     --every MS               how often, 100 where none is given
     --effect SQL             as for a worker
   --database URL           for each: postgres://user@host/name or host=.. user=.. dbname=.., JOBS_DATABASE if not given
+                           with connect_timeout=S where the way to a host may take more than 2 s
+  --schema NAME            the schema of the tables, which setup makes where it is missing; the first of the search
+                           path where none is given
+  --statement-timeout MS   after so long the database gives up a statement, and a second later the worker its session,
+                           10000 where none is given
+  --lock-timeout MS        how long a statement waits for what another session has locked, 5000 where none is given
   --help                   this text
 
 Holders say JOBS.TAKE [count] [WAIT ms], JOBS.BEAT id attempt, JOBS.DONE id attempt, JOBS.FAIL id attempt [reason].
@@ -33,19 +42,20 @@ It has no passwords and no TLS of its own: keep --listen and --metrics where onl
 
 #[derive(Clone)]
 pub struct WorkerOptions {
-    pub config: Config,
+    pub database: Database,
     pub listen: SocketAddr,
     pub announce: Option<String>,
     pub effect: Option<String>,
     pub name: String,
     pub lease: Duration,
     pub write_every: Duration,
+    pub drain: Duration,
     pub attempts: i32,
     pub metrics: Option<SocketAddr>,
 }
 
 pub struct EnqueueOptions {
-    pub config: Config,
+    pub database: Database,
     pub count: u64,
     pub delay: Duration,
     pub spread: Duration,
@@ -53,17 +63,17 @@ pub struct EnqueueOptions {
 }
 
 pub struct PollerOptions {
-    pub config: Config,
+    pub database: Database,
     pub every: Duration,
     pub effect: String,
 }
 
 pub enum Verb {
     Help,
-    Setup(Config),
+    Setup(Database),
     Worker(Box<WorkerOptions>),
     Enqueue(EnqueueOptions),
-    Status(Config),
+    Status(Database),
     Poller(PollerOptions),
 }
 
@@ -104,12 +114,33 @@ impl Given {
         Err(format!("{millis} is nothing for {name}: it is {least} to 31536000000 milliseconds"))
     }
 
-    fn database(&mut self) -> Result<Config, String> {
+    fn database(&mut self) -> Result<Database, String> {
         let url = self.text("--database").or_else(|| std::env::var("JOBS_DATABASE").ok());
         let url = url.ok_or("--database or JOBS_DATABASE has to name the database")?;
-        let mut config: Config = url.parse().map_err(|error| format!("{url} names no database: {error}"))?;
-        config.connect_timeout(Duration::from_secs(5));
-        Ok(config)
+        // Neither the text nor what the library says of it is shown, since a password may stand in it.
+        let mut config: Config = url.parse().map_err(|_| {
+            "--database or JOBS_DATABASE names no database: it is postgres://user@host/name or host=.. user=.. dbname=.."
+        })?;
+        if config.get_connect_timeout().is_none() {
+            config.connect_timeout(CONNECT);
+        }
+        let schema = self.text("--schema");
+        let is_plain = |it: &str| {
+            it.len() <= 40
+                && it.starts_with(|it: char| it.is_ascii_lowercase() || it == '_')
+                && it.bytes().all(|it| it.is_ascii_lowercase() || it.is_ascii_digit() || it == b'_')
+        };
+        if schema.as_deref().map_or(false, |it| !is_plain(it)) {
+            return Err(
+                "--schema has 1 to 40 small letters, digits and _, and begins with none of the digits".to_owned()
+            );
+        }
+        Ok(Database {
+            config,
+            schema,
+            statement_timeout: self.millis("--statement-timeout", 10_000, 100)?,
+            lock_timeout: self.millis("--lock-timeout", 5_000, 100)?,
+        })
     }
 
     fn end(self) -> Result<(), String> {
@@ -139,7 +170,7 @@ pub fn verb(words: impl Iterator<Item = String>) -> Result<Verb, String> {
         "worker" => Verb::Worker(Box::new(worker(&mut given)?)),
         "enqueue" => Verb::Enqueue(enqueue(count, &mut given)?),
         "poller" => Verb::Poller(PollerOptions {
-            config: given.database()?,
+            database: given.database()?,
             every: given.millis("--every", 100, 1)?,
             effect: given.text("--effect").unwrap_or_else(|| "SELECT".to_owned()),
         }),
@@ -151,13 +182,14 @@ pub fn verb(words: impl Iterator<Item = String>) -> Result<Verb, String> {
 
 fn worker(given: &mut Given) -> Result<WorkerOptions, String> {
     let options = WorkerOptions {
-        config: given.database()?,
+        database: given.database()?,
         listen: given.value("--listen", SocketAddr::from(([127, 0, 0, 1], 6500)))?,
         announce: given.text("--announce"),
         effect: given.text("--effect"),
         name: given.value("--name", "worker".to_owned())?,
         lease: given.millis("--lease", 10_000, 100)?,
         write_every: given.millis("--write-every", 2_000, 10)?,
+        drain: given.millis("--drain", 20_000, 0)?,
         attempts: given.value("--attempts", 5)?,
         metrics: match given.text("--metrics") {
             None => None,
@@ -180,7 +212,7 @@ fn worker(given: &mut Given) -> Result<WorkerOptions, String> {
 fn enqueue(count: Option<String>, given: &mut Given) -> Result<EnqueueOptions, String> {
     let count = count.ok_or("jobs enqueue wants a number of jobs")?;
     Ok(EnqueueOptions {
-        config: given.database()?,
+        database: given.database()?,
         count: count.parse().map_err(|_| format!("{count} is no number of jobs"))?,
         delay: given.millis("--delay", 0, 0)?,
         spread: given.millis("--spread", 0, 0)?,

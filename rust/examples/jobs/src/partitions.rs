@@ -1,10 +1,11 @@
 //! What a worker holds of each partition: which jobs stand in its index, which are out, and which leases it keeps.
 
-use crate::clock::{tick_after, Tick};
+use crate::clock::{tick_after, tick_before, Tick};
 use crate::index::{deadline, partition_of, Due, Handle, Index, Key, PARTITIONS};
-use std::collections::{HashMap, HashSet};
+use std::collections::HashMap;
 use std::sync::atomic::{AtomicU64, Ordering::SeqCst};
 use std::sync::{Arc, Mutex, MutexGuard, PoisonError};
+use std::time::Duration;
 
 /// The most jobs that wait in memory of a partition; the others wait in the table until there is room.
 pub const WAITING_ROOM: usize = 2_048;
@@ -40,17 +41,9 @@ enum Held {
     Running(Arc<Lease>),
 }
 
-/// Whose a partition is.
-#[derive(Clone, Copy, Debug, PartialEq, Eq)]
-pub enum Standing {
-    Foreign,
-    /// The session is lost, so that another worker may own it: its leases are kept until that is known.
-    Doubtful,
-    Owned,
-}
-
 struct Partition {
-    standing: Standing,
+    /// The term by which this worker owns it.
+    term: Option<i64>,
     held: HashMap<i64, Held>,
     /// How many of those wait or are out.
     waiting: usize,
@@ -65,32 +58,57 @@ impl Partition {
 pub struct Partitions {
     index: Arc<Index>,
     partitions: Vec<Mutex<Partition>>,
+    /// Until when no other worker can own each, in microseconds of this worker's uptime.
+    surely_until: Vec<AtomicU64>,
 }
 
 impl Partitions {
     pub fn new(index: Arc<Index>) -> Partitions {
-        let partition = || Partition { standing: Standing::Foreign, held: HashMap::new(), waiting: 0 };
-        Partitions { index, partitions: (0..PARTITIONS).map(|_| Mutex::new(partition())).collect() }
+        let partition = || Mutex::new(Partition { term: None, held: HashMap::new(), waiting: 0 });
+        Partitions {
+            index,
+            partitions: (0..PARTITIONS).map(|_| partition()).collect(),
+            surely_until: (0..PARTITIONS).map(|_| AtomicU64::new(0)).collect(),
+        }
     }
 
     fn enter(&self, partition: usize) -> MutexGuard<'_, Partition> {
         self.partitions[partition].lock().unwrap_or_else(PoisonError::into_inner)
     }
 
-    pub fn standing(&self, partition: usize) -> Standing {
-        self.enter(partition).standing
+    /// The term by which this worker owns a partition. Another may have taken it since.
+    pub fn term(&self, partition: usize) -> Option<i64> {
+        self.enter(partition).term
     }
 
-    /// The partitions of a standing.
-    pub fn all(&self, standing: Standing) -> Vec<usize> {
-        (0..PARTITIONS).filter(|it| self.standing(*it) == standing).collect()
+    /// The terms as the statements want them: 0 for what isn't owned.
+    pub fn terms(&self) -> Vec<i64> {
+        (0..PARTITIONS).map(|it| self.term(it).unwrap_or(0)).collect()
+    }
+
+    /// The partitions that are owned.
+    pub fn owned(&self) -> Vec<usize> {
+        (0..PARTITIONS).filter(|it| self.term(*it).is_some()).collect()
+    }
+
+    /// Whether no other worker can own a partition at an uptime.
+    pub fn is_surely_owned(&self, partition: usize, uptime: Duration) -> bool {
+        (uptime.as_micros() as u64) < self.surely_until[partition].load(SeqCst)
+    }
+
+    /// The database has renewed a term: until an uptime nobody else takes the partition.
+    pub fn renew(&self, partition: usize, term: i64, until: Duration) {
+        let held = self.enter(partition);
+        if held.term == Some(term) {
+            self.surely_until[partition].store(until.as_micros() as u64, SeqCst);
+        }
     }
 
     /// The owned partitions that have room for what waits.
     pub fn with_room(&self) -> Vec<usize> {
         let has_room = |it: &usize| {
             let partition = self.enter(*it);
-            partition.standing == Standing::Owned && partition.waiting <= WAITING_ROOM / 2
+            partition.term.is_some() && partition.waiting <= WAITING_ROOM / 2
         };
         (0..PARTITIONS).filter(has_room).collect()
     }
@@ -104,55 +122,34 @@ impl Partitions {
         (0..PARTITIONS).map(count).fold((0, 0), |sum, it| (sum.0 + it.0, sum.1 + it.1))
     }
 
-    /// It is owned from now on, with the leases that the table has. A lease that this worker kept from before is kept
-    /// where it is of the same attempt: its holder may have extended it since the table was written.
-    pub fn own(&self, partition: usize, leases: &[Running]) {
-        let its_own = || leases.iter().filter(|it| partition_of(it.id) == partition);
-        let ids: HashSet<i64> = its_own().map(|it| it.id).collect();
-        let mut held = self.enter(partition);
-        self.forget(&mut held, |id, _| !ids.contains(&id));
-        held.standing = Standing::Owned;
-        drop(held);
-        its_own().for_each(|it| drop(self.note_running(it)));
+    /// It is owned from now on by a term, with the leases that the table has.
+    pub fn own(&self, partition: usize, term: i64, leases: &[Running]) {
+        self.lose(partition);
+        self.enter(partition).term = Some(term);
+        leases.iter().filter(|it| partition_of(it.id) == partition).for_each(|it| self.note_running(it, 0));
         self.index.alarm().ring_before(0);
-    }
-
-    /// Another worker may own it from now on.
-    pub fn doubt(&self, partition: usize) {
-        let mut held = self.enter(partition);
-        if held.standing == Standing::Owned {
-            held.standing = Standing::Doubtful;
-            self.forget(&mut held, |_, it| !matches!(it, Held::Running(_)));
-        }
     }
 
     /// It is another's. What it held is forgotten, and a holder's next word is answered by the new owner's address.
     pub fn lose(&self, partition: usize) {
         let mut held = self.enter(partition);
-        held.standing = Standing::Foreign;
-        self.forget(&mut held, |_, _| true);
-    }
-
-    fn forget(&self, partition: &mut Partition, is_forgotten: impl Fn(i64, &Held) -> bool) {
-        partition.held.retain(|id, held| {
-            if !is_forgotten(*id, held) {
-                return true;
-            }
-            match held {
-                Held::Waiting { key, .. } => self.index.remove(key),
+        held.term = None;
+        self.surely_until[partition].store(0, SeqCst);
+        for it in std::mem::take(&mut held.held).into_values() {
+            match it {
+                Held::Waiting { key, .. } => self.index.remove(&key),
                 Held::Running(lease) => self.index.remove(&lease.key),
                 Held::Out => false,
             };
-            false
-        });
-        partition.waiting = partition.held.values().filter(|it| !matches!(it, Held::Running(_))).count();
+        }
+        held.waiting = 0;
     }
 
     /// A job waits until a microsecond, as the table or a notification said.
     pub fn note_waiting(&self, id: i64, due: i64) {
         let (number, due) = (partition_of(id), tick_after(due));
         let mut partition = self.enter(number);
-        let has_room = partition.standing == Standing::Owned && partition.waiting < WAITING_ROOM;
+        let has_room = partition.term.is_some() && partition.waiting < WAITING_ROOM;
         match partition.held.get_mut(&id) {
             Some(Held::Waiting { key, due: known }) if *known != due => {
                 if let Some(reset) = self.index.reset(key, due) {
@@ -185,7 +182,7 @@ impl Partitions {
     pub fn may_be_given(&self, id: i64) -> Given {
         let partition = self.enter(partition_of(id));
         match partition.held.get(&id) {
-            Some(Held::Out) if partition.standing != Standing::Owned => Given::Never,
+            Some(Held::Out) if partition.term.is_none() => Given::Never,
             Some(Held::Out) if partition.leases() >= LEASE_ROOM => Given::Later,
             Some(Held::Out) => Given::Now,
             _ => Given::Never,
@@ -204,16 +201,17 @@ impl Partitions {
         }
     }
 
-    /// A job runs, by a lease of the table's. Its lease, where this worker owns it and has room.
-    pub fn note_running(&self, running: &Running) -> Option<Arc<Lease>> {
+    /// A job runs, by a lease of the table's, which this worker doesn't end before a tick. It is held where this worker
+    /// owns it and has room.
+    pub fn note_running(&self, running: &Running, not_before: Tick) {
         let Running { id, attempt, lease_until } = *running;
-        let (number, until) = (partition_of(id), tick_after(lease_until));
+        let number = partition_of(id);
         let mut partition = self.enter(number);
-        if partition.standing == Standing::Foreign {
-            return None;
+        if partition.term.is_none() {
+            return;
         }
         match partition.held.get(&id) {
-            Some(Held::Running(lease)) if lease.attempt >= attempt => return Some(lease.clone()),
+            Some(Held::Running(lease)) if lease.attempt >= attempt => return,
             Some(held) => {
                 match held {
                     Held::Waiting { key, .. } => drop(self.index.remove(key)),
@@ -225,10 +223,12 @@ impl Partitions {
             }
             None => {}
         }
-        let key = self.index.insert(number, Due::Lease { id, attempt }, until)?;
-        let lease = Arc::new(Lease { id, attempt, key, written: AtomicU64::new(until) });
-        partition.held.insert(id, Held::Running(lease.clone()));
-        Some(lease)
+        if let Some(key) =
+            self.index.insert(number, Due::Lease { id, attempt }, tick_after(lease_until).max(not_before))
+        {
+            let lease = Arc::new(Lease { id, attempt, key, written: AtomicU64::new(tick_before(lease_until)) });
+            partition.held.insert(id, Held::Running(lease));
+        }
     }
 
     pub fn lease(&self, id: i64) -> Option<Arc<Lease>> {
@@ -245,7 +245,7 @@ impl Partitions {
             Some(Held::Running(lease)) if lease.attempt == attempt => drop(self.index.remove(&lease.key)),
             _ => return false,
         }
-        if !waits_on || partition.standing != Standing::Owned {
+        if !waits_on || partition.term.is_none() {
             partition.held.remove(&id);
             return false;
         }
@@ -254,14 +254,11 @@ impl Partitions {
         true
     }
 
-    /// The leases of the partitions that are owned, whose deadline in force isn't the one that the table has.
-    pub fn unwritten(&self, handle: &mut Handle) -> Vec<(Arc<Lease>, Tick)> {
+    /// The leases of some partitions, whose deadline in force isn't the one that the table has.
+    pub fn unwritten(&self, partitions: &[usize], handle: &mut Handle) -> Vec<(Arc<Lease>, Tick)> {
         let mut unwritten = Vec::new();
-        for number in 0..PARTITIONS {
-            let partition = self.enter(number);
-            if partition.standing != Standing::Owned {
-                continue;
-            }
+        for number in partitions {
+            let partition = self.enter(*number);
             for held in partition.held.values() {
                 if let Held::Running(lease) = held {
                     let until = deadline(handle, &lease.key);

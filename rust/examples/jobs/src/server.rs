@@ -1,17 +1,18 @@
 //! Serves holders. What a client sends in one go is answered together: all that are done by one statement, say.
 
+use crate::clock::tick_before;
 use crate::commands::{fenced, try_again, Attempt, Command};
-use crate::db::reason;
+use crate::db::{Error, Param};
 use crate::effect::note_lateness;
-use crate::expiry::{micros, running};
+use crate::expiry::running;
 use crate::index::partition_of;
 use crate::leases::{Beat, Beats};
-use crate::partitions::{Running, Standing};
+use crate::partitions::Running;
 use crate::redirect::redirect;
 use crate::resp::{Input, Reply};
 use crate::sql;
 use crate::worker::Worker;
-use std::collections::HashSet;
+use std::collections::HashMap;
 use std::io;
 use std::mem::discriminant;
 use std::sync::Arc;
@@ -158,7 +159,10 @@ impl Holder<'_> {
         for (beat, it) in beats.into_iter().zip(attempts) {
             let reply = match beat {
                 Beat::Extended(millis) => Reply::Integer(millis),
-                Beat::Doubtful => try_again("the database doesn't answer, the lease holds in memory"),
+                Beat::Doubtful => {
+                    try_again("the database doesn't answer: whether this worker still has the job isn't known")
+                }
+                Beat::Unwritten => try_again("the lease can't be written: its row is locked"),
                 Beat::Foreign => redirect(worker, partition_of(it.id)).await,
                 Beat::Fenced | Beat::Unknown => refuse(worker, *it),
             };
@@ -167,62 +171,53 @@ impl Holder<'_> {
     }
 
     async fn done(&mut self, attempts: &[Attempt]) {
-        let its_own = self.its_own(attempts);
-        let (ids, numbers): (Vec<i64>, Vec<i32>) = its_own.iter().map(|it| (it.id, it.attempt)).unzip();
-        let answer = self.worker.links.insist(sql::DONE, &[&ids, &numbers]).await;
-        let ended = answer.map(|rows| rows.iter().map(|row| row.get(0)).collect());
-        let count = self.end(attempts, ended.map_err(|error| reason(&error))).await;
+        let (ids, numbers): (Vec<i64>, Vec<i32>) = attempts.iter().map(|it| (it.id, it.attempt)).unzip();
+        let (number, terms) = (&self.worker.number, self.worker.partitions.terms());
+        let answer = self.worker.links.insist(sql::DONE, &[number, &terms, &ids, &numbers]).await;
+        let count = self.end(attempts, answer).await;
         self.worker.metrics.done.add(count);
     }
 
     async fn fail(&mut self, commands: &[Command]) {
         let attempts = attempts(commands);
-        let mut words = Vec::new();
-        for command in commands {
-            if let Command::Fail(it, reason) = command {
-                words.extend(self.its_own(&[*it]).into_iter().map(|it| (it, reason.clone())));
-            }
-        }
-        let ids: Vec<i64> = words.iter().map(|it| it.0.id).collect();
-        let numbers: Vec<i32> = words.iter().map(|it| it.0.attempt).collect();
-        let reasons: Vec<String> = words.into_iter().map(|it| it.1).collect();
-        let params: [crate::db::Param<'_>; 4] = [&ids, &numbers, &reasons, &self.worker.options.attempts];
+        let (ids, numbers): (Vec<i64>, Vec<i32>) = attempts.iter().map(|it| (it.id, it.attempt)).unzip();
+        let reasons = commands.iter().map(|it| if let Command::Fail(_, reason) = it { &reason[..] } else { "" });
+        let reasons: Vec<&str> = reasons.collect();
+        let (number, terms) = (&self.worker.number, self.worker.partitions.terms());
+        let params: [Param<'_>; 6] = [number, &terms, &ids, &numbers, &reasons, &self.worker.options.attempts];
         let answer = self.worker.links.insist(sql::FAIL, &params).await;
-        if let Ok(rows) = &answer {
-            let dead = rows.iter().filter(|row| row.get::<_, &str>(1) == "dead").count();
-            self.worker.metrics.dead.add(dead as u64);
-        }
-        let ended = answer.map(|rows| rows.iter().map(|row| row.get(0)).collect());
-        let count = self.end(&attempts, ended.map_err(|error| reason(&error))).await;
+        let count = self.end(&attempts, answer).await;
         self.worker.metrics.failed.add(count);
     }
 
-    /// The attempts in partitions that this worker owns.
-    fn its_own(&self, attempts: &[Attempt]) -> Vec<Attempt> {
-        let is_own = |it: &&Attempt| self.worker.partitions.standing(partition_of(it.id)) == Standing::Owned;
-        attempts.iter().filter(is_own).copied().collect()
-    }
-
-    /// Answers attempts of which those in `ended` have ended, and tells how many.
-    async fn end(&mut self, attempts: &[Attempt], ended: Result<HashSet<i64>, String>) -> u64 {
-        let mut count = 0;
+    /// Answers attempts by the jobs that the database tells, each by what became of it, and by `running` as it was.
+    /// Tells how many have ended.
+    async fn end(&mut self, attempts: &[Attempt], answer: Result<Vec<Row>, Error>) -> u64 {
+        let rows = match answer {
+            Ok(rows) => rows,
+            Err(error) => {
+                attempts.iter().for_each(|_| try_again(&error.to_string()).write(&mut self.replies));
+                return 0;
+            }
+        };
+        let mut ended: HashMap<i64, bool> = HashMap::new();
+        for row in &rows {
+            *ended.entry(row.get(0)).or_default() |= row.get::<_, &str>(1) != "running";
+        }
+        let dead = rows.iter().filter(|row| row.get::<_, &str>(1) == "dead").count();
+        self.worker.metrics.dead.add(dead as u64);
         for it in attempts {
-            let reply = match &ended {
-                Err(reason) => try_again(reason),
-                Ok(ended) if ended.contains(&it.id) => {
-                    count += 1;
-                    self.worker.partitions.end(it.id, it.attempt, false);
-                    Reply::Status("OK")
-                }
-                Ok(_) if self.its_own(&[*it]).is_empty() => redirect(self.worker, partition_of(it.id)).await,
-                Ok(_) => {
-                    self.worker.partitions.end(it.id, it.attempt, false);
-                    refuse(self.worker, *it)
-                }
+            let reply = match ended.get(&it.id) {
+                Some(true) => Reply::Status("OK"),
+                Some(false) => redirect(self.worker, partition_of(it.id)).await,
+                None => refuse(self.worker, *it),
             };
+            if ended.get(&it.id) != Some(&false) {
+                self.worker.partitions.end(it.id, it.attempt, false);
+            }
             reply.write(&mut self.replies);
         }
-        count
+        ended.values().filter(|it| **it).count() as u64
     }
 }
 
@@ -234,10 +229,10 @@ fn refuse(worker: &Worker, it: Attempt) -> Reply {
 /// Gives jobs out that are ready, as far as the table has them.
 async fn give(worker: &Worker, ids: &Vec<i64>) -> Reply {
     let lease = worker.options.lease.as_secs_f64();
-    let answer = worker.links.query(sql::TAKE, &[ids, &lease]).await;
+    let answer = worker.links.query(sql::TAKE, &[&worker.number, &worker.partitions.terms(), ids, &lease]).await;
     let reply = match &answer {
         Ok(rows) => Reply::Array(rows.iter().map(|row| given(worker, row)).collect()),
-        Err(error) => try_again(&reason(error)),
+        Err(error) => try_again(&error.to_string()),
     };
     worker.partitions.note_asked(ids);
     reply
@@ -246,10 +241,10 @@ async fn give(worker: &Worker, ids: &Vec<i64>) -> Reply {
 /// What a holder is told of a job: its id, its attempt, the milliseconds of its lease, and its payload.
 fn given(worker: &Worker, row: &Row) -> Reply {
     let it: Running = running(row);
-    worker.partitions.note_running(&it);
+    worker.partitions.note_running(&it, 0);
     worker.metrics.taken.add(1);
     note_lateness(worker, row.get(4), row.get(5), it.attempt);
-    let left = (micros(row.get(2)) - worker.clock.micros()) / 1_000;
+    let left = worker.clock.left_until(tick_before(it.lease_until));
     let payload: String = row.get(3);
     let numbers = [it.id, it.attempt.into(), left].map(Reply::Integer);
     Reply::Array(numbers.into_iter().chain([Reply::Bulk(payload.into_bytes())]).collect())
