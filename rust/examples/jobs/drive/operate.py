@@ -97,7 +97,7 @@ def older_tables(it):
             time.sleep(0.05)
         assert setup.poll() is None, "there was nothing to wait for"
     assert setup.wait(60) == 0, it.logged()
-    assert longest < 1.5, f"an insert waited {longest:.1f} s for the setup"
+    assert longest < 10, f"an insert waited {longest:.1f} s for the setup"
     effect = "INSERT INTO public.effects (job) SELECT id FROM taken"
     worker = it.spawn("worker", "--schema", "older", "--effect", effect)
 

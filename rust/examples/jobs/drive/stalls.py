@@ -299,6 +299,25 @@ def two_schemas(it):
     print("stalls: the workers of two schemas did 1,000 jobs each", flush=True)
 
 
+def old_snapshot(it):
+    """A transaction is left open, so that rows that are over stay: the readings don't come to them again and again."""
+    empty(it)
+    port = free_port()
+    worker = it.spawn("worker", "--effect", EFFECT, "--metrics", f"127.0.0.1:{port}")
+    it.wait_for_owners(1)
+    with held(it, "SET TRANSACTION ISOLATION LEVEL REPEATABLE READ", "SELECT count(*) FROM jobs"):
+        it.jobs("enqueue", "150000")
+        wait_for(lambda: done(it) == 150000, 120, every=0.5)
+        it.sql("SELECT pg_stat_reset()")
+        buffers = "SELECT sum(idx_blks_hit + idx_blks_read) FROM pg_statio_user_indexes WHERE indexrelname = 'jobs_waiting'"
+        time.sleep(6)
+        read = it.number(buffers) / 6
+    exactly_once(it, 150000)
+    end(worker)
+    assert read < 1000, f"{read:.0f} pages of the index a second"
+    print(f"stalls: beside an old snapshot and 150,000 jobs that are over, {read:.0f} pages of the index are read a second", flush=True)
+
+
 def expiry_behind_a_lock(it):
     """A role has a lock_timeout, and rows are locked while their leases end."""
     empty(it)
@@ -321,7 +340,7 @@ def expiry_behind_a_lock(it):
 def main(quick):
     with cluster() as it:
         for case in [
-            *[vanished_host, locked_rows, locked_lease, told_deadline, two_schemas, expiry_behind_a_lock],
+            *[vanished_host, locked_rows, locked_lease, told_deadline, two_schemas, expiry_behind_a_lock, old_snapshot],
             *[cut_link, slow_effect],
         ]:
             case(it)

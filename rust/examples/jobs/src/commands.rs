@@ -30,6 +30,8 @@ pub enum Command {
     /// What clients ask of a server of the protocol before they begin.
     Commands,
     Quit,
+    /// What a web page's request begins with, and what follows in it: no client of this protocol sends them.
+    Attack,
     Refused(String),
 }
 
@@ -47,6 +49,7 @@ impl Command {
             b"PING" => Some(Command::Ping),
             b"COMMAND" => Some(Command::Commands),
             b"QUIT" => Some(Command::Quit),
+            b"POST" | b"HOST:" => Some(Command::Attack),
             _ => return Command::Refused(format!("ERR there is no command {}", shown(&name))),
         };
         command.unwrap_or_else(|| Command::Refused(format!("ERR wrong arguments of {}", shown(&name))))

@@ -60,20 +60,24 @@ pub async fn run(worker: Arc<Worker>, statement: Arc<str>, mut jobs: UnboundedRe
 
 async fn batch_of(worker: Arc<Worker>, statement: Arc<str>, mut ids: Vec<i64>, _permit: OwnedSemaphorePermit) {
     ids.sort_unstable();
-    match worker.links.insist_on_effect(&statement, &[&worker.number, &worker.partitions.terms(), &ids]).await {
+    let had = match ask(&worker, &statement, &ids).await {
         // One of them is bad or slow, and doesn't keep the others.
         Err(error) if ids.len() > 1 && is_answer(&error) => {
+            let mut had = 0;
             for id in &ids {
-                let answer = worker
-                    .links
-                    .insist_on_effect(&statement, &[&worker.number, &worker.partitions.terms(), &vec![*id]])
-                    .await;
-                settle(&worker, &[*id], answer).await;
+                let one = vec![*id];
+                had += settle(&worker, &one, ask(&worker, &statement, &one).await).await;
             }
+            had
         }
         answer => settle(&worker, &ids, answer).await,
-    }
-    worker.partitions.note_asked(&ids);
+    };
+    worker.partitions.note_asked(&ids, had);
+}
+
+async fn ask(worker: &Worker, statement: &str, ids: &Vec<i64>) -> Result<Vec<Row>, Error> {
+    let terms = worker.partitions.terms();
+    worker.links.insist_on_effect(statement, &[&worker.number, &terms, ids]).await
 }
 
 /// Whether an error says something of the effect. Otherwise the worker ends while the database doesn't answer.
@@ -81,9 +85,13 @@ fn is_answer(error: &Error) -> bool {
     error.is_limit() || !error.is_passing()
 }
 
-async fn settle(worker: &Worker, ids: &[i64], answer: Result<Vec<Row>, Error>) {
+/// Tells how many jobs are done.
+async fn settle(worker: &Worker, ids: &[i64], answer: Result<Vec<Row>, Error>) -> usize {
     match answer {
-        Ok(rows) => note(worker, &rows, ids.len()),
+        Ok(rows) => {
+            note(worker, &rows, ids.len());
+            return rows.len();
+        }
         Err(error) if error.is_of_statement() => {
             // No job is at fault where the database can't run the statement: it may be right again in a moment.
             tell(format_args!("the effect can't be had, and its jobs wait: {error}"));
@@ -93,6 +101,7 @@ async fn settle(worker: &Worker, ids: &[i64], answer: Result<Vec<Row>, Error>) {
         Err(error) if is_answer(&error) => fail(worker, ids[0], &error).await,
         Err(_) => {}
     }
+    0
 }
 
 fn note(worker: &Worker, rows: &[Row], asked: usize) {

@@ -1,6 +1,7 @@
 //! Leases that have ended: their jobs are given out again, or are dead after the last attempt.
 
 use crate::db::tell;
+use crate::index::partition_of;
 use crate::partitions::Running;
 use crate::sql;
 use crate::worker::Worker;
@@ -60,6 +61,9 @@ async fn expire(worker: &Worker, leases: &[(i64, i32)]) {
     // A worker that does its jobs itself finds them by its next reading.
     let is_given = worker.options.effect.is_none();
     let is_again = |lease: &&(i64, i32)| worker.partitions.end(lease.0, lease.1, is_given && again.contains(&lease.0));
+    if !is_given {
+        again.iter().for_each(|id| worker.partitions.read_whole(partition_of(*id)));
+    }
     let ready: Vec<i64> = leases.iter().filter(is_again).map(|lease| lease.0).collect();
     worker.ready.push(ready);
     if rows.len() < leases.len() {
@@ -80,6 +84,11 @@ pub async fn adopt(worker: &Worker, ids: &[i64]) {
 /// A row of the statements that read leases.
 pub fn running(row: &Row) -> Running {
     Running { id: row.get(0), attempt: row.get(1), lease_until: micros(row.get(2)) }
+}
+
+/// The time so many microseconds after 1970 began.
+pub fn time(micros: u64) -> SystemTime {
+    SystemTime::UNIX_EPOCH + Duration::from_micros(micros)
 }
 
 /// The microseconds since 1970.

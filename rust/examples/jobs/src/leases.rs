@@ -1,14 +1,15 @@
 //! The leases of holders: extended in memory without a lock, and written to the table from time to time.
 
 use crate::db::{tell, Error};
+use crate::expiry::time;
 use crate::index::{partition_of, Handle};
 use crate::partitions::Lease;
 use crate::sql;
 use crate::worker::Worker;
 use std::collections::{HashMap, HashSet};
 use std::sync::atomic::Ordering::SeqCst;
-use std::sync::Arc;
-use std::time::{Duration, Instant, SystemTime};
+use std::sync::{Arc, PoisonError};
+use std::time::{Instant, SystemTime};
 
 /// The most leases of a statement.
 const BATCH: usize = 10_000;
@@ -105,13 +106,11 @@ pub async fn write_on(worker: Arc<Worker>) {
 
 /// Writes the leases of some partitions that were extended since they were written last.
 pub async fn write(worker: &Worker, partitions: &[usize]) {
-    let mut handle = match worker.handle() {
-        Some(handle) => handle,
-        None => return tell(format_args!("no handle is left to write leases by")),
-    };
     let begun = Instant::now();
-    let mut unwritten = worker.partitions.unwritten(partitions, &mut handle);
-    worker.put_back(handle);
+    let mut unwritten = {
+        let mut handle = worker.writer.lock().unwrap_or_else(PoisonError::into_inner);
+        worker.partitions.unwritten(partitions, &mut handle)
+    };
     unwritten.sort_unstable_by_key(|(lease, _)| lease.id);
     for piece in unwritten.chunks(BATCH) {
         if let Err(error) = write_some(worker, piece).await {
@@ -126,7 +125,7 @@ pub async fn write(worker: &Worker, partitions: &[usize]) {
 async fn write_some(worker: &Worker, leases: &[(Arc<Lease>, u64)]) -> Result<(), Error> {
     let ids: Vec<i64> = leases.iter().map(|(lease, _)| lease.id).collect();
     let attempts: Vec<i32> = leases.iter().map(|(lease, _)| lease.attempt).collect();
-    let untils: Vec<SystemTime> = leases.iter().map(|(_, until)| time(*until)).collect();
+    let untils: Vec<SystemTime> = leases.iter().map(|(_, until)| time(*until * 1_000)).collect();
     let terms = worker.partitions.terms();
     let rows = worker.links.query(sql::WRITE_LEASES, &[&worker.number, &terms, &ids, &attempts, &untils]).await?;
     worker.metrics.leases_written.add(rows.len() as u64);
@@ -135,8 +134,4 @@ async fn write_some(worker: &Worker, leases: &[(Arc<Lease>, u64)]) -> Result<(),
         lease.written.store(*until, SeqCst);
     }
     Ok(())
-}
-
-fn time(tick: u64) -> SystemTime {
-    SystemTime::UNIX_EPOCH + Duration::from_millis(tick)
 }

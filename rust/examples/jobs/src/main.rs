@@ -16,6 +16,7 @@ mod poller;
 mod ready;
 mod redirect;
 mod resp;
+mod retry;
 mod scrape;
 mod server;
 mod setup;
@@ -37,6 +38,7 @@ async fn run(verb: Verb) -> Result<(), Box<dyn Error>> {
         Verb::Worker(options) => worker::run(*options).await,
         Verb::Enqueue(options) => enqueue::run(&options).await,
         Verb::Status(database) => status::run(&database).await,
+        Verb::Retry(options) => retry::run(&options).await,
         Verb::Poller(options) => poller::run(&options).await,
     }
 }

@@ -16,6 +16,7 @@ pub const HELP: &str = "jobs VERB [OPTION..]: delayed jobs and leases in Postgre
     --name TEXT              told by `jobs status`, `worker` where none is given
     --lease MS               how long a job is given out without a heartbeat, 10000 where none is given
     --write-every MS         how often heartbeats are written to the table, 2000 where none is given
+    --clients N              the most holders that are connected, of 1000, 900 where none is given
     --drain MS               how long SIGTERM waits for what is under way, 20000 where none is given; a second SIGTERM
                              doesn't wait
     --attempts N             after so many attempts a job is dead, 5 where none is given
@@ -25,6 +26,8 @@ pub const HELP: &str = "jobs VERB [OPTION..]: delayed jobs and leases in Postgre
     --spread MS              and each up to so much later, 0 where none is given
     --payload TEXT           what they carry
   jobs status              tells partitions and their owners, jobs by their state, and how late they were
+  jobs retry ID,ID..|all   has dead jobs wait again
+    --attempts N             how many attempts more each has, 5 where none is given
   jobs poller              what people do without an index: the same table, asked again and again by SKIP LOCKED
     --every MS               how often, 100 where none is given
     --effect SQL             as for a worker
@@ -50,6 +53,7 @@ pub struct WorkerOptions {
     pub lease: Duration,
     pub write_every: Duration,
     pub drain: Duration,
+    pub clients: usize,
     pub attempts: i32,
     pub metrics: Option<SocketAddr>,
 }
@@ -60,6 +64,13 @@ pub struct EnqueueOptions {
     pub delay: Duration,
     pub spread: Duration,
     pub payload: String,
+}
+
+pub struct RetryOptions {
+    pub database: Database,
+    /// All that are dead where none are given.
+    pub ids: Option<Vec<i64>>,
+    pub attempts: i32,
 }
 
 pub struct PollerOptions {
@@ -74,6 +85,7 @@ pub enum Verb {
     Worker(Box<WorkerOptions>),
     Enqueue(EnqueueOptions),
     Status(Database),
+    Retry(RetryOptions),
     Poller(PollerOptions),
 }
 
@@ -158,7 +170,7 @@ pub fn verb(words: impl Iterator<Item = String>) -> Result<Verb, String> {
     if ["--help", "-h", "help"].contains(&&verb[..]) {
         return Ok(Verb::Help);
     }
-    let count = if verb == "enqueue" { words.next() } else { None };
+    let count = if ["enqueue", "retry"].contains(&&verb[..]) { words.next() } else { None };
     let rest: Vec<String> = words.collect();
     if rest.iter().any(|it| it == "--help") {
         return Ok(Verb::Help);
@@ -169,6 +181,7 @@ pub fn verb(words: impl Iterator<Item = String>) -> Result<Verb, String> {
         "status" => Verb::Status(given.database()?),
         "worker" => Verb::Worker(Box::new(worker(&mut given)?)),
         "enqueue" => Verb::Enqueue(enqueue(count, &mut given)?),
+        "retry" => Verb::Retry(retry(count, &mut given)?),
         "poller" => Verb::Poller(PollerOptions {
             database: given.database()?,
             every: given.millis("--every", 100, 1)?,
@@ -189,6 +202,7 @@ fn worker(given: &mut Given) -> Result<WorkerOptions, String> {
         name: given.value("--name", "worker".to_owned())?,
         lease: given.millis("--lease", 10_000, 100)?,
         write_every: given.millis("--write-every", 2_000, 10)?,
+        clients: given.value("--clients", 900)?,
         drain: given.millis("--drain", 20_000, 0)?,
         attempts: given.value("--attempts", 5)?,
         metrics: match given.text("--metrics") {
@@ -196,6 +210,13 @@ fn worker(given: &mut Given) -> Result<WorkerOptions, String> {
             Some(text) => Some(text.parse().map_err(|_| format!("{text} is no address for --metrics"))?),
         },
     };
+    if !(1..=1_000).contains(&options.clients) {
+        return Err("--clients is 1 to 1000".to_owned());
+    }
+    // A lease that ends before it is written could never be extended.
+    if options.lease < 2 * options.write_every {
+        return Err("--lease is twice --write-every at least".to_owned());
+    }
     if options.attempts < 1 {
         return Err("--attempts is 1 at least".to_owned());
     }
@@ -220,6 +241,20 @@ fn enqueue(count: Option<String>, given: &mut Given) -> Result<EnqueueOptions, S
     })
 }
 
+fn retry(ids: Option<String>, given: &mut Given) -> Result<RetryOptions, String> {
+    let ids = ids.ok_or("jobs retry wants the ids of dead jobs, or all")?;
+    let id = |it: &str| it.parse::<i64>().map_err(|_| format!("{it} is no id of a job"));
+    let attempts = given.value("--attempts", 5)?;
+    if attempts < 1 {
+        return Err("--attempts is 1 at least".to_owned());
+    }
+    Ok(RetryOptions {
+        database: given.database()?,
+        ids: if ids == "all" { None } else { Some(ids.split(',').map(id).collect::<Result<_, _>>()?) },
+        attempts,
+    })
+}
+
 #[cfg(test)]
 mod tests {
     use super::*;
@@ -237,9 +272,13 @@ mod tests {
             ("worker --database host=x --color red", "--color"),
             ("worker --database host=x --listen nowhere", "nowhere"),
             ("worker --database host=x --attempts 0", "--attempts"),
+            ("worker --database host=x --lease 1000", "--write-every"),
+            ("worker --database host=x --clients 1001", "--clients"),
             ("enqueue many --database host=x", "many"),
             ("enqueue 5 --database", "--database"),
             ("status status", "status"),
+            ("retry some --database host=x", "some"),
+            ("retry all --database host=x --attempts 0", "--attempts"),
         ] {
             assert!(refusal(line).contains(word), "{line}: {}", refusal(line));
         }

@@ -3,7 +3,7 @@
 
 use crate::clock::tick_before;
 use crate::db::{tell, Delay, Error, Param, Session, Told};
-use crate::expiry::{micros, running};
+use crate::expiry::{micros, running, time};
 use crate::index::PARTITIONS;
 use crate::partitions::{Running, WAITING_ROOM};
 use crate::sql;
@@ -28,6 +28,8 @@ const STATEMENT: Duration = Duration::from_secs(2);
 const READ_EVERY: Duration = Duration::from_millis(400);
 /// The least time from one reading to the next, however many notifications ask for one.
 const READ_AFTER: Duration = Duration::from_millis(20);
+/// Every how many readings a partition is read whole.
+const WHOLE: usize = 24;
 /// What is due within it is held in memory.
 const HORIZON: Duration = Duration::from_secs(2);
 /// How often the table is searched for leases that have ended and that no worker knows.
@@ -74,6 +76,7 @@ async fn own(worker: &Worker, modesty: Duration) -> Result<(), Error> {
         renewed: None,
         searched: Instant::now(),
         has_more: false,
+        readings: 0,
         most: WAITING_ROOM,
     };
     loop {
@@ -96,6 +99,7 @@ struct Owner<'w> {
     searched: Instant,
     /// It has just got partitions that it hasn't read.
     has_more: bool,
+    readings: usize,
     /// The most jobs of a partition that it reads at a time: fewer where the database was too slow.
     most: usize,
 }
@@ -108,7 +112,8 @@ impl Owner<'_> {
         }
         let worker = self.worker;
         let (term, sent) = (TERM.as_secs_f64(), worker.clock.uptime());
-        let params: [Param<'_>; 4] = [&worker.number, &worker.options.name, &worker.address, &term];
+        let ready = worker.ready.count() as i32;
+        let params: [Param<'_>; 5] = [&worker.number, &worker.options.name, &worker.address, &term, &ready];
         for row in self.session.query(sql::RENEW, &params).await? {
             // The database counted from a moment after it was asked.
             worker.partitions.renew(partition(&row), row.get(1), sent + SURE - DRIFT);
@@ -150,21 +155,32 @@ impl Owner<'_> {
     /// Reads what is due soon, and comes closer to its fair share.
     async fn read(&mut self) -> Result<(), Error> {
         let worker = self.worker;
-        let partitions = numbers(&worker.partitions.with_room());
+        // Each partition is read whole from time to time: nothing depends on a notification.
+        self.readings += 1;
+        (0..PARTITIONS)
+            .filter(|it| it % WHOLE == self.readings % WHOLE)
+            .for_each(|it| worker.partitions.read_whole(it));
+        let (asked, since) = worker.partitions.to_read();
+        let partitions = numbers(&asked);
+        let since: Vec<SystemTime> = since.into_iter().map(|it| time(it as u64)).collect();
         let (horizon, most, sent) = (HORIZON.as_secs_f64(), self.most as i64, worker.clock.uptime());
-        let params: [Param<'_>; 5] = [&worker.number, &partitions, &horizon, &most, &left_over()];
+        let params: [Param<'_>; 6] = [&worker.number, &partitions, &horizon, &most, &left_over(), &since];
         let answer = self.session.query(sql::READ, &params).await;
         let rows = match answer {
             Err(error) if error.is_limit() && self.most > 1 => {
                 self.most /= 4;
+                asked.iter().for_each(|it| worker.partitions.read_whole(*it));
                 return Ok(());
             }
             answer => answer?,
         };
         self.most = (self.most * 2).min(WAITING_ROOM);
-        worker.clock.note(sent, micros(rows[0].get(0)));
-        let (ids, dues): (Vec<i64>, Vec<SystemTime>) = (rows[0].get(5), rows[0].get(6));
-        ids.iter().zip(dues).for_each(|(id, due)| worker.partitions.note_waiting(*id, micros(due)));
+        let now = micros(rows[0].get(0));
+        worker.clock.note(sent, now);
+        let (ids, dues): (Vec<i64>, Vec<SystemTime>) = (rows[0].get(6), rows[0].get(7));
+        let jobs: Vec<(i64, i64)> = ids.into_iter().zip(dues.into_iter().map(micros)).collect();
+        worker.partitions.note_read(&asked, &jobs, now);
+        worker.note_elsewhere(rows[0].get(5));
         let (waiting, leases) = worker.partitions.counts();
         worker.metrics.indexed.set(waiting as u64);
         worker.metrics.leases.set(leases as u64);
@@ -260,6 +276,8 @@ impl Owner<'_> {
     /// Files the jobs of a notification. False where it asks to read the table.
     fn file(&self, notice: &str) -> bool {
         if notice == "*" {
+            // They may have been due for long.
+            (0..PARTITIONS).for_each(|it| self.worker.partitions.read_whole(it));
             return false;
         }
         let soon = self.worker.clock.micros() + HORIZON.as_micros() as i64;

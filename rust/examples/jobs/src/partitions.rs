@@ -11,6 +11,9 @@ use std::time::Duration;
 pub const WAITING_ROOM: usize = 2_048;
 /// The most leases of a partition that are given out.
 pub const LEASE_ROOM: usize = 4_096;
+/// How long a transaction may be open that enqueues a job which is due already, in microseconds, for the next reading to
+/// find it: later ones are told by a notification, or found by the next reading of the whole partition.
+const LATE: i64 = 2_000_000;
 
 /// A lease of an attempt, whose deadline in force stands in the index.
 pub struct Lease {
@@ -41,12 +44,17 @@ enum Held {
     Running(Arc<Lease>),
 }
 
+#[derive(Default)]
 struct Partition {
     /// The term by which this worker owns it.
     term: Option<i64>,
     held: HashMap<i64, Held>,
     /// How many of those wait or are out.
     waiting: usize,
+    /// Nothing waits that was due before it, in microseconds since 1970, but for what was enqueued late.
+    since: i64,
+    /// The next reading is of all that waits.
+    is_whole: bool,
 }
 
 impl Partition {
@@ -64,7 +72,7 @@ pub struct Partitions {
 
 impl Partitions {
     pub fn new(index: Arc<Index>) -> Partitions {
-        let partition = || Mutex::new(Partition { term: None, held: HashMap::new(), waiting: 0 });
+        let partition = || Mutex::new(Partition::default());
         Partitions {
             index,
             partitions: (0..PARTITIONS).map(|_| partition()).collect(),
@@ -104,13 +112,41 @@ impl Partitions {
         }
     }
 
-    /// The owned partitions that have room for what waits.
-    pub fn with_room(&self) -> Vec<usize> {
-        let has_room = |it: &usize| {
-            let partition = self.enter(*it);
-            partition.term.is_some() && partition.waiting <= WAITING_ROOM / 2
+    /// The owned partitions that have room for what waits, each with the time since which its jobs are to be read: what
+    /// was due before is over, and the dead rows that it left aren't read again and again.
+    pub fn to_read(&self) -> (Vec<usize>, Vec<i64>) {
+        let to_read = |it: usize| {
+            let mut partition = self.enter(it);
+            if partition.term.is_none() || partition.waiting > WAITING_ROOM / 2 {
+                return None;
+            }
+            if std::mem::take(&mut partition.is_whole) {
+                partition.since = 0;
+            }
+            Some((it, partition.since))
         };
-        (0..PARTITIONS).filter(has_room).collect()
+        (0..PARTITIONS).filter_map(to_read).unzip()
+    }
+
+    /// Some partitions were read at a time of the database, with these jobs and their due times.
+    pub fn note_read(&self, partitions: &[usize], jobs: &[(i64, i64)], now: i64) {
+        let mut first = [now; PARTITIONS];
+        for (id, due) in jobs {
+            self.note_waiting(*id, *due);
+            let first = &mut first[partition_of(*id)];
+            *first = due.min(first).to_owned();
+        }
+        for it in partitions {
+            let mut partition = self.enter(*it);
+            if !partition.is_whole {
+                partition.since = first[*it] - LATE;
+            }
+        }
+    }
+
+    /// The next reading of a partition is of all that waits in it.
+    pub fn read_whole(&self, partition: usize) {
+        self.enter(partition).is_whole = true;
     }
 
     /// How many jobs wait in memory, and how many leases there are.
@@ -125,7 +161,9 @@ impl Partitions {
     /// It is owned from now on by a term, with the leases that the table has.
     pub fn own(&self, partition: usize, term: i64, leases: &[Running]) {
         self.lose(partition);
-        self.enter(partition).term = Some(term);
+        let mut held = self.enter(partition);
+        (held.term, held.is_whole) = (Some(term), true);
+        drop(held);
         leases.iter().filter(|it| partition_of(it.id) == partition).for_each(|it| self.note_running(it, 0));
         self.index.alarm().ring_before(0);
     }
@@ -189,11 +227,12 @@ impl Partitions {
         }
     }
 
-    /// The table has been asked about jobs that were out: they aren't held any more. Where one still waits, the next
-    /// reading tells.
-    pub fn note_asked(&self, ids: &[i64]) {
+    /// The table has been asked about jobs that were out: they aren't held any more. Where one still waits, since not all
+    /// were taken, the next reading tells.
+    pub fn note_asked(&self, ids: &[i64], taken: usize) {
         for id in ids {
             let mut partition = self.enter(partition_of(*id));
+            partition.is_whole |= taken < ids.len();
             if let Some(Held::Out) = partition.held.get(id) {
                 partition.held.remove(id);
                 partition.waiting -= 1;

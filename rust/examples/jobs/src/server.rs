@@ -2,7 +2,7 @@
 
 use crate::clock::tick_before;
 use crate::commands::{fenced, try_again, Attempt, Command};
-use crate::db::{Error, Param};
+use crate::db::{tell, Error, Param};
 use crate::effect::note_lateness;
 use crate::expiry::running;
 use crate::index::partition_of;
@@ -19,6 +19,7 @@ use std::sync::Arc;
 use std::time::Duration;
 use tokio::io::AsyncWriteExt;
 use tokio::net::{TcpListener, TcpStream};
+use tokio::sync::{OwnedSemaphorePermit, Semaphore};
 use tokio::time::{timeout, Instant};
 use tokio_postgres::Row;
 
@@ -26,22 +27,25 @@ use tokio_postgres::Row;
 const TOGETHER: usize = 5_000;
 /// How long a client may leave its replies unread.
 const PATIENCE: Duration = Duration::from_secs(15);
+/// How often a worker looks whether others have jobs while a holder waits for one.
+const ELSEWHERE: Duration = Duration::from_millis(250);
 
 pub async fn serve(worker: Arc<Worker>, listener: TcpListener) {
+    let seats = Arc::new(Semaphore::new(worker.options.clients));
     loop {
         match listener.accept().await {
-            Ok((stream, _)) => drop(tokio::spawn(talk(worker.clone(), stream))),
+            Ok((stream, _)) => drop(tokio::spawn(talk(worker.clone(), stream, seats.clone().try_acquire_owned().ok()))),
             Err(_) => tokio::time::sleep(Duration::from_millis(50)).await,
         }
     }
 }
 
-async fn talk(worker: Arc<Worker>, mut stream: TcpStream) {
+async fn talk(worker: Arc<Worker>, mut stream: TcpStream, seat: Option<OwnedSemaphorePermit>) {
     // A reply that waits for a packet to fill would be late.
     let _ = stream.set_nodelay(true);
-    match Beats::new(&worker) {
+    match seat.and_then(|_seat| Some((Beats::new(&worker)?, _seat))) {
         None => drop(stream.write_all(b"-ERR max number of clients reached\r\n").await),
-        Some(beats) => {
+        Some((beats, _seat)) => {
             let mut holder = Holder { worker: &worker, beats, input: Input::default(), replies: Vec::new() };
             // Whoever is gone isn't answered.
             let _ = holder.converse(&mut stream).await;
@@ -63,8 +67,12 @@ impl Holder<'_> {
             let mut commands = Vec::new();
             let mut broken = None;
             while commands.len() < TOGETHER && broken.is_none() {
-                match self.input.next() {
-                    Ok(Some(args)) => commands.push(Command::of(args)),
+                match self.input.next().map(|args| args.map(Command::of)) {
+                    Ok(Some(Command::Attack)) => {
+                        tell(format_args!("a client sent POST or Host: as a web page that attacks does: it is closed"));
+                        return Ok(());
+                    }
+                    Ok(Some(command)) => commands.push(command),
                     Ok(None) => break,
                     Err(error) => broken = Some(error),
                 }
@@ -121,8 +129,9 @@ impl Holder<'_> {
         let mut ending = worker.ending.clone();
         let until = Instant::now() + wait;
         let reply = loop {
+            let look_again = until.min(Instant::now() + ELSEWHERE);
             let ids = tokio::select! {
-                ids = worker.ready.take(&worker.partitions, count, until) => ids,
+                ids = worker.ready.take(&worker.partitions, count, look_again) => ids,
                 _ = gone(stream) => return Err(io::ErrorKind::ConnectionAborted.into()),
                 _ = ending.changed() => Vec::new(),
             };
@@ -130,7 +139,11 @@ impl Holder<'_> {
                 break try_again("this worker drains");
             }
             if ids.is_empty() {
-                break Reply::Array(Vec::new());
+                match worker.elsewhere() {
+                    Some(place) => break Reply::Error(format!("MOVED {place}")),
+                    None if Instant::now() >= until => break Reply::Array(Vec::new()),
+                    None => continue,
+                }
             }
             let given = give(worker, &ids).await;
             // What was ready may be gone from the table: then the holder goes on waiting.
@@ -234,7 +247,7 @@ async fn give(worker: &Worker, ids: &Vec<i64>) -> Reply {
         Ok(rows) => Reply::Array(rows.iter().map(|row| given(worker, row)).collect()),
         Err(error) => try_again(&error.to_string()),
     };
-    worker.partitions.note_asked(ids);
+    worker.partitions.note_asked(ids, answer.map_or(0, |rows| rows.len()));
     reply
 }
 

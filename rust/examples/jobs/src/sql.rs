@@ -2,7 +2,7 @@
 //! that its worker owns: `$1` is the worker's number, and `$2` its terms by partition. Rows that others have locked are
 //! left out, so that nobody waits for them.
 
-/// What waits in some partitions and is due within a horizon, with the clock, the number of workers, the partitions that
+/// What waits in some partitions, is due since a time of each and within a horizon, with the clock, the number of workers, the partitions that
 /// nobody owns and the terms of this worker, so that a worker with nothing to do asks for one thing alone.
 pub const READ: &str = "
 SELECT clock_timestamp(), clock_timestamp() - pg_postmaster_start_time() < interval '3 seconds',
@@ -10,12 +10,14 @@ SELECT clock_timestamp(), clock_timestamp() - pg_postmaster_start_time() < inter
     (SELECT coalesce(array_agg(partition), '{}') FROM jobs_partitions
         WHERE jobs_is_free(owner, until, $5::float8 * interval '1 second')),
     (SELECT array_agg(CASE WHEN owner = $1::bigint THEN term ELSE 0 END ORDER BY partition) FROM jobs_partitions),
+    (SELECT p.partition || ' ' || w.address FROM jobs_workers w JOIN jobs_partitions p ON p.owner = w.worker
+        WHERE w.worker <> $1 AND w.ready > 0 AND w.until > now() ORDER BY w.ready DESC, p.partition LIMIT 1),
     waiting.ids, waiting.dues
 FROM (
     SELECT coalesce(array_agg(j.id), '{}') AS ids, coalesce(array_agg(j.due), '{}') AS dues
-    FROM unnest($2::smallint[]) AS p(partition) CROSS JOIN LATERAL (
+    FROM unnest($2::smallint[], $6::timestamptz[]) AS p(partition, since) CROSS JOIN LATERAL (
         SELECT id, due FROM jobs
-        WHERE state = 'waiting' AND jobs.partition = p.partition
+        WHERE state = 'waiting' AND jobs.partition = p.partition AND due >= p.since
             AND due < now() + $3::float8 * interval '1 second'
         ORDER BY due LIMIT $4::bigint
     ) j
@@ -24,9 +26,9 @@ FROM (
 /// The worker lives, and its terms go on.
 pub const RENEW: &str = "
 WITH living AS (
-    INSERT INTO jobs_workers (worker, name, address, pid, until)
-    VALUES ($1::bigint, $2::text, $3::text, pg_backend_pid(), now() + $4::float8 * interval '1 second')
-    ON CONFLICT (worker) DO UPDATE SET pid = EXCLUDED.pid, until = EXCLUDED.until
+    INSERT INTO jobs_workers (worker, name, address, pid, ready, until)
+    VALUES ($1::bigint, $2::text, $3::text, pg_backend_pid(), $5::int, now() + $4::float8 * interval '1 second')
+    ON CONFLICT (worker) DO UPDATE SET pid = EXCLUDED.pid, ready = EXCLUDED.ready, until = EXCLUDED.until
 )
 UPDATE jobs_partitions SET until = now() + $4::float8 * interval '1 second'
 WHERE partition = ANY (ARRAY(SELECT partition FROM jobs_partitions WHERE owner = $1 FOR NO KEY UPDATE SKIP LOCKED))
@@ -63,11 +65,14 @@ WHERE state = 'running' AND partition = ANY($1::smallint[]) AND ($2::bool OR lea
 pub const LEASES_OF: &str = "
 SELECT id, attempt, lease_until FROM jobs WHERE state = 'running' AND id = ANY($1::bigint[])";
 
-/// Gives jobs out, each with a lease.
+/// Gives jobs out, each with a lease: as many as begin within the first 4 MiB of their payloads.
 pub const TAKE: &str = "
-WITH free AS MATERIALIZED (
-    SELECT id FROM jobs
+WITH sized AS MATERIALIZED (
+    SELECT id, sum(octet_length(payload)) OVER (ORDER BY due, id) - octet_length(payload) AS begins FROM jobs
     WHERE id = ANY($3::bigint[]) AND state = 'waiting' AND due <= now()
+), free AS MATERIALIZED (
+    SELECT id FROM jobs
+    WHERE id = ANY (ARRAY(SELECT id FROM sized WHERE begins < 4194304)) AND state = 'waiting' AND due <= now()
         AND partition = ANY ((SELECT jobs_owned($1, $2))::smallint[])
     FOR NO KEY UPDATE SKIP LOCKED
 )
@@ -102,8 +107,8 @@ WITH free AS MATERIALIZED (
     FOR NO KEY UPDATE SKIP LOCKED
 )
 UPDATE jobs SET attempt = attempt + 1, started = clock_timestamp(), ended = clock_timestamp(), error = $4::text,
-    state = CASE WHEN attempt + 1 >= $5::int THEN 'dead' ELSE 'waiting' END,
-    due = CASE WHEN attempt + 1 >= $5::int THEN due
+    state = CASE WHEN attempt + 1 >= coalesce(attempts, $5::int) THEN 'dead' ELSE 'waiting' END,
+    due = CASE WHEN attempt + 1 >= coalesce(attempts, $5::int) THEN due
         ELSE now() + least(power(2, attempt), 600) * interval '1 second' END
 WHERE id = ANY (ARRAY(SELECT id FROM free))
 RETURNING state";
@@ -135,8 +140,8 @@ WITH free AS MATERIALIZED (
     FOR NO KEY UPDATE OF j SKIP LOCKED
 ), failed AS (
     UPDATE jobs j SET lease_until = NULL, ended = clock_timestamp(), error = free.error,
-        state = CASE WHEN j.attempt >= $6::int THEN 'dead' ELSE 'waiting' END,
-        due = CASE WHEN j.attempt >= $6::int THEN j.due
+        state = CASE WHEN j.attempt >= coalesce(j.attempts, $6::int) THEN 'dead' ELSE 'waiting' END,
+        due = CASE WHEN j.attempt >= coalesce(j.attempts, $6::int) THEN j.due
             ELSE now() + least(power(2, j.attempt - 1), 600) * interval '1 second' END
     FROM free WHERE j.id = free.id
     RETURNING j.id, j.state
@@ -155,7 +160,7 @@ WITH free AS MATERIALIZED (
     FOR NO KEY UPDATE OF j SKIP LOCKED
 )
 UPDATE jobs SET lease_until = NULL, ended = clock_timestamp(), error = 'the lease ended',
-    state = CASE WHEN attempt >= $5::int THEN 'dead' ELSE 'waiting' END
+    state = CASE WHEN attempt >= coalesce(attempts, $5::int) THEN 'dead' ELSE 'waiting' END
 WHERE id = ANY (ARRAY(SELECT id FROM free))
 RETURNING id, state";
 

@@ -43,7 +43,10 @@ pub struct Worker {
     pub address: String,
     /// True from the moment that it ends.
     pub ending: watch::Receiver<bool>,
+    elsewhere: Mutex<Option<String>>,
     handles: Mutex<Vec<Handle>>,
+    /// Whoever writes leases looks at them by it: no connection has it.
+    pub writer: Mutex<Handle>,
     /// Rung when the partitions are to be let go.
     pub is_released: Notify,
     released: AtomicBool,
@@ -53,6 +56,7 @@ impl Worker {
     fn new(options: WorkerOptions, address: String, ending: watch::Receiver<bool>) -> Result<Worker, String> {
         let index = Index::new(WAITING_ROOM + LEASE_ROOM).map_err(|error| format!("no index: {error}"))?;
         let index = Arc::new(index);
+        let writer = Mutex::new(index.handle().ok_or("no handle to write leases by")?);
         let metrics = Arc::new(Metrics::default());
         let database = options.database.named(&format!("jobs-work {}", options.name));
         Ok(Worker {
@@ -67,7 +71,9 @@ impl Worker {
             redirects: Redirects::default(),
             address,
             ending,
+            elsewhere: Mutex::new(None),
             handles: Mutex::new(Vec::new()),
+            writer,
             is_released: Notify::new(),
             released: AtomicBool::new(false),
             options,
@@ -86,6 +92,15 @@ impl Worker {
     fn release(&self) {
         self.released.store(true, SeqCst);
         self.is_released.notify_one();
+    }
+
+    /// A partition and the address of its worker, which has jobs that are ready and wait for holders.
+    pub fn elsewhere(&self) -> Option<String> {
+        self.elsewhere.lock().unwrap_or_else(PoisonError::into_inner).clone()
+    }
+
+    pub fn note_elsewhere(&self, place: Option<String>) {
+        *self.elsewhere.lock().unwrap_or_else(PoisonError::into_inner) = place;
     }
 
     /// A handle of the index, from those that others have put back where there is one.

@@ -18,6 +18,8 @@ CREATE TABLE IF NOT EXISTS jobs_workers (
     address text NOT NULL,
     -- The session that it renews its terms by.
     pid integer NOT NULL,
+    -- How many jobs are ready there and wait for a holder.
+    ready integer NOT NULL,
     until timestamptz NOT NULL
 ) WITH (fillfactor = 50);
 
@@ -72,3 +74,6 @@ BEGIN
     RETURN NULL;
 END
 $$;
+
+-- STEP: after so many attempts this job is dead, whatever its worker says. Where it is null, the worker says it.
+ALTER TABLE jobs ADD COLUMN IF NOT EXISTS attempts integer;
