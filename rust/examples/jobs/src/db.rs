@@ -2,6 +2,7 @@
 //! again after an error, by a growing delay, and told of.
 
 use crate::metrics::Metrics;
+use crate::tls::{Stream, Tls};
 use std::collections::HashMap;
 use std::fmt;
 use std::future::{poll_fn, Future};
@@ -13,7 +14,7 @@ use tokio::task::JoinHandle;
 use tokio::time::timeout;
 use tokio_postgres::error::SqlState;
 use tokio_postgres::types::ToSql;
-use tokio_postgres::{AsyncMessage, Client, Config, Connection, NoTls, Row, Socket, Statement};
+use tokio_postgres::{AsyncMessage, Client, Config, Connection, Row, Socket, Statement};
 
 pub type Param<'p> = &'p (dyn ToSql + Sync);
 
@@ -92,6 +93,7 @@ impl Error {
 #[derive(Clone)]
 pub struct Database {
     pub config: Config,
+    pub tls: Tls,
     /// The schema of the tables, where it isn't the first of the role's search path.
     pub schema: Option<String>,
     /// How long it works at a statement before it gives it up.
@@ -132,6 +134,17 @@ impl Database {
     }
 }
 
+/// What the database says that it is, before it is told anything.
+pub async fn version(database: &Database) -> Result<String, Error> {
+    let limit = database.time_to_open();
+    let ask = async {
+        let (client, connection) = database.config.connect(database.tls.clone()).await?;
+        tokio::spawn(connection);
+        Ok(client.query_one("SELECT version()", &[]).await?.get(0))
+    };
+    timeout(limit, ask).await.unwrap_or(Err(Error::Silent(limit)))
+}
+
 /// A session, with the statements that it has prepared.
 pub struct Session {
     client: Client,
@@ -151,7 +164,7 @@ impl Session {
     ) -> Result<Session, Error> {
         let limit = database.time_to_open();
         let open = async {
-            let (client, connection) = database.config.connect(NoTls).await?;
+            let (client, connection) = database.config.connect(database.tls.clone()).await?;
             let session = Session {
                 client,
                 driver: tokio::spawn(drive(connection, told)),
@@ -216,7 +229,7 @@ impl Session {
     }
 }
 
-async fn drive(mut connection: Connection<Socket, tokio_postgres::tls::NoTlsStream>, told: UnboundedSender<String>) {
+async fn drive(mut connection: Connection<Socket, Stream>, told: UnboundedSender<String>) {
     while let Some(Ok(message)) = poll_fn(|context| connection.poll_message(context)).await {
         if let AsyncMessage::Notification(notification) = message {
             // Nobody listens where the session is about to be closed.

@@ -22,6 +22,7 @@ mod server;
 mod setup;
 mod sql;
 mod status;
+mod tls;
 mod worker;
 
 use options::{Verb, HELP};

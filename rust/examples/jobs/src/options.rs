@@ -1,8 +1,10 @@
 //! The words behind `jobs`.
 
 use crate::db::{Database, CONNECT};
+use crate::tls::{self, Tls};
 use std::net::SocketAddr;
 use std::time::Duration;
+use tokio_postgres::config::TargetSessionAttrs;
 use tokio_postgres::Config;
 
 pub const HELP: &str = "jobs VERB [OPTION..]: delayed jobs and leases in PostgreSQL
@@ -16,6 +18,7 @@ pub const HELP: &str = "jobs VERB [OPTION..]: delayed jobs and leases in Postgre
     --name TEXT              told by `jobs status`, `worker` where none is given
     --lease MS               how long a job is given out without a heartbeat, 10000 where none is given
     --write-every MS         how often heartbeats are written to the table, 2000 where none is given
+    --password-file FILE     its first line is what holders have to say by AUTH before all else
     --clients N              the most holders that are connected, of 1000, 900 where none is given
     --drain MS               how long SIGTERM waits for what is under way, 20000 where none is given; a second SIGTERM
                              doesn't wait
@@ -32,7 +35,9 @@ pub const HELP: &str = "jobs VERB [OPTION..]: delayed jobs and leases in Postgre
     --every MS               how often, 100 where none is given
     --effect SQL             as for a worker
   --database URL           for each: postgres://user@host/name or host=.. user=.. dbname=.., JOBS_DATABASE if not given
-                           with connect_timeout=S where the way to a host may take more than 2 s
+                           with connect_timeout=S where the way to a host may take more than 2 s, several hosts
+                           (host=a,b port=5432,5433) of which the primary is taken, and sslmode=disable, prefer,
+                           require, verify-ca or verify-full with sslrootcert=FILE (or system) as libpq has them
   --schema NAME            the schema of the tables, which setup makes where it is missing; the first of the search
                            path where none is given
   --statement-timeout MS   after so long the database gives up a statement, and a second later the worker its session,
@@ -41,7 +46,7 @@ pub const HELP: &str = "jobs VERB [OPTION..]: delayed jobs and leases in Postgre
   --help                   this text
 
 Holders say JOBS.TAKE [count] [WAIT ms], JOBS.BEAT id attempt, JOBS.DONE id attempt, JOBS.FAIL id attempt [reason].
-It has no passwords and no TLS of its own: keep --listen and --metrics where only those reach them who may.";
+Holders have no TLS: keep --listen and --metrics where only those reach them who may.";
 
 #[derive(Clone)]
 pub struct WorkerOptions {
@@ -54,6 +59,8 @@ pub struct WorkerOptions {
     pub write_every: Duration,
     pub drain: Duration,
     pub clients: usize,
+    /// What holders say by AUTH before all else.
+    pub password: Option<Vec<u8>>,
     pub attempts: i32,
     pub metrics: Option<SocketAddr>,
 }
@@ -130,11 +137,18 @@ impl Given {
         let url = self.text("--database").or_else(|| std::env::var("JOBS_DATABASE").ok());
         let url = url.ok_or("--database or JOBS_DATABASE has to name the database")?;
         // Neither the text nor what the library says of it is shown, since a password may stand in it.
+        let (url, wish) = tls::split(&url)?;
+        let tls = Tls::new(&wish)?;
         let mut config: Config = url.parse().map_err(|_| {
             "--database or JOBS_DATABASE names no database: it is postgres://user@host/name or host=.. user=.. dbname=.."
         })?;
         if config.get_connect_timeout().is_none() {
             config.connect_timeout(CONNECT);
+        }
+        config.ssl_mode(tls.mode);
+        if config.get_hosts().len() > 1 {
+            // One of them is the primary.
+            config.target_session_attrs(TargetSessionAttrs::ReadWrite);
         }
         let schema = self.text("--schema");
         let is_plain = |it: &str| {
@@ -149,6 +163,7 @@ impl Given {
         }
         Ok(Database {
             config,
+            tls,
             schema,
             statement_timeout: self.millis("--statement-timeout", 10_000, 100)?,
             lock_timeout: self.millis("--lock-timeout", 5_000, 100)?,
@@ -203,6 +218,10 @@ fn worker(given: &mut Given) -> Result<WorkerOptions, String> {
         lease: given.millis("--lease", 10_000, 100)?,
         write_every: given.millis("--write-every", 2_000, 10)?,
         clients: given.value("--clients", 900)?,
+        password: match given.text("--password-file") {
+            None => None,
+            Some(path) => Some(password(&path)?),
+        },
         drain: given.millis("--drain", 20_000, 0)?,
         attempts: given.value("--attempts", 5)?,
         metrics: match given.text("--metrics") {
@@ -228,6 +247,16 @@ fn worker(given: &mut Given) -> Result<WorkerOptions, String> {
         return Err("--announce has 1 to 24 plain characters".to_owned());
     }
     Ok(options)
+}
+
+/// The first line of a file.
+fn password(path: &str) -> Result<Vec<u8>, String> {
+    let text = std::fs::read_to_string(path).map_err(|error| format!("{path}: {error}"))?;
+    let line = text.lines().next().unwrap_or_default();
+    if line.is_empty() {
+        return Err(format!("{path} has no password in its first line"));
+    }
+    Ok(line.as_bytes().to_vec())
 }
 
 fn enqueue(count: Option<String>, given: &mut Given) -> Result<EnqueueOptions, String> {

@@ -27,6 +27,8 @@ use tokio_postgres::Row;
 const TOGETHER: usize = 5_000;
 /// How long a client may leave its replies unread.
 const PATIENCE: Duration = Duration::from_secs(15);
+/// How long whoever has guessed a password waits for the next guess.
+const GUESS: Duration = Duration::from_millis(200);
 /// How often a worker looks whether others have jobs while a holder waits for one.
 const ELSEWHERE: Duration = Duration::from_millis(250);
 
@@ -46,7 +48,8 @@ async fn talk(worker: Arc<Worker>, mut stream: TcpStream, seat: Option<OwnedSema
     match seat.and_then(|_seat| Some((Beats::new(&worker)?, _seat))) {
         None => drop(stream.write_all(b"-ERR max number of clients reached\r\n").await),
         Some((beats, _seat)) => {
-            let mut holder = Holder { worker: &worker, beats, input: Input::default(), replies: Vec::new() };
+            let is_known = worker.options.password.is_none();
+            let mut holder = Holder { worker: &worker, beats, is_known, input: Input::default(), replies: Vec::new() };
             // Whoever is gone isn't answered.
             let _ = holder.converse(&mut stream).await;
             holder.beats.put_back(&worker);
@@ -57,6 +60,8 @@ async fn talk(worker: Arc<Worker>, mut stream: TcpStream, seat: Option<OwnedSema
 struct Holder<'w> {
     worker: &'w Worker,
     beats: Beats,
+    /// It has said the password, or there is none.
+    is_known: bool,
     input: Input,
     replies: Vec<u8>,
 }
@@ -107,6 +112,12 @@ impl Holder<'_> {
     /// Answers commands of one kind.
     async fn answer(&mut self, commands: &[Command], stream: &mut TcpStream) -> io::Result<()> {
         match &commands[0] {
+            Command::Auth(_) => self.learn(commands).await,
+            Command::Quit => Reply::Status("OK").write(&mut self.replies),
+            _ if !self.is_known => {
+                let refused = Reply::Error("NOAUTH Authentication required.".to_owned());
+                commands.iter().for_each(|_| refused.write(&mut self.replies));
+            }
             Command::Beat(_) => self.beat(&attempts(commands)).await,
             Command::Done(_) => self.done(&attempts(commands)).await,
             Command::Fail(..) => self.fail(commands).await,
@@ -122,6 +133,23 @@ impl Holder<'_> {
             _ => commands.iter().for_each(|it| simple(it).write(&mut self.replies)),
         }
         Ok(())
+    }
+
+    async fn learn(&mut self, commands: &[Command]) {
+        for command in commands {
+            let reply = match (command, &self.worker.options.password) {
+                (Command::Auth(said), Some(password)) if is_alike(said, password) => {
+                    self.is_known = true;
+                    Reply::Status("OK")
+                }
+                (_, Some(_)) => {
+                    tokio::time::sleep(GUESS).await;
+                    Reply::Error("WRONGPASS invalid username-password pair or user is disabled.".to_owned())
+                }
+                (_, None) => Reply::Error("ERR Client sent AUTH, but no password is set.".to_owned()),
+            };
+            reply.write(&mut self.replies);
+        }
     }
 
     async fn take(&mut self, count: usize, wait: Duration, stream: &TcpStream) -> io::Result<()> {
@@ -232,6 +260,11 @@ impl Holder<'_> {
         }
         ended.values().filter(|it| **it).count() as u64
     }
+}
+
+/// Whether two texts are alike, by a time that tells nothing of where they differ.
+fn is_alike(one: &[u8], other: &[u8]) -> bool {
+    one.len() == other.len() && one.iter().zip(other).fold(0, |sum, (a, b)| sum | (a ^ b)) == 0
 }
 
 fn refuse(worker: &Worker, it: Attempt) -> Reply {

@@ -1,12 +1,14 @@
 //! Makes the tables, and changes those of an older program: step by step, without keeping inserts waiting.
 
-use crate::db::{deaf, tell, Database, Delay, Error as DbError, Session};
+use crate::db::{deaf, tell, version, Database, Delay, Error as DbError, Session};
 use std::error::Error;
 use std::sync::Arc;
 use std::time::{Duration, Instant};
 
 /// What changes the tables of the version before into those of each version.
 const VERSIONS: [&str; 2] = [include_str!("schema/1.sql"), include_str!("schema/2.sql")];
+/// The least version of PostgreSQL that has all that the statements want.
+const LEAST: u32 = 14;
 /// What begins a step.
 const STEP: &str = "\n-- STEP";
 /// How long a step waits for a lock each time: inserts that come meanwhile wait as long.
@@ -17,8 +19,21 @@ const PATIENCE: Duration = Duration::from_secs(60);
 const BEGIN: &str = "CREATE TABLE IF NOT EXISTS jobs_schema (version integer NOT NULL)";
 const VERSION: &str = "SELECT coalesce(max(version), 0) FROM jobs_schema";
 
+/// Refuses what speaks PostgreSQL's protocol and isn't it: its relatives lack what the statements want.
+fn fits(version: &str) -> Result<(), String> {
+    let relative =
+        ["CockroachDB", "-YB-", "Redshift", "Greenplum", "Materialize"].iter().find(|it| version.contains(**it));
+    let number = version.strip_prefix("PostgreSQL ").and_then(|it| it.split(|it: char| !it.is_ascii_digit()).next());
+    let is_known = number.and_then(|it| it.parse().ok()).map_or(false, |it: u32| it >= LEAST);
+    if relative.is_some() || !is_known {
+        return Err(format!("the database has to be PostgreSQL of version {LEAST} or later, and says: {version}"));
+    }
+    Ok(())
+}
+
 /// Makes or changes what `jobs setup` finds.
 pub async fn run(mut database: Database) -> Result<(), Box<dyn Error>> {
+    fits(&version(&database).await?)?;
     // An index over a great table takes its time.
     database.statement_timeout = Duration::from_secs(24 * 3_600);
     database.lock_timeout = LOCK;
@@ -69,16 +84,20 @@ async fn insist(session: &Session, step: &str) -> Result<(), DbError> {
     }
 }
 
+async fn stands(database: &Database) -> Result<Result<i32, String>, DbError> {
+    if let Err(refusal) = fits(&version(database).await?) {
+        return Ok(Err(refusal));
+    }
+    let session = Session::open(database, &Arc::default(), deaf()).await?;
+    Ok(Ok(session.query(VERSION, &[]).await?[0].get(0)))
+}
+
 /// Refuses tables that another version of this program has made. Where there is no database yet, it waits for it.
 pub async fn check(database: &Database) -> Result<(), Box<dyn Error>> {
     let mut delay = Delay::new();
-    let rows = loop {
-        let answer = match Session::open(database, &Arc::default(), deaf()).await {
-            Ok(session) => session.query(VERSION, &[]).await,
-            Err(error) => Err(error),
-        };
-        match answer {
-            Ok(rows) => break rows,
+    let stands = loop {
+        match stands(database).await {
+            Ok(stands) => break stands?,
             Err(error) if error.is_passing() => {
                 tell(format_args!("tried again after {:?}: {error}", delay.wait().await));
             }
@@ -86,9 +105,29 @@ pub async fn check(database: &Database) -> Result<(), Box<dyn Error>> {
             Err(error) => return Err(error.into()),
         }
     };
-    let (stands, wanted): (i32, usize) = (rows[0].get(0), VERSIONS.len());
+    let wanted = VERSIONS.len();
     if stands as usize != wanted {
         return Err(format!("the tables have version {stands}, and this program wants {wanted}: jobs setup").into());
     }
     Ok(())
+}
+
+#[cfg(test)]
+mod tests {
+    use super::*;
+
+    #[test]
+    fn relatives_of_postgresql_are_refused_by_name() {
+        for version in [
+            "CockroachDB CCL v23.1.11 (x86_64-pc-linux-gnu, built 2023/09/27)",
+            "PostgreSQL 15.2-YB-2.25.0.0-b0 on x86_64-pc-linux-gnu",
+            "PostgreSQL 8.0.2 on i686-pc-linux-gnu, compiled by GCC, Redshift 1.0.12103",
+            "PostgreSQL 14.4 (Greenplum Database 8.0.0)",
+            "PostgreSQL 13.14 on x86_64-pc-linux-gnu",
+        ] {
+            assert!(fits(version).unwrap_err().contains(version));
+        }
+        assert_eq!(fits("PostgreSQL 15.18 (Debian 15.18-0+deb12u1) on x86_64-pc-linux-gnu"), Ok(()));
+        assert_eq!(fits("PostgreSQL 18beta1 on x86_64-pc-linux-gnu"), Ok(()));
+    }
 }
