@@ -108,8 +108,8 @@ class Cluster:
     def number(self, text):
         return float(self.sql(text)[0][0])
 
-    def jobs(self, *words, env=None):
-        done = subprocess.run([JOBS, *words, "--database", self.url], capture_output=True, text=True, env=env)
+    def jobs(self, *words, env=None, url=None):
+        done = subprocess.run([JOBS, *words, "--database", url or self.url], capture_output=True, text=True, env=env)
         if done.returncode:
             raise AssertionError(f"jobs {words}: {done.stderr}")
         return done.stdout
@@ -118,9 +118,9 @@ class Cluster:
         self.jobs("setup")
         self.sql("CREATE TABLE IF NOT EXISTS effects (job bigint, at timestamptz DEFAULT clock_timestamp())")
 
-    def spawn(self, *words, env=None, log=None):
+    def spawn(self, *words, env=None, log=None, url=None, within=()):
         out = open(self.room / (log or "workers"), "ab")
-        process = subprocess.Popen([JOBS, *words, "--database", self.url], stdout=out, stderr=out, env=env)
+        process = subprocess.Popen([*within, JOBS, *words, "--database", url or self.url], stdout=out, stderr=out, env=env)
         out.close()
         self.processes.append(process)
         return process
@@ -129,12 +129,11 @@ class Cluster:
         return (self.room / log).read_text()
 
     def owned(self):
-        """How many partitions each session has."""
+        """How many partitions each worker has."""
         return [
             int(it[0])
             for it in self.sql(
-                "SELECT count(*) FROM pg_locks WHERE locktype = 'advisory' AND objsubid = 2 AND objid < 64 AND "
-                "granted GROUP BY pid"
+                "SELECT count(*) FROM jobs_partitions WHERE until > now() GROUP BY owner"
             )
         ]
 

@@ -3,8 +3,10 @@
 Workers of one name, a clock that is wrong, great payloads, a lost lock, a flood of notifications, a table that is full
 at the start, a bad job among good ones, and clients that say nonsense.
 """
+import contextlib
 import glob
 import os
+import resource
 import socket
 import subprocess
 import sys
@@ -168,7 +170,7 @@ def flood(it):
     worker = it.spawn("worker", "--effect", EFFECT)
     it.wait_for_owners(1)
     told = """
-        SELECT pg_notify('jobs', CASE i % 4 WHEN 0 THEN '*' WHEN 1 THEN repeat('x', 7000) || i
+        SELECT pg_notify('jobs_' || 'jobs'::regclass::oid, CASE i % 4 WHEN 0 THEN '*' WHEN 1 THEN repeat('x', 7000) || i
             WHEN 2 THEN (1000000 + i) || ' ' || (extract(epoch FROM clock_timestamp()) * 1000000)::bigint
             ELSE i || ' 99999999999999999999' END)
         FROM generate_series(1, 2000) i;"""
@@ -236,6 +238,137 @@ def selected_effect(it):
     print("hostile: an effect that is a SELECT was had of 100 jobs, by a worker and by a poller", flush=True)
 
 
+def row_without_lease(it):
+    """A running row that nobody has taken is refused; where the table can't refuse it, a worker ends and isn't half."""
+    empty(it)
+    bad = "INSERT INTO jobs (state) VALUES ('running')"
+    for row in (bad, "INSERT INTO jobs (state, lease_until) VALUES ('running', 'infinity')"):
+        try:
+            it.sql(row)
+        except AssertionError as error:
+            assert "jobs_lease_ends" in str(error), error
+        else:
+            raise AssertionError(f"{row} is accepted")
+    it.sql(f"ALTER TABLE jobs DROP CONSTRAINT jobs_lease_ends; {bad}")
+    worker = it.spawn("worker", "--effect", EFFECT)
+    assert worker.wait(30) != 0, "a worker that has lost a task ends"
+    it.sql(
+        "TRUNCATE jobs; ALTER TABLE jobs ADD CONSTRAINT jobs_lease_ends CHECK (state <> 'running' OR lease_until IS "
+        "NOT NULL AND isfinite(lease_until))"
+    )
+    print("hostile: running rows without a lease that ends are refused; a worker that reads one ends", flush=True)
+
+
+def broken_effect(it):
+    """An effect with a slip isn't begun; one whose table is gone for a while makes no job dead, and dead ones come back."""
+    empty(it)
+    it.jobs("enqueue", "200")
+    worker = it.spawn("worker", "--effect", EFFECT.replace("effects", "efects"), "--attempts", "1")
+    assert worker.wait(20) == 1 and "efects" in it.logged(), "an effect that can't be prepared is refused at the start"
+    worker = it.spawn("worker", "--effect", EFFECT, "--attempts", "1")
+    exactly_once(it, 200)
+    it.sql("ALTER TABLE effects RENAME TO gone; TRUNCATE jobs")
+    it.jobs("enqueue", "100")
+    time.sleep(3)
+    assert it.sql("SELECT DISTINCT state, attempt FROM jobs") == [["waiting", "0"]], "no job is at fault"
+    it.sql("ALTER TABLE gone RENAME TO effects; TRUNCATE effects")
+    exactly_once(it, 100)
+    it.sql("UPDATE jobs SET state = 'dead' WHERE id % 2 = 0")
+    assert it.jobs("retry", "all", "--attempts", "1") == "50 dead jobs wait again\n"
+    wait_for(lambda: it.number("SELECT count(*) FROM effects") == 150, 20)
+    assert it.number("SELECT count(*) FROM jobs WHERE state = 'done' AND attempt = 2") == 50
+    end(worker)
+    print("hostile: a slip in an effect costs no job an attempt; 50 dead jobs were brought back by a word", flush=True)
+
+
+def web_page(it):
+    """What a web page can send to an address of this machine isn't done."""
+    empty(it)
+    port = free_port()
+    worker = it.spawn("worker", "--listen", f"127.0.0.1:{port}")
+    it.wait_for_owners(1)
+    it.jobs("enqueue", "10")
+    time.sleep(2)
+    body = b"JOBS.TAKE 10\r\n" + b"".join(b"JOBS.DONE %d 1\r\n" % id for id in range(1, 11))
+    for head in (b"POST / HTTP/1.1\r\n", b"PUT / HTTP/1.1\r\nHost: 127.0.0.1\r\n"):
+        with socket.create_connection(("127.0.0.1", port), timeout=10) as it_sends:
+            it_sends.sendall(head + b"Content-Type: text/plain\r\n\r\n" + body)
+            with contextlib.suppress(ConnectionError):
+                while it_sends.recv(1000):
+                    pass
+    assert it.sql("SELECT DISTINCT state, attempt FROM jobs") == [["waiting", "0"]], "a web page did jobs"
+    end(worker)
+    print("hostile: what a web page may send did none of 10 jobs", flush=True)
+
+
+def silent_clients(it):
+    """More silent connections than a worker has places: leases are written all the same."""
+    empty(it)
+    soft, hard = resource.getrlimit(resource.RLIMIT_NOFILE)
+    resource.setrlimit(resource.RLIMIT_NOFILE, (min(4096, hard), hard))
+    port = free_port()
+    worker = it.spawn("worker", "--listen", f"127.0.0.1:{port}", "--lease", "6000", "--write-every", "1000")
+    it.wait_for_owners(1)
+    it.jobs("enqueue", "20")
+    holder = Holder([f"127.0.0.1:{port}"])
+    jobs = holder.take(20)
+    before = it.number("SELECT extract(epoch FROM min(lease_until)) FROM jobs")
+    silent = [socket.create_connection(("127.0.0.1", port)) for _ in range(1100)]
+    holder.beat_for(jobs, 4, 0.5)
+    later = it.number("SELECT extract(epoch FROM min(lease_until)) FROM jobs")
+    assert later > before + 2, f"leases are written for {later - before:.1f} s more"
+    refused = Connection(f"127.0.0.1:{port}").reply()
+    assert refused == "ERR max number of clients reached", refused
+    for it_is in silent:
+        it_is.close()
+    end(worker)
+    resource.setrlimit(resource.RLIMIT_NOFILE, (soft, hard))
+    print("hostile: beside 1,100 silent connections, of which some were refused, 20 leases went on", flush=True)
+
+
+def jobs_elsewhere(it):
+    """Two workers, and a holder that asks one alone: it is sent to the other, and all jobs are given out."""
+    empty(it)
+    ports = [free_port() for _ in range(2)]
+    workers = [it.spawn("worker", "--listen", f"127.0.0.1:{port}") for port in ports]
+    it.wait_for_owners(2)
+    it.jobs("enqueue", "100")
+    address, given, moved = f"127.0.0.1:{ports[0]}", set(), 0
+    until = time.monotonic() + 20
+    while len(given) < 100:
+        assert time.monotonic() < until, f"{len(given)} of 100 jobs were given"
+        reply = Connection(address).call("JOBS.TAKE", 10, "WAIT", 2000)
+        if isinstance(reply, Refusal):
+            assert reply.startswith("MOVED "), reply
+            address = reply.split()[2]
+            moved += 1
+        else:
+            given.update(job[0] for job in reply)
+    end(*workers)
+    print(f"hostile: a holder that asked one of two workers was sent on {moved} times, and had 100 of 100 jobs", flush=True)
+
+
+def great_payloads(it):
+    """Ten holders take 100 jobs of a mebibyte each: the worker gives them out a piece at a time."""
+    empty(it)
+    port = free_port()
+    worker = it.spawn("worker", "--listen", f"127.0.0.1:{port}", "--lease", "60000")
+    it.wait_for_owners(1)
+    it.sql(
+        "INSERT INTO jobs (payload) SELECT repeat(md5(i::text), 32768) FROM generate_series(1, 300) i"
+    )
+    time.sleep(2)
+    asks = [Connection(f"127.0.0.1:{port}") for _ in range(10)]
+    for it_asks in asks:
+        it_asks.socket.sendall(b"JOBS.TAKE 100\r\n")
+    counts = [len(it_asks.reply()) for it_asks in asks]
+    assert 1 <= max(counts) <= 5, counts
+    most = memory(worker)
+    assert most < 400, f"{most:.0f} MiB"
+    end(worker)
+    print(f"hostile: ten holders asked for 100 jobs of a mebibyte: {counts} were given, by {most:.0f} MiB", flush=True)
+
+
 def memory(process):
     """The most memory that a process had, in MiB."""
     with open(f"/proc/{process.pid}/status") as it:
@@ -285,7 +418,7 @@ def full_table(it, count):
 
 def main(quick):
     with cluster() as it:
-        for case in [one_name, wrong_clock, great_payload, lost_lock, flood, bad_job, selected_effect]:
+        for case in [one_name, wrong_clock, great_payload, lost_lock, flood, bad_job, selected_effect, row_without_lease, broken_effect, web_page, silent_clients, jobs_elsewhere, great_payloads]:
             case(it)
         full_table(it, 100_000 if quick else 1_000_000)
 

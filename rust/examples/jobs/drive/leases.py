@@ -49,8 +49,8 @@ class Workers:
     def owners(self):
         """The number of the worker that owns each partition."""
         rows = self.it.sql(
-            "SELECT objid, split_part(application_name, ' ', 2) FROM pg_locks JOIN pg_stat_activity USING (pid) "
-            "WHERE locktype = 'advisory' AND objsubid = 2 AND objid < 64 AND granted"
+            "SELECT partition, address FROM jobs_partitions p JOIN jobs_workers w ON w.worker = p.owner "
+            "WHERE p.until > now()"
         )
         return {int(partition): self.addresses.index(address) for partition, address in rows}
 

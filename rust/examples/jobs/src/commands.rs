@@ -29,7 +29,11 @@ pub enum Command {
     Ping,
     /// What clients ask of a server of the protocol before they begin.
     Commands,
+    /// A password, with which a holder begins where the worker wants one.
+    Auth(Vec<u8>),
     Quit,
+    /// What a web page's request begins with, and what follows in it: no client of this protocol sends them.
+    Attack,
     Refused(String),
 }
 
@@ -46,7 +50,10 @@ impl Command {
             b"JOBS.FAIL" => attempt(args, 3).map(|it| Command::Fail(it, reason(args.get(2)))),
             b"PING" => Some(Command::Ping),
             b"COMMAND" => Some(Command::Commands),
+            // Clients may name a user before it, as Redis has them.
+            b"AUTH" if (1..=2).contains(&args.len()) => args.last().cloned().map(Command::Auth),
             b"QUIT" => Some(Command::Quit),
+            b"POST" | b"HOST:" => Some(Command::Attack),
             _ => return Command::Refused(format!("ERR there is no command {}", shown(&name))),
         };
         command.unwrap_or_else(|| Command::Refused(format!("ERR wrong arguments of {}", shown(&name))))

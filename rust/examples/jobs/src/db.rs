@@ -1,20 +1,156 @@
-//! Sessions with the database: opened again after an error, by a growing delay, and told of.
+//! Sessions with the database: each statement has a limit of time, after which its session is given up; they are opened
+//! again after an error, by a growing delay, and told of.
 
 use crate::metrics::Metrics;
+use crate::tls::{Stream, Tls};
 use std::collections::HashMap;
+use std::fmt;
 use std::future::{poll_fn, Future};
-use std::sync::atomic::{AtomicBool, Ordering::SeqCst};
+use std::sync::atomic::{AtomicBool, AtomicUsize, Ordering::SeqCst};
 use std::sync::{Arc, Mutex, PoisonError};
 use std::time::Duration;
 use tokio::sync::mpsc::{unbounded_channel, UnboundedReceiver, UnboundedSender};
+use tokio::task::JoinHandle;
+use tokio::time::timeout;
+use tokio_postgres::error::SqlState;
 use tokio_postgres::types::ToSql;
-use tokio_postgres::{AsyncMessage, Client, Config, Connection, Error, NoTls, Row, Socket, Statement};
+use tokio_postgres::{AsyncMessage, Client, Config, Connection, Row, Socket, Statement};
 
 pub type Param<'p> = &'p (dyn ToSql + Sync);
+
+/// How long the way to a host may take, where the URL doesn't say it by connect_timeout.
+pub const CONNECT: Duration = Duration::from_secs(2);
+/// How much longer than the database a worker waits for the end of a statement.
+const SLACK: Duration = Duration::from_secs(1);
+/// How long the database leaves what it sends unacknowledged before it ends a session, and with it what it has locked.
+const UNACKNOWLEDGED: Duration = Duration::from_secs(5);
+
+/// Why a statement has no answer.
+#[derive(Debug)]
+pub enum Error {
+    /// The database refused it, or couldn't be reached.
+    Database(tokio_postgres::Error),
+    /// The database was silent for so long. Whether the statement was run isn't known.
+    Silent(Duration),
+}
+
+impl From<tokio_postgres::Error> for Error {
+    fn from(error: tokio_postgres::Error) -> Error {
+        Error::Database(error)
+    }
+}
+
+impl fmt::Display for Error {
+    fn fmt(&self, f: &mut fmt::Formatter<'_>) -> fmt::Result {
+        match self {
+            Error::Silent(limit) => write!(f, "the database didn't answer within {limit:?}"),
+            Error::Database(error) => match (error.as_db_error(), std::error::Error::source(error)) {
+                (Some(db), _) => write!(f, "{} ({})", db.message(), db.code().code()),
+                (None, Some(source)) => write!(f, "{error}: {source}"),
+                (None, None) => write!(f, "{error}"),
+            },
+        }
+    }
+}
+
+impl std::error::Error for Error {}
+
+impl Error {
+    pub fn code(&self) -> Option<&SqlState> {
+        match self {
+            Error::Database(error) => error.code(),
+            Error::Silent(_) => None,
+        }
+    }
+
+    fn is_of(&self, classes: &[&str]) -> bool {
+        self.code().map_or(false, |it| classes.contains(&&it.code()[..2]))
+    }
+
+    /// Whether the same statement may be right in a moment.
+    pub fn is_passing(&self) -> bool {
+        // Connections, resources, operators, serialization failures and deadlocks, and locks that others hold.
+        let passing = |code: &SqlState| {
+            self.is_of(&["08", "53", "57", "58", "40"])
+                || [SqlState::LOCK_NOT_AVAILABLE, SqlState::READ_ONLY_SQL_TRANSACTION].contains(code)
+        };
+        self.code().map_or(true, passing)
+    }
+
+    /// Whether a limit of time or of resources ended it: of an effect, it may be one job that wants too much.
+    pub fn is_limit(&self) -> bool {
+        self.is_of(&["53"])
+            || matches!(self.code(), Some(code) if [SqlState::QUERY_CANCELED, SqlState::LOCK_NOT_AVAILABLE].contains(code))
+    }
+
+    /// Whether the database can't run the statement whatever its parameters: a table that is missing, say.
+    pub fn is_of_statement(&self) -> bool {
+        self.is_of(&["42"])
+    }
+}
+
+/// Where the database is, and what each session with it is told.
+#[derive(Clone)]
+pub struct Database {
+    pub config: Config,
+    pub tls: Tls,
+    /// The schema of the tables, where it isn't the first of the role's search path.
+    pub schema: Option<String>,
+    /// How long it works at a statement before it gives it up.
+    pub statement_timeout: Duration,
+    /// How long a statement waits for a lock that another session holds.
+    pub lock_timeout: Duration,
+}
+
+impl Database {
+    /// The same, by sessions of a name.
+    pub fn named(&self, name: &str) -> Database {
+        let mut named = self.clone();
+        named.config.application_name(name);
+        named
+    }
+
+    /// How long a new session may take: each host of the URL has its turn.
+    fn time_to_open(&self) -> Duration {
+        let hosts = self.config.get_hosts().len().max(1) as u32;
+        self.config.get_connect_timeout().copied().unwrap_or(CONNECT) * hosts + CONNECT
+    }
+
+    fn settings(&self) -> String {
+        let path = match &self.schema {
+            None => String::new(),
+            Some(schema) => format!(
+                "SELECT set_config('search_path', concat_ws(',', '{schema}', \
+                 nullif(current_setting('search_path'), '')), false);"
+            ),
+        };
+        format!(
+            "SET statement_timeout = {}; SET lock_timeout = {}; SET tcp_user_timeout = {}; \
+             SET tcp_keepalives_idle = 10; SET tcp_keepalives_interval = 5; SET tcp_keepalives_count = 3; {path}",
+            self.statement_timeout.as_millis(),
+            self.lock_timeout.as_millis(),
+            UNACKNOWLEDGED.as_millis(),
+        )
+    }
+}
+
+/// What the database says that it is, before it is told anything.
+pub async fn version(database: &Database) -> Result<String, Error> {
+    let limit = database.time_to_open();
+    let ask = async {
+        let (client, connection) = database.config.connect(database.tls.clone()).await?;
+        tokio::spawn(connection);
+        Ok(client.query_one("SELECT version()", &[]).await?.get(0))
+    };
+    timeout(limit, ask).await.unwrap_or(Err(Error::Silent(limit)))
+}
 
 /// A session, with the statements that it has prepared.
 pub struct Session {
     client: Client,
+    driver: JoinHandle<()>,
+    limit: Duration,
+    is_given_up: AtomicBool,
     prepared: Mutex<HashMap<String, Statement>>,
     metrics: Arc<Metrics>,
 }
@@ -22,29 +158,63 @@ pub struct Session {
 impl Session {
     /// Opens a session. What the database notifies it of is sent to `told`.
     pub async fn open(
-        config: &Config,
+        database: &Database,
         metrics: &Arc<Metrics>,
         told: UnboundedSender<String>,
     ) -> Result<Session, Error> {
-        let (client, connection) = config.connect(NoTls).await?;
-        tokio::spawn(drive(connection, told));
-        Ok(Session { client, prepared: Mutex::new(HashMap::new()), metrics: metrics.clone() })
+        let limit = database.time_to_open();
+        let open = async {
+            let (client, connection) = database.config.connect(database.tls.clone()).await?;
+            let session = Session {
+                client,
+                driver: tokio::spawn(drive(connection, told)),
+                limit: database.statement_timeout + SLACK,
+                is_given_up: AtomicBool::new(false),
+                prepared: Mutex::new(HashMap::new()),
+                metrics: metrics.clone(),
+            };
+            session.batch(&database.settings()).await?;
+            Ok(session)
+        };
+        timeout(limit, open).await.unwrap_or(Err(Error::Silent(limit)))
+    }
+
+    /// An answer within the limit. Whoever else waits for this session is told that it is closed after it.
+    async fn limited<T>(&self, answer: impl Future<Output = Result<T, tokio_postgres::Error>>) -> Result<T, Error> {
+        self.metrics.statements.add(1);
+        match timeout(self.limit, answer).await {
+            Ok(answer) => answer.map_err(|error| {
+                let error = Error::from(error);
+                // A primary that has become a standby: another host of the URL may be the primary.
+                if error.code() == Some(&SqlState::READ_ONLY_SQL_TRANSACTION) {
+                    self.give_up();
+                }
+                error
+            }),
+            Err(_) => {
+                self.give_up();
+                Err(Error::Silent(self.limit))
+            }
+        }
+    }
+
+    fn give_up(&self) {
+        self.is_given_up.store(true, SeqCst);
+        self.driver.abort();
     }
 
     pub async fn query(&self, sql: &str, params: &[Param<'_>]) -> Result<Vec<Row>, Error> {
         let statement = self.prepare(sql).await?;
-        self.metrics.statements.add(1);
-        self.client.query(&statement, params).await
+        self.limited(self.client.query(&statement, params)).await
     }
 
-    /// Statements that give no rows, one behind another.
+    /// Statements that give no rows, one after another.
     pub async fn batch(&self, sql: &str) -> Result<(), Error> {
-        self.metrics.statements.add(1);
-        self.client.batch_execute(sql).await
+        self.limited(self.client.batch_execute(sql)).await
     }
 
     pub fn is_closed(&self) -> bool {
-        self.client.is_closed()
+        self.is_given_up.load(SeqCst) || self.client.is_closed()
     }
 
     async fn prepare(&self, sql: &str) -> Result<Statement, Error> {
@@ -52,14 +222,14 @@ impl Session {
         if let Some(statement) = known {
             return Ok(statement);
         }
-        let statement = self.client.prepare(sql).await?;
+        let statement = self.limited(self.client.prepare(sql)).await?;
         let mut prepared = self.prepared.lock().unwrap_or_else(PoisonError::into_inner);
         prepared.insert(sql.to_owned(), statement.clone());
         Ok(statement)
     }
 }
 
-async fn drive(mut connection: Connection<Socket, tokio_postgres::tls::NoTlsStream>, told: UnboundedSender<String>) {
+async fn drive(mut connection: Connection<Socket, Stream>, told: UnboundedSender<String>) {
     while let Some(Ok(message)) = poll_fn(|context| connection.poll_message(context)).await {
         if let AsyncMessage::Notification(notification) = message {
             // Nobody listens where the session is about to be closed.
@@ -75,26 +245,6 @@ pub fn deaf() -> UnboundedSender<String> {
 
 /// What the database notifies a session of.
 pub type Told = UnboundedReceiver<String>;
-
-/// Whether an error passes: the same statement may be right in a moment.
-pub fn is_passing(error: &Error) -> bool {
-    match error.code() {
-        // Connections, resources, operators, serialization failures and deadlocks.
-        Some(code) => ["08", "53", "57", "58", "40"].contains(&&code.code()[..2]),
-        None => true,
-    }
-}
-
-/// What an error says, with what the database adds to it.
-pub fn reason(error: &Error) -> String {
-    match error.as_db_error() {
-        Some(db) => format!("{} ({})", db.message(), db.code().code()),
-        None => match std::error::Error::source(error) {
-            Some(source) => format!("{error}: {source}"),
-            None => error.to_string(),
-        },
-    }
-}
 
 /// A delay that doubles up to a second.
 pub struct Delay(Duration);
@@ -118,18 +268,18 @@ pub fn tell(text: std::fmt::Arguments<'_>) {
 
 /// Some sessions that are opened when they are needed, and again when they are lost.
 pub struct Links {
-    config: Config,
+    database: Database,
     metrics: Arc<Metrics>,
     seats: Vec<tokio::sync::Mutex<Option<Arc<Session>>>>,
-    next: std::sync::atomic::AtomicUsize,
+    next: AtomicUsize,
     /// No error is waited for any more.
     is_ending: AtomicBool,
 }
 
 impl Links {
-    pub fn new(config: Config, metrics: Arc<Metrics>, count: usize) -> Links {
+    pub fn new(database: Database, metrics: Arc<Metrics>, count: usize) -> Links {
         let seats = (0..count).map(|_| tokio::sync::Mutex::new(None)).collect();
-        Links { config, metrics, seats, next: Default::default(), is_ending: AtomicBool::new(false) }
+        Links { database, metrics, seats, next: AtomicUsize::new(0), is_ending: AtomicBool::new(false) }
     }
 
     pub fn count(&self) -> usize {
@@ -147,7 +297,7 @@ impl Links {
         if let Some(session) = seat.as_ref().filter(|it| !it.is_closed()) {
             return Ok(session.clone());
         }
-        let session = Arc::new(Session::open(&self.config, &self.metrics, deaf()).await?);
+        let session = Arc::new(Session::open(&self.database, &self.metrics, deaf()).await?);
         *seat = Some(session.clone());
         Ok(session)
     }
@@ -171,24 +321,29 @@ impl Links {
 
     /// Tries again until the statement is prepared, or refused by an error that doesn't pass.
     pub async fn insist_to_prepare(&self, sql: &str) -> Result<(), Error> {
-        self.until_it_passes(|| self.prepare(sql)).await
+        self.until(Error::is_passing, || self.prepare(sql)).await
     }
 
     /// Tries again until the answer is rows or an error that doesn't pass. The statement must bear to be run twice.
     pub async fn insist(&self, sql: &str, params: &[Param<'_>]) -> Result<Vec<Row>, Error> {
-        self.until_it_passes(|| self.query(sql, params)).await
+        self.until(Error::is_passing, || self.query(sql, params)).await
     }
 
-    async fn until_it_passes<T, F>(&self, mut ask: impl FnMut() -> F) -> Result<T, Error>
+    /// As `insist`, of an effect: that it was too much for the database is an answer.
+    pub async fn insist_on_effect(&self, sql: &str, params: &[Param<'_>]) -> Result<Vec<Row>, Error> {
+        self.until(|error| error.is_passing() && !error.is_limit(), || self.query(sql, params)).await
+    }
+
+    async fn until<T, F>(&self, passes: impl Fn(&Error) -> bool, mut ask: impl FnMut() -> F) -> Result<T, Error>
     where
         F: Future<Output = Result<T, Error>>,
     {
         let mut delay = Delay::new();
         loop {
             match ask().await {
-                Err(error) if is_passing(&error) && !self.is_ending.load(SeqCst) => {
+                Err(error) if passes(&error) && !self.is_ending.load(SeqCst) => {
                     let waited = delay.wait().await;
-                    tell(format_args!("tried again after {waited:?}: {}", reason(&error)));
+                    tell(format_args!("tried again after {waited:?}: {error}"));
                 }
                 answer => return answer,
             }

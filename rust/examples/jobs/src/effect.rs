@@ -1,17 +1,20 @@
 //! Jobs that the worker does itself: a job is taken, its effect had, and the job done by one statement.
 
-use crate::db::{is_passing, reason, tell, Links};
+use crate::db::{tell, Error, Links};
 use crate::sql;
 use crate::worker::Worker;
 use std::sync::Arc;
-use std::time::SystemTime;
+use std::time::{Duration, SystemTime};
 use tokio::sync::mpsc::UnboundedReceiver;
 use tokio::sync::{OwnedSemaphorePermit, Semaphore};
+use tokio::time::sleep;
 use tokio_postgres::error::SqlState;
-use tokio_postgres::{Error, Row};
+use tokio_postgres::Row;
 
 /// The most jobs of a statement.
 const BATCH: usize = 500;
+/// How long a session rests where the database can't run the effect.
+const UNFIT: Duration = Duration::from_millis(50);
 
 /// The statement that begins so, takes jobs and has this effect of them.
 pub async fn statement(links: &Links, begin: &str, effect: &str) -> Result<String, Error> {
@@ -57,24 +60,48 @@ pub async fn run(worker: Arc<Worker>, statement: Arc<str>, mut jobs: UnboundedRe
 
 async fn batch_of(worker: Arc<Worker>, statement: Arc<str>, mut ids: Vec<i64>, _permit: OwnedSemaphorePermit) {
     ids.sort_unstable();
-    match worker.links.insist(&statement, &[&ids]).await {
-        Ok(rows) => note(&worker, &rows, ids.len()),
-        Err(error) if is_passing(&error) => {}
-        Err(_) if ids.len() > 1 => one_by_one(&worker, &statement, &ids).await,
-        Err(error) => fail(&worker, ids[0], &error).await,
-    }
-    worker.partitions.note_asked(&ids);
+    let had = match ask(&worker, &statement, &ids).await {
+        // One of them is bad or slow, and doesn't keep the others.
+        Err(error) if ids.len() > 1 && is_answer(&error) => {
+            let mut had = 0;
+            for id in &ids {
+                let one = vec![*id];
+                had += settle(&worker, &one, ask(&worker, &statement, &one).await).await;
+            }
+            had
+        }
+        answer => settle(&worker, &ids, answer).await,
+    };
+    worker.partitions.note_asked(&ids, had);
 }
 
-/// One of them is bad, and doesn't keep the others.
-async fn one_by_one(worker: &Worker, statement: &str, ids: &[i64]) {
-    for id in ids {
-        match worker.links.insist(statement, &[&vec![*id]]).await {
-            Ok(rows) => note(worker, &rows, 1),
-            Err(error) if is_passing(&error) => return,
-            Err(error) => fail(worker, *id, &error).await,
+async fn ask(worker: &Worker, statement: &str, ids: &Vec<i64>) -> Result<Vec<Row>, Error> {
+    let terms = worker.partitions.terms();
+    worker.links.insist_on_effect(statement, &[&worker.number, &terms, ids]).await
+}
+
+/// Whether an error says something of the effect. Otherwise the worker ends while the database doesn't answer.
+fn is_answer(error: &Error) -> bool {
+    error.is_limit() || !error.is_passing()
+}
+
+/// Tells how many jobs are done.
+async fn settle(worker: &Worker, ids: &[i64], answer: Result<Vec<Row>, Error>) -> usize {
+    match answer {
+        Ok(rows) => {
+            note(worker, &rows, ids.len());
+            return rows.len();
         }
+        Err(error) if error.is_of_statement() => {
+            // No job is at fault where the database can't run the statement: it may be right again in a moment.
+            tell(format_args!("the effect can't be had, and its jobs wait: {error}"));
+            worker.metrics.database_errors.add(1);
+            sleep(UNFIT).await;
+        }
+        Err(error) if is_answer(&error) => fail(worker, ids[0], &error).await,
+        Err(_) => {}
     }
+    0
 }
 
 fn note(worker: &Worker, rows: &[Row], asked: usize) {
@@ -95,12 +122,19 @@ pub fn note_lateness(worker: &Worker, started: SystemTime, due: SystemTime, atte
 }
 
 async fn fail(worker: &Worker, id: i64, error: &Error) {
-    let reason = reason(error);
+    let reason = error.to_string();
     tell(format_args!("job {id} failed: {reason}"));
     worker.metrics.failed.add(1);
-    match worker.links.insist(sql::FAIL_WAITING, &[&id, &reason, &worker.options.attempts]).await {
+    match worker
+        .links
+        .insist(
+            sql::FAIL_WAITING,
+            &[&worker.number, &worker.partitions.terms(), &id, &reason, &worker.options.attempts],
+        )
+        .await
+    {
         Ok(rows) if rows.iter().any(|row| row.get::<_, &str>(0) == "dead") => worker.metrics.dead.add(1),
         Ok(_) => {}
-        Err(error) => tell(format_args!("the failure of job {id} isn't written: {}", self::reason(&error))),
+        Err(error) => tell(format_args!("the failure of job {id} isn't written: {error}")),
     }
 }

@@ -1,17 +1,20 @@
 //! Leases that have ended: their jobs are given out again, or are dead after the last attempt.
 
-use crate::db::{reason, tell};
+use crate::db::tell;
+use crate::index::partition_of;
 use crate::partitions::Running;
 use crate::sql;
 use crate::worker::Worker;
 use std::collections::HashSet;
 use std::sync::Arc;
-use std::time::SystemTime;
+use std::time::{Duration, SystemTime};
 use tokio::sync::mpsc::UnboundedReceiver;
 use tokio_postgres::Row;
 
 /// The most leases of a statement.
 const BATCH: usize = 2_000;
+/// How long a lease is left alone whose row is locked.
+const LOCKED: Duration = Duration::from_millis(300);
 
 /// Gives back what comes out of the index, until the keeper has ended.
 pub async fn run(worker: Arc<Worker>, mut ended: UnboundedReceiver<Vec<(i64, i32)>>) {
@@ -31,10 +34,20 @@ pub async fn run(worker: Arc<Worker>, mut ended: UnboundedReceiver<Vec<(i64, i32
 
 async fn expire(worker: &Worker, leases: &[(i64, i32)]) {
     let (ids, attempts): (Vec<i64>, Vec<i32>) = leases.iter().copied().unzip();
-    let rows = match worker.links.insist(sql::EXPIRE, &[&ids, &attempts, &worker.options.attempts]).await {
+    let rows = match worker
+        .links
+        .insist(sql::EXPIRE, &[&worker.number, &worker.partitions.terms(), &ids, &attempts, &worker.options.attempts])
+        .await
+    {
         Ok(rows) => rows,
-        // The owner looks for leases that have ended in the table, too.
-        Err(error) => return tell(format_args!("leases that have ended aren't written: {}", reason(&error))),
+        Err(error) => {
+            tell(format_args!("leases that have ended aren't written: {error}"));
+            // The owner looks for leases that have ended in the table, too, and takes up those that aren't held here.
+            for (id, attempt) in leases {
+                worker.partitions.end(*id, *attempt, false);
+            }
+            return;
+        }
     };
     let (mut again, mut dead) = (HashSet::new(), 0);
     for row in &rows {
@@ -45,7 +58,12 @@ async fn expire(worker: &Worker, leases: &[(i64, i32)]) {
     }
     worker.metrics.expired.add(rows.len() as u64);
     worker.metrics.dead.add(dead);
-    let is_again = |lease: &&(i64, i32)| worker.partitions.end(lease.0, lease.1, again.contains(&lease.0));
+    // A worker that does its jobs itself finds them by its next reading.
+    let is_given = worker.options.effect.is_none();
+    let is_again = |lease: &&(i64, i32)| worker.partitions.end(lease.0, lease.1, is_given && again.contains(&lease.0));
+    if !is_given {
+        again.iter().for_each(|id| worker.partitions.read_whole(partition_of(*id)));
+    }
     let ready: Vec<i64> = leases.iter().filter(is_again).map(|lease| lease.0).collect();
     worker.ready.push(ready);
     if rows.len() < leases.len() {
@@ -53,17 +71,24 @@ async fn expire(worker: &Worker, leases: &[(i64, i32)]) {
     }
 }
 
-/// Leases that the table doesn't have as this worker did: those that stand there are taken over.
+/// Leases that the table doesn't have as this worker did: those that stand there are taken over. What has ended and
+/// couldn't be written, since another has locked the row, is looked at again a moment later.
 pub async fn adopt(worker: &Worker, ids: &[i64]) {
+    let later = worker.clock.now() + LOCKED.as_millis() as u64;
     match worker.links.insist(sql::LEASES_OF, &[&ids]).await {
-        Ok(rows) => rows.iter().for_each(|row| drop(worker.partitions.note_running(&running(row)))),
-        Err(error) => tell(format_args!("leases aren't read: {}", reason(&error))),
+        Ok(rows) => rows.iter().for_each(|row| worker.partitions.note_running(&running(row), later)),
+        Err(error) => tell(format_args!("leases aren't read: {error}")),
     }
 }
 
 /// A row of the statements that read leases.
 pub fn running(row: &Row) -> Running {
     Running { id: row.get(0), attempt: row.get(1), lease_until: micros(row.get(2)) }
+}
+
+/// The time so many microseconds after 1970 began.
+pub fn time(micros: u64) -> SystemTime {
+    SystemTime::UNIX_EPOCH + Duration::from_micros(micros)
 }
 
 /// The microseconds since 1970.

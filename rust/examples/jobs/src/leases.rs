@@ -1,14 +1,15 @@
 //! The leases of holders: extended in memory without a lock, and written to the table from time to time.
 
-use crate::db::{reason, tell};
+use crate::db::{tell, Error};
+use crate::expiry::time;
 use crate::index::{partition_of, Handle};
-use crate::partitions::{Lease, Standing};
+use crate::partitions::Lease;
 use crate::sql;
 use crate::worker::Worker;
-use std::collections::HashMap;
+use std::collections::{HashMap, HashSet};
 use std::sync::atomic::Ordering::SeqCst;
-use std::sync::Arc;
-use std::time::{Duration, Instant, SystemTime};
+use std::sync::{Arc, PoisonError};
+use std::time::{Instant, SystemTime};
 
 /// The most leases of a statement.
 const BATCH: usize = 10_000;
@@ -18,7 +19,7 @@ const REMEMBERED: usize = 100_000;
 /// What a holder is told.
 #[derive(Clone, Copy, Debug, PartialEq, Eq)]
 pub enum Beat {
-    /// Its lease holds for so many milliseconds from now on.
+    /// Its lease stands in the table for so many milliseconds from now on, whatever becomes of this worker.
     Extended(i64),
     /// It isn't known here, and may stand in the table.
     Unknown,
@@ -28,6 +29,8 @@ pub enum Beat {
     Foreign,
     /// It is extended in memory, but this worker can't know whether it still owns the partition.
     Doubtful,
+    /// It is extended in memory, but what the table has of it is over: the row couldn't be written.
+    Unwritten,
 }
 
 /// Extends leases for one connection. A lease that it knows is extended without a lock.
@@ -51,39 +54,43 @@ impl Beats {
         let until = worker.clock.now() + worker.options.lease.as_millis() as u64;
         if let Some(lease) = self.known.get(&id) {
             if lease.attempt == attempt {
-                if let Ok(until) = self.handle.extend(&lease.key, until) {
-                    return answered(worker, until);
+                if self.handle.extend(&lease.key, until).is_ok() {
+                    return extended(worker, lease);
                 }
             }
             self.known.remove(&id);
         }
         let lease = match worker.partitions.lease(id) {
             Some(lease) => lease,
-            None if worker.partitions.standing(partition_of(id)) == Standing::Owned => return Beat::Unknown,
+            None if worker.partitions.term(partition_of(id)).is_some() => return Beat::Unknown,
             None => return Beat::Foreign,
         };
         if lease.attempt != attempt {
             return Beat::Fenced;
         }
         match self.handle.extend(&lease.key, until) {
-            Ok(until) => {
+            Ok(_) => {
                 if self.known.len() >= REMEMBERED {
                     self.known.clear();
                 }
+                let beat = extended(worker, &lease);
                 self.known.insert(id, lease);
-                answered(worker, until)
+                beat
             }
             Err(_) => Beat::Fenced,
         }
     }
 }
 
-fn answered(worker: &Worker, until: u64) -> Beat {
+/// What a holder is told whose lease goes on in memory: what the table has of it, which no crash undoes.
+fn extended(worker: &Worker, lease: &Lease) -> Beat {
     worker.metrics.beats.add(1);
-    if worker.is_confirmed() {
-        Beat::Extended(until.saturating_sub(worker.clock.now()) as i64)
-    } else {
-        Beat::Doubtful
+    if !worker.partitions.is_surely_owned(partition_of(lease.id), worker.clock.uptime()) {
+        return Beat::Doubtful;
+    }
+    match worker.clock.left_until(lease.written.load(SeqCst)) {
+        left if left > 0 => Beat::Extended(left),
+        _ => Beat::Unwritten,
     }
 }
 
@@ -93,45 +100,38 @@ pub async fn write_on(worker: Arc<Worker>) {
     interval.set_missed_tick_behavior(tokio::time::MissedTickBehavior::Delay);
     while !worker.is_ending() {
         interval.tick().await;
-        write(&worker).await;
+        write(&worker, &worker.partitions.owned()).await;
     }
 }
 
-/// Writes the leases that were extended since they were written last.
-pub async fn write(worker: &Worker) {
-    let mut handle = match worker.handle() {
-        Some(handle) => handle,
-        None => return tell(format_args!("no handle is left to write leases by")),
-    };
+/// Writes the leases of some partitions that were extended since they were written last.
+pub async fn write(worker: &Worker, partitions: &[usize]) {
     let begun = Instant::now();
-    let mut unwritten = worker.partitions.unwritten(&mut handle);
-    worker.put_back(handle);
+    let mut unwritten = {
+        let mut handle = worker.writer.lock().unwrap_or_else(PoisonError::into_inner);
+        worker.partitions.unwritten(partitions, &mut handle)
+    };
     unwritten.sort_unstable_by_key(|(lease, _)| lease.id);
     for piece in unwritten.chunks(BATCH) {
-        if !write_some(worker, piece).await {
-            return;
+        if let Err(error) = write_some(worker, piece).await {
+            tell(format_args!("leases aren't written: {error}"));
+            break;
         }
     }
     worker.metrics.lease_write_micros.set(begun.elapsed().as_micros() as u64);
 }
 
-async fn write_some(worker: &Worker, leases: &[(Arc<Lease>, u64)]) -> bool {
+/// Leases that aren't written, since others have locked their rows, are tried again at the next interval.
+async fn write_some(worker: &Worker, leases: &[(Arc<Lease>, u64)]) -> Result<(), Error> {
     let ids: Vec<i64> = leases.iter().map(|(lease, _)| lease.id).collect();
     let attempts: Vec<i32> = leases.iter().map(|(lease, _)| lease.attempt).collect();
-    let untils: Vec<SystemTime> = leases.iter().map(|(_, until)| time(*until)).collect();
-    match worker.links.query(sql::WRITE_LEASES, &[&ids, &attempts, &untils]).await {
-        Ok(_) => {
-            worker.metrics.leases_written.add(leases.len() as u64);
-            leases.iter().for_each(|(lease, until)| lease.written.store(*until, SeqCst));
-            true
-        }
-        Err(error) => {
-            tell(format_args!("leases aren't written: {}", reason(&error)));
-            false
-        }
+    let untils: Vec<SystemTime> = leases.iter().map(|(_, until)| time(*until * 1_000)).collect();
+    let terms = worker.partitions.terms();
+    let rows = worker.links.query(sql::WRITE_LEASES, &[&worker.number, &terms, &ids, &attempts, &untils]).await?;
+    worker.metrics.leases_written.add(rows.len() as u64);
+    let written: HashSet<i64> = rows.iter().map(|row| row.get(0)).collect();
+    for (lease, until) in leases.iter().filter(|it| written.contains(&it.0.id)) {
+        lease.written.store(*until, SeqCst);
     }
-}
-
-fn time(tick: u64) -> SystemTime {
-    SystemTime::UNIX_EPOCH + Duration::from_millis(tick)
+    Ok(())
 }

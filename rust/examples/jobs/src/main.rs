@@ -16,26 +16,18 @@ mod poller;
 mod ready;
 mod redirect;
 mod resp;
+mod retry;
 mod scrape;
 mod server;
+mod setup;
 mod sql;
 mod status;
+mod tls;
 mod worker;
 
 use options::{Verb, HELP};
 use std::error::Error;
 use std::process::ExitCode;
-
-const SCHEMA: &str = include_str!("schema.sql");
-
-async fn setup(config: &tokio_postgres::Config) -> Result<(), Box<dyn Error>> {
-    let client = enqueue::connect(config).await?;
-    // Two that set up at a time wait for each other.
-    let text = format!("BEGIN; SELECT pg_advisory_xact_lock({}, 65); {SCHEMA}; COMMIT;", sql::LOCKS);
-    client.batch_execute(&text).await.map_err(|error| db::reason(&error))?;
-    println!("the table jobs stands, with its indexes and its trigger");
-    Ok(())
-}
 
 async fn run(verb: Verb) -> Result<(), Box<dyn Error>> {
     match verb {
@@ -43,10 +35,11 @@ async fn run(verb: Verb) -> Result<(), Box<dyn Error>> {
             println!("{HELP}");
             Ok(())
         }
-        Verb::Setup(config) => setup(&config).await,
+        Verb::Setup(database) => setup::run(database).await,
         Verb::Worker(options) => worker::run(*options).await,
         Verb::Enqueue(options) => enqueue::run(&options).await,
-        Verb::Status(config) => status::run(&config).await,
+        Verb::Status(database) => status::run(&database).await,
+        Verb::Retry(options) => retry::run(&options).await,
         Verb::Poller(options) => poller::run(&options).await,
     }
 }
@@ -67,7 +60,10 @@ fn main() -> ExitCode {
             return ExitCode::FAILURE;
         }
     };
-    match runtime.block_on(run(verb)) {
+    let ended = runtime.block_on(run(verb));
+    // Nobody waits for what a drain has left.
+    runtime.shutdown_background();
+    match ended {
         Ok(()) => ExitCode::SUCCESS,
         Err(error) => {
             eprintln!("jobs: {error}");

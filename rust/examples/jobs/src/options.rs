@@ -1,7 +1,10 @@
 //! The words behind `jobs`.
 
+use crate::db::{Database, CONNECT};
+use crate::tls::{self, Tls};
 use std::net::SocketAddr;
 use std::time::Duration;
+use tokio_postgres::config::TargetSessionAttrs;
 use tokio_postgres::Config;
 
 pub const HELP: &str = "jobs VERB [OPTION..]: delayed jobs and leases in PostgreSQL
@@ -15,6 +18,10 @@ pub const HELP: &str = "jobs VERB [OPTION..]: delayed jobs and leases in Postgre
     --name TEXT              told by `jobs status`, `worker` where none is given
     --lease MS               how long a job is given out without a heartbeat, 10000 where none is given
     --write-every MS         how often heartbeats are written to the table, 2000 where none is given
+    --password-file FILE     its first line is what holders have to say by AUTH before all else
+    --clients N              the most holders that are connected, of 1000, 900 where none is given
+    --drain MS               how long SIGTERM waits for what is under way, 20000 where none is given; a second SIGTERM
+                             doesn't wait
     --attempts N             after so many attempts a job is dead, 5 where none is given
     --metrics IP:PORT        numbers for Prometheus, at /metrics
   jobs enqueue N           enqueues N jobs
@@ -22,48 +29,70 @@ pub const HELP: &str = "jobs VERB [OPTION..]: delayed jobs and leases in Postgre
     --spread MS              and each up to so much later, 0 where none is given
     --payload TEXT           what they carry
   jobs status              tells partitions and their owners, jobs by their state, and how late they were
+  jobs retry ID,ID..|all   has dead jobs wait again
+    --attempts N             how many attempts more each has, 5 where none is given
   jobs poller              what people do without an index: the same table, asked again and again by SKIP LOCKED
     --every MS               how often, 100 where none is given
     --effect SQL             as for a worker
   --database URL           for each: postgres://user@host/name or host=.. user=.. dbname=.., JOBS_DATABASE if not given
+                           with connect_timeout=S where the way to a host may take more than 2 s, several hosts
+                           (host=a,b port=5432,5433) of which the primary is taken, and sslmode=disable, prefer,
+                           require, verify-ca or verify-full with sslrootcert=FILE (or system) as libpq has them
+  --schema NAME            the schema of the tables, which setup makes where it is missing; the first of the search
+                           path where none is given
+  --statement-timeout MS   after so long the database gives up a statement, and a second later the worker its session,
+                           10000 where none is given
+  --lock-timeout MS        how long a statement waits for what another session has locked, 5000 where none is given
   --help                   this text
 
 Holders say JOBS.TAKE [count] [WAIT ms], JOBS.BEAT id attempt, JOBS.DONE id attempt, JOBS.FAIL id attempt [reason].
-It has no passwords and no TLS of its own: keep --listen and --metrics where only those reach them who may.";
+Holders have no TLS: keep --listen and --metrics where only those reach them who may.";
 
 #[derive(Clone)]
 pub struct WorkerOptions {
-    pub config: Config,
+    pub database: Database,
     pub listen: SocketAddr,
     pub announce: Option<String>,
     pub effect: Option<String>,
     pub name: String,
     pub lease: Duration,
     pub write_every: Duration,
+    pub drain: Duration,
+    pub clients: usize,
+    /// What holders say by AUTH before all else.
+    pub password: Option<Vec<u8>>,
     pub attempts: i32,
     pub metrics: Option<SocketAddr>,
 }
 
 pub struct EnqueueOptions {
-    pub config: Config,
+    pub database: Database,
     pub count: u64,
     pub delay: Duration,
     pub spread: Duration,
     pub payload: String,
 }
 
+pub struct RetryOptions {
+    pub database: Database,
+    /// All that are dead where none are given.
+    pub ids: Option<Vec<i64>>,
+    pub attempts: i32,
+}
+
 pub struct PollerOptions {
-    pub config: Config,
+    pub database: Database,
     pub every: Duration,
     pub effect: String,
 }
 
 pub enum Verb {
     Help,
-    Setup(Config),
+    Setup(Database),
     Worker(Box<WorkerOptions>),
     Enqueue(EnqueueOptions),
-    Status(Config),
+    Status(Database),
+    Retry(RetryOptions),
     Poller(PollerOptions),
 }
 
@@ -104,12 +133,41 @@ impl Given {
         Err(format!("{millis} is nothing for {name}: it is {least} to 31536000000 milliseconds"))
     }
 
-    fn database(&mut self) -> Result<Config, String> {
+    fn database(&mut self) -> Result<Database, String> {
         let url = self.text("--database").or_else(|| std::env::var("JOBS_DATABASE").ok());
         let url = url.ok_or("--database or JOBS_DATABASE has to name the database")?;
-        let mut config: Config = url.parse().map_err(|error| format!("{url} names no database: {error}"))?;
-        config.connect_timeout(Duration::from_secs(5));
-        Ok(config)
+        // Neither the text nor what the library says of it is shown, since a password may stand in it.
+        let (url, wish) = tls::split(&url)?;
+        let tls = Tls::new(&wish)?;
+        let mut config: Config = url.parse().map_err(|_| {
+            "--database or JOBS_DATABASE names no database: it is postgres://user@host/name or host=.. user=.. dbname=.."
+        })?;
+        if config.get_connect_timeout().is_none() {
+            config.connect_timeout(CONNECT);
+        }
+        config.ssl_mode(tls.mode);
+        if config.get_hosts().len() > 1 {
+            // One of them is the primary.
+            config.target_session_attrs(TargetSessionAttrs::ReadWrite);
+        }
+        let schema = self.text("--schema");
+        let is_plain = |it: &str| {
+            it.len() <= 40
+                && it.starts_with(|it: char| it.is_ascii_lowercase() || it == '_')
+                && it.bytes().all(|it| it.is_ascii_lowercase() || it.is_ascii_digit() || it == b'_')
+        };
+        if schema.as_deref().map_or(false, |it| !is_plain(it)) {
+            return Err(
+                "--schema has 1 to 40 small letters, digits and _, and begins with none of the digits".to_owned()
+            );
+        }
+        Ok(Database {
+            config,
+            tls,
+            schema,
+            statement_timeout: self.millis("--statement-timeout", 10_000, 100)?,
+            lock_timeout: self.millis("--lock-timeout", 5_000, 100)?,
+        })
     }
 
     fn end(self) -> Result<(), String> {
@@ -127,7 +185,7 @@ pub fn verb(words: impl Iterator<Item = String>) -> Result<Verb, String> {
     if ["--help", "-h", "help"].contains(&&verb[..]) {
         return Ok(Verb::Help);
     }
-    let count = if verb == "enqueue" { words.next() } else { None };
+    let count = if ["enqueue", "retry"].contains(&&verb[..]) { words.next() } else { None };
     let rest: Vec<String> = words.collect();
     if rest.iter().any(|it| it == "--help") {
         return Ok(Verb::Help);
@@ -138,8 +196,9 @@ pub fn verb(words: impl Iterator<Item = String>) -> Result<Verb, String> {
         "status" => Verb::Status(given.database()?),
         "worker" => Verb::Worker(Box::new(worker(&mut given)?)),
         "enqueue" => Verb::Enqueue(enqueue(count, &mut given)?),
+        "retry" => Verb::Retry(retry(count, &mut given)?),
         "poller" => Verb::Poller(PollerOptions {
-            config: given.database()?,
+            database: given.database()?,
             every: given.millis("--every", 100, 1)?,
             effect: given.text("--effect").unwrap_or_else(|| "SELECT".to_owned()),
         }),
@@ -151,19 +210,32 @@ pub fn verb(words: impl Iterator<Item = String>) -> Result<Verb, String> {
 
 fn worker(given: &mut Given) -> Result<WorkerOptions, String> {
     let options = WorkerOptions {
-        config: given.database()?,
+        database: given.database()?,
         listen: given.value("--listen", SocketAddr::from(([127, 0, 0, 1], 6500)))?,
         announce: given.text("--announce"),
         effect: given.text("--effect"),
         name: given.value("--name", "worker".to_owned())?,
         lease: given.millis("--lease", 10_000, 100)?,
         write_every: given.millis("--write-every", 2_000, 10)?,
+        clients: given.value("--clients", 900)?,
+        password: match given.text("--password-file") {
+            None => None,
+            Some(path) => Some(password(&path)?),
+        },
+        drain: given.millis("--drain", 20_000, 0)?,
         attempts: given.value("--attempts", 5)?,
         metrics: match given.text("--metrics") {
             None => None,
             Some(text) => Some(text.parse().map_err(|_| format!("{text} is no address for --metrics"))?),
         },
     };
+    if !(1..=1_000).contains(&options.clients) {
+        return Err("--clients is 1 to 1000".to_owned());
+    }
+    // A lease that ends before it is written could never be extended.
+    if options.lease < 2 * options.write_every {
+        return Err("--lease is twice --write-every at least".to_owned());
+    }
     if options.attempts < 1 {
         return Err("--attempts is 1 at least".to_owned());
     }
@@ -177,14 +249,38 @@ fn worker(given: &mut Given) -> Result<WorkerOptions, String> {
     Ok(options)
 }
 
+/// The first line of a file.
+fn password(path: &str) -> Result<Vec<u8>, String> {
+    let text = std::fs::read_to_string(path).map_err(|error| format!("{path}: {error}"))?;
+    let line = text.lines().next().unwrap_or_default();
+    if line.is_empty() {
+        return Err(format!("{path} has no password in its first line"));
+    }
+    Ok(line.as_bytes().to_vec())
+}
+
 fn enqueue(count: Option<String>, given: &mut Given) -> Result<EnqueueOptions, String> {
     let count = count.ok_or("jobs enqueue wants a number of jobs")?;
     Ok(EnqueueOptions {
-        config: given.database()?,
+        database: given.database()?,
         count: count.parse().map_err(|_| format!("{count} is no number of jobs"))?,
         delay: given.millis("--delay", 0, 0)?,
         spread: given.millis("--spread", 0, 0)?,
         payload: given.text("--payload").unwrap_or_default(),
+    })
+}
+
+fn retry(ids: Option<String>, given: &mut Given) -> Result<RetryOptions, String> {
+    let ids = ids.ok_or("jobs retry wants the ids of dead jobs, or all")?;
+    let id = |it: &str| it.parse::<i64>().map_err(|_| format!("{it} is no id of a job"));
+    let attempts = given.value("--attempts", 5)?;
+    if attempts < 1 {
+        return Err("--attempts is 1 at least".to_owned());
+    }
+    Ok(RetryOptions {
+        database: given.database()?,
+        ids: if ids == "all" { None } else { Some(ids.split(',').map(id).collect::<Result<_, _>>()?) },
+        attempts,
     })
 }
 
@@ -205,9 +301,13 @@ mod tests {
             ("worker --database host=x --color red", "--color"),
             ("worker --database host=x --listen nowhere", "nowhere"),
             ("worker --database host=x --attempts 0", "--attempts"),
+            ("worker --database host=x --lease 1000", "--write-every"),
+            ("worker --database host=x --clients 1001", "--clients"),
             ("enqueue many --database host=x", "many"),
             ("enqueue 5 --database", "--database"),
             ("status status", "status"),
+            ("retry some --database host=x", "some"),
+            ("retry all --database host=x --attempts 0", "--attempts"),
         ] {
             assert!(refusal(line).contains(word), "{line}: {}", refusal(line));
         }

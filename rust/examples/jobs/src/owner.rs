@@ -1,30 +1,43 @@
-//! The session that owns partitions: it takes locks up to a fair share, reads what is due soon, and is told the rest.
+//! Which partitions a worker owns, by rows of the table: it renews its terms, takes partitions up to a fair share, reads
+//! what is due soon, and is told the rest.
 
 use crate::clock::tick_before;
-use crate::db::{reason, tell, Delay, Session, Told};
-use crate::expiry::{micros, running};
+use crate::db::{tell, Delay, Error, Param, Session, Told};
+use crate::expiry::{micros, running, time};
 use crate::index::PARTITIONS;
-use crate::partitions::{Running, Standing, WAITING_ROOM};
+use crate::partitions::{Running, WAITING_ROOM};
 use crate::sql;
 use crate::worker::Worker;
-use std::collections::HashSet;
 use std::sync::Arc;
 use std::time::{Duration, Instant, SystemTime};
 use tokio::sync::mpsc::unbounded_channel;
-use tokio_postgres::Error;
+use tokio::time::timeout;
+use tokio_postgres::Row;
 
-/// How long a session may be silent before the database ends it, and lets go its locks.
-pub const SILENCE: Duration = Duration::from_secs(5);
+/// How long a worker owns a partition without a word of it, as long as its session stands.
+const TERM: Duration = Duration::from_secs(5);
+/// How long it owns one after its last word at least, also where its session has ended.
+const SURE: Duration = Duration::from_millis(1_500);
+/// How often it gives a word.
+const RENEW_EVERY: Duration = Duration::from_millis(700);
+/// By how much sooner a worker takes a term to be over, since its clock may be slower than the database's.
+const DRIFT: Duration = Duration::from_millis(50);
+/// The most that a statement of the owner's session may take, so that there is time for another before a term is over.
+const STATEMENT: Duration = Duration::from_secs(2);
 /// How often the table is read.
 const READ_EVERY: Duration = Duration::from_millis(400);
 /// The least time from one reading to the next, however many notifications ask for one.
 const READ_AFTER: Duration = Duration::from_millis(20);
+/// Every how many readings a partition is read whole.
+const WHOLE: usize = 24;
 /// What is due within it is held in memory.
 const HORIZON: Duration = Duration::from_secs(2);
 /// How often the table is searched for leases that have ended and that no worker knows.
 const SEARCH_EVERY: Duration = Duration::from_secs(10);
 /// How long one who has lost a session leaves what is free to others, who may have lost theirs by the same outage.
 const MODESTY: Duration = Duration::from_secs(3);
+/// How long partitions that are let go wait for the write of their leases.
+const LAST_WRITE: Duration = Duration::from_secs(1);
 
 /// Owns partitions by one session after another, until the worker ends.
 pub async fn run(worker: Arc<Worker>) {
@@ -38,36 +51,42 @@ pub async fn run(worker: Arc<Worker>) {
         };
         modesty = MODESTY;
         worker.metrics.database_errors.add(1);
-        worker.doubt();
-        worker.partitions.all(Standing::Owned).into_iter().for_each(|it| worker.partitions.doubt(it));
-        worker.metrics.partitions.set(0);
-        if begun.elapsed() > SILENCE {
+        if begun.elapsed() > TERM {
             delay = Delay::new();
         }
         let waited = delay.wait().await;
-        tell(format_args!("owns nothing, and tries again after {waited:?}: {}", reason(&error)));
+        tell(format_args!("can't renew its terms, and tries again after {waited:?}: {error}"));
     }
 }
 
 /// Owns partitions by one session, which takes no others at first.
 async fn own(worker: &Worker, modesty: Duration) -> Result<(), Error> {
     let (sender, mut told) = unbounded_channel();
-    let mut config = worker.options.config.clone();
-    config.application_name(&format!("jobs {} {}", worker.address, worker.options.name));
-    let session = Session::open(&config, &worker.metrics, sender).await?;
-    session.batch(&format!("SET idle_session_timeout = {}; LISTEN jobs", SILENCE.as_millis())).await?;
-    session.query(sql::BE_PRESENT, &[&sql::LOCKS]).await?;
+    let mut database = worker.options.database.named(&format!("jobs {} {}", worker.address, worker.options.name));
+    database.statement_timeout = database.statement_timeout.min(STATEMENT);
+    database.lock_timeout = database.lock_timeout.min(STATEMENT);
+    let session = Session::open(&database, &worker.metrics, sender).await?;
+    let table: i64 = session.query("SELECT 'jobs'::regclass::oid::bigint", &[]).await?[0].get(0);
+    session.batch(&format!("LISTEN jobs_{table}")).await?;
     let modest_until = Instant::now() + modesty;
-    let mut owner = Owner { worker, session, modest_until, searched: Instant::now(), has_more: false };
-    owner.take_again().await?;
+    let mut owner = Owner {
+        worker,
+        session,
+        modest_until,
+        renewed: None,
+        searched: Instant::now(),
+        has_more: false,
+        readings: 0,
+        most: WAITING_ROOM,
+    };
     loop {
         let read_at = Instant::now();
+        owner.renew().await?;
         owner.read().await?;
         owner.search().await?;
         owner.wait(&mut told, read_at).await;
         if worker.released() {
-            // The locks go with the session.
-            return Ok(());
+            return owner.leave().await;
         }
     }
 }
@@ -76,61 +95,119 @@ struct Owner<'w> {
     worker: &'w Worker,
     session: Session,
     modest_until: Instant,
+    renewed: Option<Instant>,
     searched: Instant,
     /// It has just got partitions that it hasn't read.
     has_more: bool,
+    readings: usize,
+    /// The most jobs of a partition that it reads at a time: fewer where the database was too slow.
+    most: usize,
 }
 
 impl Owner<'_> {
-    /// Takes the partitions again that it had before its last session was lost, and forgets those that others have now.
-    async fn take_again(&mut self) -> Result<(), Error> {
-        let had = self.worker.partitions.all(Standing::Doubtful);
-        let taken: HashSet<usize> = self.lock(&had).await?.into_iter().collect();
-        had.into_iter().filter(|it| !taken.contains(it)).for_each(|it| self.worker.partitions.lose(it));
+    /// Says that this worker lives, and that its terms go on.
+    async fn renew(&mut self) -> Result<(), Error> {
+        if self.renewed.map_or(false, |it| it.elapsed() < RENEW_EVERY) {
+            return Ok(());
+        }
+        let worker = self.worker;
+        let (term, sent) = (TERM.as_secs_f64(), worker.clock.uptime());
+        let ready = worker.ready.count() as i32;
+        let params: [Param<'_>; 5] = [&worker.number, &worker.options.name, &worker.address, &term, &ready];
+        for row in self.session.query(sql::RENEW, &params).await? {
+            // The database counted from a moment after it was asked.
+            worker.partitions.renew(partition(&row), row.get(1), sent + SURE - DRIFT);
+        }
+        self.renewed = Some(Instant::now());
         Ok(())
     }
 
-    /// Takes those of some partitions that are free, with the leases that stand in the table.
-    async fn lock(&mut self, partitions: &[usize]) -> Result<Vec<usize>, Error> {
-        let wanted: Vec<i32> = partitions.iter().map(|it| *it as i32).collect();
-        let rows = self.session.query(sql::LOCK, &[&sql::LOCKS, &wanted]).await?;
-        let taken: Vec<usize> = rows.iter().map(|row| row.get::<_, i32>(0) as usize).collect();
-        if !taken.is_empty() {
-            let rows = self.leases(&taken, true).await?;
-            taken.iter().for_each(|it| self.worker.partitions.own(*it, &rows));
-            self.has_more = true;
+    /// Takes those of some partitions that are free.
+    async fn take(&mut self, partitions: &[usize]) -> Result<(), Error> {
+        let (wanted, sent) = (numbers(partitions), self.worker.clock.uptime());
+        let params: [Param<'_>; 4] = [&self.worker.number, &wanted, &TERM.as_secs_f64(), &left_over()];
+        let rows = self.session.query(sql::TAKE_PARTITIONS, &params).await?;
+        let taken: Vec<(usize, i64)> = rows.iter().map(|row| (partition(row), row.get(1))).collect();
+        self.begin(&taken).await?;
+        for (partition, term) in taken {
+            self.worker.partitions.renew(partition, term, sent + SURE - DRIFT);
         }
-        Ok(taken)
+        Ok(())
+    }
+
+    /// Holds partitions by their terms, with the leases that stand in the table.
+    async fn begin(&mut self, terms: &[(usize, i64)]) -> Result<(), Error> {
+        if terms.is_empty() {
+            return Ok(());
+        }
+        let partitions: Vec<usize> = terms.iter().map(|it| it.0).collect();
+        let leases = self.leases(&partitions, true).await?;
+        terms.iter().for_each(|(partition, term)| self.worker.partitions.own(*partition, *term, &leases));
+        self.has_more = true;
+        Ok(())
     }
 
     async fn leases(&self, partitions: &[usize], all: bool) -> Result<Vec<Running>, Error> {
-        let partitions: Vec<i16> = partitions.iter().map(|it| *it as i16).collect();
-        let rows = self.session.query(sql::LEASES, &[&partitions, &all]).await?;
+        let rows = self.session.query(sql::LEASES, &[&numbers(partitions), &all]).await?;
         Ok(rows.iter().map(running).collect())
     }
 
     /// Reads what is due soon, and comes closer to its fair share.
     async fn read(&mut self) -> Result<(), Error> {
         let worker = self.worker;
-        let partitions: Vec<i16> = worker.partitions.with_room().into_iter().map(|it| it as i16).collect();
-        let (horizon, most) = (HORIZON.as_secs_f64(), WAITING_ROOM as i64);
-        let sent = worker.clock.uptime();
-        let rows = self.session.query(sql::READ, &[&partitions, &horizon, &most, &sql::LOCKS]).await?;
-        worker.clock.note(micros(rows[0].get(0)));
-        worker.confirm(sent);
-        let (ids, dues): (Vec<i64>, Vec<SystemTime>) = (rows[0].get(4), rows[0].get(5));
-        ids.iter().zip(dues).for_each(|(id, due)| worker.partitions.note_waiting(*id, micros(due)));
+        // Each partition is read whole from time to time: nothing depends on a notification.
+        self.readings += 1;
+        (0..PARTITIONS)
+            .filter(|it| it % WHOLE == self.readings % WHOLE)
+            .for_each(|it| worker.partitions.read_whole(it));
+        let (asked, since) = worker.partitions.to_read();
+        let partitions = numbers(&asked);
+        let since: Vec<SystemTime> = since.into_iter().map(|it| time(it as u64)).collect();
+        let (horizon, most, sent) = (HORIZON.as_secs_f64(), self.most as i64, worker.clock.uptime());
+        let params: [Param<'_>; 6] = [&worker.number, &partitions, &horizon, &most, &left_over(), &since];
+        let answer = self.session.query(sql::READ, &params).await;
+        let rows = match answer {
+            Err(error) if error.is_limit() && self.most > 1 => {
+                self.most /= 4;
+                asked.iter().for_each(|it| worker.partitions.read_whole(*it));
+                return Ok(());
+            }
+            answer => answer?,
+        };
+        self.most = (self.most * 2).min(WAITING_ROOM);
+        let now = micros(rows[0].get(0));
+        worker.clock.note(sent, now);
+        let (ids, dues): (Vec<i64>, Vec<SystemTime>) = (rows[0].get(6), rows[0].get(7));
+        let jobs: Vec<(i64, i64)> = ids.into_iter().zip(dues.into_iter().map(micros)).collect();
+        worker.partitions.note_read(&asked, &jobs, now);
+        worker.note_elsewhere(rows[0].get(5));
         let (waiting, leases) = worker.partitions.counts();
         worker.metrics.indexed.set(waiting as u64);
         worker.metrics.leases.set(leases as u64);
-        let (is_new, workers, locked): (bool, i64, Vec<i32>) = (rows[0].get(1), rows[0].get(2), rows[0].get(3));
-        self.balance(is_new, workers.max(1) as usize, &locked).await
+        self.agree(&rows[0].get::<_, Vec<i64>>(4)).await?;
+        let (is_new, workers, free): (bool, i64, Vec<i16>) = (rows[0].get(1), rows[0].get(2), rows[0].get(3));
+        self.balance(is_new, workers.max(1) as usize, free).await
+    }
+
+    /// Comes to the terms that the table has: what others have taken is lost, and what was taken by a statement whose
+    /// answer was lost is begun.
+    async fn agree(&mut self, terms: &[i64]) -> Result<(), Error> {
+        let mut begun = Vec::new();
+        for (partition, term) in terms.iter().enumerate() {
+            match self.worker.partitions.term(partition) {
+                Some(known) if known == *term => {}
+                None if *term == 0 => {}
+                _ if *term == 0 => self.worker.partitions.lose(partition),
+                _ => begun.push((partition, *term)),
+            }
+        }
+        self.begin(&begun).await
     }
 
     /// Lets go what is above its share, and takes what is free below it. Where the database has just started, what is
     /// free is left to those who had it before.
-    async fn balance(&mut self, is_new: bool, workers: usize, locked: &[i32]) -> Result<(), Error> {
-        let mut owned = self.worker.partitions.all(Standing::Owned);
+    async fn balance(&mut self, is_new: bool, workers: usize, free: Vec<i16>) -> Result<(), Error> {
+        let mut owned = self.worker.partitions.owned();
         let share = fair_share(workers);
         if self.worker.is_ending() {
             return Ok(());
@@ -139,26 +216,32 @@ impl Owner<'_> {
             let given: Vec<usize> = owned.split_off(share);
             self.let_go(&given).await?;
         } else if owned.len() < share && !is_new && Instant::now() > self.modest_until {
-            let mut free: Vec<usize> = (0..PARTITIONS).filter(|it| !locked.contains(&(*it as i32))).collect();
+            let mut free: Vec<usize> = free.iter().map(|it| *it as usize).filter(|it| !owned.contains(it)).collect();
             // Two workers that look at the same moment begin at other places.
             let start = tick_before(self.worker.clock.micros()) as usize % free.len().max(1);
             free.rotate_left(start);
             free.truncate(share - owned.len());
             if !free.is_empty() {
-                self.lock(&free).await?;
+                self.take(&free).await?;
             }
         }
-        let owned = self.worker.partitions.all(Standing::Owned).len() as u64;
-        self.worker.metrics.partitions.set(owned);
+        self.worker.metrics.partitions.set(self.worker.partitions.owned().len() as u64);
         Ok(())
     }
 
-    /// Lets go partitions. Their leases are written before.
+    /// Lets go partitions. Their leases are written before, as far as that is soon done: no holder was told more than
+    /// the table has.
     async fn let_go(&mut self, partitions: &[usize]) -> Result<(), Error> {
-        crate::leases::write(self.worker).await;
-        let numbers: Vec<i32> = partitions.iter().map(|it| *it as i32).collect();
+        let _ = timeout(LAST_WRITE, crate::leases::write(self.worker, partitions)).await;
         partitions.iter().for_each(|it| self.worker.partitions.lose(*it));
-        self.session.query(sql::UNLOCK, &[&sql::LOCKS, &numbers]).await?;
+        self.session.query(sql::LET_GO, &[&self.worker.number, &numbers(partitions)]).await?;
+        Ok(())
+    }
+
+    /// The worker ends.
+    async fn leave(&mut self) -> Result<(), Error> {
+        self.let_go(&self.worker.partitions.owned()).await?;
+        self.session.query(sql::LEAVE, &[&self.worker.number]).await?;
         Ok(())
     }
 
@@ -166,8 +249,8 @@ impl Owner<'_> {
     async fn search(&mut self) -> Result<(), Error> {
         if self.searched.elapsed() > SEARCH_EVERY {
             self.searched = Instant::now();
-            let ended = self.leases(&self.worker.partitions.all(Standing::Owned), false).await?;
-            ended.iter().for_each(|it| drop(self.worker.partitions.note_running(it)));
+            let ended = self.leases(&self.worker.partitions.owned(), false).await?;
+            ended.iter().for_each(|it| self.worker.partitions.note_running(it, 0));
         }
         Ok(())
     }
@@ -193,6 +276,8 @@ impl Owner<'_> {
     /// Files the jobs of a notification. False where it asks to read the table.
     fn file(&self, notice: &str) -> bool {
         if notice == "*" {
+            // They may have been due for long.
+            (0..PARTITIONS).for_each(|it| self.worker.partitions.read_whole(it));
             return false;
         }
         let soon = self.worker.clock.micros() + HORIZON.as_micros() as i64;
@@ -213,4 +298,17 @@ impl Owner<'_> {
 /// The most partitions that one of so many workers has.
 fn fair_share(workers: usize) -> usize {
     (PARTITIONS + workers - 1) / workers
+}
+
+/// The seconds that are left of a term when its owner was silent for long enough.
+fn left_over() -> f64 {
+    (TERM - SURE).as_secs_f64()
+}
+
+fn partition(row: &Row) -> usize {
+    row.get::<_, i16>(0) as usize
+}
+
+fn numbers(partitions: &[usize]) -> Vec<i16> {
+    partitions.iter().map(|it| *it as i16).collect()
 }

@@ -1,15 +1,19 @@
 //! What a worker holds of each partition: which jobs stand in its index, which are out, and which leases it keeps.
 
-use crate::clock::{tick_after, Tick};
+use crate::clock::{tick_after, tick_before, Tick};
 use crate::index::{deadline, partition_of, Due, Handle, Index, Key, PARTITIONS};
-use std::collections::{HashMap, HashSet};
+use std::collections::HashMap;
 use std::sync::atomic::{AtomicU64, Ordering::SeqCst};
 use std::sync::{Arc, Mutex, MutexGuard, PoisonError};
+use std::time::Duration;
 
 /// The most jobs that wait in memory of a partition; the others wait in the table until there is room.
 pub const WAITING_ROOM: usize = 2_048;
 /// The most leases of a partition that are given out.
 pub const LEASE_ROOM: usize = 4_096;
+/// How long a transaction may be open that enqueues a job which is due already, in microseconds, for the next reading to
+/// find it: later ones are told by a notification, or found by the next reading of the whole partition.
+const LATE: i64 = 2_000_000;
 
 /// A lease of an attempt, whose deadline in force stands in the index.
 pub struct Lease {
@@ -40,20 +44,17 @@ enum Held {
     Running(Arc<Lease>),
 }
 
-/// Whose a partition is.
-#[derive(Clone, Copy, Debug, PartialEq, Eq)]
-pub enum Standing {
-    Foreign,
-    /// The session is lost, so that another worker may own it: its leases are kept until that is known.
-    Doubtful,
-    Owned,
-}
-
+#[derive(Default)]
 struct Partition {
-    standing: Standing,
+    /// The term by which this worker owns it.
+    term: Option<i64>,
     held: HashMap<i64, Held>,
     /// How many of those wait or are out.
     waiting: usize,
+    /// Nothing waits that was due before it, in microseconds since 1970, but for what was enqueued late.
+    since: i64,
+    /// The next reading is of all that waits.
+    is_whole: bool,
 }
 
 impl Partition {
@@ -65,34 +66,87 @@ impl Partition {
 pub struct Partitions {
     index: Arc<Index>,
     partitions: Vec<Mutex<Partition>>,
+    /// Until when no other worker can own each, in microseconds of this worker's uptime.
+    surely_until: Vec<AtomicU64>,
 }
 
 impl Partitions {
     pub fn new(index: Arc<Index>) -> Partitions {
-        let partition = || Partition { standing: Standing::Foreign, held: HashMap::new(), waiting: 0 };
-        Partitions { index, partitions: (0..PARTITIONS).map(|_| Mutex::new(partition())).collect() }
+        let partition = || Mutex::new(Partition::default());
+        Partitions {
+            index,
+            partitions: (0..PARTITIONS).map(|_| partition()).collect(),
+            surely_until: (0..PARTITIONS).map(|_| AtomicU64::new(0)).collect(),
+        }
     }
 
     fn enter(&self, partition: usize) -> MutexGuard<'_, Partition> {
         self.partitions[partition].lock().unwrap_or_else(PoisonError::into_inner)
     }
 
-    pub fn standing(&self, partition: usize) -> Standing {
-        self.enter(partition).standing
+    /// The term by which this worker owns a partition. Another may have taken it since.
+    pub fn term(&self, partition: usize) -> Option<i64> {
+        self.enter(partition).term
     }
 
-    /// The partitions of a standing.
-    pub fn all(&self, standing: Standing) -> Vec<usize> {
-        (0..PARTITIONS).filter(|it| self.standing(*it) == standing).collect()
+    /// The terms as the statements want them: 0 for what isn't owned.
+    pub fn terms(&self) -> Vec<i64> {
+        (0..PARTITIONS).map(|it| self.term(it).unwrap_or(0)).collect()
     }
 
-    /// The owned partitions that have room for what waits.
-    pub fn with_room(&self) -> Vec<usize> {
-        let has_room = |it: &usize| {
-            let partition = self.enter(*it);
-            partition.standing == Standing::Owned && partition.waiting <= WAITING_ROOM / 2
+    /// The partitions that are owned.
+    pub fn owned(&self) -> Vec<usize> {
+        (0..PARTITIONS).filter(|it| self.term(*it).is_some()).collect()
+    }
+
+    /// Whether no other worker can own a partition at an uptime.
+    pub fn is_surely_owned(&self, partition: usize, uptime: Duration) -> bool {
+        (uptime.as_micros() as u64) < self.surely_until[partition].load(SeqCst)
+    }
+
+    /// The database has renewed a term: until an uptime nobody else takes the partition.
+    pub fn renew(&self, partition: usize, term: i64, until: Duration) {
+        let held = self.enter(partition);
+        if held.term == Some(term) {
+            self.surely_until[partition].store(until.as_micros() as u64, SeqCst);
+        }
+    }
+
+    /// The owned partitions that have room for what waits, each with the time since which its jobs are to be read: what
+    /// was due before is over, and the dead rows that it left aren't read again and again.
+    pub fn to_read(&self) -> (Vec<usize>, Vec<i64>) {
+        let to_read = |it: usize| {
+            let mut partition = self.enter(it);
+            if partition.term.is_none() || partition.waiting > WAITING_ROOM / 2 {
+                return None;
+            }
+            if std::mem::take(&mut partition.is_whole) {
+                partition.since = 0;
+            }
+            Some((it, partition.since))
         };
-        (0..PARTITIONS).filter(has_room).collect()
+        (0..PARTITIONS).filter_map(to_read).unzip()
+    }
+
+    /// Some partitions were read at a time of the database, with these jobs and their due times.
+    pub fn note_read(&self, partitions: &[usize], jobs: &[(i64, i64)], now: i64) {
+        let mut first = [now; PARTITIONS];
+        for (id, due) in jobs {
+            self.note_waiting(*id, *due);
+            let first = &mut first[partition_of(*id)];
+            *first = due.min(first).to_owned();
+        }
+        for it in partitions {
+            let mut partition = self.enter(*it);
+            if !partition.is_whole {
+                partition.since = first[*it] - LATE;
+            }
+        }
+    }
+
+    /// The next reading of a partition is of all that waits in it.
+    pub fn read_whole(&self, partition: usize) {
+        self.enter(partition).is_whole = true;
     }
 
     /// How many jobs wait in memory, and how many leases there are.
@@ -104,55 +158,36 @@ impl Partitions {
         (0..PARTITIONS).map(count).fold((0, 0), |sum, it| (sum.0 + it.0, sum.1 + it.1))
     }
 
-    /// It is owned from now on, with the leases that the table has. A lease that this worker kept from before is kept
-    /// where it is of the same attempt: its holder may have extended it since the table was written.
-    pub fn own(&self, partition: usize, leases: &[Running]) {
-        let its_own = || leases.iter().filter(|it| partition_of(it.id) == partition);
-        let ids: HashSet<i64> = its_own().map(|it| it.id).collect();
+    /// It is owned from now on by a term, with the leases that the table has.
+    pub fn own(&self, partition: usize, term: i64, leases: &[Running]) {
+        self.lose(partition);
         let mut held = self.enter(partition);
-        self.forget(&mut held, |id, _| !ids.contains(&id));
-        held.standing = Standing::Owned;
+        (held.term, held.is_whole) = (Some(term), true);
         drop(held);
-        its_own().for_each(|it| drop(self.note_running(it)));
+        leases.iter().filter(|it| partition_of(it.id) == partition).for_each(|it| self.note_running(it, 0));
         self.index.alarm().ring_before(0);
-    }
-
-    /// Another worker may own it from now on.
-    pub fn doubt(&self, partition: usize) {
-        let mut held = self.enter(partition);
-        if held.standing == Standing::Owned {
-            held.standing = Standing::Doubtful;
-            self.forget(&mut held, |_, it| !matches!(it, Held::Running(_)));
-        }
     }
 
     /// It is another's. What it held is forgotten, and a holder's next word is answered by the new owner's address.
     pub fn lose(&self, partition: usize) {
         let mut held = self.enter(partition);
-        held.standing = Standing::Foreign;
-        self.forget(&mut held, |_, _| true);
-    }
-
-    fn forget(&self, partition: &mut Partition, is_forgotten: impl Fn(i64, &Held) -> bool) {
-        partition.held.retain(|id, held| {
-            if !is_forgotten(*id, held) {
-                return true;
-            }
-            match held {
-                Held::Waiting { key, .. } => self.index.remove(key),
+        held.term = None;
+        self.surely_until[partition].store(0, SeqCst);
+        for it in std::mem::take(&mut held.held).into_values() {
+            match it {
+                Held::Waiting { key, .. } => self.index.remove(&key),
                 Held::Running(lease) => self.index.remove(&lease.key),
                 Held::Out => false,
             };
-            false
-        });
-        partition.waiting = partition.held.values().filter(|it| !matches!(it, Held::Running(_))).count();
+        }
+        held.waiting = 0;
     }
 
     /// A job waits until a microsecond, as the table or a notification said.
     pub fn note_waiting(&self, id: i64, due: i64) {
         let (number, due) = (partition_of(id), tick_after(due));
         let mut partition = self.enter(number);
-        let has_room = partition.standing == Standing::Owned && partition.waiting < WAITING_ROOM;
+        let has_room = partition.term.is_some() && partition.waiting < WAITING_ROOM;
         match partition.held.get_mut(&id) {
             Some(Held::Waiting { key, due: known }) if *known != due => {
                 if let Some(reset) = self.index.reset(key, due) {
@@ -185,18 +220,19 @@ impl Partitions {
     pub fn may_be_given(&self, id: i64) -> Given {
         let partition = self.enter(partition_of(id));
         match partition.held.get(&id) {
-            Some(Held::Out) if partition.standing != Standing::Owned => Given::Never,
+            Some(Held::Out) if partition.term.is_none() => Given::Never,
             Some(Held::Out) if partition.leases() >= LEASE_ROOM => Given::Later,
             Some(Held::Out) => Given::Now,
             _ => Given::Never,
         }
     }
 
-    /// The table has been asked about jobs that were out: they aren't held any more. Where one still waits, the next
-    /// reading tells.
-    pub fn note_asked(&self, ids: &[i64]) {
+    /// The table has been asked about jobs that were out: they aren't held any more. Where one still waits, since not all
+    /// were taken, the next reading tells.
+    pub fn note_asked(&self, ids: &[i64], taken: usize) {
         for id in ids {
             let mut partition = self.enter(partition_of(*id));
+            partition.is_whole |= taken < ids.len();
             if let Some(Held::Out) = partition.held.get(id) {
                 partition.held.remove(id);
                 partition.waiting -= 1;
@@ -204,16 +240,17 @@ impl Partitions {
         }
     }
 
-    /// A job runs, by a lease of the table's. Its lease, where this worker owns it and has room.
-    pub fn note_running(&self, running: &Running) -> Option<Arc<Lease>> {
+    /// A job runs, by a lease of the table's, which this worker doesn't end before a tick. It is held where this worker
+    /// owns it and has room.
+    pub fn note_running(&self, running: &Running, not_before: Tick) {
         let Running { id, attempt, lease_until } = *running;
-        let (number, until) = (partition_of(id), tick_after(lease_until));
+        let number = partition_of(id);
         let mut partition = self.enter(number);
-        if partition.standing == Standing::Foreign {
-            return None;
+        if partition.term.is_none() {
+            return;
         }
         match partition.held.get(&id) {
-            Some(Held::Running(lease)) if lease.attempt >= attempt => return Some(lease.clone()),
+            Some(Held::Running(lease)) if lease.attempt >= attempt => return,
             Some(held) => {
                 match held {
                     Held::Waiting { key, .. } => drop(self.index.remove(key)),
@@ -225,10 +262,12 @@ impl Partitions {
             }
             None => {}
         }
-        let key = self.index.insert(number, Due::Lease { id, attempt }, until)?;
-        let lease = Arc::new(Lease { id, attempt, key, written: AtomicU64::new(until) });
-        partition.held.insert(id, Held::Running(lease.clone()));
-        Some(lease)
+        if let Some(key) =
+            self.index.insert(number, Due::Lease { id, attempt }, tick_after(lease_until).max(not_before))
+        {
+            let lease = Arc::new(Lease { id, attempt, key, written: AtomicU64::new(tick_before(lease_until)) });
+            partition.held.insert(id, Held::Running(lease));
+        }
     }
 
     pub fn lease(&self, id: i64) -> Option<Arc<Lease>> {
@@ -245,7 +284,7 @@ impl Partitions {
             Some(Held::Running(lease)) if lease.attempt == attempt => drop(self.index.remove(&lease.key)),
             _ => return false,
         }
-        if !waits_on || partition.standing != Standing::Owned {
+        if !waits_on || partition.term.is_none() {
             partition.held.remove(&id);
             return false;
         }
@@ -254,14 +293,11 @@ impl Partitions {
         true
     }
 
-    /// The leases of the partitions that are owned, whose deadline in force isn't the one that the table has.
-    pub fn unwritten(&self, handle: &mut Handle) -> Vec<(Arc<Lease>, Tick)> {
+    /// The leases of some partitions, whose deadline in force isn't the one that the table has.
+    pub fn unwritten(&self, partitions: &[usize], handle: &mut Handle) -> Vec<(Arc<Lease>, Tick)> {
         let mut unwritten = Vec::new();
-        for number in 0..PARTITIONS {
-            let partition = self.enter(number);
-            if partition.standing != Standing::Owned {
-                continue;
-            }
+        for number in partitions {
+            let partition = self.enter(*number);
             for held in partition.held.values() {
                 if let Held::Running(lease) = held {
                     let until = deadline(handle, &lease.key);

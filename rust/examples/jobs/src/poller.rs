@@ -1,6 +1,6 @@
 //! What people do without an index: each of some workers asks the table every so often for what is due, and locks it.
 
-use crate::db::{is_passing, reason, tell, Links};
+use crate::db::{tell, Links};
 use crate::effect::statement;
 use crate::metrics::Metrics;
 use crate::options::PollerOptions;
@@ -21,8 +21,8 @@ WITH taken AS (
 ), effect AS MATERIALIZED (";
 
 pub async fn run(options: &PollerOptions) -> Result<(), Box<dyn Error>> {
-    let links = Links::new(options.config.clone(), Arc::new(Metrics::default()), 1);
-    let statement = statement(&links, BEGIN_EFFECT, &options.effect).await.map_err(|error| reason(&error))?;
+    let links = Links::new(options.database.clone(), Arc::new(Metrics::default()), 1);
+    let statement = statement(&links, BEGIN_EFFECT, &options.effect).await?;
     let mut term = signal(SignalKind::terminate())?;
     let mut interval = tokio::time::interval(options.every);
     interval.set_missed_tick_behavior(MissedTickBehavior::Delay);
@@ -36,11 +36,11 @@ pub async fn run(options: &PollerOptions) -> Result<(), Box<dyn Error>> {
             match links.query(&statement, &[&BATCH]).await {
                 Ok(rows) if rows.len() as i64 == BATCH => {}
                 Ok(_) => break,
-                Err(error) if is_passing(&error) => {
-                    tell(format_args!("tried again: {}", reason(&error)));
+                Err(error) if error.is_passing() => {
+                    tell(format_args!("tried again: {error}"));
                     break;
                 }
-                Err(error) => return Err(reason(&error).into()),
+                Err(error) => return Err(error.into()),
             }
         }
     }

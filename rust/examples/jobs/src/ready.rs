@@ -24,6 +24,11 @@ impl Ready {
         self.filled.notify_one();
     }
 
+    /// How many jobs wait for a holder.
+    pub fn count(&self) -> usize {
+        self.jobs.lock().unwrap_or_else(PoisonError::into_inner).len()
+    }
+
     /// At most so many jobs that may be given to a holder, and at least one where one comes in time.
     pub async fn take(&self, partitions: &Partitions, count: usize, until: Instant) -> Vec<i64> {
         loop {

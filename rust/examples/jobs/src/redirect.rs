@@ -1,7 +1,6 @@
 //! Sends a holder to the worker that owns a job.
 
 use crate::commands::try_again;
-use crate::db::reason;
 use crate::index::PARTITIONS;
 use crate::resp::Reply;
 use crate::sql;
@@ -29,10 +28,10 @@ pub async fn redirect(worker: &Worker, partition: usize) -> Reply {
             return moved(worker, partition, &address);
         }
     }
-    let number = partition as i32;
-    let address = match worker.links.query(sql::OWNER, &[&sql::LOCKS, &number]).await {
-        Ok(rows) => rows.first().and_then(|row| address_of(row.get(0))).unwrap_or_default(),
-        Err(error) => return try_again(&reason(&error)),
+    let number = partition as i16;
+    let address: String = match worker.links.query(sql::OWNER, &[&number]).await {
+        Ok(rows) => rows.first().map(|row| row.get(0)).unwrap_or_default(),
+        Err(error) => return try_again(&error.to_string()),
     };
     *worker.redirects.0[partition].lock().unwrap_or_else(PoisonError::into_inner) =
         Some((Instant::now(), address.clone()));
@@ -44,24 +43,4 @@ fn moved(worker: &Worker, partition: usize, address: &str) -> Reply {
         return try_again(&format!("no worker has partition {partition} yet"));
     }
     Reply::Error(format!("MOVED {partition} {address}"))
-}
-
-/// The address within the name of an owner's session: `jobs ADDRESS NAME`.
-pub fn address_of(application: &str) -> Option<String> {
-    let mut words = application.split(' ');
-    match (words.next(), words.next()) {
-        (Some("jobs"), Some(address)) => Some(address.to_owned()),
-        _ => None,
-    }
-}
-
-#[cfg(test)]
-mod tests {
-    use super::*;
-
-    #[test]
-    fn only_the_name_of_an_owner_has_an_address() {
-        assert_eq!(address_of("jobs 127.0.0.1:6500 ann").as_deref(), Some("127.0.0.1:6500"));
-        assert_eq!(address_of("psql"), None);
-    }
 }

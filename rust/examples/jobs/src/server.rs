@@ -1,23 +1,25 @@
 //! Serves holders. What a client sends in one go is answered together: all that are done by one statement, say.
 
+use crate::clock::tick_before;
 use crate::commands::{fenced, try_again, Attempt, Command};
-use crate::db::reason;
+use crate::db::{tell, Error, Param};
 use crate::effect::note_lateness;
-use crate::expiry::{micros, running};
+use crate::expiry::running;
 use crate::index::partition_of;
 use crate::leases::{Beat, Beats};
-use crate::partitions::{Running, Standing};
+use crate::partitions::Running;
 use crate::redirect::redirect;
 use crate::resp::{Input, Reply};
 use crate::sql;
 use crate::worker::Worker;
-use std::collections::HashSet;
+use std::collections::HashMap;
 use std::io;
 use std::mem::discriminant;
 use std::sync::Arc;
 use std::time::Duration;
 use tokio::io::AsyncWriteExt;
 use tokio::net::{TcpListener, TcpStream};
+use tokio::sync::{OwnedSemaphorePermit, Semaphore};
 use tokio::time::{timeout, Instant};
 use tokio_postgres::Row;
 
@@ -25,23 +27,29 @@ use tokio_postgres::Row;
 const TOGETHER: usize = 5_000;
 /// How long a client may leave its replies unread.
 const PATIENCE: Duration = Duration::from_secs(15);
+/// How long whoever has guessed a password waits for the next guess.
+const GUESS: Duration = Duration::from_millis(200);
+/// How often a worker looks whether others have jobs while a holder waits for one.
+const ELSEWHERE: Duration = Duration::from_millis(250);
 
 pub async fn serve(worker: Arc<Worker>, listener: TcpListener) {
+    let seats = Arc::new(Semaphore::new(worker.options.clients));
     loop {
         match listener.accept().await {
-            Ok((stream, _)) => drop(tokio::spawn(talk(worker.clone(), stream))),
+            Ok((stream, _)) => drop(tokio::spawn(talk(worker.clone(), stream, seats.clone().try_acquire_owned().ok()))),
             Err(_) => tokio::time::sleep(Duration::from_millis(50)).await,
         }
     }
 }
 
-async fn talk(worker: Arc<Worker>, mut stream: TcpStream) {
+async fn talk(worker: Arc<Worker>, mut stream: TcpStream, seat: Option<OwnedSemaphorePermit>) {
     // A reply that waits for a packet to fill would be late.
     let _ = stream.set_nodelay(true);
-    match Beats::new(&worker) {
+    match seat.and_then(|_seat| Some((Beats::new(&worker)?, _seat))) {
         None => drop(stream.write_all(b"-ERR max number of clients reached\r\n").await),
-        Some(beats) => {
-            let mut holder = Holder { worker: &worker, beats, input: Input::default(), replies: Vec::new() };
+        Some((beats, _seat)) => {
+            let is_known = worker.options.password.is_none();
+            let mut holder = Holder { worker: &worker, beats, is_known, input: Input::default(), replies: Vec::new() };
             // Whoever is gone isn't answered.
             let _ = holder.converse(&mut stream).await;
             holder.beats.put_back(&worker);
@@ -52,6 +60,8 @@ async fn talk(worker: Arc<Worker>, mut stream: TcpStream) {
 struct Holder<'w> {
     worker: &'w Worker,
     beats: Beats,
+    /// It has said the password, or there is none.
+    is_known: bool,
     input: Input,
     replies: Vec<u8>,
 }
@@ -62,8 +72,12 @@ impl Holder<'_> {
             let mut commands = Vec::new();
             let mut broken = None;
             while commands.len() < TOGETHER && broken.is_none() {
-                match self.input.next() {
-                    Ok(Some(args)) => commands.push(Command::of(args)),
+                match self.input.next().map(|args| args.map(Command::of)) {
+                    Ok(Some(Command::Attack)) => {
+                        tell(format_args!("a client sent POST or Host: as a web page that attacks does: it is closed"));
+                        return Ok(());
+                    }
+                    Ok(Some(command)) => commands.push(command),
                     Ok(None) => break,
                     Err(error) => broken = Some(error),
                 }
@@ -98,6 +112,12 @@ impl Holder<'_> {
     /// Answers commands of one kind.
     async fn answer(&mut self, commands: &[Command], stream: &mut TcpStream) -> io::Result<()> {
         match &commands[0] {
+            Command::Auth(_) => self.learn(commands).await,
+            Command::Quit => Reply::Status("OK").write(&mut self.replies),
+            _ if !self.is_known => {
+                let refused = Reply::Error("NOAUTH Authentication required.".to_owned());
+                commands.iter().for_each(|_| refused.write(&mut self.replies));
+            }
             Command::Beat(_) => self.beat(&attempts(commands)).await,
             Command::Done(_) => self.done(&attempts(commands)).await,
             Command::Fail(..) => self.fail(commands).await,
@@ -115,13 +135,31 @@ impl Holder<'_> {
         Ok(())
     }
 
+    async fn learn(&mut self, commands: &[Command]) {
+        for command in commands {
+            let reply = match (command, &self.worker.options.password) {
+                (Command::Auth(said), Some(password)) if is_alike(said, password) => {
+                    self.is_known = true;
+                    Reply::Status("OK")
+                }
+                (_, Some(_)) => {
+                    tokio::time::sleep(GUESS).await;
+                    Reply::Error("WRONGPASS invalid username-password pair or user is disabled.".to_owned())
+                }
+                (_, None) => Reply::Error("ERR Client sent AUTH, but no password is set.".to_owned()),
+            };
+            reply.write(&mut self.replies);
+        }
+    }
+
     async fn take(&mut self, count: usize, wait: Duration, stream: &TcpStream) -> io::Result<()> {
         let worker = self.worker;
         let mut ending = worker.ending.clone();
         let until = Instant::now() + wait;
         let reply = loop {
+            let look_again = until.min(Instant::now() + ELSEWHERE);
             let ids = tokio::select! {
-                ids = worker.ready.take(&worker.partitions, count, until) => ids,
+                ids = worker.ready.take(&worker.partitions, count, look_again) => ids,
                 _ = gone(stream) => return Err(io::ErrorKind::ConnectionAborted.into()),
                 _ = ending.changed() => Vec::new(),
             };
@@ -129,7 +167,11 @@ impl Holder<'_> {
                 break try_again("this worker drains");
             }
             if ids.is_empty() {
-                break Reply::Array(Vec::new());
+                match worker.elsewhere() {
+                    Some(place) => break Reply::Error(format!("MOVED {place}")),
+                    None if Instant::now() >= until => break Reply::Array(Vec::new()),
+                    None => continue,
+                }
             }
             let given = give(worker, &ids).await;
             // What was ready may be gone from the table: then the holder goes on waiting.
@@ -158,7 +200,10 @@ impl Holder<'_> {
         for (beat, it) in beats.into_iter().zip(attempts) {
             let reply = match beat {
                 Beat::Extended(millis) => Reply::Integer(millis),
-                Beat::Doubtful => try_again("the database doesn't answer, the lease holds in memory"),
+                Beat::Doubtful => {
+                    try_again("the database doesn't answer: whether this worker still has the job isn't known")
+                }
+                Beat::Unwritten => try_again("the lease can't be written: its row is locked"),
                 Beat::Foreign => redirect(worker, partition_of(it.id)).await,
                 Beat::Fenced | Beat::Unknown => refuse(worker, *it),
             };
@@ -167,63 +212,59 @@ impl Holder<'_> {
     }
 
     async fn done(&mut self, attempts: &[Attempt]) {
-        let its_own = self.its_own(attempts);
-        let (ids, numbers): (Vec<i64>, Vec<i32>) = its_own.iter().map(|it| (it.id, it.attempt)).unzip();
-        let answer = self.worker.links.insist(sql::DONE, &[&ids, &numbers]).await;
-        let ended = answer.map(|rows| rows.iter().map(|row| row.get(0)).collect());
-        let count = self.end(attempts, ended.map_err(|error| reason(&error))).await;
+        let (ids, numbers): (Vec<i64>, Vec<i32>) = attempts.iter().map(|it| (it.id, it.attempt)).unzip();
+        let (number, terms) = (&self.worker.number, self.worker.partitions.terms());
+        let answer = self.worker.links.insist(sql::DONE, &[number, &terms, &ids, &numbers]).await;
+        let count = self.end(attempts, answer).await;
         self.worker.metrics.done.add(count);
     }
 
     async fn fail(&mut self, commands: &[Command]) {
         let attempts = attempts(commands);
-        let mut words = Vec::new();
-        for command in commands {
-            if let Command::Fail(it, reason) = command {
-                words.extend(self.its_own(&[*it]).into_iter().map(|it| (it, reason.clone())));
-            }
-        }
-        let ids: Vec<i64> = words.iter().map(|it| it.0.id).collect();
-        let numbers: Vec<i32> = words.iter().map(|it| it.0.attempt).collect();
-        let reasons: Vec<String> = words.into_iter().map(|it| it.1).collect();
-        let params: [crate::db::Param<'_>; 4] = [&ids, &numbers, &reasons, &self.worker.options.attempts];
+        let (ids, numbers): (Vec<i64>, Vec<i32>) = attempts.iter().map(|it| (it.id, it.attempt)).unzip();
+        let reasons = commands.iter().map(|it| if let Command::Fail(_, reason) = it { &reason[..] } else { "" });
+        let reasons: Vec<&str> = reasons.collect();
+        let (number, terms) = (&self.worker.number, self.worker.partitions.terms());
+        let params: [Param<'_>; 6] = [number, &terms, &ids, &numbers, &reasons, &self.worker.options.attempts];
         let answer = self.worker.links.insist(sql::FAIL, &params).await;
-        if let Ok(rows) = &answer {
-            let dead = rows.iter().filter(|row| row.get::<_, &str>(1) == "dead").count();
-            self.worker.metrics.dead.add(dead as u64);
-        }
-        let ended = answer.map(|rows| rows.iter().map(|row| row.get(0)).collect());
-        let count = self.end(&attempts, ended.map_err(|error| reason(&error))).await;
+        let count = self.end(&attempts, answer).await;
         self.worker.metrics.failed.add(count);
     }
 
-    /// The attempts in partitions that this worker owns.
-    fn its_own(&self, attempts: &[Attempt]) -> Vec<Attempt> {
-        let is_own = |it: &&Attempt| self.worker.partitions.standing(partition_of(it.id)) == Standing::Owned;
-        attempts.iter().filter(is_own).copied().collect()
-    }
-
-    /// Answers attempts of which those in `ended` have ended, and tells how many.
-    async fn end(&mut self, attempts: &[Attempt], ended: Result<HashSet<i64>, String>) -> u64 {
-        let mut count = 0;
+    /// Answers attempts by the jobs that the database tells, each by what became of it, and by `running` as it was.
+    /// Tells how many have ended.
+    async fn end(&mut self, attempts: &[Attempt], answer: Result<Vec<Row>, Error>) -> u64 {
+        let rows = match answer {
+            Ok(rows) => rows,
+            Err(error) => {
+                attempts.iter().for_each(|_| try_again(&error.to_string()).write(&mut self.replies));
+                return 0;
+            }
+        };
+        let mut ended: HashMap<i64, bool> = HashMap::new();
+        for row in &rows {
+            *ended.entry(row.get(0)).or_default() |= row.get::<_, &str>(1) != "running";
+        }
+        let dead = rows.iter().filter(|row| row.get::<_, &str>(1) == "dead").count();
+        self.worker.metrics.dead.add(dead as u64);
         for it in attempts {
-            let reply = match &ended {
-                Err(reason) => try_again(reason),
-                Ok(ended) if ended.contains(&it.id) => {
-                    count += 1;
-                    self.worker.partitions.end(it.id, it.attempt, false);
-                    Reply::Status("OK")
-                }
-                Ok(_) if self.its_own(&[*it]).is_empty() => redirect(self.worker, partition_of(it.id)).await,
-                Ok(_) => {
-                    self.worker.partitions.end(it.id, it.attempt, false);
-                    refuse(self.worker, *it)
-                }
+            let reply = match ended.get(&it.id) {
+                Some(true) => Reply::Status("OK"),
+                Some(false) => redirect(self.worker, partition_of(it.id)).await,
+                None => refuse(self.worker, *it),
             };
+            if ended.get(&it.id) != Some(&false) {
+                self.worker.partitions.end(it.id, it.attempt, false);
+            }
             reply.write(&mut self.replies);
         }
-        count
+        ended.values().filter(|it| **it).count() as u64
     }
+}
+
+/// Whether two texts are alike, by a time that tells nothing of where they differ.
+fn is_alike(one: &[u8], other: &[u8]) -> bool {
+    one.len() == other.len() && one.iter().zip(other).fold(0, |sum, (a, b)| sum | (a ^ b)) == 0
 }
 
 fn refuse(worker: &Worker, it: Attempt) -> Reply {
@@ -234,22 +275,22 @@ fn refuse(worker: &Worker, it: Attempt) -> Reply {
 /// Gives jobs out that are ready, as far as the table has them.
 async fn give(worker: &Worker, ids: &Vec<i64>) -> Reply {
     let lease = worker.options.lease.as_secs_f64();
-    let answer = worker.links.query(sql::TAKE, &[ids, &lease]).await;
+    let answer = worker.links.query(sql::TAKE, &[&worker.number, &worker.partitions.terms(), ids, &lease]).await;
     let reply = match &answer {
         Ok(rows) => Reply::Array(rows.iter().map(|row| given(worker, row)).collect()),
-        Err(error) => try_again(&reason(error)),
+        Err(error) => try_again(&error.to_string()),
     };
-    worker.partitions.note_asked(ids);
+    worker.partitions.note_asked(ids, answer.map_or(0, |rows| rows.len()));
     reply
 }
 
 /// What a holder is told of a job: its id, its attempt, the milliseconds of its lease, and its payload.
 fn given(worker: &Worker, row: &Row) -> Reply {
     let it: Running = running(row);
-    worker.partitions.note_running(&it);
+    worker.partitions.note_running(&it, 0);
     worker.metrics.taken.add(1);
     note_lateness(worker, row.get(4), row.get(5), it.attempt);
-    let left = (micros(row.get(2)) - worker.clock.micros()) / 1_000;
+    let left = worker.clock.left_until(tick_before(it.lease_until));
     let payload: String = row.get(3);
     let numbers = [it.id, it.attempt.into(), left].map(Reply::Integer);
     Reply::Array(numbers.into_iter().chain([Reply::Bulk(payload.into_bytes())]).collect())

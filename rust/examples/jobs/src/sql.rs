@@ -1,34 +1,61 @@
-//! The statements. Each is one transaction, and each changes a job only where its row says that it may.
+//! The statements. Each is one transaction, and each changes a job only where its row says that it may, in a partition
+//! that its worker owns: `$1` is the worker's number, and `$2` its terms by partition. Rows that others have locked are
+//! left out, so that nobody waits for them.
 
-/// The first key of the advisory locks. The second is a partition, 64, which each worker shares, or 65, for the setup.
-pub const LOCKS: i32 = 0x6a6f_6273;
-
-/// What waits in some partitions and is due within a horizon, with the clock, the workers and the partitions that are
-/// owned, so that a worker with nothing to do asks for one thing alone.
+/// What waits in some partitions, is due since a time of each and within a horizon, with the clock, the number of workers, the partitions that
+/// nobody owns and the terms of this worker, so that a worker with nothing to do asks for one thing alone.
 pub const READ: &str = "
-WITH locks AS MATERIALIZED (
-    SELECT l.objid::int AS partition FROM pg_locks l JOIN pg_database d ON d.oid = l.database
-    WHERE l.locktype = 'advisory' AND l.classid = $4::int4::oid AND l.objsubid = 2 AND l.granted
-        AND d.datname = current_database()
-)
 SELECT clock_timestamp(), clock_timestamp() - pg_postmaster_start_time() < interval '3 seconds',
-    (SELECT count(*) FROM locks WHERE partition = 64),
-    (SELECT coalesce(array_agg(partition), '{}') FROM locks WHERE partition < 64),
+    (SELECT count(*) FROM jobs_workers WHERE NOT jobs_is_free(worker, until, $5::float8 * interval '1 second')),
+    (SELECT coalesce(array_agg(partition), '{}') FROM jobs_partitions
+        WHERE jobs_is_free(owner, until, $5::float8 * interval '1 second')),
+    (SELECT array_agg(CASE WHEN owner = $1::bigint THEN term ELSE 0 END ORDER BY partition) FROM jobs_partitions),
+    (SELECT p.partition || ' ' || w.address FROM jobs_workers w JOIN jobs_partitions p ON p.owner = w.worker
+        WHERE w.worker <> $1 AND w.ready > 0 AND w.until > now() ORDER BY w.ready DESC, p.partition LIMIT 1),
     waiting.ids, waiting.dues
 FROM (
     SELECT coalesce(array_agg(j.id), '{}') AS ids, coalesce(array_agg(j.due), '{}') AS dues
-    FROM unnest($1::smallint[]) AS p(partition) CROSS JOIN LATERAL (
+    FROM unnest($2::smallint[], $6::timestamptz[]) AS p(partition, since) CROSS JOIN LATERAL (
         SELECT id, due FROM jobs
-        WHERE state = 'waiting' AND jobs.partition = p.partition
-            AND due < now() + $2::float8 * interval '1 second'
-        ORDER BY due LIMIT $3::bigint
+        WHERE state = 'waiting' AND jobs.partition = p.partition AND due >= p.since
+            AND due < now() + $3::float8 * interval '1 second'
+        ORDER BY due LIMIT $4::bigint
     ) j
 ) waiting";
 
-/// Takes locks of partitions that nobody has.
-pub const LOCK: &str = "SELECT p FROM unnest($2::int[]) AS p WHERE pg_try_advisory_lock($1::int, p)";
-pub const UNLOCK: &str = "SELECT pg_advisory_unlock($1::int, p) FROM unnest($2::int[]) AS p";
-pub const BE_PRESENT: &str = "SELECT pg_advisory_lock_shared($1::int, 64)";
+/// The worker lives, and its terms go on.
+pub const RENEW: &str = "
+WITH living AS (
+    INSERT INTO jobs_workers (worker, name, address, pid, ready, until)
+    VALUES ($1::bigint, $2::text, $3::text, pg_backend_pid(), $5::int, now() + $4::float8 * interval '1 second')
+    ON CONFLICT (worker) DO UPDATE SET pid = EXCLUDED.pid, ready = EXCLUDED.ready, until = EXCLUDED.until
+)
+UPDATE jobs_partitions SET until = now() + $4::float8 * interval '1 second'
+WHERE partition = ANY (ARRAY(SELECT partition FROM jobs_partitions WHERE owner = $1 FOR NO KEY UPDATE SKIP LOCKED))
+RETURNING partition, term";
+
+/// Takes partitions that nobody owns any more: a term begins.
+pub const TAKE_PARTITIONS: &str = "
+UPDATE jobs_partitions SET owner = $1::bigint, term = term + 1, until = now() + $3::float8 * interval '1 second'
+WHERE partition = ANY (ARRAY(
+    SELECT partition FROM jobs_partitions
+    WHERE partition = ANY($2::smallint[]) AND jobs_is_free(owner, until, $4::float8 * interval '1 second')
+    FOR NO KEY UPDATE SKIP LOCKED
+))
+RETURNING partition, term";
+/// Lets partitions go: whoever comes first takes them.
+pub const LET_GO: &str = "
+UPDATE jobs_partitions SET owner = NULL, until = '-infinity'
+WHERE partition = ANY (ARRAY(
+    SELECT partition FROM jobs_partitions WHERE partition = ANY($2::smallint[]) AND owner = $1::bigint
+    FOR NO KEY UPDATE SKIP LOCKED
+))";
+/// The worker has ended, and others ended a minute ago without a word.
+pub const LEAVE: &str = "DELETE FROM jobs_workers WHERE worker = $1::bigint OR until < now() - interval '1 minute'";
+/// The address of the worker that owns a partition.
+pub const OWNER: &str = "
+SELECT w.address FROM jobs_partitions p JOIN jobs_workers w ON w.worker = p.owner
+WHERE p.partition = $1::smallint AND p.until > now()";
 
 /// The leases of some partitions: all of them, or those that have ended.
 pub const LEASES: &str = "
@@ -38,18 +65,32 @@ WHERE state = 'running' AND partition = ANY($1::smallint[]) AND ($2::bool OR lea
 pub const LEASES_OF: &str = "
 SELECT id, attempt, lease_until FROM jobs WHERE state = 'running' AND id = ANY($1::bigint[])";
 
-/// Gives jobs out, each with a lease.
+/// Gives jobs out, each with a lease: as many as begin within the first 4 MiB of their payloads.
 pub const TAKE: &str = "
-UPDATE jobs SET state = 'running', attempt = attempt + 1, lease_until = now() + $2::float8 * interval '1 second',
-    started = clock_timestamp(), ended = NULL
-WHERE id = ANY($1::bigint[]) AND state = 'waiting' AND due <= now()
+WITH sized AS MATERIALIZED (
+    SELECT id, sum(octet_length(payload)) OVER (ORDER BY due, id) - octet_length(payload) AS begins FROM jobs
+    WHERE id = ANY($3::bigint[]) AND state = 'waiting' AND due <= now()
+), free AS MATERIALIZED (
+    SELECT id FROM jobs
+    WHERE id = ANY (ARRAY(SELECT id FROM sized WHERE begins < 4194304)) AND state = 'waiting' AND due <= now()
+        AND partition = ANY ((SELECT jobs_owned($1, $2))::smallint[])
+    FOR NO KEY UPDATE SKIP LOCKED
+)
+UPDATE jobs SET state = 'running', attempt = attempt + 1, started = clock_timestamp(), ended = NULL,
+    lease_until = date_trunc('milliseconds', now() + $4::float8 * interval '1 second')
+WHERE id = ANY (ARRAY(SELECT id FROM free))
 RETURNING id, attempt, lease_until, payload, started, due";
 
 /// Begins the statement that takes jobs and has an effect at once; the effect stands within.
 pub const BEGIN_EFFECT: &str = "
-WITH taken AS (
+WITH jobs_free AS MATERIALIZED (
+    SELECT id FROM jobs
+    WHERE id = ANY($3::bigint[]) AND state = 'waiting' AND due <= now()
+        AND partition = ANY ((SELECT jobs_owned($1, $2))::smallint[])
+    FOR NO KEY UPDATE SKIP LOCKED
+), taken AS (
     UPDATE jobs SET state = 'done', attempt = attempt + 1, started = clock_timestamp(), ended = clock_timestamp()
-    WHERE id = ANY($1::bigint[]) AND state = 'waiting' AND due <= now()
+    WHERE id = ANY (ARRAY(SELECT id FROM jobs_free))
     RETURNING id, due, payload, attempt, started
 ), effect AS MATERIALIZED (";
 /// Ends it. The rows of the effect are counted, since a SELECT within WITH that nobody reads isn't run.
@@ -59,46 +100,78 @@ pub const END_EFFECT_WITHOUT_ROWS: &str = ") SELECT started, due, attempt FROM t
 
 /// An attempt of a job that waits has failed: it waits longer each time, and after the last attempt it is dead.
 pub const FAIL_WAITING: &str = "
-UPDATE jobs SET attempt = attempt + 1, started = clock_timestamp(), ended = clock_timestamp(), error = $2::text,
-    state = CASE WHEN attempt + 1 >= $3::int THEN 'dead' ELSE 'waiting' END,
-    due = CASE WHEN attempt + 1 >= $3::int THEN due
+WITH free AS MATERIALIZED (
+    SELECT id FROM jobs
+    WHERE id = $3::bigint AND state = 'waiting' AND due <= now()
+        AND partition = ANY ((SELECT jobs_owned($1, $2))::smallint[])
+    FOR NO KEY UPDATE SKIP LOCKED
+)
+UPDATE jobs SET attempt = attempt + 1, started = clock_timestamp(), ended = clock_timestamp(), error = $4::text,
+    state = CASE WHEN attempt + 1 >= coalesce(attempts, $5::int) THEN 'dead' ELSE 'waiting' END,
+    due = CASE WHEN attempt + 1 >= coalesce(attempts, $5::int) THEN due
         ELSE now() + least(power(2, attempt), 600) * interval '1 second' END
-WHERE id = $1::bigint AND state = 'waiting' AND due <= now()
+WHERE id = ANY (ARRAY(SELECT id FROM free))
 RETURNING state";
 
-/// Holders are done. A second word of the same attempt changes nothing and is answered as the first.
+/// Holders are done. A second word of the same attempt changes nothing and is answered as the first. A job comes once
+/// more as it stood before: what didn't end then, since another has locked it, isn't the holder's fault.
 pub const DONE: &str = "
-UPDATE jobs j SET state = 'done', lease_until = NULL, ended = coalesce(ended, clock_timestamp())
-FROM unnest($1::bigint[], $2::int[]) AS v(id, attempt)
-WHERE j.id = v.id AND j.attempt = v.attempt AND j.state IN ('running', 'done')
-RETURNING j.id";
+WITH free AS MATERIALIZED (
+    SELECT j.id FROM unnest($3::bigint[], $4::int[]) AS v(id, attempt)
+    JOIN jobs j ON j.id = v.id AND j.attempt = v.attempt AND j.state = 'running'
+    WHERE j.partition = ANY ((SELECT jobs_owned($1, $2))::smallint[])
+    FOR NO KEY UPDATE OF j SKIP LOCKED
+), done AS (
+    UPDATE jobs SET state = 'done', lease_until = NULL, ended = clock_timestamp()
+    WHERE id = ANY (ARRAY(SELECT id FROM free))
+    RETURNING id, state
+)
+SELECT id, state FROM done
+UNION ALL
+SELECT j.id, j.state FROM unnest($3::bigint[], $4::int[]) AS v(id, attempt)
+JOIN jobs j ON j.id = v.id AND j.attempt = v.attempt AND j.state IN ('running', 'done')";
 
-/// Holders have failed.
+/// Holders have failed. A job comes once more as it stood before, as of those that are done.
 pub const FAIL: &str = "
-UPDATE jobs j SET lease_until = NULL, ended = clock_timestamp(), error = v.error,
-    state = CASE WHEN j.attempt >= $4::int THEN 'dead' ELSE 'waiting' END,
-    due = CASE WHEN j.attempt >= $4::int THEN j.due
-        ELSE now() + least(power(2, j.attempt - 1), 600) * interval '1 second' END
-FROM unnest($1::bigint[], $2::int[], $3::text[]) AS v(id, attempt, error)
-WHERE j.id = v.id AND j.attempt = v.attempt AND j.state = 'running'
-RETURNING j.id, j.state";
+WITH free AS MATERIALIZED (
+    SELECT j.id, v.error FROM unnest($3::bigint[], $4::int[], $5::text[]) AS v(id, attempt, error)
+    JOIN jobs j ON j.id = v.id AND j.attempt = v.attempt AND j.state = 'running'
+    WHERE j.partition = ANY ((SELECT jobs_owned($1, $2))::smallint[])
+    FOR NO KEY UPDATE OF j SKIP LOCKED
+), failed AS (
+    UPDATE jobs j SET lease_until = NULL, ended = clock_timestamp(), error = free.error,
+        state = CASE WHEN j.attempt >= coalesce(j.attempts, $6::int) THEN 'dead' ELSE 'waiting' END,
+        due = CASE WHEN j.attempt >= coalesce(j.attempts, $6::int) THEN j.due
+            ELSE now() + least(power(2, j.attempt - 1), 600) * interval '1 second' END
+    FROM free WHERE j.id = free.id
+    RETURNING j.id, j.state
+)
+SELECT id, state FROM failed
+UNION ALL
+SELECT j.id, j.state FROM unnest($3::bigint[], $4::int[]) AS v(id, attempt)
+JOIN jobs j ON j.id = v.id AND j.attempt = v.attempt AND j.state = 'running'";
 
 /// Leases have ended: their jobs wait again, and after the last attempt they are dead.
 pub const EXPIRE: &str = "
-UPDATE jobs j SET lease_until = NULL, ended = clock_timestamp(), error = 'the lease ended',
-    state = CASE WHEN j.attempt >= $3::int THEN 'dead' ELSE 'waiting' END
-FROM unnest($1::bigint[], $2::int[]) AS v(id, attempt)
-WHERE j.id = v.id AND j.attempt = v.attempt AND j.state = 'running' AND j.lease_until <= now()
-RETURNING j.id, j.state";
+WITH free AS MATERIALIZED (
+    SELECT j.id FROM unnest($3::bigint[], $4::int[]) AS v(id, attempt)
+    JOIN jobs j ON j.id = v.id AND j.attempt = v.attempt AND j.state = 'running' AND j.lease_until <= now()
+    WHERE j.partition = ANY ((SELECT jobs_owned($1, $2))::smallint[])
+    FOR NO KEY UPDATE OF j SKIP LOCKED
+)
+UPDATE jobs SET lease_until = NULL, ended = clock_timestamp(), error = 'the lease ended',
+    state = CASE WHEN attempt >= coalesce(attempts, $5::int) THEN 'dead' ELSE 'waiting' END
+WHERE id = ANY (ARRAY(SELECT id FROM free))
+RETURNING id, state";
 
-/// Writes what holders have extended in memory.
+/// Writes what holders have extended in memory, and tells which leases stand in the table now.
 pub const WRITE_LEASES: &str = "
-UPDATE jobs j SET lease_until = v.lease_until
-FROM unnest($1::bigint[], $2::int[], $3::timestamptz[]) AS v(id, attempt, lease_until)
-WHERE j.id = v.id AND j.attempt = v.attempt AND j.state = 'running' AND j.lease_until < v.lease_until";
-
-/// The session that owns a partition, by the name that it has given itself.
-pub const OWNER: &str = "
-SELECT a.application_name FROM pg_locks l JOIN pg_database d ON d.oid = l.database JOIN pg_stat_activity a USING (pid)
-WHERE l.locktype = 'advisory' AND l.classid = $1::int4::oid AND l.objid = $2::int4::oid AND l.objsubid = 2
-    AND l.granted AND d.datname = current_database()";
+WITH free AS MATERIALIZED (
+    SELECT j.id, v.lease_until
+    FROM unnest($3::bigint[], $4::int[], $5::timestamptz[]) AS v(id, attempt, lease_until)
+    JOIN jobs j ON j.id = v.id AND j.attempt = v.attempt AND j.state = 'running'
+    WHERE j.partition = ANY ((SELECT jobs_owned($1, $2))::smallint[])
+    FOR NO KEY UPDATE OF j SKIP LOCKED
+)
+UPDATE jobs j SET lease_until = greatest(j.lease_until, free.lease_until) FROM free WHERE j.id = free.id
+RETURNING j.id";

@@ -1,17 +1,14 @@
 //! What an operator wants to see, from the database alone.
 
-use crate::db::reason;
+use crate::db::{Database, Error as DbError, Session};
 use crate::enqueue::connect;
-use crate::sql::LOCKS;
-use std::collections::BTreeMap;
+use crate::index::PARTITIONS;
 use std::error::Error;
-use tokio_postgres::{Client, Config, Row};
 
 const OWNERS: &str = "
-SELECT l.objid::int, l.pid, a.application_name FROM pg_locks l
-JOIN pg_database d ON d.oid = l.database JOIN pg_stat_activity a USING (pid)
-WHERE l.locktype = 'advisory' AND l.classid = $1::int4::oid AND l.objsubid = 2 AND l.granted
-    AND d.datname = current_database()";
+SELECT w.name, w.address, coalesce(array_agg(p.partition ORDER BY p.partition) FILTER (WHERE p.owner IS NOT NULL), '{}')
+FROM jobs_workers w LEFT JOIN jobs_partitions p ON p.owner = w.worker AND p.until > now()
+WHERE w.until > now() GROUP BY w.worker ORDER BY w.name, w.address";
 
 const COUNTS: &str = "
 SELECT count(*) FILTER (WHERE state = 'waiting'), count(*) FILTER (WHERE state = 'waiting' AND due <= now()),
@@ -26,17 +23,17 @@ FROM (
     WHERE attempt = 1 AND started > now() - interval '5 minutes' AND started >= due
 ) it";
 
-pub async fn run(config: &Config) -> Result<(), Box<dyn Error>> {
-    let client = connect(config).await?;
-    owners(&client).await?;
-    let rows = query(&client, COUNTS, &[]).await?;
+pub async fn run(database: &Database) -> Result<(), Box<dyn Error>> {
+    let session = connect(database).await?;
+    owners(&session).await?;
+    let rows = session.query(COUNTS, &[]).await?;
     let numbers: Vec<i64> = (0..5).map(|it| rows[0].get(it)).collect();
     println!();
     println!(
         "waiting {} ({} due), running {}, done {}, dead {}",
         numbers[0], numbers[1], numbers[2], numbers[3], numbers[4]
     );
-    let rows = query(&client, LATENESS, &[]).await?;
+    let rows = session.query(LATENESS, &[]).await?;
     let (count, late): (i64, Vec<f64>) = (rows[0].get(0), rows[0].get(1));
     println!(
         "late in the last 5 minutes, of {count} first attempts: p50 {:.1} ms, p99 {:.1} ms, max {:.1} ms",
@@ -45,46 +42,31 @@ pub async fn run(config: &Config) -> Result<(), Box<dyn Error>> {
     Ok(())
 }
 
-async fn query(client: &Client, sql: &str, params: &[crate::db::Param<'_>]) -> Result<Vec<Row>, String> {
-    client.query(sql, params).await.map_err(|error| reason(&error))
-}
-
 /// A line for each worker, with the partitions that it owns.
-async fn owners(client: &Client) -> Result<(), String> {
-    let mut workers: BTreeMap<(String, i32), Vec<i32>> = BTreeMap::new();
-    let mut free: Vec<i32> = (0..64).collect();
-    for row in query(client, OWNERS, &[&LOCKS]).await? {
-        let (number, pid, name): (i32, i32, String) = (row.get(0), row.get(1), row.get(2));
-        let owned = workers.entry((name, pid)).or_default();
-        // The last lock says only that a worker is there.
-        if (0..64).contains(&number) {
-            owned.push(number);
-            free.retain(|it| *it != number);
-        }
-    }
-    println!("{:<24} {:<22} {:>7}  partitions", "worker", "address", "session");
-    for ((name, pid), mut owned) in workers {
-        owned.sort_unstable();
-        let mut words = name.splitn(3, ' ').skip(1);
-        let (address, name) = (words.next().unwrap_or("-"), words.next().unwrap_or("-"));
-        println!("{name:<24} {address:<22} {pid:>7}  {}: {}", owned.len(), ranges(&owned));
+async fn owners(session: &Session) -> Result<(), DbError> {
+    let mut free: Vec<i16> = (0..PARTITIONS as i16).collect();
+    println!("{:<24} {:<22} partitions", "worker", "address");
+    for row in session.query(OWNERS, &[]).await? {
+        let (name, address, owned): (&str, &str, Vec<i16>) = (row.get(0), row.get(1), row.get(2));
+        free.retain(|it| !owned.contains(it));
+        println!("{name:<24} {address:<22} {}: {}", owned.len(), ranges(&owned));
     }
     if !free.is_empty() {
-        println!("{:<24} {:<22} {:>7}  {}: {}", "(nobody)", "", "", free.len(), ranges(&free));
+        println!("{:<24} {:<22} {}: {}", "(nobody)", "", free.len(), ranges(&free));
     }
     Ok(())
 }
 
 /// Numbers in order, as ranges.
-fn ranges(numbers: &[i32]) -> String {
-    let mut ranges: Vec<(i32, i32)> = Vec::new();
+fn ranges(numbers: &[i16]) -> String {
+    let mut ranges: Vec<(i16, i16)> = Vec::new();
     for number in numbers {
         match ranges.last_mut() {
             Some((_, end)) if *end + 1 == *number => *end = *number,
             _ => ranges.push((*number, *number)),
         }
     }
-    let shown = |(start, end): &(i32, i32)| if start == end { start.to_string() } else { format!("{start}-{end}") };
+    let shown = |(start, end): &(i16, i16)| if start == end { start.to_string() } else { format!("{start}-{end}") };
     ranges.iter().map(shown).collect::<Vec<_>>().join(" ")
 }
 

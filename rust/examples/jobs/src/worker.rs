@@ -1,32 +1,37 @@
 //! What the tasks of a worker share, and how it begins and ends.
 
 use crate::clock::Clock;
-use crate::db::{reason, tell, Links};
+use crate::db::{tell, Links};
 use crate::effect;
 use crate::expiry;
 use crate::index::{Due, Handle, Index};
 use crate::metrics::Metrics;
 use crate::options::WorkerOptions;
 use crate::owner;
-use crate::partitions::{Partitions, Standing, LEASE_ROOM, WAITING_ROOM};
+use crate::partitions::{Partitions, LEASE_ROOM, WAITING_ROOM};
 use crate::ready::Ready;
 use crate::redirect::Redirects;
-use crate::{leases, scrape, server, sql};
+use crate::{leases, scrape, server, setup, sql};
+use std::collections::hash_map::RandomState;
 use std::error::Error;
-use std::sync::atomic::{AtomicBool, AtomicU64, Ordering::SeqCst};
+use std::hash::{BuildHasher, Hasher};
+use std::io;
+use std::sync::atomic::{AtomicBool, Ordering::SeqCst};
 use std::sync::{Arc, Mutex, PoisonError};
-use std::time::Duration;
 use tokio::net::TcpListener;
-use tokio::signal::unix::{signal, SignalKind};
+use tokio::signal::unix::{signal, Signal, SignalKind};
 use tokio::sync::mpsc::{unbounded_channel, UnboundedSender};
 use tokio::sync::{watch, Notify};
 
 /// The sessions that take jobs and write what becomes of them, beside the one that owns partitions.
 const LINKS: usize = 3;
-/// No statement was answered by the present session.
-const NEVER: u64 = u64::MAX;
+
+/// A drain has no more time.
+const LEFT: &str = "what was under way when it was told to end isn't over: it is left to the other workers";
 
 pub struct Worker {
+    /// Drawn at its start: no other worker has it.
+    pub number: i64,
     pub options: WorkerOptions,
     pub clock: Clock,
     pub index: Arc<Index>,
@@ -38,51 +43,45 @@ pub struct Worker {
     pub address: String,
     /// True from the moment that it ends.
     pub ending: watch::Receiver<bool>,
+    elsewhere: Mutex<Option<String>>,
     handles: Mutex<Vec<Handle>>,
+    /// Whoever writes leases looks at them by it: no connection has it.
+    pub writer: Mutex<Handle>,
     /// Rung when the partitions are to be let go.
     pub is_released: Notify,
     released: AtomicBool,
-    /// When the statement was sent, in microseconds of its uptime, after which its session was last known to live.
-    confirmed: AtomicU64,
 }
 
 impl Worker {
     fn new(options: WorkerOptions, address: String, ending: watch::Receiver<bool>) -> Result<Worker, String> {
         let index = Index::new(WAITING_ROOM + LEASE_ROOM).map_err(|error| format!("no index: {error}"))?;
         let index = Arc::new(index);
+        let writer = Mutex::new(index.handle().ok_or("no handle to write leases by")?);
         let metrics = Arc::new(Metrics::default());
-        let mut config = options.config.clone();
-        config.application_name(&format!("jobs-work {}", options.name));
+        let database = options.database.named(&format!("jobs-work {}", options.name));
         Ok(Worker {
+            // The standard library draws the keys of its hashes.
+            number: (RandomState::new().build_hasher().finish() >> 1) as i64,
             clock: Clock::new(),
             partitions: Partitions::new(index.clone()),
             index,
             ready: Ready::default(),
-            links: Links::new(config, metrics.clone(), LINKS),
+            links: Links::new(database, metrics.clone(), LINKS),
             metrics,
             redirects: Redirects::default(),
             address,
             ending,
+            elsewhere: Mutex::new(None),
             handles: Mutex::new(Vec::new()),
+            writer,
             is_released: Notify::new(),
             released: AtomicBool::new(false),
-            confirmed: AtomicU64::new(NEVER),
             options,
         })
     }
 
     pub fn is_ending(&self) -> bool {
         *self.ending.borrow()
-    }
-
-    /// The session lived when this statement was answered, which was sent at that uptime.
-    pub fn confirm(&self, sent: Duration) {
-        self.confirmed.store(sent.as_micros() as u64, SeqCst);
-    }
-
-    /// The session is lost.
-    pub fn doubt(&self) {
-        self.confirmed.store(NEVER, SeqCst);
     }
 
     /// Whether the partitions are to be let go.
@@ -95,11 +94,13 @@ impl Worker {
         self.is_released.notify_one();
     }
 
-    /// Whether no other worker can own its partitions but by an operator's hand: the database ends a session only after
-    /// it was silent for so long.
-    pub fn is_confirmed(&self) -> bool {
-        let confirmed = self.confirmed.load(SeqCst);
-        confirmed != NEVER && self.clock.uptime().saturating_sub(Duration::from_micros(confirmed)) < owner::SILENCE
+    /// A partition and the address of its worker, which has jobs that are ready and wait for holders.
+    pub fn elsewhere(&self) -> Option<String> {
+        self.elsewhere.lock().unwrap_or_else(PoisonError::into_inner).clone()
+    }
+
+    pub fn note_elsewhere(&self, place: Option<String>) {
+        *self.elsewhere.lock().unwrap_or_else(PoisonError::into_inner) = place;
     }
 
     /// A handle of the index, from those that others have put back where there is one.
@@ -120,7 +121,7 @@ fn keep(worker: &Worker, jobs: &UnboundedSender<Vec<i64>>, leases: &UnboundedSen
         let now = worker.clock.now();
         let mut out = Vec::new();
         let mut next = None;
-        for partition in worker.partitions.all(Standing::Owned) {
+        for partition in worker.partitions.owned() {
             let its_next = worker.index.take_out(partition, now, &mut out);
             next = [next, its_next].into_iter().flatten().min();
         }
@@ -164,16 +165,22 @@ pub async fn run(options: WorkerOptions) -> Result<(), Box<dyn Error>> {
     if let Some(listener) = scraped {
         tokio::spawn(scrape::serve(worker.clone(), listener));
     }
+    setup::check(&worker.options.database).await?;
     let statement = match &worker.options.effect {
-        Some(effect) => effect::statement(&worker.links, sql::BEGIN_EFFECT, effect).await.map_err(|it| reason(&it))?,
+        Some(effect) => effect::statement(&worker.links, sql::BEGIN_EFFECT, effect).await?,
         None => String::new(),
     };
     let tasks = begin(&worker, listener, statement.into());
-    told_to_end().await?;
+    let mut signals = Signals::new()?;
+    signals.next().await;
     tell(format_args!("worker {} drains", worker.options.name));
     end.send(true)?;
     worker.index.alarm().ring_before(0);
-    tasks.finish(&worker).await;
+    tokio::select! {
+        _ = tasks.finish(&worker) => {}
+        _ = tokio::time::sleep(worker.options.drain) => return Err(LEFT.into()),
+        _ = signals.next() => return Err(LEFT.into()),
+    }
     tell(format_args!("worker {} has ended", worker.options.name));
     Ok(())
 }
@@ -212,18 +219,25 @@ impl Tasks {
         let _ = tokio::task::spawn_blocking(move || self.keeper.join()).await;
         let _ = self.jobs.await;
         let _ = self.expiry.await;
-        leases::write(worker).await;
         worker.release();
         let _ = self.owner.await;
     }
 }
 
-async fn told_to_end() -> std::io::Result<()> {
-    let mut term = signal(SignalKind::terminate())?;
-    let mut int = signal(SignalKind::interrupt())?;
-    tokio::select! {
-        _ = term.recv() => {}
-        _ = int.recv() => {}
+struct Signals {
+    term: Signal,
+    int: Signal,
+}
+
+impl Signals {
+    fn new() -> io::Result<Signals> {
+        Ok(Signals { term: signal(SignalKind::terminate())?, int: signal(SignalKind::interrupt())? })
     }
-    Ok(())
+
+    async fn next(&mut self) {
+        tokio::select! {
+            _ = self.term.recv() => {}
+            _ = self.int.recv() => {}
+        }
+    }
 }

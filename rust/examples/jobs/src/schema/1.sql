@@ -1,4 +1,4 @@
--- What `jobs setup` makes. It may run again at any time, and then changes nothing that stands.
+-- The first form of the table. It may run again at any time, and then changes nothing that stands.
 CREATE TABLE IF NOT EXISTS jobs (
     id bigint GENERATED ALWAYS AS IDENTITY PRIMARY KEY,
     -- From the id, so that whoever has the id of a job knows its partition without a look.

@@ -1,0 +1,352 @@
+"""What stalls: a link that is cut, rows that others have locked, statements that are too slow.
+
+Whoever isn't concerned goes on, and whoever is does so soon after it is over.
+"""
+import contextlib
+import os
+import selectors
+import socket
+import subprocess
+import threading
+import time
+
+from cluster import EFFECT, cluster, free_port, wait_for
+from holder import Connection, Holder, Refusal
+from hostile import empty, end, exactly_once
+
+
+class Wire:
+    """A way to a port that is cut and mended: while it is cut nothing goes through, and nobody is told."""
+
+    def __init__(self, port, host="127.0.0.1"):
+        self.target, self.whole = port, threading.Event()
+        self.whole.set()
+        self.listener = socket.create_server((host, 0))
+        self.address = "%s:%d" % self.listener.getsockname()
+        # How much it still carries before it is cut.
+        self.left = float("inf")
+        threading.Thread(target=self.accept, daemon=True).start()
+
+    def accept(self):
+        while True:
+            client, _ = self.listener.accept()
+            self.whole.wait()
+            threading.Thread(target=self.carry, args=[client], daemon=True).start()
+
+    def carry(self, client):
+        with contextlib.suppress(OSError), client, socket.create_connection(("127.0.0.1", self.target)) as server:
+            with selectors.DefaultSelector() as selector:
+                selector.register(client, selectors.EVENT_READ, server)
+                selector.register(server, selectors.EVENT_READ, client)
+                while True:
+                    for key, _ in selector.select():
+                        self.whole.wait()
+                        piece = key.fileobj.recv(1 << 16)
+                        if not piece:
+                            return
+                        key.data.sendall(piece)
+                        self.left -= len(piece)
+                        if self.left < 0:
+                            self.whole.clear()
+
+    def cut(self):
+        self.whole.clear()
+
+    def mend(self):
+        self.left = float("inf")
+        self.whole.set()
+
+    def url(self, url):
+        return url.replace(f"127.0.0.1:{self.target}/", f"{self.address}/")
+
+
+class Apart:
+    """A network namespace, whose link to this one can be cut: packets are lost then, as between two hosts."""
+
+    def __init__(self):
+        self.name = f"jobs-{os.getpid()}"
+        self.link = f"jobs{os.getpid()}"
+        self.host, self.guest = (f"10.213.{os.getpid() % 251}.{number}" for number in (1, 2))
+
+    def __enter__(self):
+        self.ip("netns", "add", self.name)
+        self.ip("link", "add", self.link, "type", "veth", "peer", "name", "guest", "netns", self.name)
+        self.ip("addr", "add", f"{self.host}/24", "dev", self.link)
+        self.ip("link", "set", self.link, "up")
+        for words in (["addr", "add", f"{self.guest}/24", "dev", "guest"], ["link", "set", "guest", "up"]):
+            self.ip("-n", self.name, *words)
+        return self
+
+    def __exit__(self, *_):
+        self.ip("netns", "del", self.name)
+
+    def ip(self, *words):
+        subprocess.run(["ip", *words], check=True)
+
+    def cut(self):
+        # A frame for an address that nobody has is lost. A link that is down would be noticed.
+        for where, way in self.ways():
+            self.ip(*where, "neigh", "replace", *way, "lladdr", "02:00:00:00:00:99", "nud", "permanent")
+
+    def mend(self):
+        for where, way in self.ways():
+            self.ip(*where, "neigh", "del", *way)
+
+    def ways(self):
+        return [([], [self.guest, "dev", self.link]), (["-n", self.name], [self.host, "dev", "guest"])]
+
+    @property
+    def within(self):
+        return ["ip", "netns", "exec", self.name]
+
+
+@contextlib.contextmanager
+def held(it, *statements):
+    """A session in whose open transaction these statements were run."""
+    process = subprocess.Popen(
+        ["psql", "-X", "-q", "-At", it.url], stdin=subprocess.PIPE, stdout=subprocess.PIPE, text=True
+    )
+    process.stdin.write("BEGIN;\n" + "".join(f"{text};\n" for text in statements) + "\\echo locked\n")
+    process.stdin.flush()
+    while "locked" not in process.stdout.readline():
+        assert process.poll() is None, statements
+    try:
+        yield
+    finally:
+        process.stdin.close()
+        process.wait(30)
+
+
+def done(it, where="true"):
+    return it.number(f"SELECT count(*) FROM jobs WHERE state = 'done' AND {where}")
+
+
+def cut_link(it, seconds=30):
+    """The link of a worker is cut without a word, while jobs come due: it serves soon after it is mended."""
+    empty(it)
+    with Apart() as apart:
+        wire = Wire(it.port, apart.host)
+        worker = it.spawn("worker", "--effect", EFFECT, url=wire.url(it.url), within=apart.within)
+        it.wait_for_owners(1)
+        it.jobs("enqueue", "100")
+        exactly_once(it, 100)
+        apart.cut()
+        it.jobs("enqueue", "400", "--spread", str(seconds * 1000))
+        time.sleep(seconds)
+        apart.mend()
+        mended = time.monotonic()
+
+        def all_done():
+            """each job is done"""
+            return done(it) == 500
+
+        wait_for(all_done, 60)
+        took = time.monotonic() - mended
+        exactly_once(it, 500)
+        assert took < 5, f"the worker served {took:.1f} s after its link was mended"
+        end(worker)
+    print(f"stalls: a link was cut for {seconds} s; {took:.1f} s after it was mended all jobs were done, once", flush=True)
+
+
+def slow_effect(it):
+    """One job of many is too slow for the limit of a statement."""
+    empty(it)
+    it.sql("ALTER ROLE jobs SET statement_timeout = '1s'")
+    effect = (
+        "INSERT INTO effects (job) SELECT id FROM taken, LATERAL (SELECT pg_sleep(CASE payload WHEN 'slow' THEN 60 "
+        "ELSE 0 END)) it"
+    )
+    worker = it.spawn("worker", "--effect", effect, "--attempts", "2", "--statement-timeout", "1000")
+    it.wait_for_owners(1)
+    it.sql(
+        "INSERT INTO jobs (due, payload) SELECT now() + interval '1 second', CASE WHEN i = 70 THEN 'slow' ELSE '' END "
+        "FROM generate_series(1, 200) i"
+    )
+
+    def settled():
+        """the fast ones are done and the slow one is dead"""
+        return it.sql("SELECT state, attempt, count(*) FROM jobs GROUP BY 1, 2 ORDER BY 1") == [
+            ["dead", "2", "1"],
+            ["done", "1", "199"],
+        ]
+
+    wait_for(settled, 40)
+    end(worker)
+    it.sql("ALTER ROLE jobs RESET statement_timeout")
+    print("stalls: one job of 200 is too slow: it is dead after 2 attempts, and the others are done", flush=True)
+
+
+def vanished_host(it):
+    """A host vanishes while the database sends it 40 MB of jobs."""
+    empty(it)
+    wire = Wire(it.port)
+    ports = [free_port() for _ in range(2)]
+    lost = it.spawn("worker", "--name", "lost", "--listen", f"127.0.0.1:{ports[0]}", url=wire.url(it.url))
+    it.wait_for_owners(1)
+    it.sql(
+        "INSERT INTO jobs (payload) SELECT (SELECT string_agg(md5((i * j)::text), '') FROM generate_series(1, 10000) j) "
+        "FROM generate_series(1, 150) i"
+    )
+    asks = Connection(f"127.0.0.1:{ports[0]}")
+    wire.left = 1 << 20
+    # Until the jobs have come into memory.
+    time.sleep(2)
+    asks.socket.sendall(b"JOBS.TAKE 50\r\n")
+    wait_for(lambda: not wire.whole.is_set(), 10)
+    other = it.spawn("worker", "--name", "other", "--listen", f"127.0.0.1:{ports[1]}")
+    begun = time.monotonic()
+    given = len(Holder([f"127.0.0.1:{ports[1]}"]).take(100, seconds=25))
+    took = time.monotonic() - begun
+    lost.kill()
+    end(other)
+    wire.mend()
+    print(f"stalls: a host vanished while jobs were sent to it; another gave {given} out {took:.1f} s later", flush=True)
+
+
+def locked_rows(it):
+    """Somebody has locked three of many jobs and forgot it, in both ways of doing jobs; a worker drains meanwhile."""
+    for effect in (True, False):
+        empty(it)
+        port = free_port()
+        words = ["--effect", EFFECT] if effect else ["--listen", f"127.0.0.1:{port}"]
+        worker = it.spawn("worker", *words)
+        it.wait_for_owners(1)
+        it.sql("INSERT INTO jobs (due) SELECT now() + interval '3 seconds' FROM generate_series(1, 1000)")
+        with held(it, "UPDATE jobs SET due = due + interval '1 ms' WHERE id % 300 = 0"):
+            if effect:
+                wait_for(lambda: done(it) >= 997, 15)
+            else:
+                holder = Holder([f"127.0.0.1:{port}"])
+                jobs = holder.take(900, seconds=15)
+                holder.say(jobs, "JOBS.DONE", lambda *_: None)
+                assert done(it) == 900, done(it)
+            begun = time.monotonic()
+            worker.terminate()
+            assert worker.wait(15) == 0, "a worker drains while rows are locked"
+            took = time.monotonic() - begun
+    print(f"stalls: three locked jobs of 1,000 kept no other, and a drain took {took:.1f} s", flush=True)
+
+
+def locked_lease(it):
+    """The row of one job is locked while 60 beat, and a second worker joins: no beat that was accepted is broken."""
+    empty(it)
+    ports = [free_port() for _ in range(2)]
+    words = ["--lease", "6000", "--write-every", "1000", "--listen"]
+    workers = [it.spawn("worker", *words, f"127.0.0.1:{ports[0]}")]
+    it.wait_for_owners(1)
+    it.jobs("enqueue", "60")
+    holder = Holder([f"127.0.0.1:{port}" for port in ports[:1]])
+    jobs = holder.take(60)
+    row = jobs[0].id
+    with held(it, f"SELECT FROM jobs WHERE id = {row} FOR UPDATE"):
+        holder.beat_for(jobs, 4, 0.3)
+        workers.append(it.spawn("worker", *words, f"127.0.0.1:{ports[1]}"))
+        holder.addresses.append(f"127.0.0.1:{ports[1]}")
+        holder.beat_for(jobs, 6, 0.3)
+        assert holder.jobs[row].until < time.time() + 1, "a lease that can't be written is promised"
+    holder.beat_for(jobs, 4, 0.3)
+    replaced = [job for job in jobs if job.refused and job.id != row]
+    again = it.number(f"SELECT count(*) FROM jobs WHERE attempt > 1 AND id <> {row}")
+    assert not replaced and not again, f"{len(replaced)} holders that beat were replaced, {again:.0f} jobs given again"
+    end(*workers)
+    print("stalls: with one lease's row locked and a second worker, 59 of 59 that beat kept theirs", flush=True)
+
+
+def told_deadline(it):
+    """A worker is cut off from the database while holders beat at it: none was told more than the table has."""
+    empty(it)
+    with Apart() as apart:
+        wire = Wire(it.port, apart.host)
+        port = free_port()
+        lost = it.spawn(
+            *["worker", "--lease", "6000", "--write-every", "1000", "--listen", f"{apart.guest}:{port}"],
+            url=wire.url(it.url),
+            within=apart.within,
+        )
+        it.wait_for_owners(1)
+        it.jobs("enqueue", "50")
+        holder = Holder([f"{apart.guest}:{port}"])
+        jobs = holder.take(50)
+        holder.beat_for(jobs, 2, 0.3)
+        # The database alone is cut off: its packets are carried by this process.
+        wire.cut()
+        holder.beat_for(jobs, 4, 0.3)
+        told = {job.id: job.until for job in jobs}
+        rows = it.sql("SELECT id, extract(epoch FROM lease_until) FROM jobs")
+        more = max(told[int(id)] - float(until) for id, until in rows)
+        wire.mend()
+        end(lost)
+    assert more < 0.1, f"holders were told {more:.2f} s more than the table has"
+    print(f"stalls: a worker was cut off; its holders were told {-more * 1000:.0f} ms less than the table at least", flush=True)
+
+
+def two_schemas(it):
+    """Two tables in one database, each with a worker of its own."""
+    workers = []
+    for schema in ("a", "b"):
+        it.sql(f"CREATE SCHEMA {schema}; CREATE TABLE {schema}.effects (job bigint, at timestamptz DEFAULT clock_timestamp())")
+        url = f"{it.url}?options=-csearch_path={schema}"
+        it.jobs("setup", "--schema", schema, url=url)
+        workers.append(it.spawn("worker", "--schema", schema, "--effect", EFFECT, url=url))
+        it.jobs("enqueue", "1000", "--schema", schema, url=url)
+
+    def all_done():
+        """each job of both is done"""
+        return all(it.number(f"SELECT count(*) FROM {schema}.jobs WHERE state = 'done'") == 1000 for schema in "ab")
+
+    wait_for(all_done, 20)
+    end(*workers)
+    print("stalls: the workers of two schemas did 1,000 jobs each", flush=True)
+
+
+def old_snapshot(it):
+    """A transaction is left open, so that rows that are over stay: the readings don't come to them again and again."""
+    empty(it)
+    port = free_port()
+    worker = it.spawn("worker", "--effect", EFFECT, "--metrics", f"127.0.0.1:{port}")
+    it.wait_for_owners(1)
+    with held(it, "SET TRANSACTION ISOLATION LEVEL REPEATABLE READ", "SELECT count(*) FROM jobs"):
+        it.jobs("enqueue", "150000")
+        wait_for(lambda: done(it) == 150000, 120, every=0.5)
+        it.sql("SELECT pg_stat_reset()")
+        buffers = "SELECT sum(idx_blks_hit + idx_blks_read) FROM pg_statio_user_indexes WHERE indexrelname = 'jobs_waiting'"
+        time.sleep(6)
+        read = it.number(buffers) / 6
+    exactly_once(it, 150000)
+    end(worker)
+    assert read < 1000, f"{read:.0f} pages of the index a second"
+    print(f"stalls: beside an old snapshot and 150,000 jobs that are over, {read:.0f} pages of the index are read a second", flush=True)
+
+
+def expiry_behind_a_lock(it):
+    """A role has a lock_timeout, and rows are locked while their leases end."""
+    empty(it)
+    it.sql("ALTER ROLE jobs SET lock_timeout = '100ms'")
+    port = free_port()
+    words = ["--lease", "2000", "--write-every", "500", "--lock-timeout", "100"]
+    worker = it.spawn("worker", "--listen", f"127.0.0.1:{port}", *words)
+    it.wait_for_owners(1)
+    it.jobs("enqueue", "5")
+    Holder([f"127.0.0.1:{port}"]).take(5)
+    with held(it, "SELECT FROM jobs FOR UPDATE"):
+        time.sleep(4)
+    again = Holder([f"127.0.0.1:{port}"]).take(5, seconds=15)
+    assert {job.attempt for job in again} == {2}
+    end(worker)
+    it.sql("ALTER ROLE jobs RESET lock_timeout")
+    print("stalls: leases whose rows were locked when they ended came back after it", flush=True)
+
+
+def main(quick):
+    with cluster() as it:
+        for case in [
+            *[vanished_host, locked_rows, locked_lease, told_deadline, two_schemas, expiry_behind_a_lock, old_snapshot],
+            *[cut_link, slow_effect],
+        ]:
+            case(it)
+
+
+if __name__ == "__main__":
+    import sys
+
+    main(quick="--quick" in sys.argv)

@@ -1,0 +1,28 @@
+//! Brings dead jobs back: they wait again, with some attempts more. The numbers of their attempts go on, since holders of
+//! the old ones may still have a word.
+
+use crate::enqueue::connect;
+use crate::options::RetryOptions;
+use std::error::Error;
+
+const RETRY: &str = "
+UPDATE jobs SET state = 'waiting', due = clock_timestamp(), attempts = attempt + $2::int
+WHERE id = ANY (ARRAY(
+    SELECT id FROM jobs WHERE state = 'dead' AND ($1::bigint[] IS NULL OR id = ANY($1)) ORDER BY id
+    LIMIT 1000 FOR NO KEY UPDATE SKIP LOCKED
+))
+RETURNING id";
+
+pub async fn run(options: &RetryOptions) -> Result<(), Box<dyn Error>> {
+    let session = connect(&options.database).await?;
+    let mut count = 0;
+    loop {
+        let rows = session.query(RETRY, &[&options.ids, &options.attempts]).await?;
+        if rows.is_empty() {
+            break;
+        }
+        count += rows.len();
+    }
+    println!("{count} dead jobs wait again");
+    Ok(())
+}

@@ -1,0 +1,133 @@
+//! Makes the tables, and changes those of an older program: step by step, without keeping inserts waiting.
+
+use crate::db::{deaf, tell, version, Database, Delay, Error as DbError, Session};
+use std::error::Error;
+use std::sync::Arc;
+use std::time::{Duration, Instant};
+
+/// What changes the tables of the version before into those of each version.
+const VERSIONS: [&str; 2] = [include_str!("schema/1.sql"), include_str!("schema/2.sql")];
+/// The least version of PostgreSQL that has all that the statements want.
+const LEAST: u32 = 14;
+/// What begins a step.
+const STEP: &str = "\n-- STEP";
+/// How long a step waits for a lock each time: inserts that come meanwhile wait as long.
+const LOCK: Duration = Duration::from_millis(300);
+/// How long it is tried again where others hold locks.
+const PATIENCE: Duration = Duration::from_secs(60);
+
+const BEGIN: &str = "CREATE TABLE IF NOT EXISTS jobs_schema (version integer NOT NULL)";
+const VERSION: &str = "SELECT coalesce(max(version), 0) FROM jobs_schema";
+
+/// Refuses what speaks PostgreSQL's protocol and isn't it: its relatives lack what the statements want.
+fn fits(version: &str) -> Result<(), String> {
+    let relative =
+        ["CockroachDB", "-YB-", "Redshift", "Greenplum", "Materialize"].iter().find(|it| version.contains(**it));
+    let number = version.strip_prefix("PostgreSQL ").and_then(|it| it.split(|it: char| !it.is_ascii_digit()).next());
+    let is_known = number.and_then(|it| it.parse().ok()).map_or(false, |it: u32| it >= LEAST);
+    if relative.is_some() || !is_known {
+        return Err(format!("the database has to be PostgreSQL of version {LEAST} or later, and says: {version}"));
+    }
+    Ok(())
+}
+
+/// Makes or changes what `jobs setup` finds.
+pub async fn run(mut database: Database) -> Result<(), Box<dyn Error>> {
+    fits(&version(&database).await?)?;
+    // An index over a great table takes its time.
+    database.statement_timeout = Duration::from_secs(24 * 3_600);
+    database.lock_timeout = LOCK;
+    let session = Session::open(&database, &Arc::default(), deaf()).await?;
+    if let Some(schema) = &database.schema {
+        let stands: bool = session.query("SELECT to_regnamespace($1) IS NOT NULL", &[schema]).await?[0].get(0);
+        if !stands {
+            insist(&session, &format!("CREATE SCHEMA {schema}")).await?;
+        }
+    }
+    // Two that set up at a time: one waits, without a snapshot that an index would wait for in turn.
+    let mut delay = Delay::new();
+    while !session
+        .query(
+            "SELECT pg_try_advisory_lock('pg_namespace'::regclass::oid::int, current_schema()::regnamespace::oid::int)",
+            &[],
+        )
+        .await?[0]
+        .get::<_, bool>(0)
+    {
+        delay.wait().await;
+    }
+    insist(&session, BEGIN).await?;
+    let stands: i32 = session.query(VERSION, &[]).await?[0].get(0);
+    let known = VERSIONS.len() as i32;
+    if stands > known {
+        return Err(format!("the tables have version {stands}, this program knows {known}").into());
+    }
+    for (version, steps) in (1..).zip(VERSIONS).skip(stands as usize) {
+        // What follows the mark on its line says why the step is there.
+        for step in steps.split(STEP).filter_map(|it| it.split_once('\n')) {
+            insist(&session, step.1).await?;
+        }
+        insist(&session, &format!("INSERT INTO jobs_schema VALUES ({version})")).await?;
+    }
+    println!("the table jobs stands, with its indexes and its trigger, of version {known}");
+    Ok(())
+}
+
+/// Runs a step, again and again where others hold a lock that it wants.
+async fn insist(session: &Session, step: &str) -> Result<(), DbError> {
+    let begun = Instant::now();
+    loop {
+        match session.batch(step).await {
+            Err(error) if error.is_limit() && begun.elapsed() < PATIENCE => tokio::time::sleep(LOCK).await,
+            answer => return answer,
+        }
+    }
+}
+
+async fn stands(database: &Database) -> Result<Result<i32, String>, DbError> {
+    if let Err(refusal) = fits(&version(database).await?) {
+        return Ok(Err(refusal));
+    }
+    let session = Session::open(database, &Arc::default(), deaf()).await?;
+    Ok(Ok(session.query(VERSION, &[]).await?[0].get(0)))
+}
+
+/// Refuses tables that another version of this program has made. Where there is no database yet, it waits for it.
+pub async fn check(database: &Database) -> Result<(), Box<dyn Error>> {
+    let mut delay = Delay::new();
+    let stands = loop {
+        match stands(database).await {
+            Ok(stands) => break stands?,
+            Err(error) if error.is_passing() => {
+                tell(format_args!("tried again after {:?}: {error}", delay.wait().await));
+            }
+            Err(error) if error.is_of_statement() => return Err("there are no tables yet: jobs setup".into()),
+            Err(error) => return Err(error.into()),
+        }
+    };
+    let wanted = VERSIONS.len();
+    if stands as usize != wanted {
+        return Err(format!("the tables have version {stands}, and this program wants {wanted}: jobs setup").into());
+    }
+    Ok(())
+}
+
+#[cfg(test)]
+mod tests {
+    use super::*;
+
+    #[test]
+    fn relatives_of_postgresql_are_refused_by_name() {
+        for version in [
+            "CockroachDB CCL v23.1.11 (x86_64-pc-linux-gnu, built 2023/09/27)",
+            "PostgreSQL 15.2-YB-2.25.0.0-b0 on x86_64-pc-linux-gnu",
+            "PostgreSQL 8.0.2 on i686-pc-linux-gnu, compiled by GCC, Redshift 1.0.12103",
+            "PostgreSQL 14.4 (Greenplum Database 8.0.0)",
+            "PostgreSQL 13.14 on x86_64-pc-linux-gnu",
+        ] {
+            assert!(fits(version).unwrap_err().contains(version));
+        }
+        assert_eq!(fits("PostgreSQL 15.18 (Debian 15.18-0+deb12u1) on x86_64-pc-linux-gnu"), Ok(()));
+        assert_eq!(fits("PostgreSQL 18beta1 on x86_64-pc-linux-gnu"), Ok(()));
+    }
+}
