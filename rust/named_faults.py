@@ -47,9 +47,9 @@ FAULTS = [
     ),
     (
         "insert sweeps", "shards/calls.rs",
-        "let state = self.lock(shard as usize);\n"
+        "let state = self.lock_with_room(shard as usize);\n"
         "        let answer",
-        "let mut state = self.lock(shard as usize);\n"
+        "let mut state = self.lock_with_room(shard as usize);\n"
         "        state.sweep();\n"
         "        let answer",
     ),
@@ -123,9 +123,9 @@ FAULTS = [
     ),
     (
         "a paced poll sweeps", "stream/paced.rs",
-        "let answer = self.stream.poll_some_locked(&mut shard, self.steps, cx);",
-        "let answer = self.stream.poll_some_locked(&mut shard, self.steps, cx);\n"
-        "            shard.state.sweep();",
+        "let polled = piece(&mut shard, &mut self.source, slot, steps);",
+        "let polled = piece(&mut shard, &mut self.source, slot, steps);\n"
+        "        shard.state.sweep();",
     ),
     (
         "a paced poll makes 64 steps", "stream/paced.rs",

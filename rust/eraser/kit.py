@@ -163,7 +163,7 @@ def waking(tokens):
         if words_at(tokens, at, "mem", "::") and tokens[at + 3].text == "(":
             close = close_of(tokens, at + 3)
             called = tokens[at + 2].text
-            if called == "forget" and words_at(tokens, close - 2, ".", "waker", ")", ";"):
+            if called == "forget" and words_at(tokens, close - 1, "waker", ")", ";"):
                 tokens[at + 2].text = "drop"
                 tokens[at + 2].before = without_line(tokens[at].before, WAKES)
                 del tokens[at:at + 2]

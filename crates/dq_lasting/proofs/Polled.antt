@@ -1,38 +1,39 @@
 -- What a poll that parks leaves.
-use Rattle.std.proofs.Common.{◌≡◌, ℕ, refl, subst, inl, inr, Option, Ok, Err}
+use Rattle.std.proofs.Common.{◌≡◌, ℕ, refl, inl, inr, Option, None, Ok, Err}
 use Rattle.futures.specs.Poll.{IfReady, OnPending}
 use Rattle.futures.specs.declared.task.Poll.TheVariants.{Ready, Pending}
 use Rattle.futures.specs.declared.task.context.Context.{Context}
+use Rattle.futures.specs.declared.task.waker.Waker.{Waker}
 use Rattle.dq_core.specs.declared.outcomes.Expired.{Expired}
 use Rattle.dq_core.specs.declared.outcomes.Turn.TheVariants.{Out}
-use Rattle.dq_parking.specs.Wakers.{LacksWaker}
+use Rattle.dq_parking.specs.Wakers.{LeavesWaker}
 use Rattle.dq_lasting.specs.declared.errors.LastingError.TheVariants.{Core, Closed, Unknown}
 use Rattle.dq_lasting.specs.Shard.{LastingView, IsLasting}
 use Rattle.dq_lasting.specs.Changes.{LastingPolls}
-use Rattle.dq_lasting.specs.Polling.{LastingAnswer, ParksTask, PollsOrParks, PollsOrParksAt, UnparksAndPolls, no_memory, rest_of, with_none_parked}
+use Rattle.dq_lasting.specs.Polling.{LastingAnswer, ParksLeftWaker, PollsOrParks, PollsOrParksWith, PollsOrParksAt, UnparksAndPolls, no_memory, rest_of, with_none_parked}
 use Rattle.dq_lasting.specs.Streams.{IsLastingItem}
 
 module _ {T : Type 0} (cx cy : Context) where
-  -- the shard waits after its poll, and then its task is parked or refused
-  pub waited : (old start left new : LastingView T) (tick : ℕ) (next : Option ℕ) (r : LastingAnswer T)
-      → start ≡ with_none_parked old → LastingPolls start tick (Ok (rest_of next)) left
-      → OnPending r (ParksTask cx cy left next new)
-      → IfReady r (λ a. (a ≡ Err no_memory) × LacksWaker cy × (new ≡ left))
-      → PollsOrParks cx cy old tick r new
-  waited old start left new tick next Pending begins polls parks refused =
-      (next, left, subst (λ (s : LastingView T). LastingPolls s tick (Ok (rest_of next)) left) begins polls, parks)
-  waited old start left new tick next (Ready a) begins polls parks (is, lacks, same) =
-      let here = subst (λ (s : LastingView T). LastingPolls s tick (Ok (rest_of next)) left) begins polls in
-      rw is (inr (refl, lacks, (next, rw same here)))
+  -- the waker that is parked, if one is, is the one that the task's registration left
+  pub by_registering : (old new : LastingView T) (tick : ℕ) (slot : Option Waker) (r : LastingAnswer T)
+      → LeavesWaker cx cy slot → PollsOrParksWith (with_none_parked old) tick slot r new → PollsOrParks cx cy old tick r new
+  by_registering old new tick slot (Ready (Ok x)) left is = is
+  by_registering old new tick slot (Ready (Err (Core e))) left (inl is) = inl is
+  by_registering old new tick slot (Ready (Err (Core e))) left (inr (why, none, polled)) = inr (why, rw none at left, polled)
+  by_registering old new tick slot (Ready (Err Closed)) left is = is
+  by_registering old new tick slot (Ready (Err Unknown)) left is = is
+  by_registering old new tick slot Pending left (next, at, polled, (waker, same, parked)) =
+      (next, at, polled, (waker, rw same at left, parked))
 
-  -- it is the same poll where the poller was taken out before
-  pub taken_before : (old new : LastingView T) (tick : ℕ) (r : LastingAnswer T)
-      → PollsOrParks cx cy (with_none_parked old) tick r new → PollsOrParks cx cy old tick r new
-  taken_before old new tick (Ready (Ok x)) is = is
-  taken_before old new tick (Ready (Err (Core e))) is = is
-  taken_before old new tick (Ready (Err Closed)) is = is
-  taken_before old new tick (Ready (Err Unknown)) is = is
-  taken_before old new tick Pending is = is
+  -- the shard waits after its poll, and then the waker is parked or there is none
+  pub waited : (old left new : LastingView T) (tick : ℕ) (next : Option ℕ) (slot : Option Waker) (r : LastingAnswer T)
+      → LastingPolls old tick (Ok (rest_of next)) left
+      → OnPending r (ParksLeftWaker slot left next new)
+      → IfReady r (λ a. (a ≡ Err no_memory) × (slot ≡ None) × (new ≡ left))
+      → PollsOrParksWith old tick slot r new
+  waited old left new tick next slot Pending polls parks refused = (next, left, polls, parks)
+  waited old left new tick next slot (Ready a) polls parks (is, none, same) =
+      rw is (inr (refl, none, (next, rw same polls)))
 
   -- the shard keeps its law with the poller taken out
   pub unparked : (s : LastingView T) → IsLasting s → IsLasting (with_none_parked s)

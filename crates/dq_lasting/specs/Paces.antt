@@ -3,6 +3,7 @@ use Rattle.std.specs.Prelude.{◌≡◌, ℕ, ⊤, ◌<◌, ◌≤◌, ◌⊎◌
 use Rattle.std.specs.Prelude.{Result, Ok, Err}
 use Rattle.futures.specs.declared.task.Poll.TheVariants.{Ready, Pending}
 use Rattle.futures.specs.declared.task.context.Context.{Context}
+use Rattle.futures.specs.declared.task.waker.Waker.{Waker}
 use Rattle.dq_ticks.specs.declared.TheConstants.{LAST_TICK}
 use Rattle.dq_core.specs.declared.errors.CoreError.{CoreError}
 use Rattle.dq_core.specs.declared.errors.CoreError.TheVariants.{NoMemory, TickTooLarge}
@@ -15,7 +16,7 @@ use Rattle.dq_parking.specs.Wakers.{LacksWaker}
 use Rattle.dq_lasting.specs.declared.errors.LastingError.TheVariants.{Core, Closed, Unknown}
 use Rattle.dq_lasting.specs.Answers.{AtPlace}
 use Rattle.dq_lasting.specs.Changes.{LastingPollsSome}
-use Rattle.dq_lasting.specs.Polling.{LastingAnswer, ParksTask}
+use Rattle.dq_lasting.specs.Polling.{LastingAnswer, ParksTask, ParksLeftWaker}
 use Rattle.dq_lasting.specs.Polling.{no_memory, rest_of, with_none_parked}
 use Rattle.dq_lasting.specs.Shard.{LastingView}
 
@@ -48,6 +49,24 @@ module _ {T : Type 0} where
       × UnparksAndPollsSome old tick most (Ok (Answered (rest_of next))) left
       × ParksTask cx cy left next new)
       ⊎ WorksOn cy old tick most new
+
+  -- The same of a shard where none is parked, with the waker that a registration left: it is parked
+  -- where nothing is due. None is answered where more is to do.
+  abbrev pub PollsSomeOrParksWith :
+      LastingView T → ℕ → ℕ → Option Waker → Option (LastingAnswer T) → LastingView T → Type 0
+  PollsSomeOrParksWith old tick most slot None new = LastingPollsSome old tick most (Ok Working) new
+  PollsSomeOrParksWith old tick most slot (Some (Ready (Ok x))) new =
+      LastingPollsSome old tick most (Ok (Answered (Out x))) new
+  PollsSomeOrParksWith old tick most slot (Some (Ready (Err (Core e)))) new =
+      LastingPollsSome old tick most (Err e) new
+      ⊎ ((e ≡ NoMemory) × (slot ≡ None)
+      × ((next : Option ℕ) × LastingPollsSome old tick most (Ok (Answered (rest_of next))) new))
+  PollsSomeOrParksWith old tick most slot (Some (Ready (Err Closed))) new = ⊥
+  PollsSomeOrParksWith old tick most slot (Some (Ready (Err Unknown))) new = ⊥
+  PollsSomeOrParksWith old tick most slot (Some Pending) new =
+      (next : Option ℕ) × (left : LastingView T)
+      × LastingPollsSome old tick most (Ok (Answered (rest_of next))) left
+      × ParksLeftWaker slot left next new
 
 -- the same at the shard of a place, which may be out of range
 abbrev pub PollsSomeOrParksAt :

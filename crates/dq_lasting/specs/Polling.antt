@@ -41,6 +41,11 @@ module _ {T : Type 0} where
   ParksTask cx cy old next new =
       (waker : Waker) × IsOwn waker cx cy × (new ≡ with_parked old next waker)
 
+  -- the waker that a registration left is parked in a shard, until a tick or for an insert
+  abbrev pub ParksLeftWaker : Option Waker → LastingView T → Option ℕ → LastingView T → Type 0
+  ParksLeftWaker slot old next new =
+      (waker : Waker) × (slot ≡ Some waker) × (new ≡ with_parked old next waker)
+
   -- a ring at a tick takes out a poller that is parked at or before it
   abbrev pub RingsParked : LastingView T → ℕ → Bool → LastingView T → Type 0
   RingsParked old tick result new =
@@ -72,6 +77,21 @@ module _ {T : Type 0} where
   PollsOrParks cx cy old tick Pending new =
       (next : Option ℕ) × (left : LastingView T)
       × UnparksAndPolls old tick (Ok (rest_of next)) left × ParksTask cx cy left next new
+
+  -- The same of a shard where none is parked, with the waker that a registration left: it is parked
+  -- where nothing is due.
+  abbrev pub PollsOrParksWith :
+      LastingView T → ℕ → Option Waker → LastingAnswer T → LastingView T → Type 0
+  PollsOrParksWith old tick slot (Ready (Ok x)) new = LastingPolls old tick (Ok (Out x)) new
+  PollsOrParksWith old tick slot (Ready (Err (Core e))) new =
+      LastingPolls old tick (Err e) new
+      ⊎ ((e ≡ NoMemory) × (slot ≡ None)
+      × ((next : Option ℕ) × LastingPolls old tick (Ok (rest_of next)) new))
+  PollsOrParksWith old tick slot (Ready (Err Closed)) new = ⊥
+  PollsOrParksWith old tick slot (Ready (Err Unknown)) new = ⊥
+  PollsOrParksWith old tick slot Pending new =
+      (next : Option ℕ) × (left : LastingView T)
+      × LastingPolls old tick (Ok (rest_of next)) left × ParksLeftWaker slot left next new
 
 -- the same at the shard of a place, which may be out of range
 abbrev pub PollsOrParksAt :

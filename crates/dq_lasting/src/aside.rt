@@ -1,16 +1,18 @@
 //! Values that were let go under a shard's lock: they are dropped once it is free.
 //!
 //! A value's drop is a user's code: it may call the queue, and it may panic. What is reaped or cleared is set aside
-//! in its shard, and the call takes it out and drops it behind the lock, one value after the other. Where a drop
-//! panics the shard is whole, and what is still set aside is dropped by a later call.
-ghost use Rattle.std.specs.Prelude.{◌↔◌, ◌<◌, ◌≤◌, IsErrOf};
+//! in its shard, and one thread takes it out and drops it behind the lock. Where a drop panics the shard is whole, and
+//! what is still set aside is dropped by a later call.
+ghost use Rattle.std.specs.Prelude.{◌≡◌, ◌↔◌, ◌<◌, ◌≤◌, IsErrOf};
+ghost use Rattle.std.specs.Sync.Mutex.{mutex_guard_value};
 ghost use Rattle.dq_lasting.specs.declared.errors.LastingError.TheVariants.{Unknown};
+ghost use Rattle.dq_lasting.specs.Answers.{IsOfPlace};
 
 use crate::errors::LastingError;
 use crate::queue::LastingQueue;
 use crate::shard::LastingShard;
 use std::alloc::Allocator;
-use std::sync::Wait;
+use std::sync::{MutexGuard, Wait};
 
 impl<T: Drop, A: Allocator> LastingShard<T, A> {
     /// How many values are set aside: those of entries that were reaped or cleared, and that aren't dropped yet.
@@ -18,6 +20,18 @@ impl<T: Drop, A: Allocator> LastingShard<T, A> {
     #[inline(always)]
     pub fn aside(&self) -> usize {
         self.attended.core.aside()
+    }
+
+    // Takes out a value that is set aside where an insert, if one is taken, might have no place for it.
+    #[inline(always)]
+    pub(crate) fn take_crowded(&mut self) -> Option<T>
+        ensures { self.new ≡ self.old }
+    {
+        if self.takes {
+            self.attended.core.take_crowded()
+        } else {
+            None
+        }
     }
 }
 
@@ -36,22 +50,77 @@ impl<T: Drop, A: Allocator> LastingQueue<T, A> {
         Ok(self.lock(rt, place).aside())
     }
 
-    // Drops a value that is set aside in the shard at a place, once its lock is free. False where there is none.
-    #[inline(never)]
-    fn drop_one_aside<R: Wait>(&self, rt: &R, place: usize) -> bool
+    // As `lock`, for an insert: where the shard takes entries it has a place for each value that is set aside. One that has
+    // none is dropped before it, while the lock is free: a drop that panics then loses no key.
+    #[inline(always)]
+    pub(crate) fn lock_with_room<R: Wait>(
+        &self,
+        rt: &R,
+        place: usize,
+    ) -> MutexGuard<'_, LastingShard<T, A>>
         requires { place < self.now.shards }
+        ensures { IsOfPlace self.now.shards place (mutex_guard_value result) }
     {
         let mut shard = self.lock(rt, place);
-        let aside = shard.attended.core.take_aside();
-        drop(shard);
-        aside.is_some()
+        match shard.take_crowded() {
+            None => shard,
+            Some(crowded) => {
+                drop(shard);
+                drop(crowded);
+                self.lock_once_there_is_room(rt, place)
+            }
+        }
     }
 
-    /// Drops up to so many values that are set aside in the shard at a place, each while the shard's lock is free.
+    #[inline(never)]
+    fn lock_once_there_is_room<R: Wait>(
+        &self,
+        rt: &R,
+        place: usize,
+    ) -> MutexGuard<'_, LastingShard<T, A>>
+        requires { place < self.now.shards }
+        ensures { IsOfPlace self.now.shards place (mutex_guard_value result) }
+    {
+        for _ in rt.forever() {
+            let mut shard = self.lock(rt, place);
+            match shard.take_crowded() {
+                None => return shard,
+                Some(crowded) => {
+                    drop(shard);
+                    drop(crowded);
+                }
+            }
+        }
+        unreachable!()
+    }
+
+    // Drops what is set aside in the shard at a place until nothing is left, where no thread does so already.
+    #[inline(never)]
+    fn drop_all_aside<R: Wait>(&self, rt: &R, place: usize) {
+        let mut dropper = Dropper {
+            queue: self,
+            rt,
+            place,
+            is_at_it: false,
+        };
+        for _ in rt.forever() {
+            if !dropper.drops_batch() {
+                return;
+            }
+        }
+        unreachable!()
+    }
+
+    /// Drops the values that are set aside in the shard at a place, up to 16 that were taken out under one lock, each while
+    /// the shard's lock is free. `most` is how many the caller has left there: of none nothing is done, and no lock is
+    /// taken. Else it goes on until none is left.
+    ///
+    /// One thread at a time does it. Where another is at it, or a value's drop that this one runs makes the call, that one
+    /// drops these values too, and the call returns at once. Where a drop panics, those that were taken out with it are
+    /// dropped as the panic unwinds, and a later call drops the rest.
+    ///
     /// The calls by name do it by themselves; whoever holds a shard by [`LastingQueue::enter`] asks
     /// [`LockedLasting::aside`] before it lets the shard go. Of a place out of range there is nothing to drop.
-    ///
-    /// A lock for each value, and its drop.
     ///
     /// ```ignore
     /// let mut shard = queue.enter(&rt, place)?;
@@ -64,12 +133,45 @@ impl<T: Drop, A: Allocator> LastingQueue<T, A> {
     /// [`LockedLasting::aside`]: crate::LockedLasting::aside
     #[inline(always)]
     pub fn drop_aside<R: Wait>(&self, rt: &R, place: usize, most: usize) {
-        if place >= self.shards() {
-            return;
+        if most > 0 {
+            self.drop_all_aside(rt, place);
         }
-        for _turn in 0..most {
-            if !self.drop_one_aside(rt, place) {
-                return;
+    }
+}
+
+// The thread that drops what is set aside in the shard at a place. Where a value's drop panics, others may do it from then on.
+struct Dropper<'q, T: Drop, R: Wait, A: Allocator> {
+    queue: &'q LastingQueue<T, A>,
+    rt: &'q R,
+    place: usize,
+    is_at_it: bool,
+}
+
+impl<T: Drop, R: Wait, A: Allocator> Dropper<'_, T, R, A> {
+    // Drops some values behind the lock. False where none was left to it.
+    fn drops_batch(&mut self) -> bool {
+        if self.place >= self.queue.shards() {
+            return false;
+        }
+        let mut shard = self.queue.lock(self.rt, self.place);
+        let batch = shard.attended.take_batch(&mut self.is_at_it);
+        drop(shard);
+        batch.is_some()
+    }
+}
+
+impl<T: Drop, R: Wait, A: Allocator> Drop for Dropper<'_, T, R, A> {
+    fn drop(self) {
+        let Dropper {
+            queue,
+            rt,
+            place,
+            mut is_at_it,
+        } = self;
+        if is_at_it {
+            if place < queue.shards() {
+                let mut shard = queue.lock(rt, place);
+                shard.attended.end_dropping(&mut is_at_it);
             }
         }
     }

@@ -74,9 +74,7 @@ impl<T: Drop, A: Allocator> LastingQueue<T, A> {
         ensures back { IfErr result (λ e. e.1 ≡ value) }
         ensures inserts { InsertsAtPlace self.now.shards place value when result }
     {
-        let mut shard = self.lock(rt, place);
-        // It is dropped behind the lock, where this ends.
-        let _crowded = shard.attended.core.take_crowded();
+        let mut shard = self.lock_with_room(rt, place);
         let (answer, leaver) = shard.insert_quietly(value, when);
         unlock(shard, leaver);
         answer

@@ -57,10 +57,14 @@ impl<T: Drop, A: Allocator> LastingQueue<T, A> {
         if place >= self.shards() {
             return Err(LastingError::Unknown);
         }
+        let before = row.len();
         let mut shard = self.lock(rt, place);
         let (answer, leaver) = shard.attended.poll_many(tick, row);
         let aside = unlock(shard, leaver);
-        self.drop_aside(rt, place, aside);
+        // A drop that panics would lose what came out.
+        if row.len() == before {
+            self.drop_aside(rt, place, aside);
+        }
         match answer {
             Ok(turn) => Ok(turn),
             Err(error) => Err(LastingError::Core(error)),

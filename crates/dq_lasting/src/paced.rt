@@ -1,10 +1,12 @@
 //! What expires at one place of a lasting queue, as a stream whose polls make at most so many steps.
-ghost use Rattle.std.specs.Prelude.{◌≡◌, ℕ, ⊤, [], IfSome, OnSome};
+ghost use Rattle.std.specs.Prelude.{◌≡◌, ◌<◌, ℕ, ⊤, [], IfSome, OnSome};
 ghost use Rattle.futures.specs.Task.{Covers, Keeps};
 ghost use Rattle.futures.specs.Poll.{IfReady, OnPending};
 ghost use Rattle.futures.specs.Runs.{After, Within};
 ghost use Rattle.dq_parking.specs.Items.{IfFault};
-ghost use Rattle.dq_lasting.specs.Paces.{PollsSomeOrParks, PollsSomeOrParksAt};
+ghost use Rattle.dq_lasting.specs.Answers.{AtPlace};
+ghost use Rattle.dq_lasting.specs.Polling.{with_none_parked};
+ghost use Rattle.dq_lasting.specs.Paces.{PollsSomeOrParksWith, PollsSomeOrParksAt};
 ghost use Rattle.dq_lasting.specs.Paces.{LastingPacedPolls, LastingPacedGives};
 ghost use Rattle.dq_lasting.specs.Streams.{NeverEnds, IsLastingFault};
 
@@ -13,55 +15,62 @@ use crate::queue::LastingQueue;
 use crate::shard::LastingShard;
 use crate::stream::{LastingStream, fault_of};
 use dq_core::{Expired, Piece, Turn};
-use dq_parking::{StreamFault, TickSource, let_sleep};
+use dq_parking::{Parked, StreamFault, TickSource, forget, let_sleep, register};
 use futures::Stream;
-use futures::task::{Context, Poll, Source};
+use futures::task::{Context, Poll, Source, Waker};
 use std::alloc::{Allocator, Global};
 use std::num::NonZeroU32;
 use std::sync::Wait;
 
 impl<T: Drop, A: Allocator> LastingShard<T, A> {
-    /// As [`LastingShard::poll_or_park`], by at most `most` steps. Where more is to do nothing is parked: the polled
-    /// task is woken, and the answer is Pending.
-    ///
-    /// # Errors
-    /// As `poll_or_park`.
-    pub fn poll_some_or_park(
+    // As `poll_or_park`, by at most `most` steps. None where more is to do, and then nothing is parked.
+    fn poll_some_or_park(
         &mut self,
         tick: u64,
         most: u32,
-        name: &Source,
-        cx: &mut Context<'_>,
-    ) -> Poll<Result<Expired<T>, LastingError>>
-        // It waits registered with its context, or with its task woken.
-        ensures registered { OnPending result (Covers cx.new (λ s. s ≡ name.now.id)) }
-
-        // All that it does.
-        ensures polls { PollsSomeOrParks cx.old cx.new self.old tick most result self.new }
-        ensures kept { Keeps cx.old cx.new }
+        slot: &mut Option<Waker>,
+    ) -> Option<Poll<Result<Expired<T>, LastingError>>>
+        ensures { PollsSomeOrParksWith self.old tick most slot.old result self.new }
     {
-        let_sleep(self.take_parked());
         match self.poll_some(tick, most) {
-            Ok(Piece::Working) => {
-                let _woken: Poll<()> = cx.yield_now();
-                Poll::Pending
-            }
-            Ok(Piece::Answer(Turn::Out(expired))) => Poll::Ready(Ok(expired)),
-            Ok(Piece::Answer(Turn::Waiting { next })) => self.wait(Some(next), name, cx),
-            Ok(Piece::Answer(Turn::Idle)) => self.wait(None, name, cx),
-            Err(error) => Poll::Ready(Err(LastingError::Core(error))),
+            Ok(Piece::Working) => None,
+            Ok(Piece::Answer(Turn::Out(expired))) => Some(Poll::Ready(Ok(expired))),
+            Ok(Piece::Answer(Turn::Waiting { next })) => Some(self.wait(Some(next), slot)),
+            Ok(Piece::Answer(Turn::Idle)) => Some(self.wait(None, slot)),
+            Err(error) => Some(Poll::Ready(Err(LastingError::Core(error)))),
         }
     }
 }
 
 impl<T: Drop, A: Allocator> LastingQueue<T, A> {
+    // As `poll_or_park_at`, by at most `most` steps. No answer where more is to do.
+    fn poll_some_or_park_at<R: Wait>(
+        &self,
+        rt: &R,
+        place: usize,
+        tick: u64,
+        most: u32,
+        slot: &mut Option<Waker>,
+        before: &mut Option<Parked<Option<u64>>>,
+    ) -> (Option<Poll<Result<Expired<T>, LastingError>>>, usize)
+        requires { place < self.now.shards }
+        ensures { AtPlace {T = T} self.now.shards place (λ old r new.
+            PollsSomeOrParksWith (with_none_parked old) tick most slot.old r new) result.0 }
+    {
+        let mut shard = self.lock(rt, place);
+        *before = shard.take_parked();
+        let answer = shard.poll_some_or_park(tick, most, slot);
+        shard.law();
+        (answer, shard.aside())
+    }
+
     /// As [`LastingQueue::poll_or_park`], by at most `most` steps while the shard's lock is held, each in constant time
-    /// but for a value's drop. Where more is to do nothing is parked: the polled task is woken, the lock let go, and
+    /// but for a value's drop. Where more is to do nothing is parked: the lock is let go, the polled task is woken, and
     /// the answer is Pending. So others may take the lock before the task is polled again.
     ///
     /// # Errors
     /// As `poll_or_park`.
-    #[tactic(auto, using(crate::proofs::Piecewise::taken_before_pieces))]
+    #[tactic(auto, using(crate::proofs::Piecewise::by_registering_pieces))]
     pub fn poll_some_or_park<R: Wait>(
         &self,
         rt: &R,
@@ -81,17 +90,34 @@ impl<T: Drop, A: Allocator> LastingQueue<T, A> {
         if place >= self.shards() {
             return Poll::Ready(Err(LastingError::Unknown));
         }
-        let mut shard = self.lock(rt, place);
-        let before = shard.take_parked();
-        let answer = shard.poll_some_or_park(tick, most, name, cx);
-        self.let_go(rt, place, shard, before, answer.is_pending());
+        let mut before = None;
+        let mut slot = register(name, cx);
+        let (polled, aside) = self.poll_some_or_park_at(
+            rt,
+            place,
+            tick,
+            most,
+            &mut slot,
+            &mut before,
+        );
+        let_sleep(before);
+        forget(slot);
+        let Some(answer) = polled else {
+            let _woken: Poll<()> = cx.yield_now();
+            self.drop_aside(rt, place, aside);
+            return Poll::Pending;
+        };
+        // A drop that panics would lose what came out.
+        if answer.is_pending() {
+            self.drop_aside(rt, place, aside);
+        }
         answer
     }
 }
 
 /// A [`LastingStream`] whose polls make at most so many steps of their shard while its lock is held.
 ///
-/// A poll that has made them all and has more to do wakes its own task, lets the lock go and is Pending. So others may
+/// A poll that has made them all and has more to do lets the lock go, wakes its own task and is Pending. So others may
 /// take the lock before the task is polled again, and where it is polled at once it gives way for a bounded while to who
 /// waits for the lock. It gives what its stream would give, and parks as that does.
 ///

@@ -1,14 +1,11 @@
 //! The poller that waits for a shard: one at a time.
-ghost use Rattle.std.specs.Prelude.{◌≡◌, None, Err};
-ghost use Rattle.std.specs.Sync.Mutex.{mutex_guard_value};
+ghost use Rattle.std.specs.Prelude.{◌≡◌, ◌<◌, None, Err};
 ghost use Rattle.futures.specs.Task.{Covers, Keeps};
 ghost use Rattle.futures.specs.Poll.{IfReady, OnPending};
 ghost use Rattle.dq_core.specs.Calls.{TellsWake};
-ghost use Rattle.dq_parking.specs.Wakers.{LacksWaker};
-ghost use Rattle.dq_lasting.specs.Answers.{AtPlaceAll};
+ghost use Rattle.dq_lasting.specs.Answers.{AtPlace, AtPlaceAll};
 ghost use Rattle.dq_lasting.specs.Changes.{LastingUnparks};
-ghost use Rattle.dq_lasting.specs.Shard.{IsLasting};
-ghost use Rattle.dq_lasting.specs.Polling.{ParksTask, RingsParked, PollsOrParks, PollsOrParksAt};
+ghost use Rattle.dq_lasting.specs.Polling.{ParksLeftWaker, RingsParked, PollsOrParksWith, PollsOrParksAt};
 ghost use Rattle.dq_lasting.specs.Polling.{no_memory, with_parked, with_none_parked};
 
 use crate::errors::LastingError;
@@ -16,10 +13,10 @@ use crate::queue::LastingQueue;
 use crate::quiet::unlock;
 use crate::shard::LastingShard;
 use dq_core::{CoreError, Expired, Turn};
-use dq_parking::{Parked, let_sleep, register};
+use dq_parking::{Parked, forget, let_sleep, register};
 use futures::task::{Context, Poll, Source, Waker};
 use std::alloc::Allocator;
-use std::sync::{MutexGuard, Wait};
+use std::sync::Wait;
 
 impl<T: Drop, A: Allocator> LastingShard<T, A> {
     // Takes the parked poller out, unwoken.
@@ -39,51 +36,37 @@ impl<T: Drop, A: Allocator> LastingShard<T, A> {
         self.attended.parked = Some(Parked { next, waker });
     }
 
-    // Registers with the context and parks its task. The name stands for the shard, as a source that fires where it
-    // wakes its poller.
+    // Parks the waker that a registration left, if it left one.
     pub(crate) fn wait(
         &mut self,
         next: Option<u64>,
-        name: &Source,
-        cx: &mut Context<'_>,
+        slot: &mut Option<Waker>,
     ) -> Poll<Result<Expired<T>, LastingError>>
-        requires wake { TellsWake self.old.core next }
-        ensures parks { OnPending result (ParksTask cx.old cx.new self.old next self.new) }
+        requires { TellsWake self.old.core next }
+        ensures parks { OnPending result (ParksLeftWaker slot.old self.old next self.new) }
         ensures refused { IfReady result (λ r. (r ≡ Err no_memory)
-            × LacksWaker cx.new × (self.new ≡ self.old)) }
-        ensures registered { OnPending result (Covers cx.new (λ s. s ≡ name.now.id)) }
-        ensures kept { Keeps cx.old cx.new }
+            × (slot.old ≡ None) × (self.new ≡ self.old)) }
     {
-        let Some(waker) = register(name, cx) else {
+        let Some(waker) = slot.take() else {
             return Poll::Ready(Err(LastingError::Core(CoreError::NoMemory)));
         };
         self.park(next, waker);
         Poll::Pending
     }
 
-    /// As [`LastingShard::poll`], for a task: where nothing is due it is parked, until the next wake or, where nothing
-    /// is linked, until an insert. It takes the place of one that was parked before, which isn't woken.
-    ///
-    /// # Errors
-    /// TickTooLarge beyond the last tick, and NoMemory where no waker can be made; nothing is parked then.
-    pub fn poll_or_park(
+    // A poll of a shard where none is parked, by a task that left its waker: where nothing is due that is parked, until the
+    // next wake or, where nothing is linked, until an insert.
+    fn poll_or_park(
         &mut self,
         tick: u64,
-        name: &Source,
-        cx: &mut Context<'_>,
+        slot: &mut Option<Waker>,
     ) -> Poll<Result<Expired<T>, LastingError>>
-        // It waits registered with its context.
-        ensures registered { OnPending result (Covers cx.new (λ s. s ≡ name.now.id)) }
-
-        // All that it does.
-        ensures polls { PollsOrParks cx.old cx.new self.old tick result self.new }
-        ensures kept { Keeps cx.old cx.new }
+        ensures { PollsOrParksWith self.old tick slot.old result self.new }
     {
-        let_sleep(self.take_parked());
         match self.poll(tick) {
             Ok(Turn::Out(expired)) => Poll::Ready(Ok(expired)),
-            Ok(Turn::Waiting { next }) => self.wait(Some(next), name, cx),
-            Ok(Turn::Idle) => self.wait(None, name, cx),
+            Ok(Turn::Waiting { next }) => self.wait(Some(next), slot),
+            Ok(Turn::Idle) => self.wait(None, slot),
             Err(error) => Poll::Ready(Err(LastingError::Core(error))),
         }
     }
@@ -106,25 +89,25 @@ impl<T: Drop, A: Allocator> LastingShard<T, A> {
 }
 
 impl<T: Drop, A: Allocator> LastingQueue<T, A> {
-    // Lets the lock go behind a poll at a place, and who was parked there before it. What is set aside is dropped where no
-    // entry was given: a drop that panics would lose it.
-    pub(crate) fn let_go<R: Wait>(
+    // The poll of a task that left its waker, under the lock of the shard at a place. What was parked there before it goes
+    // out with the answer, and so does how many values are set aside.
+    fn poll_or_park_at<R: Wait>(
         &self,
         rt: &R,
         place: usize,
-        shard: MutexGuard<'_, LastingShard<T, A>>,
-        before: Option<Parked<Option<u64>>>,
-        rests: bool,
-    )
-        ensures { IsLasting (mutex_guard_value shard.entry) }
+        tick: u64,
+        slot: &mut Option<Waker>,
+        before: &mut Option<Parked<Option<u64>>>,
+    ) -> (Poll<Result<Expired<T>, LastingError>>, usize)
+        requires { place < self.now.shards }
+        ensures { AtPlace {T = T} self.now.shards place
+            (λ old r new. PollsOrParksWith (with_none_parked old) tick slot.old r new) result.0 }
     {
+        let mut shard = self.lock(rt, place);
+        *before = shard.take_parked();
+        let answer = shard.poll_or_park(tick, slot);
         shard.law();
-        let aside = shard.aside();
-        drop(shard);
-        let_sleep(before);
-        if rests {
-            self.drop_aside(rt, place, aside);
-        }
+        (answer, shard.aside())
     }
 
     /// Polls the shard at a place at `tick`, of one millisecond, for a task: it gives an entry that is due. Where none
@@ -138,7 +121,7 @@ impl<T: Drop, A: Allocator> LastingQueue<T, A> {
     /// # Errors
     /// Unknown out of range, TickTooLarge beyond the last tick, and NoMemory where no waker can be made; nothing is
     /// parked then.
-    #[tactic(auto, using(crate::proofs::Polled::taken_before))]
+    #[tactic(auto, using(crate::proofs::Polled::by_registering))]
     pub fn poll_or_park<R: Wait>(
         &self,
         rt: &R,
@@ -157,10 +140,16 @@ impl<T: Drop, A: Allocator> LastingQueue<T, A> {
         if place >= self.shards() {
             return Poll::Ready(Err(LastingError::Unknown));
         }
-        let mut shard = self.lock(rt, place);
-        let before = shard.take_parked();
-        let answer = shard.poll_or_park(tick, name, cx);
-        self.let_go(rt, place, shard, before, answer.is_pending());
+        // The task's waker is made, and those that aren't parked are let go, while the lock is free.
+        let mut before = None;
+        let mut slot = register(name, cx);
+        let (answer, aside) = self.poll_or_park_at(rt, place, tick, &mut slot, &mut before);
+        let_sleep(before);
+        forget(slot);
+        // A drop that panics would lose what came out.
+        if answer.is_pending() {
+            self.drop_aside(rt, place, aside);
+        }
         answer
     }
 

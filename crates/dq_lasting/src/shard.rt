@@ -87,7 +87,7 @@ impl<T, A: Allocator> From<DelayCore<T, Keeper<A>, A>> for LastingShard<T, A> {
             cancelled: 0,
         };
         LastingShard {
-            attended: Attended { core, parked: None },
+            attended: Attended::new(core),
             takes: true,
             past,
             sweep_from: 0,
@@ -173,8 +173,7 @@ impl<T: Drop, A: Allocator> LastingShard<T, A> {
         // All that it does.
         ensures inserts { LastingInserts self.old value when result self.new }
     {
-        // It is dropped where this ends: all else is done by then.
-        let _crowded = self.attended.core.take_crowded();
+        drop(self.take_crowded());
         let (answer, leaver) = self.insert_quietly(value, when);
         leaver.wake();
         answer

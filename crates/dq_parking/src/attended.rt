@@ -17,6 +17,7 @@ ghost use Rattle.dq_words.specs.Many.{PollsInto};
 ghost use Rattle.dq_parking.specs.Attending.{MayWait, KeepsOrLeaves, Attends};
 ghost use Rattle.dq_parking.specs.Parking.{still_parked, Leaves};
 
+use crate::dropping::Dropping;
 use crate::parked::{Leaver, Parked, Until, keep_until};
 use dq_core::{CoreError, DelayCore, Expired, Piece, ReapError, Removed, Swept, Turn};
 use dq_ticks::{EntryId, Key};
@@ -30,6 +31,8 @@ pub struct Attended<T, N = u64, A: Allocator = Global> {
     pub core: DelayCore<T, Keeper<A>, A>,
     /// Who waits for it; none where nobody does.
     pub parked: Option<Parked<N>>,
+    /// Whether a thread drops what the queue has set aside.
+    pub dropping: Dropping,
 }
 
 /// Takes the poller out where it may not wait on, with the queue as it is now. Where none is parked, which is so in most
@@ -49,6 +52,19 @@ pub fn keep_or_leave<T: Drop, N: Until, A: Allocator>(
         keep_until(parked, core.next_wake())
     } else {
         Leaver { poller: None }
+    }
+}
+
+impl<T, N, A: Allocator> Attended<T, N, A> {
+    /// A queue for which nobody waits.
+    pub fn new(core: DelayCore<T, Keeper<A>, A>) -> Attended<T, N, A>
+        ensures { (result.core ≡ core) × (result.parked ≡ None) }
+    {
+        Attended {
+            core,
+            parked: None,
+            dropping: Dropping::by_nobody(),
+        }
     }
 }
 

@@ -4,6 +4,7 @@
 #![tactic(auto)]
 
 mod attended;
+mod dropping;
 mod fault;
 mod parked;
 mod registering;
@@ -11,8 +12,9 @@ mod source;
 mod waiting;
 
 pub use attended::{Attended, keep_or_leave};
+pub use dropping::{Batch, Dropping, SMALL_VALUE};
 pub use fault::StreamFault;
 pub use parked::{Leaver, Parked, let_sleep, ring, take};
-pub use registering::register;
+pub use registering::{forget, register};
 pub use source::{MillisecondTicks, TickSource};
 pub use waiting::{Waiting, waiting_row};

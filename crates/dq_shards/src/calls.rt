@@ -53,7 +53,7 @@ impl<T: Drop, A: Allocator> SharedDelayQueue<T, A> {
         ensures inserts { QueueInserts self.now route value when result }
     {
         let shard = routed_shard(route, self.shards() as u64);
-        let state = self.lock(rt, shard as usize);
+        let state = self.lock_with_room(rt, shard as usize);
         let answer = state.insert_and_unlock(value, when);
         match answer {
             Ok(key) => Ok(key),

@@ -126,9 +126,13 @@ impl<T: Drop, A: Allocator> SharedDelayQueue<T, A> {
             (λ old r new. ShardPollsMany old tick (vec_capacity row.old) row.old.items
             row.new.items r new) result }
     {
+        let before = row.len();
         let locked = self.enter(rt, shard)?;
         let (answer, aside) = locked.poll_many_and_unlock(tick, row);
-        self.drop_aside(rt, shard, aside);
+        // A drop that panics would lose what came out.
+        if row.len() == before {
+            self.drop_aside(rt, shard, aside);
+        }
         Ok(answer?)
     }
 }

@@ -30,8 +30,6 @@ impl<'q, T: Drop, A: Allocator> LockedShard<'q, T, A> {
     pub(crate) fn insert_and_unlock(mut self, value: T, when: u64) -> Result<Key, (CoreError, T)>
         ensures { LeavesShard (λ new. ShardInserts self.entry value when result new) }
     {
-        // It is dropped behind the lock, where this ends.
-        let _crowded = self.state.attended.core.take_crowded();
         let (answer, leaver) = self.state.attended.insert(value, when);
         self.unlock(leaver);
         answer

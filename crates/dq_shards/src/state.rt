@@ -30,10 +30,9 @@ use std::marker::Model;
 pub struct ShardState<T, A: Allocator = Global> {
     // What works under the lock has no line with the lock itself, which others look at while they wait for it.
     _apart: [u64; 7],
+    // Shards stand in one row. Each is, behind its lock, a whole number of cache lines, and no line has what two of them
+    // write. A test tells: where a field is added, some room has to be.
     pub(crate) attended: Attended<T, u64, A>,
-    // Shards stand in one row. With this each is, behind its lock, a whole number of cache lines, and no line has what two of
-    // them write. A test tells: where a field is added, this is another number.
-    _room: u64,
 }
 
 impl<T, A: Allocator> Model for ShardState<T, A> {
@@ -56,8 +55,7 @@ impl<T, A: Allocator> From<DelayCore<T, Keeper<A>, A>> for ShardState<T, A> {
     fn from(core: DelayCore<T, Keeper<A>, A>) -> ShardState<T, A> {
         ShardState {
             _apart: [0; 7],
-            attended: Attended { core, parked: None },
-            _room: 0,
+            attended: Attended::new(core),
         }
     }
 }
@@ -91,8 +89,8 @@ impl<T: Drop, A: Allocator> ShardState<T, A> {
         // All that it does.
         ensures inserts { ShardInserts self.old value when result self.new }
     {
-        // It is dropped where this ends: all else is done by then.
-        let _crowded = self.attended.core.take_crowded();
+        // A drop that panics then loses no key.
+        drop(self.attended.core.take_crowded());
         let answer = self.attended.core.insert(value, when);
         keep_or_leave(&self.attended.core, &mut self.attended.parked).wake();
         answer

@@ -8,11 +8,11 @@ use Rattle.dq_core.specs.Core.{machine}
 use Rattle.dq_core.specs.Machine.{NoneLinked}
 use Rattle.dq_parking.specs.declared.fault.StreamFault.TheVariants.{TickTooLarge, NoMemory}
 use Rattle.dq_parking.specs.Items.{StreamItem, Answer}
-use Rattle.dq_parking.specs.Items.{IfGiven, OnEnd}
+use Rattle.dq_parking.specs.Items.{IfGiven, IfFault, OnEnd}
 use Rattle.dq_shards.specs.Shard.{ShardView, IsShard}
 use Rattle.dq_stream.specs.Over.{is_over}
 use Rattle.dq_stream.specs.Polls.{unparked, StreamPolls}
-use Rattle.dq_stream.specs.Answers.{IsLeastDue}
+use Rattle.dq_stream.specs.Answers.{IsLeastDue, IsFault}
 use Rattle.dq_stream.proofs.Least.{none_earlier, noted_at}
 use Rattle.dq_stream.specs.Gives.{IsGiven, Gives}
 
@@ -34,6 +34,14 @@ module _ {T : Type 0} where
     empty P (Ready (Some x)) polls = tt
     empty P (Ready None) polls = inr polls.0.2.run.2.3
     empty P Pending polls = tt
+
+    -- why none is given
+    pub faults : (f : Bool) (a : Answer T) → f ≡ is_over a → StreamPolls cx cy old tick a new → IfFault a (λ e. IsFault e cy f)
+    faults f (Ready (Some (Ok x))) is polls = tt
+    faults f (Ready (Some (Err (TickTooLarge limit)))) is polls = (search rules, is)
+    faults f (Ready (Some (Err NoMemory))) is polls = (polls.0, is)
+    faults f (Ready None) is polls = tt
+    faults f Pending is polls = tt
 
   -- what is given, as items of a stream of the shard of that number
   module _ (cx cy : Context) (old new : ShardView T) (number : ℕ) (before : IsShard old) (after : IsShard new)

@@ -1,5 +1,5 @@
 -- Who is parked after a registration, and until when.
-use Rattle.std.proofs.Common.{◌≡◌, ℕ, ◌<◌, [], sym, ap, subst, Option, Some, None, Result, OnOk}
+use Rattle.std.proofs.Common.{◌≡◌, ℕ, ◌<◌, [], refl, sym, ap, subst, Option, Some, None, Result, Ok, Err, OnOk, IfErr}
 use Rattle.futures.specs.Poll.{OnPending}
 use Rattle.futures.specs.declared.task.Poll.TheVariants.{Ready, Pending}
 use Rattle.futures.specs.declared.task.context.Context.{Context}
@@ -8,21 +8,41 @@ use Rattle.dq_core.specs.Calls.{TellsWake}
 use Rattle.dq_core.specs.Core.{machine}
 use Rattle.dq_core.specs.Machine.{due}
 use Rattle.dq_parking.specs.declared.fault.StreamFault.{StreamFault}
+use Rattle.dq_parking.specs.declared.fault.StreamFault.TheVariants.{TickTooLarge, NoMemory}
 use Rattle.dq_parking.specs.Wakers.{LeavesWaker}
 use Rattle.dq_parking.specs.Items.{Answer}
 use Rattle.dq_shards.specs.Shard.{ShardView}
-use Rattle.dq_stream.specs.Wakers.{Parks, ParksWith}
-use Rattle.dq_stream.specs.Polls.{StreamPolls}
+use Rattle.dq_stream.specs.Wakers.{ParksWaker, ParksWith}
+use Rattle.dq_stream.specs.Polls.{StreamPolls, StreamPollsWith, unparked}
 use Rattle.dq_stream.specs.Answers.{IsParkedAtWake}
 
+-- what is parked is what was there, and where nothing was it is refused
+pub parks_slot : {T : Type 0} (slot : Option Waker) (r : Result (Unit {0}) StreamFault) (old new : ShardView T) (next : ℕ)
+    → ParksWith old next slot r new → OnOk r (ParksWaker slot old next new)
+parks_slot None r old new next with = rw (with.0) tt
+parks_slot (Some waker) r old new next with = rw (with.0) (waker, refl, with.1)
+
+pub refuses_none : {T : Type 0} (slot : Option Waker) (r : Result (Unit {0}) StreamFault) (old new : ShardView T) (next : ℕ)
+    → ParksWith old next slot r new → IfErr r (λ e. (e ≡ NoMemory) × (slot ≡ None) × (new ≡ old))
+refuses_none None r old new next with = rw (with.0) (refl, refl, with.1)
+refuses_none (Some waker) r old new next with = rw (with.0) tt
+
 module _ {T : Type 0} (cx cy : Context) where
-  -- the poller that is parked has the waker that the registration left
-  pub parks_own : (slot : Option Waker) (r : Result (Unit {0}) StreamFault) (old new : ShardView T) (next : ℕ)
-      → ParksWith old next slot r new
-      → LeavesWaker cx cy slot
-      → OnOk r (Parks cx cy old next new)
-  parks_own None r old new next with left = rw (with.0) tt
-  parks_own (Some waker) r old new next with left = rw (with.0) (waker, left, with.1)
+  -- the waker that is parked, if one is, is the one that the task's registration left
+  pub by_registering : (old new : ShardView T) (tick : ℕ) (slot : Option Waker) (a : Answer T)
+      → LeavesWaker cx cy slot → StreamPollsWith (unparked old) tick slot a new → StreamPolls cx cy old tick a new
+  by_registering old new tick slot (Ready (Some (Ok x))) left is = is
+  by_registering old new tick slot (Ready None) left is = is
+  by_registering old new tick slot (Ready (Some (Err (TickTooLarge limit)))) left is = is
+  by_registering old new tick slot (Ready (Some (Err NoMemory))) left (none, polled) = (rw none at left, polled)
+  by_registering old new tick slot Pending left (next, at, polled, (waker, same, parked)) =
+      (next, at, polled, (waker, rw same at left, parked))
+
+  -- the same where the poller was taken out before
+  pub from_start : (start old new : ShardView T) (tick : ℕ) (slot : Option Waker) (a : Answer T)
+      → start ≡ unparked old → LeavesWaker cx cy slot → StreamPollsWith start tick slot a new → StreamPolls cx cy old tick a new
+  from_start start old new tick slot a begins left is =
+      by_registering old new tick slot a left (subst (λ (s : ShardView T). StreamPollsWith s tick slot a new) begins is)
 
   -- a pending poll leaves the task parked at the next wake of the shard as it is then
   pub parked_at_wake : (old new : ShardView T) (tick : ℕ) (a : Answer T)

@@ -1,10 +1,11 @@
 -- What one poll in pieces of a stream may give, and who is parked or woken then.
 use native.Mathlib.Omega.{arith}
-use Rattle.std.proofs.Common.{rules, inl, inr, refl, sym, ap, ◌∙◌, subst, ◌≡◌, ◌⊎◌, ℕ, ◌<◌, ◌≤◌, ◌+◌, max, [], Bool, true, false, Some, None, Ok, Err, IfSome}
+use Rattle.std.proofs.Common.{rules, inl, inr, refl, sym, ap, ◌∙◌, subst, ◌≡◌, ◌⊎◌, ℕ, ◌<◌, ◌≤◌, ◌+◌, max, [], Bool, true, false, Option, Some, None, Ok, Err, IfSome}
 use Rattle.futures.specs.Poll.{IfReady, OnPending}
 use Rattle.futures.specs.Runs.{After}
 use Rattle.futures.specs.declared.task.Poll.TheVariants.{Ready, Pending}
 use Rattle.futures.specs.declared.task.context.Context.{Context}
+use Rattle.futures.specs.declared.task.waker.Waker.{Waker}
 use Rattle.dq_core.specs.declared.outcomes.Expired.{Expired}
 use Rattle.dq_core.specs.declared.outcomes.Piece.TheVariants.{Answer as Answered}
 use Rattle.dq_core.specs.declared.outcomes.Turn.TheVariants.{Out}
@@ -14,13 +15,14 @@ use Rattle.dq_core.specs.Core.{machine}
 use Rattle.dq_core.specs.Machine.{Machine, table_at, due, NoneLinked, NoneLiveBefore}
 use Rattle.dq_parking.specs.declared.fault.StreamFault.TheVariants.{TickTooLarge, NoMemory}
 use Rattle.dq_parking.specs.Items.{StreamItem, Answer}
+use Rattle.dq_parking.specs.Wakers.{LeavesWaker}
 use Rattle.dq_parking.specs.Items.{IfGiven, OnEnd}
 use Rattle.dq_shards.specs.Shard.{ShardView, IsShard}
 use Rattle.dq_shards.specs.Changes.{ShardPollsSome}
 use Rattle.dq_shards.specs.Endings.{PieceOutsAreInForce}
 use Rattle.dq_stream.specs.Over.{is_over}
 use Rattle.dq_stream.specs.Polls.{unparked}
-use Rattle.dq_stream.specs.Paces.{PacedPolls, IsAtWork}
+use Rattle.dq_stream.specs.Paces.{PacedPolls, PacedPollsWith, IsAtWork}
 use Rattle.dq_stream.specs.PacedGives.{IsPacedItem, PacedGives, PacedItemsAreInForce}
 use Rattle.dq_stream.specs.Answers.{IsLeastDue, IsParkedAtWake}
 use Rattle.dq_stream.proofs.Giving.{lawful}
@@ -46,6 +48,28 @@ items T in_force number x (tick, most, (old, new, before, after, (at, polled))) 
     (new, polled.1.0.0 ∙ at, (after, in_force old new tick most x after polled, none_earlier old new tick most x polled))
 
 module _ {T : Type 0} where
+  -- the waker that is parked, if one is, is the one that the task's registration left
+  pub by_registering_pieces : (cx cy : Context) (old new : ShardView T) (tick most : ℕ) (slot : Option Waker) (a : Answer T)
+      → LeavesWaker cx cy slot → PacedPollsWith (unparked old) tick most slot (Some a) new → PacedPolls cx cy old tick most a new
+  by_registering_pieces cx cy old new tick most slot (Ready (Some (Ok x))) left is = is
+  by_registering_pieces cx cy old new tick most slot (Ready None) left is = is
+  by_registering_pieces cx cy old new tick most slot (Ready (Some (Err (TickTooLarge limit)))) left is = is
+  by_registering_pieces cx cy old new tick most slot (Ready (Some (Err NoMemory))) left (none, polled) = (rw none at left, polled)
+  by_registering_pieces cx cy old new tick most slot Pending left (next, at, polled, (waker, same, parked)) =
+      inl (next, at, polled, (waker, rw same at left, parked))
+
+  -- the same where the poller was taken out before
+  pub from_start_pieces : (cx cy : Context) (start old new : ShardView T) (tick most : ℕ) (slot : Option Waker) (a : Answer T)
+      → start ≡ unparked old → LeavesWaker cx cy slot → PacedPollsWith start tick most slot (Some a) new → PacedPolls cx cy old tick most a new
+  from_start_pieces cx cy start old new tick most slot a begins left is =
+      by_registering_pieces cx cy old new tick most slot a left (subst (λ (s : ShardView T). PacedPollsWith s tick most slot (Some a) new) begins is)
+
+  -- the shard has more to do, and then the task is woken
+  pub works_on : (cx cy : Context) (start old new : ShardView T) (tick most : ℕ) (slot : Option Waker)
+      → start ≡ unparked old → cy.is_woken ≡ true → PacedPollsWith start tick most slot None new → PacedPolls cx cy old tick most Pending new
+  works_on cx cy start old new tick most slot begins woken is =
+      inr (subst (λ (s : ShardView T). PacedPollsWith s tick most slot None new) begins is, woken)
+
   noted_once : (old new : ShardView T) (tick : ℕ) → new.core.noted ≡ max old.core.noted tick
       → noting old.core new.core.noted ≡ noting old.core tick
   noted_once old new tick is =

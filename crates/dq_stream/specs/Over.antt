@@ -1,5 +1,5 @@
 -- Whether a stream has ended for good.
-use Rattle.std.specs.Prelude.{Bool, true, false, Some, None, Ok, Err}
+use Rattle.std.specs.Prelude.{Bool, true, false, Option, Some, None, Ok, Err}
 use Rattle.futures.specs.declared.task.Poll.TheVariants.{Ready, Pending}
 use Rattle.dq_parking.specs.declared.fault.StreamFault.TheVariants.{TickTooLarge, NoMemory}
 use Rattle.dq_parking.specs.Items.{StreamItem, Answer}
@@ -15,3 +15,8 @@ abbrev pub is_over : {T : Type 0} → Answer T → Bool
 is_over (Ready (Some item)) = ends_with item
 is_over (Ready None) = false
 is_over Pending = false
+
+-- the same after a poll in pieces, which has none where more is to do
+abbrev pub is_over_after : {T : Type 0} → Option (Answer T) → Bool
+is_over_after (Some answer) = is_over answer
+is_over_after None = false

@@ -1,7 +1,8 @@
 -- One poll in pieces of a stream, as a relation between two states of its shard.
-use Rattle.std.specs.Prelude.{◌≡◌, ℕ, ◌+◌, ◌≤◌, true, Some, None, Result, Ok, Err, ◌⊎◌}
+use Rattle.std.specs.Prelude.{◌≡◌, ℕ, ◌+◌, ◌≤◌, true, Option, Some, None, Result, Ok, Err, ◌⊎◌}
 use Rattle.futures.specs.declared.task.Poll.TheVariants.{Ready, Pending}
 use Rattle.futures.specs.declared.task.context.Context.{Context}
+use Rattle.futures.specs.declared.task.waker.Waker.{Waker}
 use Rattle.dq_core.specs.declared.errors.CoreError.{CoreError}
 use Rattle.dq_core.specs.declared.outcomes.Piece.{Piece}
 use Rattle.dq_core.specs.declared.outcomes.Piece.TheVariants.{Answer as Answered, Working}
@@ -15,7 +16,7 @@ use Rattle.dq_shards.specs.Shard.{ShardView}
 use Rattle.dq_shards.specs.Changes.{ShardPollsSome, OnNumbered}
 use Rattle.dq_stream.specs.Polls.{unparked}
 use Rattle.dq_stream.specs.Refusals.{too_large}
-use Rattle.dq_stream.specs.Wakers.{Parks}
+use Rattle.dq_stream.specs.Wakers.{Parks, ParksWaker}
 
 module _ {T : Type 0} where
   -- the poller is taken out, and then the shard is polled by at most so many steps
@@ -51,6 +52,24 @@ module _ {T : Type 0} where
       × ((next : ℕ) × PollsSomeUnparked old tick most (Ok (Answered (Waiting next))) new)
   PacedPolls cx cy old tick most Pending new =
       PacedWaits cx cy old tick most new ⊎ PacedWorks cy old tick most new
+
+  -- The same of a shard where none is parked, with the waker that a registration left: it is parked
+  -- where the shard waits. None is answered where more is to do.
+  abbrev pub PacedPollsWith :
+      ShardView T → ℕ → ℕ → Option Waker → Option (Answer T) → ShardView T → Type 0
+  PacedPollsWith old tick most slot None new = ShardPollsSome old tick most (Ok Working) new
+  PacedPollsWith old tick most slot (Some (Ready (Some (Ok x)))) new =
+      ShardPollsSome old tick most (Ok (Answered (Out x))) new
+  PacedPollsWith old tick most slot (Some (Ready None)) new =
+      ShardPollsSome old tick most (Ok (Answered Idle)) new
+  PacedPollsWith old tick most slot (Some (Ready (Some (Err (TickTooLarge limit))))) new =
+      ShardPollsSome old tick most (Err (too_large limit)) new
+  PacedPollsWith old tick most slot (Some (Ready (Some (Err NoMemory)))) new =
+      (slot ≡ None) × ((next : ℕ) × ShardPollsSome old tick most (Ok (Answered (Waiting next))) new)
+  PacedPollsWith old tick most slot (Some Pending) new =
+      (next : ℕ) × (left : ShardView T)
+      × ShardPollsSome old tick most (Ok (Answered (Waiting next))) left
+      × ParksWaker slot left next new
 
   -- The poll was stopped at its work: the task is woken, nothing is parked, and at least so many
   -- steps fewer are left, up to the tick that is noted then.

@@ -1,7 +1,8 @@
 -- One poll of a stream, as a relation between two states of its shard.
-use Rattle.std.specs.Prelude.{ℕ, Some, None, Result, Ok, Err}
+use Rattle.std.specs.Prelude.{◌≡◌, ℕ, Option, Some, None, Result, Ok, Err}
 use Rattle.futures.specs.declared.task.Poll.TheVariants.{Ready, Pending}
 use Rattle.futures.specs.declared.task.context.Context.{Context}
+use Rattle.futures.specs.declared.task.waker.Waker.{Waker}
 use Rattle.dq_core.specs.declared.errors.CoreError.{CoreError}
 use Rattle.dq_core.specs.declared.outcomes.Turn.{Turn}
 use Rattle.dq_core.specs.declared.outcomes.Turn.TheVariants.{Out, Waiting, Idle}
@@ -11,7 +12,7 @@ use Rattle.dq_parking.specs.Wakers.{LacksWaker}
 use Rattle.dq_shards.specs.Shard.{ShardView}
 use Rattle.dq_shards.specs.Changes.{ShardPolls, OnNumbered}
 use Rattle.dq_stream.specs.Refusals.{too_large}
-use Rattle.dq_stream.specs.Wakers.{Parks}
+use Rattle.dq_stream.specs.Wakers.{Parks, ParksWaker}
 
 module _ {T : Type 0} where
   -- the shard with no poller parked
@@ -36,6 +37,20 @@ module _ {T : Type 0} where
   StreamPolls cx cy old tick Pending new =
       (next : ℕ) × (left : ShardView T)
       × PollsUnparked old tick (Ok (Waiting next)) left × Parks cx cy left next new
+
+  -- The same of a shard where none is parked, with the waker that a registration left: it is parked
+  -- where the shard waits.
+  abbrev pub StreamPollsWith :
+      ShardView T → ℕ → Option Waker → Answer T → ShardView T → Type 0
+  StreamPollsWith old tick slot (Ready (Some (Ok x))) new = ShardPolls old tick (Ok (Out x)) new
+  StreamPollsWith old tick slot (Ready None) new = ShardPolls old tick (Ok Idle) new
+  StreamPollsWith old tick slot (Ready (Some (Err (TickTooLarge limit)))) new =
+      ShardPolls old tick (Err (too_large limit)) new
+  StreamPollsWith old tick slot (Ready (Some (Err NoMemory))) new =
+      (slot ≡ None) × ((next : ℕ) × ShardPolls old tick (Ok (Waiting next)) new)
+  StreamPollsWith old tick slot Pending new =
+      (next : ℕ) × (left : ShardView T)
+      × ShardPolls old tick (Ok (Waiting next)) left × ParksWaker slot left next new
 
 -- a poll of a stream at a tick gives an answer, on a state of the shard of that number
 abbrev pub AnswersAt : (T : Type 0) → ℕ → Context → Context → ℕ → Answer T → Type 0

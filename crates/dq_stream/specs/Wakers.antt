@@ -17,6 +17,12 @@ abbrev pub Parks :
     {T : Type 0} → Context → Context → ShardView T → ℕ → ShardView T → Type 0
 Parks cx cy old next new = (waker : Waker) × IsOwn waker cx cy × (new ≡ parked_at old next waker)
 
+-- the waker that a registration left is parked in a shard at a tick
+abbrev pub ParksWaker :
+    {T : Type 0} → Option Waker → ShardView T → ℕ → ShardView T → Type 0
+ParksWaker slot old next new =
+    (waker : Waker) × (slot ≡ Some waker) × (new ≡ parked_at old next waker)
+
 -- a poller is parked in a shard at a tick with the waker that a registration left, if it left one
 abbrev pub ParksWith :
     {T : Type 0} → ShardView T → ℕ → Option Waker → Result (Unit {0}) StreamFault → ShardView T

@@ -5,24 +5,27 @@ ghost use Rattle.futures.specs.Poll.{IfReady, OnPending};
 ghost use Rattle.futures.specs.Runs.{After, Within};
 ghost use Rattle.dq_parking.specs.Items.{IfGiven};
 ghost use Rattle.dq_stream.specs.EachPoll.{EndsWhereEmpty, StaysOver, EndsByFault, StaysOfShard, AtToldTick};
-ghost use Rattle.dq_stream.specs.Paces.{PacedPolls, PacedAnswersAt, IsAtWork};
+ghost use Rattle.dq_shards.specs.Changes.{OnNumbered};
+ghost use Rattle.dq_stream.specs.Over.{is_over_after};
+ghost use Rattle.dq_stream.specs.Paces.{PacedPolls, PacedPollsWith, PacedAnswersAt, IsAtWork};
+ghost use Rattle.dq_stream.specs.Polls.{unparked};
 ghost use Rattle.dq_stream.specs.PacedGives.{PacedGives};
 ghost use Rattle.dq_stream.specs.Answers.{IsLeastDue, IsParkedAtWake};
 
 use crate::parking::wait;
 use crate::stream::{ExpiredStream, drop_at_rest, ends};
 use dq_core::{CoreError, Expired, Piece, Turn};
-use dq_parking::{StreamFault, TickSource, let_sleep};
+use dq_parking::{Parked, StreamFault, TickSource, forget, let_sleep, register};
 use dq_shards::LockedShard;
 use futures::Stream;
-use futures::task::{Context, Poll, Source};
+use futures::task::{Context, Poll, Waker};
 use std::alloc::{Allocator, Global};
 use std::num::NonZeroU32;
 use std::sync::Wait;
 
 /// An [`ExpiredStream`] whose polls make at most so many steps of their shard while its lock is held.
 ///
-/// A poll that has made them all and has more to do wakes its own task, lets the lock go and is Pending. So others may
+/// A poll that has made them all and has more to do lets the lock go, wakes its own task and is Pending. So others may
 /// take the lock before the task is polled again, and where it is polled at once it gives way for a bounded while to who
 /// waits for the lock. It gives what its stream would give, and parks as that does.
 ///
@@ -90,9 +93,40 @@ impl<'q, T: Drop, S: TickSource, R: Wait, A: Allocator> ExpiredStream<'q, T, S, 
         if self.ended {
             return Poll::Ready(None);
         }
-        let answer = piece(shard, &mut self.source, &self.name, steps, cx);
-        self.ended = ends(&answer);
+        let mut slot = register(&self.name, cx);
+        shard.unpark();
+        let polled = piece(shard, &mut self.source, &mut slot, steps);
+        self.ended = has_ended(&polled);
+        forget(slot);
+        let Some(answer) = polled else {
+            let _woken: Poll<()> = cx.yield_now();
+            return Poll::Pending;
+        };
         answer
+    }
+
+    // As `poll_entered`, by at most so many steps. No answer where more is to do.
+    fn poll_some_entered(
+        &mut self,
+        steps: NonZeroU32,
+        slot: &mut Option<Waker>,
+        before: &mut Option<Parked>,
+    ) -> (Option<Poll<Option<Result<Expired<T>, StreamFault>>>>, usize)
+        ensures polls { (tick : ℕ) × S.tells self.old.source tick self.new.source
+            × OnNumbered {T = T} self.old.shard
+            (λ old r new. PacedPollsWith (unparked old) tick steps.value slot.old r new) result.0 }
+        ensures ends { self.new.ended ≡ is_over_after result.0 }
+        ensures stays { StaysOfShard self.old self.new }
+    {
+        let Ok(mut shard) = self.queue.enter(self.rt, self.shard) else {
+            unreachable!()
+        };
+        *before = shard.take_parked();
+        shard.law();
+        let polled = piece(&mut shard, &mut self.source, slot, steps);
+        shard.law();
+        self.ended = has_ended(&polled);
+        (polled, shard.aside())
     }
 }
 
@@ -106,9 +140,10 @@ impl<'q, T: Drop, S: TickSource, R: Wait, A: Allocator> Stream for PacedStream<'
     /// An entry that is due, one of least deadline; None where nothing is linked; or Pending: parked at the next wake, or
     /// woken, with more to do. Faults are those of its stream. Its cost is that of its steps.
     ///
-    /// It is [`ExpiredStream::poll_some_locked`] under the shard's lock, which it doesn't take where it has ended for
-    /// good. A waker that was parked before is let go once the lock is free. Under the lock the polled task's own is made, or
-    /// woken where there is more to do, and the source is asked: none of them may take that lock.
+    /// It does what [`ExpiredStream::poll_some_locked`] does under the shard's lock, which it doesn't take where it has
+    /// ended for good. The polled task's waker is made before that lock; once it is free the task is woken where there is
+    /// more to do, and a waker that was parked before is let go. Under the lock the source is asked: it may not take that
+    /// lock.
     fn poll_next(&mut self, cx: &mut Context<'_>) -> Poll<Option<Result<Expired<T>, StreamFault>>>
         // It waits registered with its context, or with its task woken.
         ensures registered { OnPending result (Covers cx.new (λ s. s ≡ self.new.stream.name.id)) }
@@ -142,16 +177,20 @@ impl<'q, T: Drop, S: TickSource, R: Wait, A: Allocator> Stream for PacedStream<'
             Poll::Ready(None)
         } else {
             self.stream.queue.give_way(self.stream.shard);
-            let Ok(mut shard) = self.stream.queue.enter(self.stream.rt, self.stream.shard) else {
-                unreachable!()
-            };
-            let before = shard.take_parked();
-            shard.law();
-            let answer = self.stream.poll_some_locked(&mut shard, self.steps, cx);
-            shard.law();
-            let aside = shard.aside();
-            drop(shard);
+            let mut before = None;
+            let mut slot = register(&self.stream.name, cx);
+            let (polled, aside) = self
+                .stream
+                .poll_some_entered(self.steps, &mut slot, &mut before);
             let_sleep(before);
+            forget(slot);
+            let Some(answer) = polled else {
+                let _woken: Poll<()> = cx.yield_now();
+                self.stream
+                    .queue
+                    .drop_aside(self.stream.rt, self.stream.shard, aside);
+                return Poll::Pending;
+            };
             drop_at_rest(
                 self.stream.queue,
                 self.stream.rt,
@@ -164,33 +203,37 @@ impl<'q, T: Drop, S: TickSource, R: Wait, A: Allocator> Stream for PacedStream<'
     }
 }
 
-// One poll in pieces of a stream, while the shard's lock is held.
+// Whether a stream has ended for good after this answer; it hasn't where more is to do.
+fn has_ended<T>(polled: &Option<Poll<Option<Result<Expired<T>, StreamFault>>>>) -> bool
+    ensures { result ≡ is_over_after polled.now }
+{
+    match polled {
+        Some(answer) => ends(answer),
+        None => false,
+    }
+}
+
+// One poll in pieces of a stream, while the shard's lock is held and none is parked there, by a task that left its
+// waker. None where more is to do.
 fn piece<T: Drop, S: TickSource, A: Allocator>(
     shard: &mut LockedShard<'_, T, A>,
     source: &mut S,
-    name: &Source,
+    slot: &mut Option<Waker>,
     steps: NonZeroU32,
-    cx: &mut Context<'_>,
-) -> Poll<Option<Result<Expired<T>, StreamFault>>>
-    ensures polls { (tick : ℕ) × S.tells source.old tick source.new
-        × PacedPolls cx.old cx.new shard.old tick steps.value result shard.new }
-    ensures registered { OnPending result (Covers cx.new (λ s. s ≡ name.now.id)) }
-    ensures kept { Keeps cx.old cx.new }
+) -> Option<Poll<Option<Result<Expired<T>, StreamFault>>>>
+    ensures { (tick : ℕ) × S.tells source.old tick source.new
+        × PacedPollsWith shard.old tick steps.value slot.old result shard.new }
 {
-    shard.unpark();
     match shard.poll_some(source.now(), steps.get()) {
-        Ok(Piece::Working) => {
-            let _woken: Poll<()> = cx.yield_now();
-            Poll::Pending
-        }
-        Ok(Piece::Answer(Turn::Out(expired))) => Poll::Ready(Some(Ok(expired))),
-        Ok(Piece::Answer(Turn::Waiting { next })) => match wait(shard, next, name, cx) {
-            Ok(()) => Poll::Pending,
-            Err(fault) => Poll::Ready(Some(Err(fault))),
+        Ok(Piece::Working) => None,
+        Ok(Piece::Answer(Turn::Out(expired))) => Some(Poll::Ready(Some(Ok(expired)))),
+        Ok(Piece::Answer(Turn::Waiting { next })) => match wait(shard, next, slot) {
+            Ok(()) => Some(Poll::Pending),
+            Err(fault) => Some(Poll::Ready(Some(Err(fault)))),
         },
-        Ok(Piece::Answer(Turn::Idle)) => Poll::Ready(None),
+        Ok(Piece::Answer(Turn::Idle)) => Some(Poll::Ready(None)),
         Err(CoreError::TickTooLarge { limit }) => {
-            Poll::Ready(Some(Err(StreamFault::TickTooLarge { limit })))
+            Some(Poll::Ready(Some(Err(StreamFault::TickTooLarge { limit }))))
         }
         Err(_) => unreachable!(),
     }

@@ -6,15 +6,16 @@ ghost use Rattle.futures.specs.Runs.{After, Within};
 ghost use Rattle.dq_parking.specs.Items.{IfGiven};
 ghost use Rattle.dq_shards.specs.declared.errors.QueueError.TheVariants.{Unknown};
 ghost use Rattle.dq_stream.specs.Over.{is_over};
-ghost use Rattle.dq_stream.specs.Polls.{StreamPolls, AnswersAt};
+ghost use Rattle.dq_shards.specs.Changes.{OnNumbered};
+ghost use Rattle.dq_stream.specs.Polls.{StreamPolls, StreamPollsWith, AnswersAt, unparked};
 ghost use Rattle.dq_stream.specs.Answers.{IsLeastDue, IsParkedAtWake};
 
 use crate::parking::wait;
 use dq_core::{CoreError, Expired, Turn};
-use dq_parking::{StreamFault, TickSource, let_sleep};
+use dq_parking::{Parked, StreamFault, TickSource, forget, let_sleep, register};
 use dq_shards::{LockedShard, QueueError, SharedDelayQueue};
 use futures::Stream;
-use futures::task::{Context, Poll, Source};
+use futures::task::{Context, Poll, Source, Waker};
 use std::alloc::{Allocator, Global};
 use std::sync::Wait;
 
@@ -72,8 +73,9 @@ impl<'q, T: Drop, S: TickSource, R: Wait, A: Allocator> ExpiredStream<'q, T, S, 
     /// It takes the parked poller out, asks its source for the tick, and polls the shard once at it. An entry that comes
     /// out is given. Where the shard waits the polled task is parked at its next wake.
     ///
-    /// The waker that was parked is let go under the lock. Where that may call the queue, take it out before, by
-    /// [`LockedShard::take_parked`], and let it go once the lock is free, as [`Stream::poll_next`] does.
+    /// The polled task's waker is made under the lock, and the one that was parked is let go there. Where letting it go may
+    /// call the queue, take it out before, by [`LockedShard::take_parked`], and let it go once the lock is free, as
+    /// [`Stream::poll_next`] does.
     pub fn poll_locked(
         &mut self,
         shard: &mut LockedShard<'_, T, A>,
@@ -102,9 +104,36 @@ impl<'q, T: Drop, S: TickSource, R: Wait, A: Allocator> ExpiredStream<'q, T, S, 
         if self.ended {
             return Poll::Ready(None);
         }
-        let answer = turn(shard, &mut self.source, &self.name, cx);
+        let mut slot = register(&self.name, cx);
+        shard.unpark();
+        let answer = turn(shard, &mut self.source, &mut slot);
         self.ended = ends(&answer);
+        forget(slot);
         answer
+    }
+
+    // What a poll does under its shard's lock, by a task that left its waker. Who was parked there before goes out with the
+    // answer, and so does how many values are set aside.
+    fn poll_entered(
+        &mut self,
+        slot: &mut Option<Waker>,
+        before: &mut Option<Parked>,
+    ) -> (Poll<Option<Result<Expired<T>, StreamFault>>>, usize)
+        ensures polls { (tick : ℕ) × S.tells self.old.source tick self.new.source
+            × OnNumbered {T = T} self.old.shard
+            (λ old r new. StreamPollsWith (unparked old) tick slot.old r new) result.0 }
+        ensures ends { self.new.ended ≡ is_over result.0 }
+        ensures stays { StaysOfShard self.old self.new }
+    {
+        let Ok(mut shard) = self.queue.enter(self.rt, self.shard) else {
+            unreachable!()
+        };
+        *before = shard.take_parked();
+        shard.law();
+        let answer = turn(&mut shard, &mut self.source, slot);
+        shard.law();
+        self.ended = ends(&answer);
+        (answer, shard.aside())
     }
 }
 
@@ -123,9 +152,9 @@ impl<'q, T: Drop, S: TickSource, R: Wait, A: Allocator> Stream for ExpiredStream
     /// A tick beyond the last one gives TickTooLarge once, and from then on None. Where no waker can be made for want
     /// of memory it gives NoMemory, and goes on. Its cost is that of one poll of the shard.
     ///
-    /// It is [`ExpiredStream::poll_locked`] under the shard's lock, which it doesn't take where it has ended for good. A waker
-    /// that was parked before is let go once the lock is free. Under the lock the polled task's own is made, and the source
-    /// is asked: neither may take that lock.
+    /// It does what [`ExpiredStream::poll_locked`] does under the shard's lock, which it doesn't take where it has ended for
+    /// good. The polled task's waker is made before that lock, and one that was parked before is let go once it is free.
+    /// Under the lock the source is asked: it may not take that lock.
     fn poll_next(&mut self, cx: &mut Context<'_>) -> Poll<Option<Result<Expired<T>, StreamFault>>>
         // It waits registered with its context.
         ensures registered { OnPending result (Covers cx.new (λ s. s ≡ self.new.name.id)) }
@@ -156,16 +185,12 @@ impl<'q, T: Drop, S: TickSource, R: Wait, A: Allocator> Stream for ExpiredStream
         if self.ended {
             Poll::Ready(None)
         } else {
-            let Ok(mut shard) = self.queue.enter(self.rt, self.shard) else {
-                unreachable!()
-            };
-            let before = shard.take_parked();
-            shard.law();
-            let answer = self.poll_locked(&mut shard, cx);
-            shard.law();
-            let aside = shard.aside();
-            drop(shard);
+            // The task's waker is made, and those that aren't parked are let go, while the lock is free.
+            let mut before = None;
+            let mut slot = register(&self.name, cx);
+            let (answer, aside) = self.poll_entered(&mut slot, &mut before);
             let_sleep(before);
+            forget(slot);
             drop_at_rest(self.queue, self.rt, self.shard, aside, &answer);
             answer
         }
@@ -203,22 +228,18 @@ pub(crate) fn ends<T>(answer: &Poll<Option<Result<Expired<T>, StreamFault>>>) ->
     }
 }
 
-// One poll of a stream, while the shard's lock is held.
+// One poll of a stream, while the shard's lock is held and none is parked there, by a task that left its waker.
 fn turn<T: Drop, S: TickSource, A: Allocator>(
     shard: &mut LockedShard<'_, T, A>,
     source: &mut S,
-    name: &Source,
-    cx: &mut Context<'_>,
+    slot: &mut Option<Waker>,
 ) -> Poll<Option<Result<Expired<T>, StreamFault>>>
-    ensures polls { (tick : ℕ) × S.tells source.old tick source.new
-        × StreamPolls cx.old cx.new shard.old tick result shard.new }
-    ensures registered { OnPending result (Covers cx.new (λ s. s ≡ name.now.id)) }
-    ensures kept { Keeps cx.old cx.new }
+    ensures { (tick : ℕ) × S.tells source.old tick source.new
+        × StreamPollsWith shard.old tick slot.old result shard.new }
 {
-    shard.unpark();
     match shard.poll(source.now()) {
         Ok(Turn::Out(expired)) => Poll::Ready(Some(Ok(expired))),
-        Ok(Turn::Waiting { next }) => match wait(shard, next, name, cx) {
+        Ok(Turn::Waiting { next }) => match wait(shard, next, slot) {
             Ok(()) => Poll::Pending,
             Err(fault) => Poll::Ready(Some(Err(fault))),
         },

@@ -3,6 +3,7 @@
 //! wait for the shard's lock.
 
 mod attended;
+mod dropping;
 mod fault;
 mod parked;
 mod registering;
@@ -10,8 +11,9 @@ mod source;
 mod waiting;
 
 pub use attended::{keep_or_leave, Attended};
+pub use dropping::{Batch, Dropping, SMALL_VALUE};
 pub use fault::StreamFault;
 pub use parked::{let_sleep, ring, take, Leaver, Parked};
-pub use registering::register;
+pub use registering::{forget, register};
 pub use source::{MillisecondTicks, TickSource};
 pub use waiting::{waiting_row, Waiting};

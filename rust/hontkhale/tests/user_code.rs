@@ -10,6 +10,8 @@
 mod cache_keys;
 #[path = "user_code/drops_that_call.rs"]
 mod drops_that_call;
+#[path = "user_code/drops_that_set_aside.rs"]
+mod drops_that_set_aside;
 #[path = "user_code/drops_that_panic.rs"]
 mod drops_that_panic;
 #[path = "user_code/kit.rs"]
@@ -20,6 +22,8 @@ mod owner_drops;
 mod set_aside;
 #[path = "user_code/swapped_shards.rs"]
 mod swapped_shards;
+#[path = "user_code/wakers_that_call.rs"]
+mod wakers_that_call;
 #[path = "user_code/wakes_that_call.rs"]
 mod wakes_that_call;
 #[path = "user_code/wakes_that_panic.rs"]

@@ -43,9 +43,7 @@ impl<T> LastingQueue<T> {
     // An insert at a place.
     fn insert_at(&self, place: usize, value: T, when: u64) -> Result<Key, (LastingError, T)> {
         // requires place < self.now.shards
-        let mut shard = self.lock(place);
-        // It is dropped behind the lock, where this ends.
-        let _crowded = shard.attended.core.take_crowded();
+        let mut shard = self.lock_with_room(place);
         let (answer, leaver) = shard.insert_quietly(value, when);
         unlock(shard, leaver);
         answer

@@ -38,10 +38,14 @@ impl<T> LastingQueue<T> {
         if place >= self.shards() {
             return Err(LastingError::Unknown);
         }
+        let before = row.len();
         let mut shard = self.lock(place);
         let (answer, leaver) = shard.attended.poll_many(tick, row);
         let aside = unlock(shard, leaver);
-        self.drop_aside(place, aside);
+        // A drop that panics would lose what came out.
+        if row.len() == before {
+            self.drop_aside(place, aside);
+        }
         match answer {
             Ok(turn) => Ok(turn),
             Err(error) => Err(LastingError::Core(error)),

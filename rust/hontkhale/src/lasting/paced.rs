@@ -5,39 +5,47 @@ use crate::lasting::errors::LastingError;
 use crate::lasting::queue::LastingQueue;
 use crate::lasting::shard::LastingShard;
 use crate::lasting::stream::{fault_of, LastingStream};
-use crate::parking::{let_sleep, StreamFault, TickSource};
+use crate::parking::{forget, let_sleep, register, Parked, StreamFault, TickSource};
 use core::num::NonZeroU32;
-use core::task::{Context, Poll};
+use core::task::{Context, Poll, Waker};
 
 impl<T> LastingShard<T> {
-    /// As `LastingShard::poll_or_park`, by at most `most` steps. Where more is to do nothing is parked: the polled
-    /// task is woken, and the answer is Pending.
-    ///
-    /// # Errors
-    /// As `poll_or_park`.
-    pub fn poll_some_or_park(
+    // As `poll_or_park`, by at most `most` steps. None where more is to do, and then nothing is parked.
+    fn poll_some_or_park(
         &mut self,
         tick: u64,
         most: u32,
-        cx: &mut Context<'_>,
-    ) -> Poll<Result<Expired<T>, LastingError>> {
-        let_sleep(self.take_parked());
+        slot: &mut Option<Waker>,
+    ) -> Option<Poll<Result<Expired<T>, LastingError>>> {
         match self.poll_some(tick, most) {
-            Ok(Piece::Working) => {
-                cx.waker().wake_by_ref();
-                Poll::Pending
-            }
-            Ok(Piece::Answer(Turn::Out(expired))) => Poll::Ready(Ok(expired)),
-            Ok(Piece::Answer(Turn::Waiting { next })) => self.wait(Some(next), cx),
-            Ok(Piece::Answer(Turn::Idle)) => self.wait(None, cx),
-            Err(error) => Poll::Ready(Err(LastingError::Core(error))),
+            Ok(Piece::Working) => None,
+            Ok(Piece::Answer(Turn::Out(expired))) => Some(Poll::Ready(Ok(expired))),
+            Ok(Piece::Answer(Turn::Waiting { next })) => Some(self.wait(Some(next), slot)),
+            Ok(Piece::Answer(Turn::Idle)) => Some(self.wait(None, slot)),
+            Err(error) => Some(Poll::Ready(Err(LastingError::Core(error)))),
         }
     }
 }
 
 impl<T> LastingQueue<T> {
+    // As `poll_or_park_at`, by at most `most` steps. No answer where more is to do.
+    fn poll_some_or_park_at(
+        &self,
+        place: usize,
+        tick: u64,
+        most: u32,
+        slot: &mut Option<Waker>,
+        before: &mut Option<Parked<Option<u64>>>,
+    ) -> (Option<Poll<Result<Expired<T>, LastingError>>>, usize) {
+        // requires place < self.now.shards
+        let mut shard = self.lock(place);
+        *before = shard.take_parked();
+        let answer = shard.poll_some_or_park(tick, most, slot);
+        (answer, shard.aside())
+    }
+
     /// As [`LastingQueue::poll_or_park`], by at most `most` steps while the shard's lock is held, each in constant time
-    /// but for a value's drop. Where more is to do nothing is parked: the polled task is woken, the lock let go, and
+    /// but for a value's drop. Where more is to do nothing is parked: the lock is let go, the polled task is woken, and
     /// the answer is Pending. So others may take the lock before the task is polled again.
     ///
     /// # Errors
@@ -52,17 +60,27 @@ impl<T> LastingQueue<T> {
         if place >= self.shards() {
             return Poll::Ready(Err(LastingError::Unknown));
         }
-        let mut shard = self.lock(place);
-        let before = shard.take_parked();
-        let answer = shard.poll_some_or_park(tick, most, cx);
-        self.let_go(place, shard, before, answer.is_pending());
+        let mut before = None;
+        let mut slot = register(cx);
+        let (polled, aside) = self.poll_some_or_park_at(place, tick, most, &mut slot, &mut before);
+        let_sleep(before);
+        forget(slot);
+        let Some(answer) = polled else {
+            cx.waker().wake_by_ref();
+            self.drop_aside(place, aside);
+            return Poll::Pending;
+        };
+        // A drop that panics would lose what came out.
+        if answer.is_pending() {
+            self.drop_aside(place, aside);
+        }
         answer
     }
 }
 
 /// A [`LastingStream`] whose polls make at most so many steps of their shard while its lock is held.
 ///
-/// A poll that has made them all and has more to do wakes its own task, lets the lock go and is Pending. So others may
+/// A poll that has made them all and has more to do lets the lock go, wakes its own task and is Pending. So others may
 /// take the lock before the task is polled again, and where it is polled at once it gives way for a bounded while to who
 /// waits for the lock. It gives what its stream would give, and parks as that does.
 ///

@@ -5,8 +5,7 @@ use crate::lasting::errors::LastingError;
 use crate::lasting::queue::LastingQueue;
 use crate::lasting::quiet::unlock;
 use crate::lasting::shard::LastingShard;
-use crate::locks::MutexGuard;
-use crate::parking::{let_sleep, register, Parked};
+use crate::parking::{forget, let_sleep, register, Parked};
 use core::task::{Context, Poll, Waker};
 
 impl<T> LastingShard<T> {
@@ -22,28 +21,27 @@ impl<T> LastingShard<T> {
         self.attended.parked = Some(Parked { next, waker });
     }
 
-    // Registers with the context and parks its task. The name stands for the shard, as a source that fires where it
-    // wakes its poller.
-    pub(crate) fn wait(&mut self, next: Option<u64>, cx: &mut Context<'_>) -> Poll<Result<Expired<T>, LastingError>> {
+    // Parks the waker that a registration left, if it left one.
+    pub(crate) fn wait(
+        &mut self,
+        next: Option<u64>,
+        slot: &mut Option<Waker>,
+    ) -> Poll<Result<Expired<T>, LastingError>> {
         // requires TellsWake self.old.core next
-        let Some(waker) = register(cx) else {
+        let Some(waker) = slot.take() else {
             return Poll::Ready(Err(LastingError::Core(CoreError::NoMemory)));
         };
         self.park(next, waker);
         Poll::Pending
     }
 
-    /// As `LastingShard::poll`, for a task: where nothing is due it is parked, until the next wake or, where nothing
-    /// is linked, until an insert. It takes the place of one that was parked before, which isn't woken.
-    ///
-    /// # Errors
-    /// TickTooLarge beyond the last tick, and NoMemory where no waker can be made; nothing is parked then.
-    pub fn poll_or_park(&mut self, tick: u64, cx: &mut Context<'_>) -> Poll<Result<Expired<T>, LastingError>> {
-        let_sleep(self.take_parked());
+    // A poll of a shard where none is parked, by a task that left its waker: where nothing is due that is parked, until the
+    // next wake or, where nothing is linked, until an insert.
+    fn poll_or_park(&mut self, tick: u64, slot: &mut Option<Waker>) -> Poll<Result<Expired<T>, LastingError>> {
         match self.poll(tick) {
             Ok(Turn::Out(expired)) => Poll::Ready(Ok(expired)),
-            Ok(Turn::Waiting { next }) => self.wait(Some(next), cx),
-            Ok(Turn::Idle) => self.wait(None, cx),
+            Ok(Turn::Waiting { next }) => self.wait(Some(next), slot),
+            Ok(Turn::Idle) => self.wait(None, slot),
             Err(error) => Poll::Ready(Err(LastingError::Core(error))),
         }
     }
@@ -62,21 +60,20 @@ impl<T> LastingShard<T> {
 }
 
 impl<T> LastingQueue<T> {
-    // Lets the lock go behind a poll at a place, and who was parked there before it. What is set aside is dropped where no
-    // entry was given: a drop that panics would lose it.
-    pub(crate) fn let_go(
+    // The poll of a task that left its waker, under the lock of the shard at a place. What was parked there before it goes
+    // out with the answer, and so does how many values are set aside.
+    fn poll_or_park_at(
         &self,
         place: usize,
-        shard: MutexGuard<'_, LastingShard<T>>,
-        before: Option<Parked<Option<u64>>>,
-        rests: bool,
-    ) {
-        let aside = shard.aside();
-        drop(shard);
-        let_sleep(before);
-        if rests {
-            self.drop_aside(place, aside);
-        }
+        tick: u64,
+        slot: &mut Option<Waker>,
+        before: &mut Option<Parked<Option<u64>>>,
+    ) -> (Poll<Result<Expired<T>, LastingError>>, usize) {
+        // requires place < self.now.shards
+        let mut shard = self.lock(place);
+        *before = shard.take_parked();
+        let answer = shard.poll_or_park(tick, slot);
+        (answer, shard.aside())
     }
 
     /// Polls the shard at a place at `tick`, of one millisecond, for a task: it gives an entry that is due. Where none
@@ -99,10 +96,16 @@ impl<T> LastingQueue<T> {
         if place >= self.shards() {
             return Poll::Ready(Err(LastingError::Unknown));
         }
-        let mut shard = self.lock(place);
-        let before = shard.take_parked();
-        let answer = shard.poll_or_park(tick, cx);
-        self.let_go(place, shard, before, answer.is_pending());
+        // The task's waker is made, and those that aren't parked are let go, while the lock is free.
+        let mut before = None;
+        let mut slot = register(cx);
+        let (answer, aside) = self.poll_or_park_at(place, tick, &mut slot, &mut before);
+        let_sleep(before);
+        forget(slot);
+        // A drop that panics would lose what came out.
+        if answer.is_pending() {
+            self.drop_aside(place, aside);
+        }
         answer
     }
 

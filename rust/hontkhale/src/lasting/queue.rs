@@ -30,8 +30,14 @@ use alloc::vec::Vec;
 /// It hands out no `&mut` of a shard, so no two shards change places.
 ///
 /// No call drops a value under a lock: what it reaps or clears it drops once the lock is free, so a value's drop may
-/// call the queue. Where a drop panics the shard is whole, and a later poll, sweep, clear or `keep_going` drops the
-/// rest. So does it behind a poll that gave an entry: that one drops nothing, since a panic would lose the entry.
+/// call the queue. One thread at a time drops what a shard has set aside: a call that finds it at work, and one that a
+/// value's drop makes itself, leave their values to it, and return before they are dropped. So drops don't nest, and a
+/// value may be dropped by another thread's call. An insert may drop one value before its own entry is in, where no slot
+/// has a place for that one.
+///
+/// Where a drop panics the shard is whole, and a later poll, sweep, reap, clear or `keep_going` drops the rest. Up to 15
+/// that were taken out with it are dropped as the panic unwinds: where the drop of one of these panics too, Rust ends the
+/// process. A poll that gave an entry drops nothing, since a panic would lose the entry: that is left to a later call.
 pub struct LastingQueue<T> {
     pub(crate) shards: Vec<Mutex<LastingShard<T>>>,
     // Of each shard, who waits for its lock.

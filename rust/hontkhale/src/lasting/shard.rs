@@ -43,7 +43,7 @@ impl<T> From<DelayCore<T, Keeper>> for LastingShard<T> {
             cancelled: 0,
         };
         LastingShard {
-            attended: Attended { core, parked: None },
+            attended: Attended::new(core),
             takes: true,
             past,
             sweep_from: 0,
@@ -98,8 +98,7 @@ impl<T> LastingShard<T> {
     /// value comes back.
     #[inline]
     pub fn insert(&mut self, value: T, when: u64) -> Result<Key, (LastingError, T)> {
-        // It is dropped where this ends: all else is done by then.
-        let _crowded = self.attended.core.take_crowded();
+        drop(self.take_crowded());
         let (answer, leaver) = self.insert_quietly(value, when);
         leaver.wake();
         answer

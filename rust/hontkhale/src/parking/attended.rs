@@ -4,6 +4,7 @@
 //! that one is woken once the lock is free.
 
 use crate::core::{CoreError, DelayCore, Expired, Piece, ReapError, Removed, Swept, Turn};
+use crate::parking::dropping::Dropping;
 use crate::parking::parked::{keep_until, Leaver, Parked, Until};
 use crate::ticks::{EntryId, Key};
 use crate::words::{poll_into, Keeper, ManyTurn};
@@ -15,6 +16,8 @@ pub struct Attended<T, N = u64> {
     pub core: DelayCore<T, Keeper>,
     /// Who waits for it; none where nobody does.
     pub parked: Option<Parked<N>>,
+    /// Whether a thread drops what the queue has set aside.
+    pub dropping: Dropping,
 }
 
 /// Takes the poller out where it may not wait on, with the queue as it is now. Where none is parked, which is so in most
@@ -25,6 +28,17 @@ pub fn keep_or_leave<T, N: Until>(core: &DelayCore<T, Keeper>, parked: &mut Opti
         keep_until(parked, core.next_wake())
     } else {
         Leaver { poller: None }
+    }
+}
+
+impl<T, N> Attended<T, N> {
+    /// A queue for which nobody waits.
+    pub fn new(core: DelayCore<T, Keeper>) -> Attended<T, N> {
+        Attended {
+            core,
+            parked: None,
+            dropping: Dropping::by_nobody(),
+        }
     }
 }
 

@@ -8,3 +8,11 @@ use core::task::{Context, Waker};
 pub fn register(cx: &mut Context<'_>) -> Option<Waker> {
     Some(cx.waker().clone())
 }
+
+/// Lets the waker go that a registration left and that nobody parked, and doesn't wake its task. It is the user's: the
+/// shard's lock is to be free.
+pub fn forget(slot: Option<Waker>) {
+    if let Some(waker) = slot {
+        drop(waker);
+    }
+}

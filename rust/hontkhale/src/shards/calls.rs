@@ -25,7 +25,7 @@ impl<T> SharedDelayQueue<T> {
     /// [`ShardState::insert`]: crate::ShardState::insert
     pub fn insert(&self, route: u64, value: T, when: u64) -> Result<Key, (QueueError, T)> {
         let shard = routed_shard(route, self.shards() as u64);
-        let state = self.lock(shard as usize);
+        let state = self.lock_with_room(shard as usize);
         let answer = state.insert_and_unlock(value, when);
         match answer {
             Ok(key) => Ok(key),

@@ -65,9 +65,13 @@ impl<T> SharedDelayQueue<T> {
     /// # Ok::<(), hontkhale::QueueError>(())
     /// ```
     pub fn poll_many(&self, shard: usize, tick: u64, row: &mut Vec<Expired<T>>) -> Result<ManyTurn, QueueError> {
+        let before = row.len();
         let locked = self.enter(shard)?;
         let (answer, aside) = locked.poll_many_and_unlock(tick, row);
-        self.drop_aside(shard, aside);
+        // A drop that panics would lose what came out.
+        if row.len() == before {
+            self.drop_aside(shard, aside);
+        }
         Ok(answer?)
     }
 }

@@ -31,9 +31,14 @@ use alloc::vec::Vec;
 /// [`SharedDelayQueue::lend`].
 ///
 /// Nor is a value dropped under the lock: what a call reaps or clears it drops once the lock is free, so a value's
-/// drop may call the queue. Where a drop panics the shard is whole, and a later poll, sweep, reap or clear drops the
-/// rest. So does it behind a poll that gave an entry: that one drops nothing, since a panic would lose the entry. A
-/// drop that makes one of these calls itself drops in it what is left.
+/// drop may call the queue. One thread at a time drops what a shard has set aside: a call that finds it at work, and one
+/// that a value's drop makes itself, leave their values to it, and return before they are dropped. So drops don't nest,
+/// and a value may be dropped by another thread's call. An insert may drop one value before its own entry is in, where no
+/// slot has a place for that one.
+///
+/// Where a drop panics the shard is whole, and a later poll, sweep, reap or clear drops the rest. Up to 15 that were taken
+/// out with it are dropped as the panic unwinds: where the drop of one of these panics too, Rust ends the process. A poll
+/// that gave an entry drops nothing, since a panic would lose the entry: that is left to a later call.
 pub struct SharedDelayQueue<T> {
     shards: Vec<Mutex<ShardState<T>>>,
     // Of each shard, who waits for its lock.
@@ -132,8 +137,8 @@ impl<T> SharedDelayQueue<T> {
     /// Calls `f` once with the shard's state while its lock is held, and gives back its answer. Refused as Unknown
     /// exactly out of range; `f` isn't called then. What `f` does on the shard it does on the state, and what it
     /// wakes it wakes under the lock: see [`SharedDelayQueue::enter`] for what waits for ever. What it reaps or
-    /// clears is dropped behind the lock; but of values that wait an insert drops one where it finds no other slot
-    /// for it.
+    /// clears is dropped behind the lock; but of values that wait an insert drops one, before its entry is in, where it
+    /// finds no other slot for that.
     pub fn lend<O, F: FnOnce(&mut ShardState<T>) -> O>(&self, shard: usize, f: F) -> Result<O, QueueError> {
         // requires F.IsAlwaysCallable f
         let mut locked = self.enter(shard)?;

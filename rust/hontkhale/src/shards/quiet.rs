@@ -20,8 +20,6 @@ impl<'q, T> LockedShard<'q, T> {
     // As `ShardState::insert`, and then lets the lock go.
     #[inline(always)]
     pub(crate) fn insert_and_unlock(mut self, value: T, when: u64) -> Result<Key, (CoreError, T)> {
-        // It is dropped behind the lock, where this ends.
-        let _crowded = self.state.attended.core.take_crowded();
         let (answer, leaver) = self.state.attended.insert(value, when);
         self.unlock(leaver);
         answer

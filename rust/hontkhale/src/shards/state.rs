@@ -18,7 +18,7 @@ pub struct ShardState<T> {
 impl<T> From<DelayCore<T, Keeper>> for ShardState<T> {
     fn from(core: DelayCore<T, Keeper>) -> ShardState<T> {
         ShardState {
-            attended: Attended { core, parked: None },
+            attended: Attended::new(core),
         }
     }
 }
@@ -29,8 +29,8 @@ impl<T> ShardState<T> {
     /// where no slot is free; the value comes back then.
     #[inline(always)]
     pub fn insert(&mut self, value: T, when: u64) -> Result<Key, (CoreError, T)> {
-        // It is dropped where this ends: all else is done by then.
-        let _crowded = self.attended.core.take_crowded();
+        // A drop that panics then loses no key.
+        drop(self.attended.core.take_crowded());
         let answer = self.attended.core.insert(value, when);
         keep_or_leave(&self.attended.core, &mut self.attended.parked).wake();
         answer

@@ -1,16 +1,16 @@
 //! The stream of a shard's expired entries that makes at most so many steps a poll.
 
 use crate::core::{CoreError, Expired, Piece, Turn};
-use crate::parking::{let_sleep, StreamFault, TickSource};
+use crate::parking::{forget, let_sleep, register, Parked, StreamFault, TickSource};
 use crate::shards::LockedShard;
 use crate::stream::parking::wait;
 use crate::stream::stream::{drop_at_rest, ends, ExpiredStream};
 use core::num::NonZeroU32;
-use core::task::{Context, Poll};
+use core::task::{Context, Poll, Waker};
 
 /// An [`ExpiredStream`] whose polls make at most so many steps of their shard while its lock is held.
 ///
-/// A poll that has made them all and has more to do wakes its own task, lets the lock go and is Pending. So others may
+/// A poll that has made them all and has more to do lets the lock go, wakes its own task and is Pending. So others may
 /// take the lock before the task is polled again, and where it is polled at once it gives way for a bounded while to who
 /// waits for the lock. It gives what its stream would give, and parks as that does.
 ///
@@ -48,9 +48,32 @@ impl<'q, T, S: TickSource> ExpiredStream<'q, T, S> {
         if self.ended {
             return Poll::Ready(None);
         }
-        let answer = piece(shard, &mut self.source, steps, cx);
-        self.ended = ends(&answer);
+        let mut slot = register(cx);
+        shard.unpark();
+        let polled = piece(shard, &mut self.source, &mut slot, steps);
+        self.ended = has_ended(&polled);
+        forget(slot);
+        let Some(answer) = polled else {
+            cx.waker().wake_by_ref();
+            return Poll::Pending;
+        };
         answer
+    }
+
+    // As `poll_entered`, by at most so many steps. No answer where more is to do.
+    fn poll_some_entered(
+        &mut self,
+        steps: NonZeroU32,
+        slot: &mut Option<Waker>,
+        before: &mut Option<Parked>,
+    ) -> (Option<Poll<Option<Result<Expired<T>, StreamFault>>>>, usize) {
+        let Ok(mut shard) = self.queue.enter(self.shard) else {
+            unreachable!()
+        };
+        *before = shard.take_parked();
+        let polled = piece(&mut shard, &mut self.source, slot, steps);
+        self.ended = has_ended(&polled);
+        (polled, shard.aside())
     }
 }
 
@@ -58,48 +81,56 @@ impl<'q, T, S: TickSource> PacedStream<'q, T, S> {
     /// An entry that is due, one of least deadline; None where nothing is linked; or Pending: parked at the next wake, or
     /// woken, with more to do. Faults are those of its stream. Its cost is that of its steps.
     ///
-    /// It is [`ExpiredStream::poll_some_locked`] under the shard's lock, which it doesn't take where it has ended for
-    /// good. A waker that was parked before is let go once the lock is free. Under the lock the polled task's own is made, or
-    /// woken where there is more to do, and the source is asked: none of them may take that lock.
+    /// It does what [`ExpiredStream::poll_some_locked`] does under the shard's lock, which it doesn't take where it has
+    /// ended for good. The polled task's waker is made before that lock; once it is free the task is woken where there is
+    /// more to do, and a waker that was parked before is let go. Under the lock the source is asked: it may not take that
+    /// lock.
     pub fn poll_next(&mut self, cx: &mut Context<'_>) -> Poll<Option<Result<Expired<T>, StreamFault>>> {
         if self.stream.ended {
             Poll::Ready(None)
         } else {
             self.stream.queue.give_way(self.stream.shard);
-            let Ok(mut shard) = self.stream.queue.enter(self.stream.shard) else {
-                unreachable!()
-            };
-            let before = shard.take_parked();
-            let answer = self.stream.poll_some_locked(&mut shard, self.steps, cx);
-            let aside = shard.aside();
-            drop(shard);
+            let mut before = None;
+            let mut slot = register(cx);
+            let (polled, aside) = self.stream.poll_some_entered(self.steps, &mut slot, &mut before);
             let_sleep(before);
+            forget(slot);
+            let Some(answer) = polled else {
+                cx.waker().wake_by_ref();
+                self.stream.queue.drop_aside(self.stream.shard, aside);
+                return Poll::Pending;
+            };
             drop_at_rest(self.stream.queue, self.stream.shard, aside, &answer);
             answer
         }
     }
 }
 
-// One poll in pieces of a stream, while the shard's lock is held.
+// Whether a stream has ended for good after this answer; it hasn't where more is to do.
+fn has_ended<T>(polled: &Option<Poll<Option<Result<Expired<T>, StreamFault>>>>) -> bool {
+    match polled {
+        Some(answer) => ends(answer),
+        None => false,
+    }
+}
+
+// One poll in pieces of a stream, while the shard's lock is held and none is parked there, by a task that left its
+// waker. None where more is to do.
 fn piece<T, S: TickSource>(
     shard: &mut LockedShard<'_, T>,
     source: &mut S,
+    slot: &mut Option<Waker>,
     steps: NonZeroU32,
-    cx: &mut Context<'_>,
-) -> Poll<Option<Result<Expired<T>, StreamFault>>> {
-    shard.unpark();
+) -> Option<Poll<Option<Result<Expired<T>, StreamFault>>>> {
     match shard.poll_some(source.now(), steps.get()) {
-        Ok(Piece::Working) => {
-            cx.waker().wake_by_ref();
-            Poll::Pending
-        }
-        Ok(Piece::Answer(Turn::Out(expired))) => Poll::Ready(Some(Ok(expired))),
-        Ok(Piece::Answer(Turn::Waiting { next })) => match wait(shard, next, cx) {
-            Ok(()) => Poll::Pending,
-            Err(fault) => Poll::Ready(Some(Err(fault))),
+        Ok(Piece::Working) => None,
+        Ok(Piece::Answer(Turn::Out(expired))) => Some(Poll::Ready(Some(Ok(expired)))),
+        Ok(Piece::Answer(Turn::Waiting { next })) => match wait(shard, next, slot) {
+            Ok(()) => Some(Poll::Pending),
+            Err(fault) => Some(Poll::Ready(Some(Err(fault)))),
         },
-        Ok(Piece::Answer(Turn::Idle)) => Poll::Ready(None),
-        Err(CoreError::TickTooLarge { limit }) => Poll::Ready(Some(Err(StreamFault::TickTooLarge { limit }))),
+        Ok(Piece::Answer(Turn::Idle)) => Some(Poll::Ready(None)),
+        Err(CoreError::TickTooLarge { limit }) => Some(Poll::Ready(Some(Err(StreamFault::TickTooLarge { limit })))),
         Err(_) => unreachable!(),
     }
 }

@@ -1,15 +1,13 @@
 //! How a task that is polled is parked in a shard.
 
-use crate::parking::{register, StreamFault};
+use crate::parking::StreamFault;
 use crate::shards::LockedShard;
-use core::task::{Context, Waker};
+use core::task::Waker;
 
-// Registers with the context, and parks its task at the next wake. The name stands for the shard, as a source that
-// fires where it wakes its poller.
-pub(crate) fn wait<T>(shard: &mut LockedShard<'_, T>, next: u64, cx: &mut Context<'_>) -> Result<(), StreamFault> {
+// Parks the waker that a registration left at the next wake, if it left one.
+pub(crate) fn wait<T>(shard: &mut LockedShard<'_, T>, next: u64, slot: &mut Option<Waker>) -> Result<(), StreamFault> {
     // requires TellsWake shard.old.core (Some next)
-    let slot = register(cx);
-    park_with(shard, next, slot)
+    park_with(shard, next, slot.take())
 }
 
 /// Parks a poller at the shard's next wake, with the waker that a registration left. It takes the place of one that was

@@ -1,10 +1,10 @@
 //! The stream of a shard's expired entries.
 
 use crate::core::{CoreError, Expired, Turn};
-use crate::parking::{let_sleep, StreamFault, TickSource};
+use crate::parking::{forget, let_sleep, register, Parked, StreamFault, TickSource};
 use crate::shards::{LockedShard, QueueError, SharedDelayQueue};
 use crate::stream::parking::wait;
-use core::task::{Context, Poll};
+use core::task::{Context, Poll, Waker};
 
 /// What expires in one shard, at the ticks of a source.
 ///
@@ -58,8 +58,9 @@ impl<'q, T, S: TickSource> ExpiredStream<'q, T, S> {
     /// It takes the parked poller out, asks its source for the tick, and polls the shard once at it. An entry that comes
     /// out is given. Where the shard waits the polled task is parked at its next wake.
     ///
-    /// The waker that was parked is let go under the lock. Where that may call the queue, take it out before, by
-    /// [`LockedShard::take_parked`], and let it go once the lock is free, as `Stream::poll_next` does.
+    /// The polled task's waker is made under the lock, and the one that was parked is let go there. Where letting it go may
+    /// call the queue, take it out before, by [`LockedShard::take_parked`], and let it go once the lock is free, as
+    /// `Stream::poll_next` does.
     pub fn poll_locked(
         &mut self,
         shard: &mut LockedShard<'_, T>,
@@ -68,9 +69,28 @@ impl<'q, T, S: TickSource> ExpiredStream<'q, T, S> {
         if self.ended {
             return Poll::Ready(None);
         }
-        let answer = turn(shard, &mut self.source, cx);
+        let mut slot = register(cx);
+        shard.unpark();
+        let answer = turn(shard, &mut self.source, &mut slot);
         self.ended = ends(&answer);
+        forget(slot);
         answer
+    }
+
+    // What a poll does under its shard's lock, by a task that left its waker. Who was parked there before goes out with the
+    // answer, and so does how many values are set aside.
+    fn poll_entered(
+        &mut self,
+        slot: &mut Option<Waker>,
+        before: &mut Option<Parked>,
+    ) -> (Poll<Option<Result<Expired<T>, StreamFault>>>, usize) {
+        let Ok(mut shard) = self.queue.enter(self.shard) else {
+            unreachable!()
+        };
+        *before = shard.take_parked();
+        let answer = turn(&mut shard, &mut self.source, slot);
+        self.ended = ends(&answer);
+        (answer, shard.aside())
     }
 }
 
@@ -79,21 +99,19 @@ impl<'q, T, S: TickSource> ExpiredStream<'q, T, S> {
     /// A tick beyond the last one gives TickTooLarge once, and from then on None. Where no waker can be made for want
     /// of memory it gives NoMemory, and goes on. Its cost is that of one poll of the shard.
     ///
-    /// It is [`ExpiredStream::poll_locked`] under the shard's lock, which it doesn't take where it has ended for good. A waker
-    /// that was parked before is let go once the lock is free. Under the lock the polled task's own is made, and the source
-    /// is asked: neither may take that lock.
+    /// It does what [`ExpiredStream::poll_locked`] does under the shard's lock, which it doesn't take where it has ended for
+    /// good. The polled task's waker is made before that lock, and one that was parked before is let go once it is free.
+    /// Under the lock the source is asked: it may not take that lock.
     pub fn poll_next(&mut self, cx: &mut Context<'_>) -> Poll<Option<Result<Expired<T>, StreamFault>>> {
         if self.ended {
             Poll::Ready(None)
         } else {
-            let Ok(mut shard) = self.queue.enter(self.shard) else {
-                unreachable!()
-            };
-            let before = shard.take_parked();
-            let answer = self.poll_locked(&mut shard, cx);
-            let aside = shard.aside();
-            drop(shard);
+            // The task's waker is made, and those that aren't parked are let go, while the lock is free.
+            let mut before = None;
+            let mut slot = register(cx);
+            let (answer, aside) = self.poll_entered(&mut slot, &mut before);
             let_sleep(before);
+            forget(slot);
             drop_at_rest(self.queue, self.shard, aside, &answer);
             answer
         }
@@ -128,16 +146,15 @@ pub(crate) fn ends<T>(answer: &Poll<Option<Result<Expired<T>, StreamFault>>>) ->
     }
 }
 
-// One poll of a stream, while the shard's lock is held.
+// One poll of a stream, while the shard's lock is held and none is parked there, by a task that left its waker.
 fn turn<T, S: TickSource>(
     shard: &mut LockedShard<'_, T>,
     source: &mut S,
-    cx: &mut Context<'_>,
+    slot: &mut Option<Waker>,
 ) -> Poll<Option<Result<Expired<T>, StreamFault>>> {
-    shard.unpark();
     match shard.poll(source.now()) {
         Ok(Turn::Out(expired)) => Poll::Ready(Some(Ok(expired))),
-        Ok(Turn::Waiting { next }) => match wait(shard, next, cx) {
+        Ok(Turn::Waiting { next }) => match wait(shard, next, slot) {
             Ok(()) => Poll::Pending,
             Err(fault) => Poll::Ready(Some(Err(fault))),
         },

@@ -2,11 +2,12 @@
 
 use hontkhale::{ExpiredStream, Key, LastingConfig, LastingQueue, QueueConfig, SharedDelayQueue, Tally, TickSource};
 use std::any::Any;
+use std::mem::ManuallyDrop;
 use std::panic::{catch_unwind, AssertUnwindSafe};
 use std::sync::atomic::{AtomicU64, Ordering};
 use std::sync::mpsc::{channel, RecvTimeoutError};
 use std::sync::{Arc, Mutex};
-use std::task::{Context, Wake, Waker};
+use std::task::{Context, RawWaker, RawWakerVTable, Wake, Waker};
 use std::thread;
 use std::time::Duration;
 
@@ -251,4 +252,33 @@ pub fn is_whole_lasting(queue: &Lasting, drops: &Drops) {
     let key = insert_lasting(queue, drops.value(), 1_000);
     assert_eq!(queue.remove(&key.entry()).expect("an entry").deadline, 1_000);
     adds_up(&queue.tally(0).expect("a shard").present);
+}
+
+type Call = dyn Fn() + Send + Sync;
+
+/// A waker that runs this at each clone, wake and drop. No waker of std's own runs code of a user where it is cloned.
+#[allow(unsafe_code)]
+pub fn waker_that(call: impl Fn() + Send + Sync + 'static) -> Waker {
+    fn parts(data: *const ()) -> Arc<Arc<Call>> {
+        // SAFETY: the data of each such waker is of `Arc::into_raw` below, of which this takes one count.
+        unsafe { Arc::from_raw(data.cast::<Arc<Call>>()) }
+    }
+    fn again(data: *const ()) -> RawWaker {
+        let call = ManuallyDrop::new(parts(data));
+        call();
+        RawWaker::new(Arc::into_raw(Arc::clone(&call)).cast(), &TABLE)
+    }
+    fn by_ref(data: *const ()) {
+        let call = ManuallyDrop::new(parts(data));
+        call();
+    }
+    fn by_value(data: *const ()) {
+        let call = parts(data);
+        call();
+    }
+    static TABLE: RawWakerVTable = RawWakerVTable::new(again, by_value, by_ref, by_value);
+    let call: Arc<Call> = Arc::new(call);
+    let data = Arc::into_raw(Arc::new(call));
+    // SAFETY: the functions above keep the counts of the `Arc`.
+    unsafe { Waker::from_raw(RawWaker::new(data.cast(), &TABLE)) }
 }

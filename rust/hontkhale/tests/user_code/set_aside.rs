@@ -8,15 +8,14 @@ use hontkhale::{DelayCore, ExpiredStream, Piece, QueueConfig, SharedDelayQueue, 
 use std::sync::Arc;
 use std::task::{Context, Poll};
 
-// Three values of shard 0 are set aside: a sweep let them go, and the first one's drop ended the call.
+// Three values of shard 0 are set aside: a poll reaped them, and dropped none, since it gave an entry.
 fn three_aside(queue: &Queue, drops: &Drops) {
-    insert_cancelled(queue, drops.value_that_panics(), 10);
     for _ in 0..3 {
-        insert_cancelled(queue, drops.value(), 10);
+        insert_cancelled(queue, drops.value(), 5);
     }
-    assert_eq!(panics(|| queue.sweep(0)), "a value's drop");
-    assert_eq!(drops.count(), 1);
-    assert_eq!(aside(queue), 3);
+    insert(queue, drops.value(), 10);
+    assert!(matches!(queue.poll(0, 10), Ok(Turn::Out(_))));
+    assert_eq!((drops.count(), aside(queue)), (1, 3));
 }
 
 fn aside(queue: &Queue) -> usize {
@@ -46,7 +45,7 @@ fn what_is_set_aside_shows_nowhere() {
         let (queue, drops) = (queue(), Drops::default());
         three_aside(&queue, &drops);
         let tally = queue.tally(0).expect("a shard");
-        assert_eq!((tally.linked, tally.cancelled), (0, 4));
+        assert_eq!((tally.linked, tally.cancelled, tally.expired), (0, 3, 1));
         adds_up(&tally);
         assert_eq!(queue.next_wake(0), Ok(None));
         queue

@@ -1,0 +1,363 @@
+//! Values whose drops set more values aside, and values that panic where a call takes them out: however many there are, no
+//! drop runs inside another, each value is dropped once, and no key is lost.
+
+use super::kit::{panics, within_the_limit};
+use hontkhale::{Expired, Key, LastingConfig, LastingQueue, ManyTurn, QueueConfig, SharedDelayQueue, Turn};
+use std::sync::atomic::{AtomicBool, AtomicU64, Ordering::SeqCst};
+use std::sync::mpsc::channel;
+use std::sync::Arc;
+use std::thread;
+
+/// A queue's calls at its first shard, by the names that both queues have.
+trait Calls: Send + Sync {
+    fn insert(&self, value: Node, when: u64) -> Key;
+    fn cancel_all(&self, keys: &[Key]);
+    fn sweep(&self) -> usize;
+    fn sweep_one(&self, slot: usize);
+    fn reap(&self, key: &Key);
+    fn poll(&self, tick: u64) -> Option<Expired<Node>>;
+    fn poll_many(&self, tick: u64, row: &mut Vec<Expired<Node>>);
+    fn clear(&self) -> usize;
+    fn close(&self);
+    fn aside(&self) -> usize;
+    fn linked(&self) -> u64;
+}
+
+macro_rules! calls {
+    ($queue:ty, $closes:expr, $linked:expr) => {
+        impl Calls for $queue {
+            fn insert(&self, value: Node, when: u64) -> Key {
+                <$queue>::insert(self, 0, value, when).unwrap_or_else(|_| panic!("room"))
+            }
+            fn cancel_all(&self, keys: &[Key]) {
+                let mut handle = self.handle().expect("a handle");
+                keys.iter().for_each(|key| assert!(handle.cancel(key).is_ok()));
+                handle.give_back();
+            }
+            fn sweep(&self) -> usize {
+                <$queue>::sweep(self, 0).expect("a shard")
+            }
+            fn sweep_one(&self, slot: usize) {
+                self.sweep_some(0, slot, 1).expect("a shard");
+            }
+            fn reap(&self, key: &Key) {
+                let _ = <$queue>::reap(self, &key.entry());
+            }
+            fn poll(&self, tick: u64) -> Option<Expired<Node>> {
+                match <$queue>::poll(self, 0, tick).expect("a shard") {
+                    Turn::Out(expired) => Some(expired),
+                    _ => None,
+                }
+            }
+            fn poll_many(&self, tick: u64, row: &mut Vec<Expired<Node>>) {
+                let turn: ManyTurn = <$queue>::poll_many(self, 0, tick, row).expect("a shard");
+                let _ = turn;
+            }
+            fn clear(&self) -> usize {
+                <$queue>::clear(self, 0).expect("a shard")
+            }
+            fn close(&self) {
+                $closes(self)
+            }
+            fn aside(&self) -> usize {
+                self.enter(0).expect("a shard").aside()
+            }
+            fn linked(&self) -> u64 {
+                $linked(self)
+            }
+        }
+    };
+}
+
+calls!(SharedDelayQueue<Node>, |_: &Self| (), |queue: &Self| queue.tally(0).expect("a shard").linked);
+calls!(
+    LastingQueue<Node>,
+    |queue: &Self| queue.close(0).expect("a shard"),
+    |queue: &Self| queue.tally(0).expect("a shard").present.linked
+);
+
+type AnyQueue = Arc<dyn Calls>;
+
+fn shared(capacity: usize) -> AnyQueue {
+    Arc::new(SharedDelayQueue::new(QueueConfig::of(2, capacity)).expect("a queue"))
+}
+
+fn lasting(capacity: usize) -> AnyQueue {
+    Arc::new(LastingQueue::new(LastingConfig::of(2, capacity)).expect("a queue"))
+}
+
+const QUEUES: [fn(usize) -> AnyQueue; 2] = [shared, lasting];
+
+/// How deep drops are nested, how deep they ever were, and how many there were.
+#[derive(Default)]
+struct Depth {
+    now: AtomicU64,
+    greatest: AtomicU64,
+    drops: AtomicU64,
+}
+
+impl Depth {
+    fn seen(&self) -> (u64, u64) {
+        (self.drops.load(SeqCst), self.greatest.load(SeqCst))
+    }
+}
+
+type Action = Box<dyn FnOnce() + Send + Sync>;
+
+/// A value that runs this where it is dropped.
+struct Node {
+    depth: Arc<Depth>,
+    action: Option<Action>,
+}
+
+impl Node {
+    fn that(depth: &Arc<Depth>, action: impl FnOnce() + Send + Sync + 'static) -> Node {
+        Node {
+            depth: depth.clone(),
+            action: Some(Box::new(action)),
+        }
+    }
+
+    fn quiet(depth: &Arc<Depth>) -> Node {
+        Node::that(depth, || ())
+    }
+
+    fn that_panics(depth: &Arc<Depth>) -> Node {
+        Node::that(depth, || panic!("a value's drop"))
+    }
+}
+
+impl Drop for Node {
+    fn drop(&mut self) {
+        let deep = self.depth.now.fetch_add(1, SeqCst) + 1;
+        self.depth.greatest.fetch_max(deep, SeqCst);
+        self.depth.drops.fetch_add(1, SeqCst);
+        let ends = Ends(&self.depth.now);
+        if let Some(action) = self.action.take() {
+            action();
+        }
+        drop(ends);
+    }
+}
+
+struct Ends<'d>(&'d AtomicU64);
+
+impl Drop for Ends<'_> {
+    fn drop(&mut self) {
+        self.0.fetch_sub(1, SeqCst);
+    }
+}
+
+/// As many as a shard has slots.
+const MANY: usize = 50_000;
+
+/// Runs a test on a thread whose stack has no room for drops that nest by thousands.
+fn on_a_small_stack(test: impl FnOnce() + Send + 'static) {
+    let runs = thread::Builder::new().stack_size(256 * 1024).spawn(test).expect("a thread");
+    runs.join().unwrap_or_else(|panicked| std::panic::resume_unwind(panicked));
+}
+
+// Cancelled entries, of which each one's drop makes this call with its number, and one call that lets them go.
+fn each_drop_calls(inner: fn(&AnyQueue, usize), outer: fn(&AnyQueue, &[Key])) {
+    for queue_of in QUEUES {
+        within_the_limit(move || {
+            on_a_small_stack(move || {
+                let (queue, depth) = (queue_of(MANY), Arc::<Depth>::default());
+                let keys: Vec<_> = (0..MANY)
+                    .map(|at| {
+                        let by_drop = queue.clone();
+                        queue.insert(Node::that(&depth, move || inner(&by_drop, at)), 10 + at as u64)
+                    })
+                    .collect();
+                queue.cancel_all(&keys);
+                outer(&queue, &keys);
+                assert_eq!(depth.seen(), (MANY as u64, 1));
+                assert_eq!((queue.aside(), queue.linked()), (0, 0));
+            });
+        });
+    }
+}
+
+// The slots are given out in order, so the next slot has the next entry.
+fn sweeps_the_next(queue: &AnyQueue, at: usize) {
+    queue.sweep_one((at + 1) % MANY);
+}
+
+#[test]
+fn drops_that_sweep_in_a_sweep() {
+    each_drop_calls(sweeps_the_next, |queue, _| assert_eq!(queue.sweep(), MANY));
+}
+
+#[test]
+fn drops_that_poll_in_a_sweep() {
+    each_drop_calls(
+        |queue, at| assert!(queue.poll(at as u64).is_none()),
+        |queue, _| assert_eq!(queue.sweep(), MANY),
+    );
+}
+
+#[test]
+fn drops_that_sweep_in_a_reap() {
+    each_drop_calls(sweeps_the_next, |queue, keys| queue.reap(&keys[0]));
+}
+
+#[test]
+fn drops_that_sweep_in_a_poll() {
+    each_drop_calls(sweeps_the_next, |queue, _| assert!(queue.poll(10 + MANY as u64).is_none()));
+}
+
+#[test]
+fn drops_that_sweep_in_a_clear() {
+    each_drop_calls(sweeps_the_next, |queue, _| {
+        queue.clear();
+    });
+}
+
+// A thread finds another one at it, and leaves its value to that one.
+#[test]
+fn another_threads_values_are_left_to_the_thread_that_drops() {
+    for queue_of in QUEUES {
+        within_the_limit(move || {
+            let (queue, depth) = (queue_of(8), Arc::<Depth>::default());
+            let (entered, waits) = channel();
+            let (goes_on, may_go_on) = channel::<()>();
+            let may_go_on = std::sync::Mutex::new(may_go_on);
+            let slow = Node::that(&depth, move || {
+                entered.send(()).expect("a test");
+                may_go_on.lock().expect("a lock").recv().expect("a test");
+            });
+            let keys = [queue.insert(slow, 10), queue.insert(Node::quiet(&depth), 10)];
+            queue.cancel_all(&keys);
+            let other = queue.clone();
+            let first = keys[0];
+            let runs = thread::spawn(move || other.reap(&first));
+            waits.recv().expect("a drop");
+            queue.reap(&keys[1]);
+            assert_eq!((depth.drops.load(SeqCst), queue.aside()), (1, 1), "it is left");
+            goes_on.send(()).expect("a thread");
+            runs.join().expect("a thread");
+            assert_eq!((depth.drops.load(SeqCst), queue.aside()), (2, 0));
+        });
+    }
+}
+
+/// Calls that let go of what was cancelled.
+const LETS_GO: [fn(&AnyQueue); 3] = [
+    |queue| assert_eq!(queue.sweep(), 40),
+    |queue| assert_eq!(queue.clear(), 0),
+    |queue| assert!(queue.poll(10).is_none()),
+];
+
+// Where a drop panics what was taken out with it is dropped too, once each, and a later call drops what is left.
+#[test]
+fn a_drop_panics_among_many() {
+    for queue_of in QUEUES {
+        for lets_go in LETS_GO {
+            for panicking in [0, 5, 15, 16, 39] {
+                within_the_limit(move || {
+                    let (queue, depth) = (queue_of(64), Arc::<Depth>::default());
+                    let keys: Vec<_> = (0..40)
+                        .map(|at| match at == panicking {
+                            true => queue.insert(Node::that_panics(&depth), 5),
+                            false => queue.insert(Node::quiet(&depth), 5),
+                        })
+                        .collect();
+                    queue.cancel_all(&keys);
+                    assert_eq!(panics(|| lets_go(&queue)), "a value's drop");
+                    let (dropped, left) = (depth.drops.load(SeqCst), queue.aside() as u64);
+                    assert_eq!(dropped + left, 40, "none is lost");
+                    queue.sweep();
+                    assert!(queue.poll(10).is_none());
+                    assert_eq!((depth.drops.load(SeqCst), queue.aside()), (40, 0));
+                });
+            }
+        }
+    }
+}
+
+// A value's drop panics while another call has left its own to it: a later call drops that one.
+#[test]
+fn a_later_call_drops_what_was_left_to_a_drop_that_panicked() {
+    for queue_of in QUEUES {
+        within_the_limit(move || {
+            let (queue, depth) = (queue_of(8), Arc::<Depth>::default());
+            let other = queue.insert(Node::quiet(&depth), 10);
+            let by_drop = queue.clone();
+            let first = queue.insert(
+                Node::that(&depth, move || {
+                    by_drop.reap(&other);
+                    panic!("a value's drop");
+                }),
+                10,
+            );
+            queue.cancel_all(&[other, first]);
+            assert_eq!(panics(|| queue.reap(&first)), "a value's drop");
+            assert_eq!((depth.drops.load(SeqCst), queue.aside()), (1, 1));
+            assert!(queue.poll(10).is_none());
+            assert_eq!((depth.drops.load(SeqCst), queue.aside()), (2, 0));
+        });
+    }
+}
+
+/// A value is set aside in a shard of two slots, and no place is known for it but its own: a poll left it that gave an entry.
+fn one_aside(queue: &AnyQueue, value: Node, depth: &Arc<Depth>) {
+    let cancelled = queue.insert(value, 5);
+    queue.cancel_all(&[cancelled]);
+    queue.insert(Node::quiet(depth), 10);
+    drop(queue.poll(10).expect("an entry is due"));
+    assert_eq!((queue.aside(), queue.linked()), (1, 0));
+}
+
+// An insert may drop another value, whose slot it takes: a drop that panics loses no key and neither value.
+#[test]
+fn a_drop_panics_in_an_insert() {
+    for queue_of in QUEUES {
+        within_the_limit(move || {
+            let (queue, depth) = (queue_of(2), Arc::<Depth>::default());
+            one_aside(&queue, Node::that_panics(&depth), &depth);
+            let is_dropped = Arc::new(AtomicBool::new(false));
+            let was_dropped = is_dropped.clone();
+            let value = Node::that(&depth, move || was_dropped.store(true, SeqCst));
+            assert_eq!(panics(|| queue.insert(value, 30)), "a value's drop");
+            assert_eq!((queue.linked(), queue.aside()), (0, 0), "nothing is in without a key");
+            assert!(is_dropped.load(SeqCst), "the new value is dropped as any argument is");
+            assert_eq!(depth.drops.load(SeqCst), 3);
+            let key = queue.insert(Node::quiet(&depth), 30);
+            queue.cancel_all(&[key]);
+            assert_eq!(queue.sweep(), 1);
+            assert_eq!((queue.linked(), queue.aside()), (0, 0));
+        });
+    }
+}
+
+// A shard that is closed drops nobody's value: the value comes back.
+#[test]
+fn an_insert_at_a_closed_shard_drops_nothing() {
+    within_the_limit(|| {
+        let (queue, depth) = (lasting(2), Arc::<Depth>::default());
+        one_aside(&queue, Node::that_panics(&depth), &depth);
+        queue.close();
+        queue.insert(Node::quiet(&depth), 30);
+        assert_eq!((depth.drops.load(SeqCst), queue.aside()), (1, 1));
+        assert_eq!(panics(|| queue.sweep()), "a value's drop");
+    });
+}
+
+// What came out of a poll for many isn't lost by a drop that panics.
+#[test]
+fn a_poll_for_many_that_gives_drops_nothing() {
+    for queue_of in QUEUES {
+        within_the_limit(move || {
+            let (queue, depth) = (queue_of(8), Arc::<Depth>::default());
+            let cancelled = [queue.insert(Node::that_panics(&depth), 5)];
+            queue.cancel_all(&cancelled);
+            queue.insert(Node::quiet(&depth), 10);
+            let mut row = Vec::with_capacity(4);
+            queue.poll_many(10, &mut row);
+            assert_eq!((row.len(), depth.drops.load(SeqCst), queue.aside()), (1, 0, 1));
+            row.clear();
+            assert_eq!(panics(|| queue.poll_many(10, &mut row)), "a value's drop");
+            assert_eq!((depth.drops.load(SeqCst), queue.aside()), (2, 0));
+        });
+    }
+}
