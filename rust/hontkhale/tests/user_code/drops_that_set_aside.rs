@@ -3,6 +3,7 @@
 
 use super::kit::{panics, within_the_limit};
 use hontkhale::{Expired, Key, LastingConfig, LastingQueue, ManyTurn, QueueConfig, SharedDelayQueue, Turn};
+use std::panic::{catch_unwind, AssertUnwindSafe};
 use std::sync::atomic::{AtomicBool, AtomicU64, Ordering::SeqCst};
 use std::sync::mpsc::channel;
 use std::sync::Arc;
@@ -315,17 +316,23 @@ fn a_drop_panics_in_an_insert() {
         within_the_limit(move || {
             let (queue, depth) = (queue_of(2), Arc::<Depth>::default());
             one_aside(&queue, Node::that_panics(&depth), &depth);
-            let is_dropped = Arc::new(AtomicBool::new(false));
-            let was_dropped = is_dropped.clone();
-            let value = Node::that(&depth, move || was_dropped.store(true, SeqCst));
-            assert_eq!(panics(|| queue.insert(value, 30)), "a value's drop");
-            assert_eq!((queue.linked(), queue.aside()), (0, 0), "nothing is in without a key");
-            assert!(is_dropped.load(SeqCst), "the new value is dropped as any argument is");
-            assert_eq!(depth.drops.load(SeqCst), 3);
+            let mut panics = 0;
+            for when in [30, 31] {
+                let (linked, is_dropped) = (queue.linked(), Arc::new(AtomicBool::new(false)));
+                let was_dropped = is_dropped.clone();
+                let value = Node::that(&depth, move || was_dropped.store(true, SeqCst));
+                if catch_unwind(AssertUnwindSafe(|| queue.insert(value, when))).is_ok() {
+                    assert_eq!(queue.linked(), linked + 1);
+                    continue;
+                }
+                panics += 1;
+                assert_eq!(queue.linked(), linked, "nothing is in without a key");
+                assert!(is_dropped.load(SeqCst), "the new value is dropped as any argument is");
+            }
+            assert_eq!((panics, queue.linked(), queue.aside()), (1, 1, 0));
             let key = queue.insert(Node::quiet(&depth), 30);
             queue.cancel_all(&[key]);
-            assert_eq!(queue.sweep(), 1);
-            assert_eq!((queue.linked(), queue.aside()), (0, 0));
+            assert_eq!((queue.sweep(), queue.linked(), queue.aside()), (1, 1, 0));
         });
     }
 }
