@@ -6,13 +6,8 @@
 ghost use Rattle.std.specs.Prelude.{◌≡◌, ◌⊎◌, Bool, true, false, None, IfSome};
 
 use crate::attended::Attended;
-use dq_core::DelayCore;
-use dq_words::Keeper;
 use std::alloc::Allocator;
 use std::marker::Model;
-
-/// Up to so many bytes a value is small. Of others one is taken out at a time: a thread's stack may have no room for more.
-pub const SMALL_VALUE: usize = 128;
 
 /// Whether a thread drops what is set aside.
 #[derive(Drop)]
@@ -61,65 +56,10 @@ impl Dropping {
     }
 }
 
-/// Up to 16 values that were taken out under one lock, to be dropped behind it.
-#[derive(Drop)]
-pub struct Batch<T> {
-    _first: T,
-    _more: (Five<T>, Five<T>, Five<T>),
-}
-
-// Up to five values: to an array of `T` no proof knows that it fits into memory.
-type Five<T> = (Option<T>, Option<T>, Option<T>, Option<T>, Option<T>);
-
-impl<T: Drop> Batch<T> {
-    // Takes values out; none where there is none.
-    fn of<A: Allocator>(core: &mut DelayCore<T, Keeper<A>, A>) -> Option<Batch<T>>
-        ensures { core.new ≡ core.old }
-    {
-        let Some(first) = core.take_aside() else {
-            return None;
-        };
-        Some(Batch {
-            _first: first,
-            _more: (five(core), five(core), five(core)),
-        })
-    }
-}
-
-fn five<T: Drop, A: Allocator>(core: &mut DelayCore<T, Keeper<A>, A>) -> Five<T>
-    ensures { core.new ≡ core.old }
-{
-    (
-        core.take_aside(),
-        core.take_aside(),
-        core.take_aside(),
-        core.take_aside(),
-        core.take_aside(),
-    )
-}
-
 impl<T: Drop, N: Drop, A: Allocator> Attended<T, N, A> {
-    /// Takes out some values for a thread that drops them behind the lock, and then calls again. `is_mine` is false at its
+    /// Takes out a value for a thread that drops it once the lock is free, and then calls again. `is_mine` is false at its
     /// first call, and tells whether it is at it. None where no more are set aside, and it is over; or where another thread is
     /// at it, or this one further up: it drops these too.
-    pub fn take_batch(&mut self, is_mine: &mut bool) -> Option<Batch<T>>
-        ensures stays { (self.new.core ≡ self.old.core) × (self.new.parked ≡ self.old.parked) }
-        ensures alone { IfSome result (λ _. (self.new.dropping ≡ true) × (is_mine.new ≡ true)
-            × ((self.old.dropping ≡ false) ⊎ (is_mine.old ≡ true))) }
-        ensures over { (result ≡ None) → (is_mine.new ≡ false)
-            × ((self.new.dropping ≡ false) ⊎ (is_mine.old ≡ false)) }
-    {
-        if !self.dropping.claim(is_mine) {
-            return None;
-        }
-        let batch = Batch::of(&mut self.core);
-        if batch.is_none() {
-            self.dropping.end(is_mine);
-        }
-        batch
-    }
-
-    /// As `take_batch`, of one value.
     pub fn take_one(&mut self, is_mine: &mut bool) -> Option<T>
         ensures stays { (self.new.core ≡ self.old.core) × (self.new.parked ≡ self.old.parked) }
         ensures alone { IfSome result (λ _. (self.new.dropping ≡ true) × (is_mine.new ≡ true)

@@ -12,7 +12,7 @@ mod source;
 mod waiting;
 
 pub use attended::{Attended, keep_or_leave};
-pub use dropping::{Batch, Dropping, SMALL_VALUE};
+pub use dropping::Dropping;
 pub use fault::StreamFault;
 pub use parked::{Leaver, Parked, let_sleep, ring, take};
 pub use registering::{forget, register};

@@ -70,20 +70,19 @@ impl<T: Drop, A: Allocator> SharedDelayQueue<T, A> {
             is_at_it: false,
         };
         for _ in rt.forever() {
-            if !dropper.drops_batch() {
+            if !dropper.drops_one() {
                 return;
             }
         }
         unreachable!()
     }
 
-    /// Drops the values that are set aside in a shard, up to 16 that were taken out under one lock, each while the shard's
-    /// lock is free. `most` is how many the caller has left there: of none nothing is done, and no lock is taken. Else it
+    /// Drops the values that are set aside in a shard, each while the shard's lock is free. `most` is how many the caller has left there: of none nothing is done, and no lock is taken. Else it
     /// goes on until none is left.
     ///
     /// One thread at a time does it. Where another is at it, or a value's drop that this one runs makes the call, that one
-    /// drops these values too, and the call returns at once. Where a drop panics, those that were taken out with it are
-    /// dropped as the panic unwinds, and a later call drops the rest.
+    /// drops these values too, and the call returns at once. Where a drop panics, a later call drops
+    /// the rest.
     ///
     /// The calls by name do it by themselves, and so does [`SharedDelayQueue::lend`]; whoever holds a shard by
     /// [`SharedDelayQueue::enter`] asks [`ShardState::aside`] before it lets the shard go. Of a shard out of range there is
@@ -113,14 +112,14 @@ struct Dropper<'q, T: Drop, R: Wait, A: Allocator> {
 }
 
 impl<T: Drop, R: Wait, A: Allocator> Dropper<'_, T, R, A> {
-    // Drops some values behind the lock. False where none was left to it.
-    fn drops_batch(&mut self) -> bool {
+    // Drops a value once the lock is free. False where none was left to it.
+    fn drops_one(&mut self) -> bool {
         let Ok(mut locked) = self.queue.enter(self.rt, self.shard) else {
             return false;
         };
-        let batch = locked.state.attended.take_batch(&mut self.is_at_it);
+        let value = locked.state.attended.take_one(&mut self.is_at_it);
         drop(locked);
-        batch.is_some()
+        value.is_some()
     }
 }
 
