@@ -5,7 +5,6 @@
 mod budget;
 mod callers;
 mod clock;
-mod doors;
 mod handle;
 mod held;
 mod keeping;
@@ -25,6 +24,7 @@ mod tests;
 mod thread_callers;
 mod timer;
 mod unique_ids;
+mod waiters;
 
 pub use handle::{EntryError, Handle};
 pub use numbers::Numbers;

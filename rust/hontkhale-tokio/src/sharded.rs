@@ -1,6 +1,5 @@
 use crate::callers::Callers;
 use crate::clock::Clock;
-use crate::doors::Door;
 use crate::held::{Held, Lane, Leavings};
 use crate::keeping::Keeping;
 use crate::numbers::{Latest, Numbers};
@@ -8,6 +7,7 @@ use crate::shared_key::{InsertError, Key};
 use crate::shared_queue::Expired;
 use crate::stream::ExpiredStream;
 use crate::unique_ids::UniqueIds;
+use crate::waiters::Waiter;
 use hontkhale::{
     CallError, CoreError, HandleError, LastingConfig, LastingError, LastingHandle, LastingQueue, QueueConfig,
     QueueError,
@@ -72,8 +72,8 @@ pub(crate) struct Inner<T> {
     /// The number that the queue's keys carry.
     number: u64,
     pub clock: Clock,
-    /// A door for each shard, at which its stream waits.
-    pub doors: Vec<Door>,
+    /// A waiter for each shard: that of its stream.
+    pub waiters: Vec<Waiter>,
     callers: Arc<Callers>,
     keeping: Keeping,
     /// A lane for each shard: that of an insert is its route's, wherever it comes to stand.
@@ -95,7 +95,7 @@ impl<T> Inner<T> {
 
     /// The shard of an entry.
     fn shard_of(&self, key: &hontkhale::Key) -> usize {
-        key.entry().shard() as usize % self.doors.len()
+        key.entry().shard() as usize % self.waiters.len()
     }
 
     /// The entry under tokio's clock and the queue's number.
@@ -131,7 +131,7 @@ impl<T> Inner<T> {
 
     /// An entry came, or has another deadline: its key, after the shard's stream was woken where it waits for a later tick.
     fn came(&self, shard: usize, key: hontkhale::Key, tick: u64) -> Key {
-        self.doors[shard].ring_before(tick);
+        self.waiters[shard].notify_before(tick);
         if self.keeping.is_last(key.stamp()) && self.keeping.note_last(shard) {
             self.keep();
         }
@@ -156,8 +156,8 @@ impl<T> Inner<T> {
             self.keeping.ask(&self.queue, self.clock.tick_over(), one);
         }
         let (error, mut value) = refused;
-        for turn in 0..self.doors.len() as u64 {
-            match self.queue.insert(route % self.doors.len() as u64 + turn, value, tick) {
+        for turn in 0..self.waiters.len() as u64 {
+            match self.queue.insert(route % self.waiters.len() as u64 + turn, value, tick) {
                 Ok(key) => return Ok(key),
                 Err((_, back)) => value = back,
             }
@@ -255,7 +255,7 @@ impl<T> SharedDelayQueue<T> {
             queue,
             number,
             clock: Clock::new(),
-            doors: (0..shards).map(|_| Door::default()).collect(),
+            waiters: (0..shards).map(|_| Waiter::default()).collect(),
             callers: Arc::new(Callers::new(number)),
             keeping: Keeping::new(shards, capacity, last_stamp),
             lanes: leavings.lanes(shards),
@@ -337,14 +337,14 @@ impl<T> SharedDelayQueue<T> {
     /// ```
     pub fn sweep(&self) -> usize {
         let sweep_one = |shard| self.inner.queue.sweep(shard).expect("a shard of the queue");
-        let count = (0..self.inner.doors.len()).map(sweep_one).sum();
+        let count = (0..self.inner.waiters.len()).map(sweep_one).sum();
         self.inner.leavings.clear();
         count
     }
 
     /// A stream of what is due in all shards. It takes every shard over from the streams before it.
     pub fn stream(&self) -> ExpiredStream<T> {
-        ExpiredStream::of(Arc::clone(&self.inner), 0..self.inner.doors.len())
+        ExpiredStream::of(Arc::clone(&self.inner), 0..self.inner.waiters.len())
     }
 
     /// A stream of what is due in one shard, for a task of the shard's own. It takes that shard over from the streams
@@ -353,7 +353,7 @@ impl<T> SharedDelayQueue<T> {
     /// # Errors
     /// `Unknown`.
     pub fn stream_of(&self, shard: usize) -> Result<ExpiredStream<T>, QueueError> {
-        if shard >= self.inner.doors.len() {
+        if shard >= self.inner.waiters.len() {
             return Err(QueueError::Unknown);
         }
         Ok(ExpiredStream::of(Arc::clone(&self.inner), shard..shard + 1))
@@ -395,7 +395,7 @@ impl<T> SharedDelayQueue<T> {
     pub fn numbers(&self) -> Numbers {
         let now = self.inner.clock.tick_over();
         let (mut linked, mut reaped, mut late) = (0, 0, 0);
-        for shard in 0..self.inner.doors.len() {
+        for shard in 0..self.inner.waiters.len() {
             let tally = self.inner.queue.tally(shard).expect("a shard of the queue");
             let wake = self.inner.queue.next_wake(shard).expect("a shard of the queue");
             linked += tally.present.linked;
@@ -425,14 +425,14 @@ impl<T> Drop for SharedDelayQueue<T> {
     fn drop(&mut self) {
         if self.inner.holds.fetch_sub(1, SeqCst) == 1 {
             // A stream that waits over empty shards has ended.
-            self.inner.doors.iter().for_each(Door::ring);
+            self.inner.waiters.iter().for_each(Waiter::notify);
         }
     }
 }
 
 impl<T> fmt::Debug for SharedDelayQueue<T> {
     fn fmt(&self, f: &mut fmt::Formatter<'_>) -> fmt::Result {
-        f.debug_struct("SharedDelayQueue").field("shards", &self.inner.doors.len()).finish_non_exhaustive()
+        f.debug_struct("SharedDelayQueue").field("shards", &self.inner.waiters.len()).finish_non_exhaustive()
     }
 }
 
