@@ -29,10 +29,11 @@ static QUEUES: UniqueIds = UniqueIds::from_one();
 /// [`ExpiredStream`] gives what is due, of all shards or of one; a [`SharedHandle`] extends and cancels entries without a
 /// shard's lock. The room is fixed when the queue is made.
 ///
-/// **It lasts as long as its process.** A slot has a million stamps, of which each insert and each reset takes one. A shard
+/// **It is renewed while it serves.** A slot has a million stamps, of which each insert and each reset takes one. A shard
 /// of which half the slots are worn takes no more entries; once those that it has have ended it is opened again, all of its
 /// slots fresh, while the others take what comes. A call that finds one due does this, and no call need ask for it. An entry
-/// that is extended for ever keeps its shard closed: a remove and an insert move it.
+/// that is extended for ever keeps its shard closed, and one in each shard has every insert refused as `Full` for good: a
+/// remove and an insert move it. No call tells which entries these are.
 ///
 /// Deadlines are rounded up to milliseconds from the queue's making. A reset answers another key: handles refuse the old one.
 ///
@@ -41,7 +42,7 @@ static QUEUES: UniqueIds = UniqueIds::from_one();
 /// cloned and dropped so, too. What comes out or is refused is handed to you, and dropped where you drop it. The value of an
 /// entry that a handle cancelled is dropped by a poll of a stream, by [`sweep`](SharedDelayQueue::sweep), by an insert into a
 /// full shard, or with the queue, each time before the call has anything in its hands: a drop may call the queue, and one that
-/// panics is lost alone.
+/// panics is lost alone. Values that a call within a drop lets go are dropped after it, and not within it.
 ///
 /// ```
 /// # #[tokio::main(flavor = "current_thread", start_paused = true)]
