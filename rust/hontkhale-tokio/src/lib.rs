@@ -5,8 +5,8 @@
 mod budget;
 mod callers;
 mod clock;
+mod drop_queue;
 mod handle;
-mod held;
 mod keeping;
 mod key;
 mod numbers;

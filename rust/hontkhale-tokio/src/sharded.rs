@@ -1,6 +1,6 @@
 use crate::callers::Callers;
 use crate::clock::Clock;
-use crate::held::{Held, Lane, Leavings};
+use crate::drop_queue::{DropQueue, Held, RouteHold};
 use crate::keeping::Keeping;
 use crate::numbers::{Latest, Numbers};
 use crate::shared_key::{InsertError, Key};
@@ -77,10 +77,10 @@ pub(crate) struct Inner<T> {
     pub waiters: Vec<Waiter>,
     callers: Arc<Callers>,
     keeping: Keeping,
-    /// A lane for each shard: that of an insert is its route's, wherever it comes to stand.
-    lanes: Vec<Arc<Lane<T>>>,
+    /// A hold of the drop queue for each shard: that of an insert is its route's, wherever it comes to stand.
+    route_holds: Vec<Arc<RouteHold<T>>>,
     /// What the queue dropped, and nobody yet.
-    pub leavings: Arc<Leavings<T>>,
+    pub drop_queue: Arc<DropQueue<T>>,
     /// The holds of the queue. Where there is none, nobody puts anything in any more.
     holds: AtomicUsize,
     pub latest: Latest,
@@ -113,8 +113,8 @@ impl<T> Inner<T> {
     }
 
     fn insert(&self, route: u64, value: T, tick: u64) -> Result<Key, InsertError<T>> {
-        let lane = &self.lanes[(route % self.lanes.len() as u64) as usize];
-        let key = match self.queue.insert(route, Held::new(value, lane), tick) {
+        let hold = &self.route_holds[(route % self.route_holds.len() as u64) as usize];
+        let key = match self.queue.insert(route, Held::new(value, hold), tick) {
             Ok(key) => key,
             Err(refused) => match self.insert_anywhere(route, refused, tick) {
                 Ok(key) => key,
@@ -150,7 +150,7 @@ impl<T> Inner<T> {
             _ => return Err(refused),
         }
         // Before anything is in our hands that a drop which panics could take along.
-        self.leavings.clear();
+        self.drop_queue.clear();
         // None is closed or opened while all are tried, so each that takes entries is asked.
         let one = self.keeping.is_due().then(|| self.keeping.hold());
         if let Some(one) = &one {
@@ -229,7 +229,7 @@ fn of_handles(error: HandleError) -> QueueError {
 impl<T> Drop for Inner<T> {
     fn drop(&mut self) {
         self.callers.close();
-        self.leavings.end();
+        self.drop_queue.end();
     }
 }
 
@@ -250,7 +250,7 @@ impl<T> SharedDelayQueue<T> {
     pub fn with_config(config: QueueConfig) -> Result<SharedDelayQueue<T>, QueueError> {
         let QueueConfig { shards, capacity, last_stamp } = config;
         let queue = LastingQueue::new(LastingConfig { shards, capacity, last_stamp })?;
-        let leavings = Arc::<Leavings<T>>::default();
+        let drop_queue = Arc::<DropQueue<T>>::default();
         let number = QUEUES.draw();
         let inner = Inner {
             queue,
@@ -259,8 +259,8 @@ impl<T> SharedDelayQueue<T> {
             waiters: (0..shards).map(|_| Waiter::default()).collect(),
             callers: Arc::new(Callers::new(number)),
             keeping: Keeping::new(shards, capacity, last_stamp),
-            lanes: leavings.lanes(shards),
-            leavings,
+            route_holds: drop_queue.holds(shards),
+            drop_queue,
             holds: AtomicUsize::new(1),
             latest: Latest::default(),
         };
@@ -339,7 +339,7 @@ impl<T> SharedDelayQueue<T> {
     pub fn sweep(&self) -> usize {
         let sweep_one = |shard| self.inner.queue.sweep(shard).expect("a shard of the queue");
         let count = (0..self.inner.waiters.len()).map(sweep_one).sum();
-        self.inner.leavings.clear();
+        self.inner.drop_queue.clear();
         count
     }
 

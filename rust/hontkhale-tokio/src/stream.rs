@@ -138,7 +138,7 @@ impl<T> ExpiredStream<T> {
     fn turn(&mut self, budget: &mut Budget) -> Found<T> {
         loop {
             // Nothing is in our hands here that a drop which panics could take along.
-            self.inner.leavings.clear();
+            self.inner.drop_queue.clear();
             self.heed();
             let (at, wake, second) = self.soonest();
             if wake == NEVER {
