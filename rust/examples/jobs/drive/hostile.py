@@ -171,7 +171,7 @@ def flood(it):
     it.wait_for_owners(1)
     told = """
         SELECT pg_notify('jobs_' || 'jobs'::regclass::oid, CASE i % 4 WHEN 0 THEN '*' WHEN 1 THEN repeat('x', 7000) || i
-            WHEN 2 THEN (1000000 + i) || ' ' || (extract(epoch FROM clock_timestamp()) * 1000000)::bigint
+            WHEN 2 THEN (1000000 + i) || ' ' || (extract(epoch FROM clock_timestamp()) * 1000000)::bigint || ' 0 '
             ELSE i || ' 99999999999999999999' END)
         FROM generate_series(1, 2000) i;"""
     stop = threading.Event()

@@ -9,6 +9,7 @@ import urllib.parse
 import urllib.request
 
 from cluster import EFFECT, HERE, JOBS, cluster, free_port, wait_for
+from holder import Connection
 from stalls import held
 
 
@@ -115,11 +116,111 @@ def older_tables(it):
     )
 
 
+def kinds(it):
+    """Holders take the kinds that they name, in the order of priority; retries go by the kind and by the job."""
+    it.sql("TRUNCATE jobs")
+    port = free_port()
+    worker = it.spawn("worker", "--listen", f"127.0.0.1:{port}", "--attempts", "2")
+    it.wait_for_owners(1)
+    it.sql(
+        "INSERT INTO jobs_kinds (kind, attempts, first_delay) VALUES ('mail', 3, 0.1); "
+        "INSERT INTO jobs (kind, priority, payload) SELECT 'mail', i % 3, i % 3 FROM generate_series(1, 30) i; "
+        "INSERT INTO jobs (kind, attempts) VALUES ('report', 1), ('other', NULL)"
+    )
+    time.sleep(2)
+    asks = Connection(f"127.0.0.1:{port}")
+    mails = asks.call("JOBS.TAKE", 30, "WAIT", 5000, "KIND", "mail", "letter")
+    first = [job[3] for job in asks.call("JOBS.TAKE", 1, "KIND", "nothing") or mails]
+    assert len(mails) == 30 and len(first) == 30, mails
+    reports = asks.call("JOBS.TAKE", 10, "KIND", "report")
+    assert len(reports) == 1, reports
+    assert asks.call("JOBS.FAIL", reports[0][0], 1, "no paper") == "OK"
+    assert it.sql("SELECT state, error FROM jobs WHERE kind = 'report'") == [["dead", "no paper"]]
+    for attempt in (1, 2, 3):
+        replies = asks.calls([("JOBS.FAIL", job[0], attempt, "no post") for job in mails])
+        assert set(replies) == {"OK"}, (attempt, replies)
+        if attempt < 3:
+            again = []
+            while len(again) < 30:
+                again += asks.call("JOBS.TAKE", 30, "WAIT", 5000, "KIND", "mail")
+            assert {job[1] for job in again} == {attempt + 1}
+    assert it.sql("SELECT DISTINCT state, attempt FROM jobs WHERE kind = 'mail'") == [["dead", "3"]]
+    # What is due at once comes by its priority.
+    it.sql("UPDATE jobs SET state = 'waiting', due = now(), attempts = 9 WHERE kind = 'mail'")
+    wait_for(lambda: it.number("SELECT count(*) FROM jobs WHERE state = 'waiting' AND due <= now()") == 31, 10)
+    time.sleep(12)
+    order = [job[3] for _ in range(3) for job in asks.call("JOBS.TAKE", 10, "KIND", "mail")]
+    assert order == sorted(order, reverse=True) and len(order) == 30, order
+    worker.terminate()
+    assert worker.wait(30) == 0
+    print("operator: kinds, priorities and retries by kind and by job do as they are told", flush=True)
+
+
+def unique(it):
+    """One job of a kind and a key waits or runs."""
+    it.sql("TRUNCATE jobs")
+    one = "INSERT INTO jobs (kind, unique_key, due) VALUES ('mail', 'ann', now() + interval '1 hour') ON CONFLICT DO NOTHING"
+    it.sql(f"{one}; {one}")
+    assert it.number("SELECT count(*) FROM jobs") == 1
+    it.sql(f"UPDATE jobs SET state = 'dead'; {one}; {one}")
+    assert it.sql("SELECT state, count(*) FROM jobs GROUP BY 1 ORDER BY 1") == [["dead", "1"], ["waiting", "1"]]
+    assert it.jobs("retry", "all") == "0 dead jobs wait again\n", "one of its key waits"
+    it.sql("TRUNCATE jobs")
+    print("operator: a second job of a key isn't enqueued while one waits", flush=True)
+
+
+def schedules(it):
+    """A schedule enqueues each of its jobs once, while workers are killed; what it missed comes once."""
+    it.sql("TRUNCATE jobs, effects")
+    for cron in ("* * * *", "60 * * * *", "0 0 30 2 *", "x * * * *"):
+        try:
+            it.sql(f"INSERT INTO jobs_schedules (name, cron) VALUES ('bad', '{cron}')")
+        except AssertionError as error:
+            assert "schedule" in str(error), error
+        else:
+            raise AssertionError(f"{cron} is accepted")
+    for cron, zone, since, expected in [
+        ("*/15 * * * *", "UTC", "2026-01-01 10:07Z", "2026-01-01 10:15Z"),
+        ("30 2 * * 1-5", "UTC", "2026-01-02 03:00Z", "2026-01-05 02:30Z"),
+        ("0 9 1,15 * 7", "UTC", "2026-01-01 10:00Z", "2026-01-04 09:00Z"),
+        ("0 8 29 2 *", "Europe/Berlin", "2026-03-01 00:00Z", "2028-02-29 07:00Z"),
+        ("5 0 * * *", "Asia/Tokyo", "2026-06-01 15:05Z", "2026-06-02 15:05Z"),
+    ]:
+        rows = it.sql(f"SELECT jobs_next('{cron}', '{zone}', '{since}') = '{expected}', jobs_next('{cron}', '{zone}', '{since}')")
+        assert rows[0][0] == "t", (cron, rows)
+    it.sql("INSERT INTO jobs_schedules (name, cron, payload) VALUES ('every', '* * * * *', 'beat')")
+    workers = [it.spawn("worker", "--effect", EFFECT, "--keep-done", "3600000") for _ in range(3)]
+    it.wait_for_owners(3)
+    fired = 8
+    for number in range(fired):
+        # As if its minute came now: three workers see it at the same moment, and one of them dies.
+        it.sql("UPDATE jobs_schedules SET next = date_trunc('milliseconds', clock_timestamp() + interval '100 ms')")
+        if number % 3 == 0:
+            workers[0].kill()
+            workers[0].wait()
+            workers[0] = it.spawn("worker", "--effect", EFFECT, "--keep-done", "3600000")
+        wait_for(lambda: it.number("SELECT count(*) FROM effects") == number + 1, 20)
+    time.sleep(2)
+    assert it.number("SELECT count(*) FROM jobs WHERE payload = 'beat' AND due <= now()") == fired
+    # Those that were done an hour ago are pruned, and no other.
+    it.sql("UPDATE jobs SET ended = ended - interval '1 hour' WHERE id % 2 = 0; DELETE FROM jobs_schedules")
+    old = it.number("SELECT count(*) FROM jobs WHERE ended < now() - interval '1 hour'")
+    wait_for(lambda: it.number("SELECT count(*) FROM jobs WHERE ended < now() - interval '1 hour'") == 0, 30)
+    assert old and it.number("SELECT count(*) FROM jobs WHERE state = 'done'") == fired - old
+    for worker in workers:
+        worker.terminate()
+    assert [worker.wait(30) for worker in workers] == [0, 0, 0]
+    print(f"operator: a schedule fired {fired} times, each once though workers were killed; old done jobs were pruned", flush=True)
+
+
 def main():
     with cluster() as it:
         refusals(it)
         older_tables(it)
-        it.sql("TRUNCATE effects")
+        kinds(it)
+        unique(it)
+        schedules(it)
+        it.sql("TRUNCATE effects, jobs")
         assert "stands" in it.jobs("setup"), "a second setup changes nothing"
         ports = [free_port() for _ in range(3)]
         workers = [

@@ -1,5 +1,6 @@
 //! Delayed jobs and leases that stand in PostgreSQL. Hontkhale's delay queue is the index of what is due soon.
 
+mod chores;
 mod clock;
 mod commands;
 mod db;
