@@ -5,6 +5,7 @@ import re
 import shutil
 import subprocess
 import time
+import urllib.error
 import urllib.parse
 import urllib.request
 
@@ -213,6 +214,47 @@ def schedules(it):
     print(f"operator: a schedule fired {fired} times, each once though workers were killed; old done jobs were pruned", flush=True)
 
 
+def page(it):
+    """A browser sees the page and presses a button; another page, or another name of this machine, can't."""
+    it.sql("TRUNCATE jobs, effects")
+    port = free_port()
+    worker = it.spawn("worker", "--effect", EFFECT, "--attempts", "1", "--http", f"127.0.0.1:{port}")
+    it.wait_for_owners(1)
+    it.jobs("enqueue", "2000", "--spread", "2000")
+    wait_for(lambda: it.number("SELECT count(*) FROM effects") == 2000, 30)
+    it.sql("UPDATE jobs SET state = 'dead', error = '<script>1</script>' WHERE id % 400 = 0")
+
+    def ask(path="/", data=None, host=f"127.0.0.1:{port}"):
+        request = urllib.request.Request(f"http://127.0.0.1:{port}{path}", data=data, headers={"Host": host})
+        try:
+            with urllib.request.urlopen(request, timeout=20) as answer:
+                return answer.status, answer.read().decode()
+        except urllib.error.HTTPError as error:
+            return error.code, ""
+
+    status, text = ask()
+    assert status == 200 and "64: 0-63" in text and "polyline" in text and text.count("<form") == 5, text
+    assert "<script>" not in text and "&lt;script&gt;" in text
+    token = re.search(r"name=token value=(\w+)", text)[1]
+    id = re.search(r"name=id value=(\d+)", text)[1]
+    for path, data, host, expected in [
+        ("/", None, f"evil.example:{port}", 404),
+        ("/retry", f"id={id}&token={token}", f"evil.example:{port}", 404),
+        ("/retry", f"id={id}", f"127.0.0.1:{port}", 403),
+        ("/retry", f"id={id}&token={'0' * 32}", f"127.0.0.1:{port}", 403),
+        ("/retry", f"id=x&token={token}", f"127.0.0.1:{port}", 403),
+    ]:
+        assert ask(path, data and data.encode(), host)[0] == expected, (path, data, host)
+    assert it.number("SELECT count(*) FROM jobs WHERE state = 'dead'") == 5
+    status, text = ask("/retry", f"token={token}&id={id}".encode())
+    assert status == 200 and text.count("<form") == 4, (status, text)
+    wait_for(lambda: it.number(f"SELECT count(*) FROM jobs WHERE state = 'done' AND attempt = 2 AND id = {id}") == 1, 20)
+    assert ask("/metrics")[0] == 200
+    worker.terminate()
+    assert worker.wait(30) == 0
+    print("operator: the page shows workers, lateness and dead jobs, and its button can't be pressed from elsewhere", flush=True)
+
+
 def main():
     with cluster() as it:
         refusals(it)
@@ -220,6 +262,7 @@ def main():
         kinds(it)
         unique(it)
         schedules(it)
+        page(it)
         it.sql("TRUNCATE effects, jobs")
         assert "stands" in it.jobs("setup"), "a second setup changes nothing"
         ports = [free_port() for _ in range(3)]

@@ -120,7 +120,7 @@ fn note(worker: &Worker, rows: &[Row], asked: usize) {
 pub fn note_lateness(worker: &Worker, started: SystemTime, due: SystemTime, attempt: i32) {
     if attempt == 1 {
         let late = started.duration_since(due).unwrap_or_default();
-        worker.metrics.lateness.note(late.as_micros() as u64);
+        worker.metrics.lateness.note(late.as_micros() as u64, worker.clock.uptime().as_secs());
     }
 }
 

@@ -12,6 +12,7 @@ mod leases;
 mod metrics;
 mod options;
 mod owner;
+mod page;
 mod partitions;
 mod poller;
 mod ready;

@@ -25,6 +25,7 @@ pub const HELP: &str = "jobs VERB [OPTION..]: delayed jobs and leases in Postgre
                              doesn't wait
     --attempts N             after so many attempts a job is dead, 5 where none is given
     --metrics IP:PORT        numbers for Prometheus, at /metrics
+    --http IP:PORT           a page for a browser on the same machine, or by a tunnel: workers, lateness, dead jobs
   jobs enqueue N           enqueues N jobs
     --delay MS               all due so long from now, 0 where none is given
     --spread MS              and each up to so much later, 0 where none is given
@@ -66,6 +67,7 @@ pub struct WorkerOptions {
     pub password: Option<Vec<u8>>,
     pub attempts: i32,
     pub metrics: Option<SocketAddr>,
+    pub http: Option<SocketAddr>,
 }
 
 pub struct EnqueueOptions {
@@ -129,6 +131,11 @@ impl Given {
 
     fn millis(&mut self, name: &str, otherwise: u64, least: u64) -> Result<Duration, String> {
         self.text(name).map_or(Ok(Duration::from_millis(otherwise)), |text| millis(name, &text, least))
+    }
+
+    fn address(&mut self, name: &str) -> Result<Option<SocketAddr>, String> {
+        let address = |it: String| it.parse().map_err(|_| format!("{it} is no address for {name}"));
+        self.text(name).map(address).transpose()
     }
 
     fn database(&mut self) -> Result<Database, String> {
@@ -234,10 +241,8 @@ fn worker(given: &mut Given) -> Result<WorkerOptions, String> {
         },
         drain: given.millis("--drain", 20_000, 0)?,
         attempts: given.value("--attempts", 5)?,
-        metrics: match given.text("--metrics") {
-            None => None,
-            Some(text) => Some(text.parse().map_err(|_| format!("{text} is no address for --metrics"))?),
-        },
+        metrics: given.address("--metrics")?,
+        http: given.address("--http")?,
     };
     if !(1..=1_000).contains(&options.clients) {
         return Err("--clients is 1 to 1000".to_owned());

@@ -5,7 +5,7 @@ use crate::enqueue::connect;
 use crate::options::RetryOptions;
 use std::error::Error;
 
-const RETRY: &str = "
+pub const RETRY: &str = "
 UPDATE jobs SET state = 'waiting', due = clock_timestamp(), attempts = attempt + $2::int
 WHERE id = ANY (ARRAY(
     SELECT id FROM jobs j WHERE state = 'dead' AND ($1::bigint[] IS NULL OR id = ANY($1)) AND (

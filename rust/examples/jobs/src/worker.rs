@@ -8,6 +8,7 @@ use crate::index::{Due, Handle, Index};
 use crate::metrics::Metrics;
 use crate::options::WorkerOptions;
 use crate::owner;
+use crate::page::Page;
 use crate::partitions::{Partitions, Waiting, LEASE_ROOM, WAITING_ROOM};
 use crate::ready::Ready;
 use crate::redirect::Redirects;
@@ -169,7 +170,12 @@ pub async fn run(options: WorkerOptions) -> Result<(), Box<dyn Error>> {
     let worker = Arc::new(Worker::new(options, address, ending)?);
     tell(format_args!("worker {} at {}", worker.options.name, worker.address));
     if let Some(listener) = scraped {
-        tokio::spawn(scrape::serve(worker.clone(), listener));
+        tokio::spawn(scrape::serve(worker.clone(), listener, None));
+    }
+    if let Some(address) = worker.options.http {
+        let listener = TcpListener::bind(address).await.map_err(|it| format!("{address}: {it}"))?;
+        let page = Page::new(listener.local_addr()?);
+        tokio::spawn(scrape::serve(worker.clone(), listener, Some(page)));
     }
     setup::check(&worker.options.database).await?;
     let statement = match &worker.options.effect {
