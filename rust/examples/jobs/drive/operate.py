@@ -189,12 +189,12 @@ def schedules(it):
     ]:
         rows = it.sql(f"SELECT jobs_next('{cron}', '{zone}', '{since}') = '{expected}', jobs_next('{cron}', '{zone}', '{since}')")
         assert rows[0][0] == "t", (cron, rows)
-    it.sql("INSERT INTO jobs_schedules (name, cron, payload) VALUES ('every', '* * * * *', 'beat')")
+    it.sql("INSERT INTO jobs_schedules (name, cron, payload) VALUES ('yearly', '0 0 1 1 *', 'beat')")
     workers = [it.spawn("worker", "--effect", EFFECT, "--keep-done", "3600000") for _ in range(3)]
     it.wait_for_owners(3)
     fired = 8
     for number in range(fired):
-        # As if its minute came now: three workers see it at the same moment, and one of them dies.
+        # As if its time came now: three workers see it at the same moment, and one of them dies.
         it.sql("UPDATE jobs_schedules SET next = date_trunc('milliseconds', clock_timestamp() + interval '100 ms')")
         if number % 3 == 0:
             workers[0].kill()
@@ -306,10 +306,21 @@ def main():
             f"p99 of its histogram {p99 * 1000:.1f} ms",
             flush=True,
         )
-        for worker in workers[:2]:
-            worker.terminate()
-        assert [worker.wait(30) for worker in workers] == [0, 0, 0]
+        kill(it, workers)
+        workers[0].terminate()
+        assert workers[0].wait(30) == 0
         assert "nobody" in it.jobs("status"), "free partitions are shown"
+
+
+def kill(it, workers):
+    """A worker is killed: the last one has its partitions soon."""
+    begun = time.monotonic()
+    workers[1].kill()
+    workers[1].wait()
+    it.wait_for_owners(1)
+    took = time.monotonic() - begun
+    assert took < 4, f"{took:.1f} s"
+    print(f"operator: a worker was killed, and another had its partitions {took:.1f} s later", flush=True)
 
 
 def drain(it, workers):

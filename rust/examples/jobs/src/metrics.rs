@@ -13,6 +13,10 @@ impl Number {
         self.0.fetch_add(count, SeqCst);
     }
 
+    pub fn subtract(&self, count: u64) {
+        self.0.fetch_sub(count, SeqCst);
+    }
+
     pub fn set(&self, value: u64) {
         self.0.store(value, SeqCst);
     }
@@ -131,6 +135,8 @@ pub struct Metrics {
     pub leases: Number,
     pub leases_written: Number,
     pub lease_write_micros: Number,
+    pub leases_unwritten: Number,
+    pub clients: Number,
     pub lateness: Lateness,
 }
 
@@ -166,9 +172,15 @@ impl Metrics {
             ("jobs_leases", "Leases in memory.", self.leases.get() as f64),
             (
                 "jobs_lease_write_seconds",
-                "How long the last write of the leases took, by which more a crash may end one early.",
+                "How long the last write of the leases took.",
                 self.lease_write_micros.get() as f64 / 1e6,
             ),
+            (
+                "jobs_leases_unwritten",
+                "Leases that the last write left, since others have locked their rows or the database didn't answer.",
+                self.leases_unwritten.get() as f64,
+            ),
+            ("jobs_clients", "Holders that are connected.", self.clients.get() as f64),
         ];
         for (name, help, value) in gauges {
             writeln!(text, "# HELP {name} {help}\n# TYPE {name} gauge\n{name} {value}")?;

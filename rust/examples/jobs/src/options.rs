@@ -20,6 +20,7 @@ pub const HELP: &str = "jobs VERB [OPTION..]: delayed jobs and leases in Postgre
     --write-every MS         how often heartbeats are written to the table, 2000 where none is given
     --password-file FILE     its first line is what holders have to say by AUTH before all else
     --clients N              the most holders that are connected, of 1000, 900 where none is given
+    --sessions N             how many it has with the database, 2 to 32, 4 where none is given
     --keep-done MS           prunes jobs that were done longer ago; all are kept where none is given
     --drain MS               how long SIGTERM waits for what is under way, 20000 where none is given; a second SIGTERM
                              doesn't wait
@@ -63,6 +64,8 @@ pub struct WorkerOptions {
     /// Jobs that were done longer ago are pruned.
     pub keep_done: Option<Duration>,
     pub clients: usize,
+    /// One that owns partitions, and those that take jobs and write what becomes of them.
+    pub sessions: usize,
     /// What holders say by AUTH before all else.
     pub password: Option<Vec<u8>>,
     pub attempts: i32,
@@ -231,6 +234,7 @@ fn worker(given: &mut Given) -> Result<WorkerOptions, String> {
         lease: given.millis("--lease", 10_000, 100)?,
         write_every: given.millis("--write-every", 2_000, 10)?,
         clients: given.value("--clients", 900)?,
+        sessions: given.value("--sessions", 4)?,
         password: match given.text("--password-file") {
             None => None,
             Some(path) => Some(password(&path)?),
@@ -246,6 +250,9 @@ fn worker(given: &mut Given) -> Result<WorkerOptions, String> {
     };
     if !(1..=1_000).contains(&options.clients) {
         return Err("--clients is 1 to 1000".to_owned());
+    }
+    if !(2..=32).contains(&options.sessions) {
+        return Err("--sessions is 2 to 32".to_owned());
     }
     // A lease that ends before it is written could never be extended.
     if options.lease < 2 * options.write_every {
@@ -318,6 +325,7 @@ mod tests {
             ("worker --database host=x --attempts 0", "--attempts"),
             ("worker --database host=x --lease 1000", "--write-every"),
             ("worker --database host=x --clients 1001", "--clients"),
+            ("worker --database host=x --sessions 1", "--sessions"),
             ("enqueue many --database host=x", "many"),
             ("enqueue 5 --database", "--database"),
             ("status status", "status"),

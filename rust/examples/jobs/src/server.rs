@@ -50,9 +50,11 @@ async fn talk(worker: Arc<Worker>, mut stream: TcpStream, seat: Option<OwnedSema
         Some((beats, _seat)) => {
             let is_known = worker.options.password.is_none();
             let mut holder = Holder { worker: &worker, beats, is_known, input: Input::default(), replies: Vec::new() };
+            worker.metrics.clients.add(1);
             // Whoever is gone isn't answered.
             let _ = holder.converse(&mut stream).await;
             holder.beats.put_back(&worker);
+            worker.metrics.clients.subtract(1);
         }
     }
 }

@@ -24,9 +24,6 @@ use tokio::signal::unix::{signal, Signal, SignalKind};
 use tokio::sync::mpsc::{unbounded_channel, UnboundedSender};
 use tokio::sync::{watch, Notify};
 
-/// The sessions that take jobs and write what becomes of them, beside the one that owns partitions.
-const LINKS: usize = 3;
-
 /// A drain has no more time.
 const LEFT: &str = "what was under way when it was told to end isn't over: it is left to the other workers";
 
@@ -67,7 +64,7 @@ impl Worker {
             partitions: Partitions::new(index.clone()),
             index,
             ready: Ready::default(),
-            links: Links::new(database, metrics.clone(), LINKS),
+            links: Links::new(database, metrics.clone(), options.sessions - 1),
             metrics,
             redirects: Redirects::default(),
             address,
