@@ -97,8 +97,9 @@ impl<P: PollNext> IntoStream for P {}
 
 /// A stream of hontkhale as a [`Stream`]: each poll is one `poll_next` of it.
 ///
-/// Whether it ends, what it gives as a fault and what it costs is as its own stream says. An [`ExpiredStream`] answers
-/// `None` where nothing is linked and may be polled again then, so it isn't fused.
+/// Whether it ends, what it gives as a fault and what it costs is as its own stream says. An [`ExpiredStream`] returns
+/// `None` whenever nothing is in its shard, also for a moment, and may be polled again then: it isn't fused, and a
+/// `while let` over it ends there.
 #[derive(Debug)]
 pub struct Streamed<P> {
     inner: P,

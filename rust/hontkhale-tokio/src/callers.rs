@@ -15,8 +15,10 @@ const PLACES: usize = 8;
 /// How many threads have callers of their own, but for one; a shard issues 1,024 in all before it is renewed.
 const MOST: usize = 256;
 
+const NOTHING: Option<Kept> = None;
+
 thread_local! {
-    static KEPT: RefCell<[Option<Kept>; PLACES]> = const { RefCell::new([const { None }; PLACES]) };
+    static KEPT: RefCell<[Option<Kept>; PLACES]> = const { RefCell::new([NOTHING; PLACES]) };
 }
 
 /// A thread's callers of a queue.

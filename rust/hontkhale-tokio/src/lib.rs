@@ -5,9 +5,8 @@
 mod budget;
 mod callers;
 mod clock;
-mod doors;
+mod drop_queue;
 mod handle;
-mod held;
 mod keeping;
 mod key;
 mod numbers;
@@ -25,6 +24,7 @@ mod tests;
 mod thread_callers;
 mod timer;
 mod unique_ids;
+mod waiters;
 
 pub use handle::{EntryError, Handle};
 pub use numbers::Numbers;

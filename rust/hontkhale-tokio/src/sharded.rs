@@ -1,13 +1,13 @@
 use crate::callers::Callers;
 use crate::clock::Clock;
-use crate::doors::Door;
-use crate::held::{Held, Lane, Leavings};
+use crate::drop_queue::{DropQueue, Held, RouteHold};
 use crate::keeping::Keeping;
 use crate::numbers::{Latest, Numbers};
 use crate::shared_key::{InsertError, Key};
 use crate::shared_queue::Expired;
 use crate::stream::ExpiredStream;
 use crate::unique_ids::UniqueIds;
+use crate::waiters::Waiter;
 use hontkhale::{
     CallError, CoreError, HandleError, LastingConfig, LastingError, LastingHandle, LastingQueue, QueueConfig,
     QueueError,
@@ -29,10 +29,11 @@ static QUEUES: UniqueIds = UniqueIds::from_one();
 /// [`ExpiredStream`] gives what is due, of all shards or of one; a [`SharedHandle`] extends and cancels entries without a
 /// shard's lock. The room is fixed when the queue is made.
 ///
-/// **It lasts as long as its process.** A slot has a million stamps, of which each insert and each reset takes one. A shard
+/// **It is renewed while it serves.** A slot has a million stamps, of which each insert and each reset takes one. A shard
 /// of which half the slots are worn takes no more entries; once those that it has have ended it is opened again, all of its
 /// slots fresh, while the others take what comes. A call that finds one due does this, and no call need ask for it. An entry
-/// that is extended for ever keeps its shard closed: a remove and an insert move it.
+/// that is extended for ever keeps its shard closed, and one in each shard has every insert refused as `Full` for good: a
+/// remove and an insert move it. No call tells which entries these are.
 ///
 /// Deadlines are rounded up to milliseconds from the queue's making. A reset answers another key: handles refuse the old one.
 ///
@@ -41,7 +42,7 @@ static QUEUES: UniqueIds = UniqueIds::from_one();
 /// cloned and dropped so, too. What comes out or is refused is handed to you, and dropped where you drop it. The value of an
 /// entry that a handle cancelled is dropped by a poll of a stream, by [`sweep`](SharedDelayQueue::sweep), by an insert into a
 /// full shard, or with the queue, each time before the call has anything in its hands: a drop may call the queue, and one that
-/// panics is lost alone.
+/// panics is lost alone. Values that a call within a drop lets go are dropped after it, and not within it.
 ///
 /// ```
 /// # #[tokio::main(flavor = "current_thread", start_paused = true)]
@@ -72,14 +73,14 @@ pub(crate) struct Inner<T> {
     /// The number that the queue's keys carry.
     number: u64,
     pub clock: Clock,
-    /// A door for each shard, at which its stream waits.
-    pub doors: Vec<Door>,
+    /// A waiter for each shard: that of its stream.
+    pub waiters: Vec<Waiter>,
     callers: Arc<Callers>,
     keeping: Keeping,
-    /// A lane for each shard: that of an insert is its route's, wherever it comes to stand.
-    lanes: Vec<Arc<Lane<T>>>,
+    /// A hold of the drop queue for each shard: that of an insert is its route's, wherever it comes to stand.
+    route_holds: Vec<Arc<RouteHold<T>>>,
     /// What the queue dropped, and nobody yet.
-    pub leavings: Arc<Leavings<T>>,
+    pub drop_queue: Arc<DropQueue<T>>,
     /// The holds of the queue. Where there is none, nobody puts anything in any more.
     holds: AtomicUsize,
     pub latest: Latest,
@@ -95,7 +96,7 @@ impl<T> Inner<T> {
 
     /// The shard of an entry.
     fn shard_of(&self, key: &hontkhale::Key) -> usize {
-        key.entry().shard() as usize % self.doors.len()
+        key.entry().shard() as usize % self.waiters.len()
     }
 
     /// The entry under tokio's clock and the queue's number.
@@ -112,8 +113,8 @@ impl<T> Inner<T> {
     }
 
     fn insert(&self, route: u64, value: T, tick: u64) -> Result<Key, InsertError<T>> {
-        let lane = &self.lanes[(route % self.lanes.len() as u64) as usize];
-        let key = match self.queue.insert(route, Held::new(value, lane), tick) {
+        let hold = &self.route_holds[(route % self.route_holds.len() as u64) as usize];
+        let key = match self.queue.insert(route, Held::new(value, hold), tick) {
             Ok(key) => key,
             Err(refused) => match self.insert_anywhere(route, refused, tick) {
                 Ok(key) => key,
@@ -131,7 +132,7 @@ impl<T> Inner<T> {
 
     /// An entry came, or has another deadline: its key, after the shard's stream was woken where it waits for a later tick.
     fn came(&self, shard: usize, key: hontkhale::Key, tick: u64) -> Key {
-        self.doors[shard].ring_before(tick);
+        self.waiters[shard].notify_before(tick);
         if self.keeping.is_last(key.stamp()) && self.keeping.note_last(shard) {
             self.keep();
         }
@@ -149,15 +150,15 @@ impl<T> Inner<T> {
             _ => return Err(refused),
         }
         // Before anything is in our hands that a drop which panics could take along.
-        self.leavings.clear();
+        self.drop_queue.clear();
         // None is closed or opened while all are tried, so each that takes entries is asked.
         let one = self.keeping.is_due().then(|| self.keeping.hold());
         if let Some(one) = &one {
             self.keeping.ask(&self.queue, self.clock.tick_over(), one);
         }
         let (error, mut value) = refused;
-        for turn in 0..self.doors.len() as u64 {
-            match self.queue.insert(route % self.doors.len() as u64 + turn, value, tick) {
+        for turn in 0..self.waiters.len() as u64 {
+            match self.queue.insert(route % self.waiters.len() as u64 + turn, value, tick) {
                 Ok(key) => return Ok(key),
                 Err((_, back)) => value = back,
             }
@@ -228,7 +229,7 @@ fn of_handles(error: HandleError) -> QueueError {
 impl<T> Drop for Inner<T> {
     fn drop(&mut self) {
         self.callers.close();
-        self.leavings.end();
+        self.drop_queue.end();
     }
 }
 
@@ -249,17 +250,17 @@ impl<T> SharedDelayQueue<T> {
     pub fn with_config(config: QueueConfig) -> Result<SharedDelayQueue<T>, QueueError> {
         let QueueConfig { shards, capacity, last_stamp } = config;
         let queue = LastingQueue::new(LastingConfig { shards, capacity, last_stamp })?;
-        let leavings = Arc::<Leavings<T>>::default();
+        let drop_queue = Arc::<DropQueue<T>>::default();
         let number = QUEUES.draw();
         let inner = Inner {
             queue,
             number,
             clock: Clock::new(),
-            doors: (0..shards).map(|_| Door::default()).collect(),
+            waiters: (0..shards).map(|_| Waiter::default()).collect(),
             callers: Arc::new(Callers::new(number)),
             keeping: Keeping::new(shards, capacity, last_stamp),
-            lanes: leavings.lanes(shards),
-            leavings,
+            route_holds: drop_queue.holds(shards),
+            drop_queue,
             holds: AtomicUsize::new(1),
             latest: Latest::default(),
         };
@@ -337,14 +338,14 @@ impl<T> SharedDelayQueue<T> {
     /// ```
     pub fn sweep(&self) -> usize {
         let sweep_one = |shard| self.inner.queue.sweep(shard).expect("a shard of the queue");
-        let count = (0..self.inner.doors.len()).map(sweep_one).sum();
-        self.inner.leavings.clear();
+        let count = (0..self.inner.waiters.len()).map(sweep_one).sum();
+        self.inner.drop_queue.clear();
         count
     }
 
     /// A stream of what is due in all shards. It takes every shard over from the streams before it.
     pub fn stream(&self) -> ExpiredStream<T> {
-        ExpiredStream::of(Arc::clone(&self.inner), 0..self.inner.doors.len())
+        ExpiredStream::of(Arc::clone(&self.inner), 0..self.inner.waiters.len())
     }
 
     /// A stream of what is due in one shard, for a task of the shard's own. It takes that shard over from the streams
@@ -353,7 +354,7 @@ impl<T> SharedDelayQueue<T> {
     /// # Errors
     /// `Unknown`.
     pub fn stream_of(&self, shard: usize) -> Result<ExpiredStream<T>, QueueError> {
-        if shard >= self.inner.doors.len() {
+        if shard >= self.inner.waiters.len() {
             return Err(QueueError::Unknown);
         }
         Ok(ExpiredStream::of(Arc::clone(&self.inner), shard..shard + 1))
@@ -395,7 +396,7 @@ impl<T> SharedDelayQueue<T> {
     pub fn numbers(&self) -> Numbers {
         let now = self.inner.clock.tick_over();
         let (mut linked, mut reaped, mut late) = (0, 0, 0);
-        for shard in 0..self.inner.doors.len() {
+        for shard in 0..self.inner.waiters.len() {
             let tally = self.inner.queue.tally(shard).expect("a shard of the queue");
             let wake = self.inner.queue.next_wake(shard).expect("a shard of the queue");
             linked += tally.present.linked;
@@ -425,14 +426,14 @@ impl<T> Drop for SharedDelayQueue<T> {
     fn drop(&mut self) {
         if self.inner.holds.fetch_sub(1, SeqCst) == 1 {
             // A stream that waits over empty shards has ended.
-            self.inner.doors.iter().for_each(Door::ring);
+            self.inner.waiters.iter().for_each(Waiter::notify);
         }
     }
 }
 
 impl<T> fmt::Debug for SharedDelayQueue<T> {
     fn fmt(&self, f: &mut fmt::Formatter<'_>) -> fmt::Result {
-        f.debug_struct("SharedDelayQueue").field("shards", &self.inner.doors.len()).finish_non_exhaustive()
+        f.debug_struct("SharedDelayQueue").field("shards", &self.inner.waiters.len()).finish_non_exhaustive()
     }
 }
 

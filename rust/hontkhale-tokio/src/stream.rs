@@ -1,8 +1,8 @@
 use crate::budget::{Budget, Limit, DEFAULT_BUDGET};
-use crate::doors::{Bells, NEVER};
 use crate::sharded::Inner;
 use crate::shared_queue::Expired;
 use crate::timer::Timer;
+use crate::waiters::{Notifier, NEVER};
 use futures_core::{ready, Stream};
 use hontkhale::{Piece, Turn, LAST_TICK};
 use std::fmt;
@@ -33,7 +33,7 @@ use std::task::{Context, Poll};
 pub struct ExpiredStream<T> {
     inner: Arc<Inner<T>>,
     places: Vec<Place>,
-    bells: Arc<Bells>,
+    notifier: Arc<Notifier>,
     /// The greatest tick that is known to be over.
     reached: u64,
     timer: Timer,
@@ -46,7 +46,7 @@ struct Place {
     shard: usize,
     /// None where another stream took the shard over.
     seat: Option<u64>,
-    /// A tick before which nothing comes out of the shard. While it lies ahead, what comes sooner there rings.
+    /// A tick before which nothing comes out of the shard. While it lies ahead, what comes sooner there notifies the stream.
     wake: u64,
 }
 
@@ -68,14 +68,14 @@ impl<T> Unpin for ExpiredStream<T> {}
 impl<T> ExpiredStream<T> {
     /// A stream of these shards, which takes them over.
     pub(crate) fn of(inner: Arc<Inner<T>>, shards: Range<usize>) -> ExpiredStream<T> {
-        let bells = Arc::<Bells>::default();
+        let notifier = Arc::<Notifier>::default();
         let take_over = |(place, shard): (usize, usize)| {
-            let (seat, ring) = inner.doors[shard].take_over(&bells, place);
-            ring();
+            let (seat, notify) = inner.waiters[shard].take_over(&notifier, place);
+            notify();
             Place { shard, seat: Some(seat), wake: 0 }
         };
         let places = shards.enumerate().map(take_over).collect();
-        ExpiredStream { inner, places, bells, reached: 0, timer: Timer::default(), budget: DEFAULT_BUDGET }
+        ExpiredStream { inner, places, notifier, reached: 0, timer: Timer::default(), budget: DEFAULT_BUDGET }
     }
 
     /// The most steps that a poll makes.
@@ -92,7 +92,7 @@ impl<T> ExpiredStream<T> {
     /// Takes out the entry whose deadline is reached first. Pending where none is, and the task is woken for the next, and
     /// where the [budget](ExpiredStream::set_budget) is spent, and the task is woken at once; none where nothing comes any more.
     pub fn poll_expired(&mut self, cx: &mut Context<'_>) -> Poll<Option<Expired<T>>> {
-        if !self.bells.listen(cx.waker()) {
+        if !self.notifier.listen(cx.waker()) {
             self.timer.leave();
         }
         let mut has_looked = false;
@@ -117,7 +117,7 @@ impl<T> ExpiredStream<T> {
                     cx.waker().wake_by_ref();
                     return Poll::Pending;
                 }
-                // The doors are armed by now, so a hold that is dropped from here on wakes the task.
+                // The waiters are armed by now, so a hold that is dropped from here on wakes the task.
                 Found::Idle if self.inner.may_be_filled() && !self.is_replaced() => return Poll::Pending,
                 Found::Idle => return Poll::Ready(None),
             }
@@ -138,7 +138,7 @@ impl<T> ExpiredStream<T> {
     fn turn(&mut self, budget: &mut Budget) -> Found<T> {
         loop {
             // Nothing is in our hands here that a drop which panics could take along.
-            self.inner.leavings.clear();
+            self.inner.drop_queue.clear();
             self.heed();
             let (at, wake, second) = self.soonest();
             if wake == NEVER {
@@ -160,13 +160,13 @@ impl<T> ExpiredStream<T> {
 
     /// The places in whose shards something came are to be polled.
     fn heed(&mut self) {
-        let mut rung = self.bells.take_rung();
-        while rung != 0 {
-            let place = &mut self.places[rung.trailing_zeros() as usize];
+        let mut notified = self.notifier.take_notified();
+        while notified != 0 {
+            let place = &mut self.places[notified.trailing_zeros() as usize];
             if place.seat.is_some() {
                 place.wake = 0;
             }
-            rung &= rung - 1;
+            notified &= notified - 1;
         }
     }
 
@@ -196,7 +196,7 @@ impl Place {
     /// Takes one entry out of the shard that is due at a tick, by at most so many steps. Where these don't do, or something
     /// came meanwhile, the wake stays.
     fn poll<T>(&mut self, inner: &Inner<T>, tick: u64, most: u32) -> Option<Expired<T>> {
-        let Some(look) = self.seat.and_then(|seat| inner.doors[self.shard].look(seat)) else {
+        let Some(look) = self.seat.and_then(|seat| inner.waiters[self.shard].look(seat)) else {
             (self.seat, self.wake) = (None, NEVER);
             return None;
         };
@@ -219,8 +219,8 @@ impl Place {
 
 impl<T> Drop for ExpiredStream<T> {
     fn drop(&mut self) {
-        // A bell that stays at a door wakes nobody.
-        drop(self.bells.take_task());
+        // A notification that stays in a waiter wakes nobody.
+        drop(self.notifier.take_task());
     }
 }
 

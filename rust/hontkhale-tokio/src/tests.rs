@@ -1,11 +1,11 @@
 //! The segments beside a plain model, with slots that wear out after a few stamps, so that entries move all the time.
 
 use crate::budget::Budget;
-use crate::doors::{Bells, Door};
 use crate::handle::{EntryError, Handle};
 use crate::key::{Expired, Key};
 use crate::segments::{Found, Segments};
 use crate::shared::Shared;
+use crate::waiters::{Notifier, Waiter};
 use std::cell::Cell;
 use std::collections::HashMap;
 use std::rc::Rc;
@@ -272,23 +272,23 @@ fn a_worn_segment_goes_in_no_insert_or_reset_with_the_values_that_were_cancelled
 
 #[test]
 fn what_comes_beside_a_look_is_not_slept_through() {
-    let (door, bells) = (Door::default(), Arc::<Bells>::default());
-    let (seat, ring) = door.take_over(&bells, 0);
-    ring();
+    let (waiter, notifier) = (Waiter::default(), Arc::<Notifier>::default());
+    let (seat, notify) = waiter.take_over(&notifier, 0);
+    notify();
     for (inserted, may_wait) in [(None, true), (Some(7), false), (Some(1 << 40), false)] {
-        let look = door.look(seat).expect("the shard's seat");
+        let look = waiter.look(seat).expect("the shard's seat");
         if let Some(tick) = inserted {
-            door.ring_before(tick);
+            waiter.notify_before(tick);
         }
         assert_eq!(look.arm(100), may_wait, "{inserted:?}");
-        assert_eq!(bells.take_rung(), 0, "a stream that looks isn't woken");
+        assert_eq!(notifier.take_notified(), 0, "a stream that looks isn't woken");
     }
-    assert!(door.look(seat).expect("the shard's seat").arm(100));
-    door.ring_before(100);
-    assert_eq!(bells.take_rung(), 0);
-    door.ring_before(99);
-    assert_eq!(bells.take_rung(), 1);
-    let (other, ring) = door.take_over(&Arc::default(), 0);
-    ring();
-    assert!(door.look(seat).is_none() && door.look(other).is_some());
+    assert!(waiter.look(seat).expect("the shard's seat").arm(100));
+    waiter.notify_before(100);
+    assert_eq!(notifier.take_notified(), 0);
+    waiter.notify_before(99);
+    assert_eq!(notifier.take_notified(), 1);
+    let (other, notify) = waiter.take_over(&Arc::default(), 0);
+    notify();
+    assert!(waiter.look(seat).is_none() && waiter.look(other).is_some());
 }

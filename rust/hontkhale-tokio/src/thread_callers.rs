@@ -13,7 +13,7 @@ use std::sync::Arc;
 const PLACES: usize = 8;
 
 thread_local! {
-    static KEPT: RefCell<[Kept; PLACES]> = const { RefCell::new([const { Kept::none() }; PLACES]) };
+    static KEPT: RefCell<[Kept; PLACES]> = const { RefCell::new([Kept::NONE; PLACES]) };
 }
 
 /// A thread's callers of a queue, one for each segment by its place in the queue's row.
@@ -24,9 +24,7 @@ struct Kept {
 }
 
 impl Kept {
-    const fn none() -> Kept {
-        Kept { queue: 0, callers: Vec::new() }
-    }
+    const NONE: Kept = Kept { queue: 0, callers: Vec::new() };
 }
 
 /// A segment's caller that a thread has for itself.
@@ -109,7 +107,7 @@ pub(crate) fn forget(queue: u64) {
     let _ = KEPT.try_with(|kept| {
         let kept = &mut kept.borrow_mut()[queue as usize % PLACES];
         if kept.queue == queue {
-            *kept = Kept::none();
+            *kept = Kept::NONE;
         }
     });
 }

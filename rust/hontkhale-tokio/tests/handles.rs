@@ -3,7 +3,7 @@
 mod common;
 
 use common::{ends, ms, paused, running};
-use hontkhale_tokio::{delay_queue::Key, DelayQueue, EntryError, Handle};
+use hontkhale_tokio::{delay_queue::Key, shared_queue::CallError, DelayQueue, EntryError, Handle, SharedDelayQueue};
 use std::future::poll_fn;
 use std::sync::atomic::{AtomicBool, AtomicU64, Ordering::SeqCst};
 use std::sync::{mpsc, Arc, Mutex};
@@ -360,6 +360,36 @@ fn a_thread_calls_handles_of_many_queues_in_turns() {
             for (at, handle) in handles.iter().enumerate() {
                 assert_eq!(handle.extend(&keys[at], ms(200_000)).is_ok(), at >= 20);
             }
+        });
+    });
+}
+
+/// A thread that called both kinds of handle keeps callers, of queues that are dropped meanwhile by another thread.
+#[test]
+fn a_thread_that_keeps_callers_extends_nothing_in_a_queue_that_has_gone() {
+    ends(|| {
+        running().block_on(async {
+            let mut queue = DelayQueue::new();
+            let (handle, key) = (queue.handle(), queue.insert("a", ms(60_000)));
+            let shared = SharedDelayQueue::new(2, 10).unwrap();
+            let (holder, lease) = (shared.handle().unwrap(), shared.insert(0, "b", ms(60_000)).unwrap());
+            let (called, has_called) = mpsc::channel();
+            let (dropped, are_dropped) = mpsc::channel::<()>();
+            let thread = thread::spawn(move || {
+                assert!(handle.extend(&key, ms(70_000)).is_ok() && holder.extend(&lease, ms(70_000)).is_ok());
+                called.send(()).unwrap();
+                let _ = are_dropped.recv();
+                for _ in 0..2 {
+                    assert_eq!(handle.extend(&key, ms(80_000)), Err(EntryError::Ended));
+                    assert_eq!(handle.cancel(&key), Err(EntryError::Ended));
+                    assert_eq!(holder.extend(&lease, ms(80_000)), Err(CallError::Unknown));
+                    assert_eq!(holder.cancel(&lease), Err(CallError::Unknown));
+                }
+            });
+            has_called.recv().unwrap();
+            drop((queue, shared));
+            drop(dropped);
+            thread.join().expect("what it is told");
         });
     });
 }

@@ -37,8 +37,9 @@ fn million(has_handle: bool, is_gone: fn(usize) -> bool) -> (DelayQueue<u64>, Ve
     let mut keys = Vec::with_capacity(1_000_000);
     let before = resident("VmRSS:");
     keys.extend((0..1_000_000).map(|at| queue.insert(at, ms(60_000 + at))));
-    let gone = keys.iter().enumerate().filter(|it| is_gone(it.0));
-    gone.for_each(|(_, key)| drop(queue.remove(key)));
+    for (_, key) in keys.iter().enumerate().filter(|it| is_gone(it.0)) {
+        queue.remove(key);
+    }
     let keys_kib = keys.len() * std::mem::size_of::<Key>() / 1_024;
     (queue, keys, resident("VmRSS:") - before - keys_kib)
 }

@@ -165,7 +165,9 @@ fn counted_after(free: fn(&mut DelayQueue<usize>)) -> (String, usize) {
             let keys: Vec<Key> = (0..10).map(|at| queue.insert(at, ms(60_000))).collect();
             keys[..4].iter().for_each(|key| assert!(handle.cancel(key).is_ok()));
             free(&mut queue);
-            keys[4..].iter().for_each(|key| drop(queue.try_remove(key)));
+            for key in &keys[4..] {
+                queue.try_remove(key);
+            }
         }
         let keys: Vec<Key> = (0..500).map(|at| queue.insert(at, ms(60_000))).collect();
         let shown = queue.numbers().to_string();

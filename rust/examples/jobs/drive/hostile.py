@@ -7,6 +7,7 @@ import contextlib
 import glob
 import os
 import resource
+import signal
 import socket
 import subprocess
 import sys
@@ -14,7 +15,7 @@ import threading
 import time
 
 from cluster import EFFECT, cluster, free_port, wait_for
-from holder import Connection, Holder, Refusal
+from holder import Connection, Holder, Refusal, packed
 
 MEBIBYTE = 1 << 20
 
@@ -171,7 +172,7 @@ def flood(it):
     it.wait_for_owners(1)
     told = """
         SELECT pg_notify('jobs_' || 'jobs'::regclass::oid, CASE i % 4 WHEN 0 THEN '*' WHEN 1 THEN repeat('x', 7000) || i
-            WHEN 2 THEN (1000000 + i) || ' ' || (extract(epoch FROM clock_timestamp()) * 1000000)::bigint
+            WHEN 2 THEN (1000000 + i) || ' ' || (extract(epoch FROM clock_timestamp()) * 1000000)::bigint || ' 0 '
             ELSE i || ' 99999999999999999999' END)
         FROM generate_series(1, 2000) i;"""
     stop = threading.Event()
@@ -369,6 +370,33 @@ def great_payloads(it):
     print(f"hostile: ten holders asked for 100 jobs of a mebibyte: {counts} were given, by {most:.0f} MiB", flush=True)
 
 
+def taken_away(it):
+    """Another has a worker's partitions without its knowing: no word of its holders changes a job any more."""
+    empty(it)
+    port = free_port()
+    worker = it.spawn("worker", "--listen", f"127.0.0.1:{port}", "--sessions", "2")
+    it.wait_for_owners(1)
+    it.jobs("enqueue", "30")
+    jobs = Holder([f"127.0.0.1:{port}"]).take(30)
+    connection = Connection(f"127.0.0.1:{port}")
+    worker.send_signal(signal.SIGSTOP)
+    it.sql("UPDATE jobs_partitions SET owner = 1, term = term + 1, until = now() + interval '1 hour'")
+    before = it.sql("SELECT id, state, attempt, lease_until FROM jobs ORDER BY id")
+    words = [(word, job.id, 1) for job in jobs for word in ("JOBS.DONE", "JOBS.FAIL", "JOBS.BEAT")]
+    connection.socket.sendall(b"".join(packed(*it) for it in words))
+    worker.send_signal(signal.SIGCONT)
+    replies = [connection.reply() for _ in words]
+    accepted = [reply for reply in replies if not isinstance(reply, Refusal) or reply.startswith("FENCED")]
+    time.sleep(3)
+    assert not [it for it in accepted if isinstance(it, str)], accepted
+    assert it.sql("SELECT id, state, attempt, lease_until FROM jobs ORDER BY id") == before, "a job was changed"
+    it.sql("UPDATE jobs_partitions SET owner = NULL, until = '-infinity'")
+    it.wait_for_owners(1)
+    assert set(Connection(f"127.0.0.1:{port}").calls([("JOBS.DONE", job.id, 1) for job in jobs])) == {"OK"}
+    end(worker)
+    print("hostile: a worker whose partitions another had taken changed nothing by 90 words of its holders", flush=True)
+
+
 def memory(process):
     """The most memory that a process had, in MiB."""
     with open(f"/proc/{process.pid}/status") as it:
@@ -418,7 +446,7 @@ def full_table(it, count):
 
 def main(quick):
     with cluster() as it:
-        for case in [one_name, wrong_clock, great_payload, lost_lock, flood, bad_job, selected_effect, row_without_lease, broken_effect, web_page, silent_clients, jobs_elsewhere, great_payloads]:
+        for case in [one_name, wrong_clock, great_payload, lost_lock, flood, bad_job, selected_effect, row_without_lease, broken_effect, web_page, silent_clients, jobs_elsewhere, great_payloads, taken_away]:
             case(it)
         full_table(it, 100_000 if quick else 1_000_000)
 

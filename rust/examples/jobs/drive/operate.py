@@ -5,10 +5,12 @@ import re
 import shutil
 import subprocess
 import time
+import urllib.error
 import urllib.parse
 import urllib.request
 
 from cluster import EFFECT, HERE, JOBS, cluster, free_port, wait_for
+from holder import Connection
 from stalls import held
 
 
@@ -115,11 +117,153 @@ def older_tables(it):
     )
 
 
+def kinds(it):
+    """Holders take the kinds that they name, in the order of priority; retries go by the kind and by the job."""
+    it.sql("TRUNCATE jobs")
+    port = free_port()
+    worker = it.spawn("worker", "--listen", f"127.0.0.1:{port}", "--attempts", "2")
+    it.wait_for_owners(1)
+    it.sql(
+        "INSERT INTO jobs_kinds (kind, attempts, first_delay) VALUES ('mail', 3, 0.1); "
+        "INSERT INTO jobs (kind, priority, payload) SELECT 'mail', i % 3, i % 3 FROM generate_series(1, 30) i; "
+        "INSERT INTO jobs (kind, attempts) VALUES ('report', 1), ('other', NULL)"
+    )
+    time.sleep(2)
+    asks = Connection(f"127.0.0.1:{port}")
+    mails = asks.call("JOBS.TAKE", 30, "WAIT", 5000, "KIND", "mail", "letter")
+    first = [job[3] for job in asks.call("JOBS.TAKE", 1, "KIND", "nothing") or mails]
+    assert len(mails) == 30 and len(first) == 30, mails
+    reports = asks.call("JOBS.TAKE", 10, "KIND", "report")
+    assert len(reports) == 1, reports
+    assert asks.call("JOBS.FAIL", reports[0][0], 1, "no paper") == "OK"
+    assert it.sql("SELECT state, error FROM jobs WHERE kind = 'report'") == [["dead", "no paper"]]
+    for attempt in (1, 2, 3):
+        replies = asks.calls([("JOBS.FAIL", job[0], attempt, "no post") for job in mails])
+        assert set(replies) == {"OK"}, (attempt, replies)
+        if attempt < 3:
+            again = []
+            while len(again) < 30:
+                again += asks.call("JOBS.TAKE", 30, "WAIT", 5000, "KIND", "mail")
+            assert {job[1] for job in again} == {attempt + 1}
+    assert it.sql("SELECT DISTINCT state, attempt FROM jobs WHERE kind = 'mail'") == [["dead", "3"]]
+    # What is due at once comes by its priority.
+    it.sql("UPDATE jobs SET state = 'waiting', due = now(), attempts = 9 WHERE kind = 'mail'")
+    wait_for(lambda: it.number("SELECT count(*) FROM jobs WHERE state = 'waiting' AND due <= now()") == 31, 10)
+    time.sleep(12)
+    order = [job[3] for _ in range(3) for job in asks.call("JOBS.TAKE", 10, "KIND", "mail")]
+    assert order == sorted(order, reverse=True) and len(order) == 30, order
+    worker.terminate()
+    assert worker.wait(30) == 0
+    print("operator: kinds, priorities and retries by kind and by job do as they are told", flush=True)
+
+
+def unique(it):
+    """One job of a kind and a key waits or runs."""
+    it.sql("TRUNCATE jobs")
+    one = "INSERT INTO jobs (kind, unique_key, due) VALUES ('mail', 'ann', now() + interval '1 hour') ON CONFLICT DO NOTHING"
+    it.sql(f"{one}; {one}")
+    assert it.number("SELECT count(*) FROM jobs") == 1
+    it.sql(f"UPDATE jobs SET state = 'dead'; {one}; {one}")
+    assert it.sql("SELECT state, count(*) FROM jobs GROUP BY 1 ORDER BY 1") == [["dead", "1"], ["waiting", "1"]]
+    assert it.jobs("retry", "all") == "0 dead jobs wait again\n", "one of its key waits"
+    it.sql("TRUNCATE jobs")
+    print("operator: a second job of a key isn't enqueued while one waits", flush=True)
+
+
+def schedules(it):
+    """A schedule enqueues each of its jobs once, while workers are killed; what it missed comes once."""
+    it.sql("TRUNCATE jobs, effects")
+    for cron in ("* * * *", "60 * * * *", "0 0 30 2 *", "x * * * *"):
+        try:
+            it.sql(f"INSERT INTO jobs_schedules (name, cron) VALUES ('bad', '{cron}')")
+        except AssertionError as error:
+            assert "schedule" in str(error), error
+        else:
+            raise AssertionError(f"{cron} is accepted")
+    for cron, zone, since, expected in [
+        ("*/15 * * * *", "UTC", "2026-01-01 10:07Z", "2026-01-01 10:15Z"),
+        ("30 2 * * 1-5", "UTC", "2026-01-02 03:00Z", "2026-01-05 02:30Z"),
+        ("0 9 1,15 * 7", "UTC", "2026-01-01 10:00Z", "2026-01-04 09:00Z"),
+        ("0 8 29 2 *", "Europe/Berlin", "2026-03-01 00:00Z", "2028-02-29 07:00Z"),
+        ("5 0 * * *", "Asia/Tokyo", "2026-06-01 15:05Z", "2026-06-02 15:05Z"),
+    ]:
+        rows = it.sql(f"SELECT jobs_next('{cron}', '{zone}', '{since}') = '{expected}', jobs_next('{cron}', '{zone}', '{since}')")
+        assert rows[0][0] == "t", (cron, rows)
+    it.sql("INSERT INTO jobs_schedules (name, cron, payload) VALUES ('yearly', '0 0 1 1 *', 'beat')")
+    workers = [it.spawn("worker", "--effect", EFFECT, "--keep-done", "3600000") for _ in range(3)]
+    it.wait_for_owners(3)
+    fired = 8
+    for number in range(fired):
+        # As if its time came now: three workers see it at the same moment, and one of them dies.
+        it.sql("UPDATE jobs_schedules SET next = date_trunc('milliseconds', clock_timestamp() + interval '100 ms')")
+        if number % 3 == 0:
+            workers[0].kill()
+            workers[0].wait()
+            workers[0] = it.spawn("worker", "--effect", EFFECT, "--keep-done", "3600000")
+        wait_for(lambda: it.number("SELECT count(*) FROM effects") == number + 1, 20)
+    time.sleep(2)
+    assert it.number("SELECT count(*) FROM jobs WHERE payload = 'beat' AND due <= now()") == fired
+    # Those that were done an hour ago are pruned, and no other.
+    it.sql("UPDATE jobs SET ended = ended - interval '1 hour' WHERE id % 2 = 0; DELETE FROM jobs_schedules")
+    old = it.number("SELECT count(*) FROM jobs WHERE ended < now() - interval '1 hour'")
+    wait_for(lambda: it.number("SELECT count(*) FROM jobs WHERE ended < now() - interval '1 hour'") == 0, 30)
+    assert old and it.number("SELECT count(*) FROM jobs WHERE state = 'done'") == fired - old
+    for worker in workers:
+        worker.terminate()
+    assert [worker.wait(30) for worker in workers] == [0, 0, 0]
+    print(f"operator: a schedule fired {fired} times, each once though workers were killed; old done jobs were pruned", flush=True)
+
+
+def page(it):
+    """A browser sees the page and presses a button; another page, or another name of this machine, can't."""
+    it.sql("TRUNCATE jobs, effects")
+    port = free_port()
+    worker = it.spawn("worker", "--effect", EFFECT, "--attempts", "1", "--http", f"127.0.0.1:{port}")
+    it.wait_for_owners(1)
+    it.jobs("enqueue", "2000", "--spread", "2000")
+    wait_for(lambda: it.number("SELECT count(*) FROM effects") == 2000, 30)
+    it.sql("UPDATE jobs SET state = 'dead', error = '<script>1</script>' WHERE id % 400 = 0")
+
+    def ask(path="/", data=None, host=f"127.0.0.1:{port}"):
+        request = urllib.request.Request(f"http://127.0.0.1:{port}{path}", data=data, headers={"Host": host})
+        try:
+            with urllib.request.urlopen(request, timeout=20) as answer:
+                return answer.status, answer.read().decode()
+        except urllib.error.HTTPError as error:
+            return error.code, ""
+
+    status, text = ask()
+    assert status == 200 and "64: 0-63" in text and "polyline" in text and text.count("<form") == 5, text
+    assert "<script>" not in text and "&lt;script&gt;" in text
+    token = re.search(r"name=token value=(\w+)", text)[1]
+    id = re.search(r"name=id value=(\d+)", text)[1]
+    for path, data, host, expected in [
+        ("/", None, f"evil.example:{port}", 404),
+        ("/retry", f"id={id}&token={token}", f"evil.example:{port}", 404),
+        ("/retry", f"id={id}", f"127.0.0.1:{port}", 403),
+        ("/retry", f"id={id}&token={'0' * 32}", f"127.0.0.1:{port}", 403),
+        ("/retry", f"id=x&token={token}", f"127.0.0.1:{port}", 403),
+    ]:
+        assert ask(path, data and data.encode(), host)[0] == expected, (path, data, host)
+    assert it.number("SELECT count(*) FROM jobs WHERE state = 'dead'") == 5
+    status, text = ask("/retry", f"token={token}&id={id}".encode())
+    assert status == 200 and text.count("<form") == 4, (status, text)
+    wait_for(lambda: it.number(f"SELECT count(*) FROM jobs WHERE state = 'done' AND attempt = 2 AND id = {id}") == 1, 20)
+    assert ask("/metrics")[0] == 200
+    worker.terminate()
+    assert worker.wait(30) == 0
+    print("operator: the page shows workers, lateness and dead jobs, and its button can't be pressed from elsewhere", flush=True)
+
+
 def main():
     with cluster() as it:
         refusals(it)
         older_tables(it)
-        it.sql("TRUNCATE effects")
+        kinds(it)
+        unique(it)
+        schedules(it)
+        page(it)
+        it.sql("TRUNCATE effects, jobs")
         assert "stands" in it.jobs("setup"), "a second setup changes nothing"
         ports = [free_port() for _ in range(3)]
         workers = [
@@ -162,10 +306,21 @@ def main():
             f"p99 of its histogram {p99 * 1000:.1f} ms",
             flush=True,
         )
-        for worker in workers[:2]:
-            worker.terminate()
-        assert [worker.wait(30) for worker in workers] == [0, 0, 0]
+        kill(it, workers)
+        workers[0].terminate()
+        assert workers[0].wait(30) == 0
         assert "nobody" in it.jobs("status"), "free partitions are shown"
+
+
+def kill(it, workers):
+    """A worker is killed: the last one has its partitions soon."""
+    begun = time.monotonic()
+    workers[1].kill()
+    workers[1].wait()
+    it.wait_for_owners(1)
+    took = time.monotonic() - begun
+    assert took < 4, f"{took:.1f} s"
+    print(f"operator: a worker was killed, and another had its partitions {took:.1f} s later", flush=True)
 
 
 def drain(it, workers):

@@ -339,11 +339,16 @@ def expiry_behind_a_lock(it):
 
 def main(quick):
     with cluster() as it:
+        # Only root makes network namespaces.
+        apart = {told_deadline, cut_link} if os.geteuid() != 0 else set()
+        for case in apart:
+            print(f"stalls: {case.__name__} isn't run, since only root makes network namespaces", flush=True)
         for case in [
             *[vanished_host, locked_rows, locked_lease, told_deadline, two_schemas, expiry_behind_a_lock, old_snapshot],
             *[cut_link, slow_effect],
         ]:
-            case(it)
+            if case not in apart:
+                case(it)
 
 
 if __name__ == "__main__":

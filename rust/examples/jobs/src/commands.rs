@@ -22,6 +22,8 @@ pub enum Command {
     Take {
         count: usize,
         wait: Duration,
+        /// Any where there are none.
+        kinds: Vec<String>,
     },
     Beat(Attempt),
     Done(Attempt),
@@ -64,21 +66,27 @@ fn shown(name: &[u8]) -> String {
     name[..name.len().min(40)].escape_ascii().to_string()
 }
 
-/// A number of jobs, 1 where none is given, and how long to wait for the first.
+/// A number of jobs, 1 where none is given, how long to wait for the first, and kinds.
 fn take(args: &[Vec<u8>]) -> Option<Command> {
     let (count, args) = match args.first().and_then(|it| integer(it)) {
         Some(count) => (count, &args[1..]),
         None => (1, args),
     };
-    let wait = match args {
-        [] => 0,
-        [word, millis] if word.eq_ignore_ascii_case(b"WAIT") => integer(millis)?,
+    let (wait, args) = match args {
+        [word, millis, args @ ..] if word.eq_ignore_ascii_case(b"WAIT") => (integer(millis)?, args),
+        args => (0, args),
+    };
+    let kinds = match args {
+        [] => Vec::new(),
+        [word, kinds @ ..] if word.eq_ignore_ascii_case(b"KIND") && !kinds.is_empty() => {
+            kinds.iter().map(|it| String::from_utf8_lossy(it).into_owned()).collect()
+        }
         _ => return None,
     };
     if !(1..=TAKE_LIMIT).contains(&count) || !(0..=WAIT_LIMIT).contains(&wait) {
         return None;
     }
-    Some(Command::Take { count: count as usize, wait: Duration::from_millis(wait as u64) })
+    Some(Command::Take { count: count as usize, wait: Duration::from_millis(wait as u64), kinds })
 }
 
 fn attempt(args: &[Vec<u8>], most: usize) -> Option<Attempt> {
@@ -113,13 +121,16 @@ mod tests {
 
     #[test]
     fn each_command_is_read_with_what_may_be_left_out() {
-        let take = |count, wait| Command::Take { count, wait: Duration::from_millis(wait) };
+        let of = |count, wait, kinds| Command::Take { count, wait: Duration::from_millis(wait), kinds };
+        let take = |count, wait| of(count, wait, Vec::new());
         let it = Attempt { id: 17, attempt: 2 };
         for (line, expected) in [
             ("jobs.take", take(1, 0)),
             ("JOBS.TAKE 7", take(7, 0)),
             ("JOBS.TAKE wait 50", take(1, 50)),
             ("JOBS.TAKE 100 WAIT 60000", take(100, 60_000)),
+            ("JOBS.TAKE KIND mail", of(1, 0, vec!["mail".to_owned()])),
+            ("JOBS.TAKE 2 WAIT 5 kind a b", of(2, 5, vec!["a".to_owned(), "b".to_owned()])),
             ("JOBS.BEAT 17 2", Command::Beat(it)),
             ("JOBS.DONE 17 2", Command::Done(it)),
             ("JOBS.FAIL 17 2 no-disk", Command::Fail(it, "no-disk".to_owned())),
@@ -134,6 +145,7 @@ mod tests {
             "JOBS.TAKE 0",
             "JOBS.TAKE 101",
             "JOBS.TAKE 5 WAIT",
+            "JOBS.TAKE 5 KIND",
             "JOBS.TAKE 5 WAIT 60001",
             "JOBS.BEAT 17",
             "JOBS.BEAT 17 x",

@@ -1,8 +1,10 @@
 //! Jobs that the worker does itself: a job is taken, its effect had, and the job done by one statement.
 
 use crate::db::{tell, Error, Links};
+use crate::partitions::Waiting;
 use crate::sql;
 use crate::worker::Worker;
+use std::cmp::Reverse;
 use std::sync::Arc;
 use std::time::{Duration, SystemTime};
 use tokio::sync::mpsc::UnboundedReceiver;
@@ -29,7 +31,7 @@ pub async fn statement(links: &Links, begin: &str, effect: &str) -> Result<Strin
 
 /// Does what comes out of the index until the keeper has ended: what came while a statement was under way by the next,
 /// and as many statements at a time as there are sessions.
-pub async fn run(worker: Arc<Worker>, statement: Arc<str>, mut jobs: UnboundedReceiver<Vec<i64>>) {
+pub async fn run(worker: Arc<Worker>, statement: Arc<str>, mut jobs: UnboundedReceiver<Vec<Waiting>>) {
     let sessions = worker.links.count();
     let free = Arc::new(Semaphore::new(sessions));
     let mut left = Vec::new();
@@ -50,8 +52,9 @@ pub async fn run(worker: Arc<Worker>, statement: Arc<str>, mut jobs: UnboundedRe
                 Err(_) => break,
             }
         }
+        left.sort_by_key(|it: &Waiting| (Reverse(it.priority), it.due));
         let rest = left.split_off(left.len().min(BATCH));
-        let batch = std::mem::replace(&mut left, rest);
+        let batch = std::mem::replace(&mut left, rest).into_iter().map(|it| it.id).collect();
         tokio::spawn(batch_of(worker.clone(), statement.clone(), batch, permit));
     }
     // All permits are back once no statement is under way.
@@ -117,7 +120,7 @@ fn note(worker: &Worker, rows: &[Row], asked: usize) {
 pub fn note_lateness(worker: &Worker, started: SystemTime, due: SystemTime, attempt: i32) {
     if attempt == 1 {
         let late = started.duration_since(due).unwrap_or_default();
-        worker.metrics.lateness.note(late.as_micros() as u64);
+        worker.metrics.lateness.note(late.as_micros() as u64, worker.clock.uptime().as_secs());
     }
 }
 

@@ -2,10 +2,10 @@
 
 use crate::db::tell;
 use crate::index::partition_of;
-use crate::partitions::Running;
+use crate::partitions::{Running, Waiting};
 use crate::sql;
 use crate::worker::Worker;
-use std::collections::HashSet;
+use std::collections::HashMap;
 use std::sync::Arc;
 use std::time::{Duration, SystemTime};
 use tokio::sync::mpsc::UnboundedReceiver;
@@ -49,22 +49,19 @@ async fn expire(worker: &Worker, leases: &[(i64, i32)]) {
             return;
         }
     };
-    let (mut again, mut dead) = (HashSet::new(), 0);
-    for row in &rows {
-        match row.get::<_, &str>(1) {
-            "waiting" => drop(again.insert(row.get::<_, i64>(0))),
-            _ => dead += 1,
-        }
-    }
+    let is_waiting = |row: &&Row| row.get::<_, &str>(1) == "waiting";
+    let again: HashMap<i64, Waiting> = rows.iter().filter(is_waiting).map(|row| (row.get(0), waiting(row))).collect();
+    let dead = (rows.len() - again.len()) as u64;
     worker.metrics.expired.add(rows.len() as u64);
     worker.metrics.dead.add(dead);
     // A worker that does its jobs itself finds them by its next reading.
     let is_given = worker.options.effect.is_none();
-    let is_again = |lease: &&(i64, i32)| worker.partitions.end(lease.0, lease.1, is_given && again.contains(&lease.0));
+    let is_again =
+        |lease: &&(i64, i32)| worker.partitions.end(lease.0, lease.1, is_given && again.contains_key(&lease.0));
     if !is_given {
-        again.iter().for_each(|id| worker.partitions.read_whole(partition_of(*id)));
+        again.keys().for_each(|id| worker.partitions.read_whole(partition_of(*id)));
     }
-    let ready: Vec<i64> = leases.iter().filter(is_again).map(|lease| lease.0).collect();
+    let ready: Vec<Waiting> = leases.iter().filter(is_again).filter_map(|it| again.get(&it.0).cloned()).collect();
     worker.ready.push(ready);
     if rows.len() < leases.len() {
         adopt(worker, &ids).await;
@@ -79,6 +76,11 @@ pub async fn adopt(worker: &Worker, ids: &[i64]) {
         Ok(rows) => rows.iter().for_each(|row| worker.partitions.note_running(&running(row), later)),
         Err(error) => tell(format_args!("leases aren't read: {error}")),
     }
+}
+
+fn waiting(row: &Row) -> Waiting {
+    let kind: &str = row.get(4);
+    Waiting { id: row.get(0), due: micros(row.get(2)), priority: row.get(3), kind: kind.into() }
 }
 
 /// A row of the statements that read leases.

@@ -111,18 +111,23 @@ pub async fn write(worker: &Worker, partitions: &[usize]) {
         let mut handle = worker.writer.lock().unwrap_or_else(PoisonError::into_inner);
         worker.partitions.unwritten(partitions, &mut handle)
     };
+    let mut left = unwritten.len();
     unwritten.sort_unstable_by_key(|(lease, _)| lease.id);
     for piece in unwritten.chunks(BATCH) {
-        if let Err(error) = write_some(worker, piece).await {
-            tell(format_args!("leases aren't written: {error}"));
-            break;
+        match write_some(worker, piece).await {
+            Ok(written) => left -= written,
+            Err(error) => {
+                tell(format_args!("leases aren't written: {error}"));
+                break;
+            }
         }
     }
+    worker.metrics.leases_unwritten.set(left as u64);
     worker.metrics.lease_write_micros.set(begun.elapsed().as_micros() as u64);
 }
 
 /// Leases that aren't written, since others have locked their rows, are tried again at the next interval.
-async fn write_some(worker: &Worker, leases: &[(Arc<Lease>, u64)]) -> Result<(), Error> {
+async fn write_some(worker: &Worker, leases: &[(Arc<Lease>, u64)]) -> Result<usize, Error> {
     let ids: Vec<i64> = leases.iter().map(|(lease, _)| lease.id).collect();
     let attempts: Vec<i32> = leases.iter().map(|(lease, _)| lease.attempt).collect();
     let untils: Vec<SystemTime> = leases.iter().map(|(_, until)| time(*until * 1_000)).collect();
@@ -133,5 +138,5 @@ async fn write_some(worker: &Worker, leases: &[(Arc<Lease>, u64)]) -> Result<(),
     for (lease, until) in leases.iter().filter(|it| written.contains(&it.0.id)) {
         lease.written.store(*until, SeqCst);
     }
-    Ok(())
+    Ok(written.len())
 }

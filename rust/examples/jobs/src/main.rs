@@ -1,5 +1,6 @@
 //! Delayed jobs and leases that stand in PostgreSQL. Hontkhale's delay queue is the index of what is due soon.
 
+mod chores;
 mod clock;
 mod commands;
 mod db;
@@ -11,6 +12,7 @@ mod leases;
 mod metrics;
 mod options;
 mod owner;
+mod page;
 mod partitions;
 mod poller;
 mod ready;

@@ -1,7 +1,9 @@
 //! The numbers of a worker, and their text for Prometheus.
 
+use std::collections::VecDeque;
 use std::fmt::{self, Write};
 use std::sync::atomic::{AtomicU64, Ordering::SeqCst};
+use std::sync::{Mutex, PoisonError};
 
 #[derive(Default)]
 pub struct Number(AtomicU64);
@@ -9,6 +11,10 @@ pub struct Number(AtomicU64);
 impl Number {
     pub fn add(&self, count: u64) {
         self.0.fetch_add(count, SeqCst);
+    }
+
+    pub fn subtract(&self, count: u64) {
+        self.0.fetch_sub(count, SeqCst);
     }
 
     pub fn set(&self, value: u64) {
@@ -46,15 +52,54 @@ pub struct Lateness {
     buckets: [Number; BUCKETS.len()],
     count: Number,
     micros: Number,
+    /// The counts of the buckets in pieces of some seconds, the latest last.
+    recent: Mutex<VecDeque<(u64, [u32; BUCKETS.len()])>>,
 }
 
+/// The seconds of a piece, and how many are kept: ten minutes.
+const PIECE: u64 = 10;
+const PIECES: usize = 60;
+
 impl Lateness {
-    pub fn note(&self, micros: u64) {
-        if let Some(bucket) = BUCKETS.iter().position(|end| micros <= *end) {
+    /// A job was so late, at a second of the worker's uptime.
+    pub fn note(&self, micros: u64, second: u64) {
+        let bucket = BUCKETS.iter().position(|end| micros <= *end);
+        if let Some(bucket) = bucket {
             self.buckets[bucket].add(1);
         }
         self.count.add(1);
         self.micros.add(micros);
+        let mut recent = self.recent.lock().unwrap_or_else(PoisonError::into_inner);
+        if recent.back().map_or(true, |it| it.0 != second / PIECE) {
+            recent.push_back((second / PIECE, Default::default()));
+        }
+        if recent.len() > PIECES {
+            recent.pop_front();
+        }
+        if let Some(last) = recent.back_mut() {
+            last.1[bucket.unwrap_or(BUCKETS.len() - 1)] += 1;
+        }
+    }
+
+    /// Of each piece that had jobs: how many seconds ago it was, and the microseconds that the half and all but one of a
+    /// hundred weren't later than, by the ends of their buckets.
+    pub fn recent(&self, second: u64) -> Vec<(u64, f64, f64)> {
+        let recent = self.recent.lock().unwrap_or_else(PoisonError::into_inner);
+        let of = |(piece, counts): &(u64, [u32; BUCKETS.len()])| {
+            let total: u64 = counts.iter().map(|it| u64::from(*it)).sum();
+            let within = |part: u64| {
+                let mut left = (total * part + 99) / 100;
+                let ends = counts.iter().zip(BUCKETS);
+                let mut reached = ends.skip_while(|it| {
+                    let is_below = u64::from(*it.0) < left;
+                    left = left.saturating_sub(u64::from(*it.0));
+                    is_below
+                });
+                reached.next().map_or(0.0, |it| it.1 as f64)
+            };
+            (second.saturating_sub(piece * PIECE), within(50), within(99))
+        };
+        recent.iter().map(of).filter(|it| it.0 < PIECE * PIECES as u64).collect()
     }
 
     fn write(&self, name: &str, text: &mut String) -> fmt::Result {
@@ -90,6 +135,8 @@ pub struct Metrics {
     pub leases: Number,
     pub leases_written: Number,
     pub lease_write_micros: Number,
+    pub leases_unwritten: Number,
+    pub clients: Number,
     pub lateness: Lateness,
 }
 
@@ -125,9 +172,15 @@ impl Metrics {
             ("jobs_leases", "Leases in memory.", self.leases.get() as f64),
             (
                 "jobs_lease_write_seconds",
-                "How long the last write of the leases took, by which more a crash may end one early.",
+                "How long the last write of the leases took.",
                 self.lease_write_micros.get() as f64 / 1e6,
             ),
+            (
+                "jobs_leases_unwritten",
+                "Leases that the last write left, since others have locked their rows or the database didn't answer.",
+                self.leases_unwritten.get() as f64,
+            ),
+            ("jobs_clients", "Holders that are connected.", self.clients.get() as f64),
         ];
         for (name, help, value) in gauges {
             writeln!(text, "# HELP {name} {help}\n# TYPE {name} gauge\n{name} {value}")?;
@@ -144,7 +197,7 @@ mod tests {
     fn each_bucket_counts_what_is_below_its_end() {
         let metrics = Metrics::default();
         for micros in [400, 500, 900, 60_000_000, 900_000_000] {
-            metrics.lateness.note(micros);
+            metrics.lateness.note(micros, 5);
         }
         let text = metrics.text();
         for line in
@@ -152,5 +205,16 @@ mod tests {
         {
             assert!(text.contains(line), "{line} in {text}");
         }
+    }
+
+    #[test]
+    fn ten_minutes_are_told_in_pieces() {
+        let lateness = Lateness::default();
+        (0..99).for_each(|_| lateness.note(900, 3));
+        lateness.note(60_000_000, 9);
+        lateness.note(400, 15);
+        assert_eq!(lateness.recent(25), [(25, 1e3, 1e3), (15, 500.0, 500.0)]);
+        lateness.note(60_000_000, 15);
+        assert_eq!(lateness.recent(605), [(595, 500.0, 3e8)]);
     }
 }

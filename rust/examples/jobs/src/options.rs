@@ -14,16 +14,19 @@ pub const HELP: &str = "jobs VERB [OPTION..]: delayed jobs and leases in Postgre
     --listen IP:PORT         where holders take jobs over the Redis protocol, 127.0.0.1:6500 where none is given
     --announce HOST:PORT     the address that holders are sent to, the one it listens at where none is given
     --effect SQL             does each due job itself, by this statement over the rows of `taken`
-                             (id, due, payload, attempt, started), in the transaction that takes it, and doesn't listen
+                             (id, due, payload, attempt, started, kind), in the transaction that takes it, and doesn't listen
     --name TEXT              told by `jobs status`, `worker` where none is given
     --lease MS               how long a job is given out without a heartbeat, 10000 where none is given
     --write-every MS         how often heartbeats are written to the table, 2000 where none is given
     --password-file FILE     its first line is what holders have to say by AUTH before all else
     --clients N              the most holders that are connected, of 1000, 900 where none is given
+    --sessions N             how many it has with the database, 2 to 32, 4 where none is given
+    --keep-done MS           prunes jobs that were done longer ago; all are kept where none is given
     --drain MS               how long SIGTERM waits for what is under way, 20000 where none is given; a second SIGTERM
                              doesn't wait
     --attempts N             after so many attempts a job is dead, 5 where none is given
     --metrics IP:PORT        numbers for Prometheus, at /metrics
+    --http IP:PORT           a page for a browser on the same machine, or by a tunnel: workers, lateness, dead jobs
   jobs enqueue N           enqueues N jobs
     --delay MS               all due so long from now, 0 where none is given
     --spread MS              and each up to so much later, 0 where none is given
@@ -45,7 +48,7 @@ pub const HELP: &str = "jobs VERB [OPTION..]: delayed jobs and leases in Postgre
   --lock-timeout MS        how long a statement waits for what another session has locked, 5000 where none is given
   --help                   this text
 
-Holders say JOBS.TAKE [count] [WAIT ms], JOBS.BEAT id attempt, JOBS.DONE id attempt, JOBS.FAIL id attempt [reason].
+Holders say JOBS.TAKE [count] [WAIT ms] [KIND name..], JOBS.BEAT id attempt, JOBS.DONE id attempt, JOBS.FAIL id attempt [reason].
 Holders have no TLS: keep --listen and --metrics where only those reach them who may.";
 
 #[derive(Clone)]
@@ -58,11 +61,16 @@ pub struct WorkerOptions {
     pub lease: Duration,
     pub write_every: Duration,
     pub drain: Duration,
+    /// Jobs that were done longer ago are pruned.
+    pub keep_done: Option<Duration>,
     pub clients: usize,
+    /// One that owns partitions, and those that take jobs and write what becomes of them.
+    pub sessions: usize,
     /// What holders say by AUTH before all else.
     pub password: Option<Vec<u8>>,
     pub attempts: i32,
     pub metrics: Option<SocketAddr>,
+    pub http: Option<SocketAddr>,
 }
 
 pub struct EnqueueOptions {
@@ -124,13 +132,13 @@ impl Given {
         }
     }
 
-    /// A number of milliseconds, from `least` to a year.
     fn millis(&mut self, name: &str, otherwise: u64, least: u64) -> Result<Duration, String> {
-        let millis = self.value(name, otherwise)?;
-        if (least..=31_536_000_000).contains(&millis) {
-            return Ok(Duration::from_millis(millis));
-        }
-        Err(format!("{millis} is nothing for {name}: it is {least} to 31536000000 milliseconds"))
+        self.text(name).map_or(Ok(Duration::from_millis(otherwise)), |text| millis(name, &text, least))
+    }
+
+    fn address(&mut self, name: &str) -> Result<Option<SocketAddr>, String> {
+        let address = |it: String| it.parse().map_err(|_| format!("{it} is no address for {name}"));
+        self.text(name).map(address).transpose()
     }
 
     fn database(&mut self) -> Result<Database, String> {
@@ -178,6 +186,14 @@ impl Given {
     }
 }
 
+/// A number of milliseconds, from `least` to a year.
+fn millis(name: &str, text: &str, least: u64) -> Result<Duration, String> {
+    match text.parse() {
+        Ok(millis) if (least..=31_536_000_000).contains(&millis) => Ok(Duration::from_millis(millis)),
+        _ => Err(format!("{text} is nothing for {name}: it is {least} to 31536000000 milliseconds")),
+    }
+}
+
 /// What is asked for.
 pub fn verb(words: impl Iterator<Item = String>) -> Result<Verb, String> {
     let mut words = words.peekable();
@@ -218,19 +234,25 @@ fn worker(given: &mut Given) -> Result<WorkerOptions, String> {
         lease: given.millis("--lease", 10_000, 100)?,
         write_every: given.millis("--write-every", 2_000, 10)?,
         clients: given.value("--clients", 900)?,
+        sessions: given.value("--sessions", 4)?,
         password: match given.text("--password-file") {
             None => None,
             Some(path) => Some(password(&path)?),
         },
+        keep_done: match given.text("--keep-done") {
+            None => None,
+            Some(text) => Some(millis("--keep-done", &text, 0)?),
+        },
         drain: given.millis("--drain", 20_000, 0)?,
         attempts: given.value("--attempts", 5)?,
-        metrics: match given.text("--metrics") {
-            None => None,
-            Some(text) => Some(text.parse().map_err(|_| format!("{text} is no address for --metrics"))?),
-        },
+        metrics: given.address("--metrics")?,
+        http: given.address("--http")?,
     };
     if !(1..=1_000).contains(&options.clients) {
         return Err("--clients is 1 to 1000".to_owned());
+    }
+    if !(2..=32).contains(&options.sessions) {
+        return Err("--sessions is 2 to 32".to_owned());
     }
     // A lease that ends before it is written could never be extended.
     if options.lease < 2 * options.write_every {
@@ -303,6 +325,7 @@ mod tests {
             ("worker --database host=x --attempts 0", "--attempts"),
             ("worker --database host=x --lease 1000", "--write-every"),
             ("worker --database host=x --clients 1001", "--clients"),
+            ("worker --database host=x --sessions 1", "--sessions"),
             ("enqueue many --database host=x", "many"),
             ("enqueue 5 --database", "--database"),
             ("status status", "status"),

@@ -5,7 +5,7 @@ use crate::clock::tick_before;
 use crate::db::{tell, Delay, Error, Param, Session, Told};
 use crate::expiry::{micros, running, time};
 use crate::index::PARTITIONS;
-use crate::partitions::{Running, WAITING_ROOM};
+use crate::partitions::{Running, Waiting, WAITING_ROOM};
 use crate::sql;
 use crate::worker::Worker;
 use std::sync::Arc;
@@ -112,7 +112,7 @@ impl Owner<'_> {
         }
         let worker = self.worker;
         let (term, sent) = (TERM.as_secs_f64(), worker.clock.uptime());
-        let ready = worker.ready.count() as i32;
+        let ready = worker.ready.kinds();
         let params: [Param<'_>; 5] = [&worker.number, &worker.options.name, &worker.address, &term, &ready];
         for row in self.session.query(sql::RENEW, &params).await? {
             // The database counted from a moment after it was asked.
@@ -177,10 +177,8 @@ impl Owner<'_> {
         self.most = (self.most * 2).min(WAITING_ROOM);
         let now = micros(rows[0].get(0));
         worker.clock.note(sent, now);
-        let (ids, dues): (Vec<i64>, Vec<SystemTime>) = (rows[0].get(6), rows[0].get(7));
-        let jobs: Vec<(i64, i64)> = ids.into_iter().zip(dues.into_iter().map(micros)).collect();
-        worker.partitions.note_read(&asked, &jobs, now);
-        worker.note_elsewhere(rows[0].get(5));
+        worker.partitions.note_read(&asked, waiting(&rows[0]), now);
+        worker.note_elsewhere(rows[0].get::<_, Option<_>>(5).unwrap_or_default());
         let (waiting, leases) = worker.partitions.counts();
         worker.metrics.indexed.set(waiting as u64);
         worker.metrics.leases.set(leases as u64);
@@ -282,13 +280,11 @@ impl Owner<'_> {
         }
         let soon = self.worker.clock.micros() + HORIZON.as_micros() as i64;
         for job in notice.split(',') {
-            let (id, due) = match job.split_once(' ').map(|(id, due)| (id.parse(), due.parse::<i64>())) {
-                Some((Ok(id), Ok(due))) => (id, due),
+            match notified(job) {
+                Some(job) if job.due <= soon => self.worker.partitions.note_waiting(job),
+                Some(_) => {}
                 // It isn't the trigger's. What stands in the table is read anyway.
-                _ => return true,
-            };
-            if due <= soon {
-                self.worker.partitions.note_waiting(id, due);
+                None => return true,
             }
         }
         true
@@ -303,6 +299,25 @@ fn fair_share(workers: usize) -> usize {
 /// The seconds that are left of a term when its owner was silent for long enough.
 fn left_over() -> f64 {
     (TERM - SURE).as_secs_f64()
+}
+
+/// A job of a notification: its id, its due time, its priority and its kind.
+fn notified(job: &str) -> Option<Waiting> {
+    let mut words = job.split(' ');
+    Some(Waiting {
+        id: words.next()?.parse().ok()?,
+        due: words.next()?.parse().ok()?,
+        priority: words.next()?.parse().ok()?,
+        kind: words.next().unwrap_or_default().into(),
+    })
+}
+
+/// The jobs of a reading.
+fn waiting(row: &Row) -> Vec<Waiting> {
+    let (ids, dues): (Vec<i64>, Vec<SystemTime>) = (row.get(6), row.get(7));
+    let (priorities, kinds): (Vec<i16>, Vec<&str>) = (row.get(8), row.get(9));
+    let jobs = ids.into_iter().zip(dues).zip(priorities.into_iter().zip(kinds));
+    jobs.map(|((id, due), (priority, kind))| Waiting { id, due: micros(due), priority, kind: kind.into() }).collect()
 }
 
 fn partition(row: &Row) -> usize {

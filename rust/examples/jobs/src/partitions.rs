@@ -24,6 +24,16 @@ pub struct Lease {
     pub written: AtomicU64,
 }
 
+/// A job that waits, as the table or a notification has it.
+#[derive(Clone, Debug, PartialEq, Eq)]
+pub struct Waiting {
+    pub id: i64,
+    /// The microseconds since 1970.
+    pub due: i64,
+    pub priority: i16,
+    pub kind: Arc<str>,
+}
+
 /// A running job as the table has it.
 #[derive(Clone, Copy)]
 pub struct Running {
@@ -37,7 +47,7 @@ enum Held {
     /// It waits in the index for its due time.
     Waiting {
         key: Key,
-        due: Tick,
+        job: Waiting,
     },
     /// It came out, and is about to be looked at in the table.
     Out,
@@ -128,13 +138,13 @@ impl Partitions {
         (0..PARTITIONS).filter_map(to_read).unzip()
     }
 
-    /// Some partitions were read at a time of the database, with these jobs and their due times.
-    pub fn note_read(&self, partitions: &[usize], jobs: &[(i64, i64)], now: i64) {
+    /// Some partitions were read at a time of the database, with these jobs.
+    pub fn note_read(&self, partitions: &[usize], jobs: Vec<Waiting>, now: i64) {
         let mut first = [now; PARTITIONS];
-        for (id, due) in jobs {
-            self.note_waiting(*id, *due);
-            let first = &mut first[partition_of(*id)];
-            *first = due.min(first).to_owned();
+        for job in jobs {
+            let first = &mut first[partition_of(job.id)];
+            *first = job.due.min(*first);
+            self.note_waiting(job);
         }
         for it in partitions {
             let mut partition = self.enter(*it);
@@ -183,36 +193,35 @@ impl Partitions {
         held.waiting = 0;
     }
 
-    /// A job waits until a microsecond, as the table or a notification said.
-    pub fn note_waiting(&self, id: i64, due: i64) {
-        let (number, due) = (partition_of(id), tick_after(due));
+    /// A job waits, as the table or a notification said.
+    pub fn note_waiting(&self, job: Waiting) {
+        let (number, id, due) = (partition_of(job.id), job.id, tick_after(job.due));
         let mut partition = self.enter(number);
         let has_room = partition.term.is_some() && partition.waiting < WAITING_ROOM;
         match partition.held.get_mut(&id) {
-            Some(Held::Waiting { key, due: known }) if *known != due => {
+            Some(Held::Waiting { key, job: known }) if known.due != job.due => {
                 if let Some(reset) = self.index.reset(key, due) {
-                    (*key, *known) = (reset, due);
+                    (*key, *known) = (reset, job);
                 }
             }
             Some(_) => {}
             None if !has_room => {}
             None => {
                 if let Some(key) = self.index.insert(number, Due::Job(id), due) {
-                    partition.held.insert(id, Held::Waiting { key, due });
+                    partition.held.insert(id, Held::Waiting { key, job });
                     partition.waiting += 1;
                 }
             }
         }
     }
 
-    /// A job came out of the index. False where nobody waits for it any more.
-    pub fn note_out(&self, id: i64) -> bool {
-        match self.enter(partition_of(id)).held.get_mut(&id) {
-            Some(held @ Held::Waiting { .. }) => {
-                *held = Held::Out;
-                true
-            }
-            _ => false,
+    /// A job came out of the index. None where nobody waits for it any more.
+    pub fn note_out(&self, id: i64) -> Option<Waiting> {
+        let mut partition = self.enter(partition_of(id));
+        let held = partition.held.get_mut(&id).filter(|it| matches!(it, Held::Waiting { .. }))?;
+        match std::mem::replace(held, Held::Out) {
+            Held::Waiting { job, .. } => Some(job),
+            _ => None,
         }
     }
 

@@ -17,7 +17,7 @@ WITH taken AS (
     UPDATE jobs SET state = 'done', attempt = attempt + 1, started = clock_timestamp(), ended = clock_timestamp()
     WHERE id IN (SELECT id FROM jobs WHERE state = 'waiting' AND due <= now() ORDER BY due
         FOR UPDATE SKIP LOCKED LIMIT $1::bigint)
-    RETURNING id, due, payload, attempt, started
+    RETURNING id, due, payload, attempt, started, kind
 ), effect AS MATERIALIZED (";
 
 pub async fn run(options: &PollerOptions) -> Result<(), Box<dyn Error>> {

@@ -1,9 +1,10 @@
 //! The jobs that are due and wait for a holder.
 
-use crate::partitions::{Given, Partitions};
+use crate::partitions::{Given, Partitions, Waiting};
 use crate::worker::Worker;
-use std::collections::VecDeque;
-use std::sync::{Arc, Mutex, PoisonError};
+use std::cmp::Reverse;
+use std::collections::{BTreeSet, HashMap};
+use std::sync::{Arc, Mutex, MutexGuard, PoisonError};
 use std::time::Duration;
 use tokio::sync::mpsc::UnboundedReceiver;
 use tokio::sync::Notify;
@@ -12,52 +13,74 @@ use tokio::time::{timeout_at, Instant};
 /// How long jobs wait whose partition has no room for a lease before somebody looks again.
 const NO_ROOM: Duration = Duration::from_millis(100);
 
+/// The order in which jobs of a kind are given out: by priority, due time and id.
+type Place = (Reverse<i16>, i64, i64);
+
 #[derive(Default)]
 pub struct Ready {
-    jobs: Mutex<VecDeque<i64>>,
+    jobs: Mutex<HashMap<Arc<str>, BTreeSet<Place>>>,
+    /// Wakes one of those who take any kind.
     filled: Notify,
+    /// Wakes all who wait for some kinds, which each looks for.
+    filled_for_kinds: Notify,
 }
 
 impl Ready {
-    pub fn push(&self, ids: impl IntoIterator<Item = i64>) {
-        self.jobs.lock().unwrap_or_else(PoisonError::into_inner).extend(ids);
+    pub fn push(&self, jobs: impl IntoIterator<Item = Waiting>) {
+        let mut ready = self.enter();
+        for it in jobs {
+            ready.entry(it.kind).or_default().insert((Reverse(it.priority), it.due, it.id));
+        }
+        drop(ready);
         self.filled.notify_one();
+        self.filled_for_kinds.notify_waiters();
     }
 
-    /// How many jobs wait for a holder.
-    pub fn count(&self) -> usize {
-        self.jobs.lock().unwrap_or_else(PoisonError::into_inner).len()
+    fn enter(&self) -> MutexGuard<'_, HashMap<Arc<str>, BTreeSet<Place>>> {
+        self.jobs.lock().unwrap_or_else(PoisonError::into_inner)
     }
 
-    /// At most so many jobs that may be given to a holder, and at least one where one comes in time.
-    pub async fn take(&self, partitions: &Partitions, count: usize, until: Instant) -> Vec<i64> {
+    /// The kinds of which jobs wait for a holder, a hundred of them at most.
+    pub fn kinds(&self) -> Vec<String> {
+        self.enter().keys().take(100).map(|it| it.to_string()).collect()
+    }
+
+    /// At most so many jobs of some kinds, of any where none is named, that may be given to a holder, and at least one
+    /// where one comes in time.
+    pub async fn take(&self, partitions: &Partitions, kinds: &[String], count: usize, until: Instant) -> Vec<i64> {
         loop {
-            let (taken, has_later) = self.pop(partitions, count);
+            // Before the look, so that what comes after the look is heard.
+            let filled = if kinds.is_empty() { self.filled.notified() } else { self.filled_for_kinds.notified() };
+            let (taken, has_later) = self.pop(partitions, kinds, count);
             if !taken.is_empty() || Instant::now() >= until {
                 return taken;
             }
             let until = if has_later { until.min(Instant::now() + NO_ROOM) } else { until };
             // Whether it was filled or the time is over is seen above.
-            let _ = timeout_at(until, self.filled.notified()).await;
+            let _ = timeout_at(until, filled).await;
         }
     }
 
-    fn pop(&self, partitions: &Partitions, count: usize) -> (Vec<i64>, bool) {
-        let mut jobs = self.jobs.lock().unwrap_or_else(PoisonError::into_inner);
+    fn pop(&self, partitions: &Partitions, kinds: &[String], count: usize) -> (Vec<i64>, bool) {
+        let mut ready = self.enter();
         let (mut taken, mut later) = (Vec::new(), Vec::new());
         while taken.len() < count {
-            match jobs.pop_front() {
+            let (kind, place) = match first(&ready, kinds) {
+                Some(first) => first,
                 None => break,
-                Some(id) => match partitions.may_be_given(id) {
-                    Given::Now => taken.push(id),
-                    Given::Later => later.push(id),
-                    Given::Never => {}
-                },
+            };
+            remove(&mut ready, &kind, &place);
+            match partitions.may_be_given(place.2) {
+                Given::Now => taken.push(place.2),
+                Given::Later => later.push((kind, place)),
+                Given::Never => {}
             }
         }
         let has_later = !later.is_empty();
-        jobs.extend(later);
-        if !jobs.is_empty() && !taken.is_empty() {
+        for (kind, place) in later {
+            ready.entry(kind).or_default().insert(place);
+        }
+        if !ready.is_empty() && !taken.is_empty() {
             // One word may stand for many jobs: the next who waits is woken by who took some.
             self.filled.notify_one();
         }
@@ -65,9 +88,26 @@ impl Ready {
     }
 }
 
+/// The job that is given out first.
+fn first(ready: &HashMap<Arc<str>, BTreeSet<Place>>, kinds: &[String]) -> Option<(Arc<str>, Place)> {
+    let wanted = ready.iter().filter(|it| kinds.is_empty() || kinds.iter().any(|kind| kind[..] == it.0[..]));
+    let (kind, place) =
+        wanted.filter_map(|(kind, places)| Some((kind, places.iter().next()?))).min_by_key(|it| it.1)?;
+    Some((kind.clone(), *place))
+}
+
+fn remove(ready: &mut HashMap<Arc<str>, BTreeSet<Place>>, kind: &Arc<str>, place: &Place) {
+    if let Some(places) = ready.get_mut(kind) {
+        places.remove(place);
+        if places.is_empty() {
+            ready.remove(kind);
+        }
+    }
+}
+
 /// Makes ready what comes out of the index, until the keeper has ended.
-pub async fn fill(worker: Arc<Worker>, mut jobs: UnboundedReceiver<Vec<i64>>) {
-    while let Some(ids) = jobs.recv().await {
-        worker.ready.push(ids);
+pub async fn fill(worker: Arc<Worker>, mut jobs: UnboundedReceiver<Vec<Waiting>>) {
+    while let Some(jobs) = jobs.recv().await {
+        worker.ready.push(jobs);
     }
 }

@@ -5,11 +5,15 @@ use crate::enqueue::connect;
 use crate::options::RetryOptions;
 use std::error::Error;
 
-const RETRY: &str = "
+pub const RETRY: &str = "
 UPDATE jobs SET state = 'waiting', due = clock_timestamp(), attempts = attempt + $2::int
 WHERE id = ANY (ARRAY(
-    SELECT id FROM jobs WHERE state = 'dead' AND ($1::bigint[] IS NULL OR id = ANY($1)) ORDER BY id
-    LIMIT 1000 FOR NO KEY UPDATE SKIP LOCKED
+    SELECT id FROM jobs j WHERE state = 'dead' AND ($1::bigint[] IS NULL OR id = ANY($1)) AND (
+        unique_key IS NULL OR NOT EXISTS (
+            SELECT FROM jobs o WHERE o.kind = j.kind AND o.unique_key = j.unique_key AND o.state IN ('waiting', 'running')
+        )
+    )
+    ORDER BY id LIMIT 1000 FOR NO KEY UPDATE SKIP LOCKED
 ))
 RETURNING id";
 

@@ -50,9 +50,11 @@ async fn talk(worker: Arc<Worker>, mut stream: TcpStream, seat: Option<OwnedSema
         Some((beats, _seat)) => {
             let is_known = worker.options.password.is_none();
             let mut holder = Holder { worker: &worker, beats, is_known, input: Input::default(), replies: Vec::new() };
+            worker.metrics.clients.add(1);
             // Whoever is gone isn't answered.
             let _ = holder.converse(&mut stream).await;
             holder.beats.put_back(&worker);
+            worker.metrics.clients.subtract(1);
         }
     }
 }
@@ -123,10 +125,10 @@ impl Holder<'_> {
             Command::Fail(..) => self.fail(commands).await,
             Command::Take { .. } => {
                 for command in commands {
-                    if let Command::Take { count, wait } = command {
+                    if let Command::Take { count, wait, kinds } = command {
                         // What was said before isn't kept waiting.
                         self.send(stream).await?;
-                        self.take(*count, *wait, stream).await?;
+                        self.take(*count, *wait, kinds, stream).await?;
                     }
                 }
             }
@@ -152,14 +154,14 @@ impl Holder<'_> {
         }
     }
 
-    async fn take(&mut self, count: usize, wait: Duration, stream: &TcpStream) -> io::Result<()> {
+    async fn take(&mut self, count: usize, wait: Duration, kinds: &[String], stream: &TcpStream) -> io::Result<()> {
         let worker = self.worker;
         let mut ending = worker.ending.clone();
         let until = Instant::now() + wait;
         let reply = loop {
             let look_again = until.min(Instant::now() + ELSEWHERE);
             let ids = tokio::select! {
-                ids = worker.ready.take(&worker.partitions, count, look_again) => ids,
+                ids = worker.ready.take(&worker.partitions, kinds, count, look_again) => ids,
                 _ = gone(stream) => return Err(io::ErrorKind::ConnectionAborted.into()),
                 _ = ending.changed() => Vec::new(),
             };
@@ -167,7 +169,7 @@ impl Holder<'_> {
                 break try_again("this worker drains");
             }
             if ids.is_empty() {
-                match worker.elsewhere() {
+                match worker.elsewhere(kinds) {
                     Some(place) => break Reply::Error(format!("MOVED {place}")),
                     None if Instant::now() >= until => break Reply::Array(Vec::new()),
                     None => continue,

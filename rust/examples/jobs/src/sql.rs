@@ -10,13 +10,16 @@ SELECT clock_timestamp(), clock_timestamp() - pg_postmaster_start_time() < inter
     (SELECT coalesce(array_agg(partition), '{}') FROM jobs_partitions
         WHERE jobs_is_free(owner, until, $5::float8 * interval '1 second')),
     (SELECT array_agg(CASE WHEN owner = $1::bigint THEN term ELSE 0 END ORDER BY partition) FROM jobs_partitions),
-    (SELECT p.partition || ' ' || w.address FROM jobs_workers w JOIN jobs_partitions p ON p.owner = w.worker
-        WHERE w.worker <> $1 AND w.ready > 0 AND w.until > now() ORDER BY w.ready DESC, p.partition LIMIT 1),
-    waiting.ids, waiting.dues
+    (SELECT array_agg(concat_ws(' ', p.partition, w.address) || '/' || array_to_string(w.ready, ' '))
+        FROM jobs_workers w JOIN LATERAL (
+            SELECT partition FROM jobs_partitions WHERE owner = w.worker ORDER BY partition LIMIT 1
+        ) p ON true WHERE w.worker <> $1 AND w.ready <> '{}' AND w.until > now()),
+    waiting.ids, waiting.dues, waiting.priorities, waiting.kinds
 FROM (
-    SELECT coalesce(array_agg(j.id), '{}') AS ids, coalesce(array_agg(j.due), '{}') AS dues
+    SELECT coalesce(array_agg(j.id), '{}') AS ids, coalesce(array_agg(j.due), '{}') AS dues,
+        coalesce(array_agg(j.priority), '{}') AS priorities, coalesce(array_agg(j.kind), '{}') AS kinds
     FROM unnest($2::smallint[], $6::timestamptz[]) AS p(partition, since) CROSS JOIN LATERAL (
-        SELECT id, due FROM jobs
+        SELECT id, due, priority, kind FROM jobs
         WHERE state = 'waiting' AND jobs.partition = p.partition AND due >= p.since
             AND due < now() + $3::float8 * interval '1 second'
         ORDER BY due LIMIT $4::bigint
@@ -27,7 +30,7 @@ FROM (
 pub const RENEW: &str = "
 WITH living AS (
     INSERT INTO jobs_workers (worker, name, address, pid, ready, until)
-    VALUES ($1::bigint, $2::text, $3::text, pg_backend_pid(), $5::int, now() + $4::float8 * interval '1 second')
+    VALUES ($1::bigint, $2::text, $3::text, pg_backend_pid(), $5::text[], now() + $4::float8 * interval '1 second')
     ON CONFLICT (worker) DO UPDATE SET pid = EXCLUDED.pid, ready = EXCLUDED.ready, until = EXCLUDED.until
 )
 UPDATE jobs_partitions SET until = now() + $4::float8 * interval '1 second'
@@ -91,7 +94,7 @@ WITH jobs_free AS MATERIALIZED (
 ), taken AS (
     UPDATE jobs SET state = 'done', attempt = attempt + 1, started = clock_timestamp(), ended = clock_timestamp()
     WHERE id = ANY (ARRAY(SELECT id FROM jobs_free))
-    RETURNING id, due, payload, attempt, started
+    RETURNING id, due, payload, attempt, started, kind
 ), effect AS MATERIALIZED (";
 /// Ends it. The rows of the effect are counted, since a SELECT within WITH that nobody reads isn't run.
 pub const END_EFFECT: &str = ") SELECT started, due, attempt FROM taken, (SELECT count(*) FROM effect) it";
@@ -107,9 +110,8 @@ WITH free AS MATERIALIZED (
     FOR NO KEY UPDATE SKIP LOCKED
 )
 UPDATE jobs SET attempt = attempt + 1, started = clock_timestamp(), ended = clock_timestamp(), error = $4::text,
-    state = CASE WHEN attempt + 1 >= coalesce(attempts, $5::int) THEN 'dead' ELSE 'waiting' END,
-    due = CASE WHEN attempt + 1 >= coalesce(attempts, $5::int) THEN due
-        ELSE now() + least(power(2, attempt), 600) * interval '1 second' END
+    state = CASE WHEN jobs_is_last(attempt + 1, attempts, kind, $5) THEN 'dead' ELSE 'waiting' END,
+    due = CASE WHEN jobs_is_last(attempt + 1, attempts, kind, $5) THEN due ELSE now() + jobs_delay(attempt + 1, kind) END
 WHERE id = ANY (ARRAY(SELECT id FROM free))
 RETURNING state";
 
@@ -140,9 +142,9 @@ WITH free AS MATERIALIZED (
     FOR NO KEY UPDATE OF j SKIP LOCKED
 ), failed AS (
     UPDATE jobs j SET lease_until = NULL, ended = clock_timestamp(), error = free.error,
-        state = CASE WHEN j.attempt >= coalesce(j.attempts, $6::int) THEN 'dead' ELSE 'waiting' END,
-        due = CASE WHEN j.attempt >= coalesce(j.attempts, $6::int) THEN j.due
-            ELSE now() + least(power(2, j.attempt - 1), 600) * interval '1 second' END
+        state = CASE WHEN jobs_is_last(j.attempt, j.attempts, j.kind, $6) THEN 'dead' ELSE 'waiting' END,
+        due = CASE WHEN jobs_is_last(j.attempt, j.attempts, j.kind, $6) THEN j.due
+            ELSE now() + jobs_delay(j.attempt, j.kind) END
     FROM free WHERE j.id = free.id
     RETURNING j.id, j.state
 )
@@ -160,9 +162,9 @@ WITH free AS MATERIALIZED (
     FOR NO KEY UPDATE OF j SKIP LOCKED
 )
 UPDATE jobs SET lease_until = NULL, ended = clock_timestamp(), error = 'the lease ended',
-    state = CASE WHEN attempt >= coalesce(attempts, $5::int) THEN 'dead' ELSE 'waiting' END
+    state = CASE WHEN jobs_is_last(attempt, attempts, kind, $5) THEN 'dead' ELSE 'waiting' END
 WHERE id = ANY (ARRAY(SELECT id FROM free))
-RETURNING id, state";
+RETURNING id, state, due, priority, kind";
 
 /// Writes what holders have extended in memory, and tells which leases stand in the table now.
 pub const WRITE_LEASES: &str = "

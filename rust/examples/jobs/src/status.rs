@@ -4,35 +4,38 @@ use crate::db::{Database, Error as DbError, Session};
 use crate::enqueue::connect;
 use crate::index::PARTITIONS;
 use std::error::Error;
+use tokio_postgres::Row;
 
-const OWNERS: &str = "
+pub const OWNERS: &str = "
 SELECT w.name, w.address, coalesce(array_agg(p.partition ORDER BY p.partition) FILTER (WHERE p.owner IS NOT NULL), '{}')
 FROM jobs_workers w LEFT JOIN jobs_partitions p ON p.owner = w.worker AND p.until > now()
 WHERE w.until > now() GROUP BY w.worker ORDER BY w.name, w.address";
 
-const COUNTS: &str = "
-SELECT count(*) FILTER (WHERE state = 'waiting'), count(*) FILTER (WHERE state = 'waiting' AND due <= now()),
-    count(*) FILTER (WHERE state = 'running'), count(*) FILTER (WHERE state = 'done'),
-    count(*) FILTER (WHERE state = 'dead')
-FROM jobs";
+/// More done jobs than so many are estimated.
+const MANY: i64 = 100_001;
+
+pub const COUNTS: &str = "
+SELECT (SELECT count(*) FROM jobs WHERE state = 'waiting'),
+    (SELECT count(*) FROM jobs WHERE state = 'waiting' AND due <= now()),
+    (SELECT count(*) FROM jobs WHERE state = 'running'),
+    -- Of very many the database's own estimate will do.
+    (SELECT count(*) FROM (SELECT FROM jobs WHERE state = 'done' LIMIT 100001) it),
+    (SELECT count(*) FROM jobs WHERE state = 'dead'),
+    (SELECT greatest(reltuples, 0)::bigint FROM pg_class WHERE oid = 'jobs'::regclass)";
 
 const LATENESS: &str = "
 SELECT count(*), coalesce(percentile_disc(ARRAY[0.5, 0.99, 1]) WITHIN GROUP (ORDER BY late), ARRAY[0, 0, 0]::float8[])
 FROM (
     SELECT extract(epoch FROM started - due)::float8 * 1000 AS late FROM jobs
-    WHERE attempt = 1 AND started > now() - interval '5 minutes' AND started >= due
+    WHERE attempt = 1 AND started > now() - interval '5 minutes' AND started >= due AND (
+        state IN ('done', 'dead') AND ended > now() - interval '5 minutes' OR state = 'running'
+    )
 ) it";
 
 pub async fn run(database: &Database) -> Result<(), Box<dyn Error>> {
     let session = connect(database).await?;
     owners(&session).await?;
-    let rows = session.query(COUNTS, &[]).await?;
-    let numbers: Vec<i64> = (0..5).map(|it| rows[0].get(it)).collect();
-    println!();
-    println!(
-        "waiting {} ({} due), running {}, done {}, dead {}",
-        numbers[0], numbers[1], numbers[2], numbers[3], numbers[4]
-    );
+    println!("\n{}", counts(&session.query(COUNTS, &[]).await?[0]));
     let rows = session.query(LATENESS, &[]).await?;
     let (count, late): (i64, Vec<f64>) = (rows[0].get(0), rows[0].get(1));
     println!(
@@ -40,6 +43,17 @@ pub async fn run(database: &Database) -> Result<(), Box<dyn Error>> {
         late[0], late[1], late[2]
     );
     Ok(())
+}
+
+/// What `COUNTS` has found, in a line.
+pub fn counts(row: &Row) -> String {
+    let numbers: Vec<i64> = (0..6).map(|it| row.get(it)).collect();
+    let (waiting, due, running, dead) = (numbers[0], numbers[1], numbers[2], numbers[4]);
+    let done = match numbers[3] {
+        MANY.. => format!("about {}", (numbers[5] - waiting - running - dead).max(MANY)),
+        done => done.to_string(),
+    };
+    format!("waiting {waiting} ({due} due), running {running}, done {done}, dead {dead}")
 }
 
 /// A line for each worker, with the partitions that it owns.
@@ -58,7 +72,7 @@ async fn owners(session: &Session) -> Result<(), DbError> {
 }
 
 /// Numbers in order, as ranges.
-fn ranges(numbers: &[i16]) -> String {
+pub fn ranges(numbers: &[i16]) -> String {
     let mut ranges: Vec<(i16, i16)> = Vec::new();
     for number in numbers {
         match ranges.last_mut() {

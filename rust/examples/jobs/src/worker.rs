@@ -8,10 +8,11 @@ use crate::index::{Due, Handle, Index};
 use crate::metrics::Metrics;
 use crate::options::WorkerOptions;
 use crate::owner;
-use crate::partitions::{Partitions, LEASE_ROOM, WAITING_ROOM};
+use crate::page::Page;
+use crate::partitions::{Partitions, Waiting, LEASE_ROOM, WAITING_ROOM};
 use crate::ready::Ready;
 use crate::redirect::Redirects;
-use crate::{leases, scrape, server, setup, sql};
+use crate::{chores, leases, scrape, server, setup, sql};
 use std::collections::hash_map::RandomState;
 use std::error::Error;
 use std::hash::{BuildHasher, Hasher};
@@ -22,9 +23,6 @@ use tokio::net::TcpListener;
 use tokio::signal::unix::{signal, Signal, SignalKind};
 use tokio::sync::mpsc::{unbounded_channel, UnboundedSender};
 use tokio::sync::{watch, Notify};
-
-/// The sessions that take jobs and write what becomes of them, beside the one that owns partitions.
-const LINKS: usize = 3;
 
 /// A drain has no more time.
 const LEFT: &str = "what was under way when it was told to end isn't over: it is left to the other workers";
@@ -43,7 +41,7 @@ pub struct Worker {
     pub address: String,
     /// True from the moment that it ends.
     pub ending: watch::Receiver<bool>,
-    elsewhere: Mutex<Option<String>>,
+    elsewhere: Mutex<Vec<String>>,
     handles: Mutex<Vec<Handle>>,
     /// Whoever writes leases looks at them by it: no connection has it.
     pub writer: Mutex<Handle>,
@@ -66,12 +64,12 @@ impl Worker {
             partitions: Partitions::new(index.clone()),
             index,
             ready: Ready::default(),
-            links: Links::new(database, metrics.clone(), LINKS),
+            links: Links::new(database, metrics.clone(), options.sessions - 1),
             metrics,
             redirects: Redirects::default(),
             address,
             ending,
-            elsewhere: Mutex::new(None),
+            elsewhere: Mutex::new(Vec::new()),
             handles: Mutex::new(Vec::new()),
             writer,
             is_released: Notify::new(),
@@ -94,13 +92,20 @@ impl Worker {
         self.is_released.notify_one();
     }
 
-    /// A partition and the address of its worker, which has jobs that are ready and wait for holders.
-    pub fn elsewhere(&self) -> Option<String> {
-        self.elsewhere.lock().unwrap_or_else(PoisonError::into_inner).clone()
+    /// A partition and the address of its worker, which has jobs of some kinds, of any where none is named, that are
+    /// ready and wait for holders.
+    pub fn elsewhere(&self, kinds: &[String]) -> Option<String> {
+        let places = self.elsewhere.lock().unwrap_or_else(PoisonError::into_inner);
+        let has = |it: &&String| {
+            let ready = it.rsplit('/').next().unwrap_or_default();
+            kinds.is_empty() || ready.split(' ').any(|kind| kinds.iter().any(|it| it == kind))
+        };
+        places.iter().find(has).and_then(|it| Some(it.rsplit_once('/')?.0.to_owned()))
     }
 
-    pub fn note_elsewhere(&self, place: Option<String>) {
-        *self.elsewhere.lock().unwrap_or_else(PoisonError::into_inner) = place;
+    /// What `READ` has said of other workers: partition, address, a slash and kinds.
+    pub fn note_elsewhere(&self, places: Vec<String>) {
+        *self.elsewhere.lock().unwrap_or_else(PoisonError::into_inner) = places;
     }
 
     /// A handle of the index, from those that others have put back where there is one.
@@ -115,7 +120,7 @@ impl Worker {
 }
 
 /// Takes out what is due, and sleeps while nothing is. It ends with the worker.
-fn keep(worker: &Worker, jobs: &UnboundedSender<Vec<i64>>, leases: &UnboundedSender<Vec<(i64, i32)>>) {
+fn keep(worker: &Worker, jobs: &UnboundedSender<Vec<Waiting>>, leases: &UnboundedSender<Vec<(i64, i32)>>) {
     while !worker.is_ending() {
         worker.index.alarm().begin();
         let now = worker.clock.now();
@@ -128,8 +133,7 @@ fn keep(worker: &Worker, jobs: &UnboundedSender<Vec<i64>>, leases: &UnboundedSen
         let (mut due, mut ended) = (Vec::new(), Vec::new());
         for it in out {
             match it {
-                Due::Job(id) if worker.partitions.note_out(id) => due.push(id),
-                Due::Job(_) => {}
+                Due::Job(id) => due.extend(worker.partitions.note_out(id)),
                 Due::Lease { id, attempt } => ended.push((id, attempt)),
             }
         }
@@ -163,7 +167,12 @@ pub async fn run(options: WorkerOptions) -> Result<(), Box<dyn Error>> {
     let worker = Arc::new(Worker::new(options, address, ending)?);
     tell(format_args!("worker {} at {}", worker.options.name, worker.address));
     if let Some(listener) = scraped {
-        tokio::spawn(scrape::serve(worker.clone(), listener));
+        tokio::spawn(scrape::serve(worker.clone(), listener, None));
+    }
+    if let Some(address) = worker.options.http {
+        let listener = TcpListener::bind(address).await.map_err(|it| format!("{address}: {it}"))?;
+        let page = Page::new(listener.local_addr()?);
+        tokio::spawn(scrape::serve(worker.clone(), listener, Some(page)));
     }
     setup::check(&worker.options.database).await?;
     let statement = match &worker.options.effect {
@@ -206,6 +215,7 @@ fn begin(worker: &Arc<Worker>, listener: Option<TcpListener>, effect: Arc<str>) 
     };
     let expiry = tokio::spawn(expiry::run(worker.clone(), leases_ended));
     tokio::spawn(leases::write_on(worker.clone()));
+    tokio::spawn(chores::run(worker.clone()));
     let owner = tokio::spawn(owner::run(worker.clone()));
     Tasks { keeper, jobs, expiry, owner }
 }

@@ -86,7 +86,7 @@ const COMMANDS: &[Command] = &[
     Command("del", 2, true, keys::del),
     Command("unlink", 2, true, keys::del),
     Command(MGET, 2, true, |_, words| Ok(Reply::Begun(words.len() - 1))),
-    Command("mset", 3, true, keys::set_all),
+    Command(MSET, 3, true, keys::set_all),
     Command("setnx", 3, false, keys::set_new),
     Command("getset", 3, false, keys::get_and_set),
     Command("exists", 2, true, keys::exists),
@@ -127,6 +127,7 @@ const COMMANDS: &[Command] = &[
     Command(QUIT, 1, true, |_, _| Ok(Reply::Status("OK"))),
 ];
 const MGET: &str = "mget";
+const MSET: &str = "mset";
 const QUIT: &str = "quit";
 const EXEC: &str = "exec";
 /// What is answered before the password is told.
@@ -194,15 +195,13 @@ impl Client<'_> {
     /// them unread holds one value, and not all that it named, which others may have overwritten since. `told` counts
     /// what is told of a request from one call to the next.
     pub fn serve(&mut self, words: Words<'_>, told: &mut usize, output: &mut Output) -> Served {
-        // EXEC takes all turns itself.
-        let is_exec = words[0].eq_ignore_ascii_case(EXEC.as_bytes());
         let turn = self.desk.handle.turn();
-        let _taken = (!is_exec).then(|| turn.lock().unwrap_or_else(PoisonError::into_inner));
+        let _taken = (!takes_all_turns(words)).then(|| turn.lock().unwrap_or_else(PoisonError::into_inner));
         if *told == 0 {
             if ATTACKS.iter().any(|it| words[0].eq_ignore_ascii_case(it)) {
                 return Served::Attack;
             }
-            let reply = self.answer(words);
+            let reply = self.answer_alone(words);
             output.protocol = self.session.protocol;
             output.reply(&reply);
             if !matches!(reply, Reply::Begun(_)) {
@@ -220,6 +219,15 @@ impl Client<'_> {
             *told += 1;
         }
         Served::Begun
+    }
+
+    /// Answers an MSET while no other request is served, as EXEC does by itself.
+    fn answer_alone(&mut self, words: Words<'_>) -> Reply {
+        if words[0].eq_ignore_ascii_case(MSET.as_bytes()) {
+            let keyspace = self.desk.keyspace.clone();
+            return keyspace.alone(|| self.answer(words));
+        }
+        self.answer(words)
     }
 
     /// What a request is answered. The values of an MGET aren't among it.
@@ -247,6 +255,11 @@ impl Client<'_> {
         }
         Err(refusal)
     }
+}
+
+/// Whether a request is served while no other is.
+fn takes_all_turns(words: Words<'_>) -> bool {
+    [EXEC, MSET].iter().any(|it| words[0].eq_ignore_ascii_case(it.as_bytes()))
 }
 
 /// The names whose values follow the beginning of a reply.

@@ -18,8 +18,8 @@ CREATE TABLE IF NOT EXISTS jobs_workers (
     address text NOT NULL,
     -- The session that it renews its terms by.
     pid integer NOT NULL,
-    -- How many jobs are ready there and wait for a holder.
-    ready integer NOT NULL,
+    -- The kinds of which jobs are ready there and wait for a holder.
+    ready text[] NOT NULL,
     until timestamptz NOT NULL
 ) WITH (fillfactor = 50);
 
@@ -51,16 +51,69 @@ BEGIN ATOMIC
     WHERE p.owner = worker AND p.term = terms[p.partition + 1];
 END;
 
+-- STEP: what a job is, beside its payload. A holder takes the kinds that it names.
+ALTER TABLE jobs ADD COLUMN IF NOT EXISTS kind text NOT NULL DEFAULT '';
+-- Of jobs that are due, those of a higher priority come first.
+ALTER TABLE jobs ADD COLUMN IF NOT EXISTS priority smallint NOT NULL DEFAULT 0;
+-- After so many attempts it is dead. Where it is null, its kind says it, and where that doesn't, its worker.
+ALTER TABLE jobs ADD COLUMN IF NOT EXISTS attempts integer;
+-- There is one job of a kind and a key that waits or runs: INSERT .. ON CONFLICT DO NOTHING.
+ALTER TABLE jobs ADD COLUMN IF NOT EXISTS unique_key text;
+ALTER TABLE jobs DROP CONSTRAINT IF EXISTS jobs_kind_is_plain;
+ALTER TABLE jobs ADD CONSTRAINT jobs_kind_is_plain CHECK (kind = '' OR kind ~ '^[A-Za-z0-9_.:-]{1,40}$') NOT VALID;
+
+-- STEP
+ALTER TABLE jobs VALIDATE CONSTRAINT jobs_kind_is_plain;
+
+-- STEP: an index whose making was broken off is made again.
+DO $$ BEGIN
+    IF EXISTS (SELECT FROM pg_index WHERE indexrelid = to_regclass('jobs_unique') AND NOT indisvalid) THEN
+        DROP INDEX jobs_unique;
+    END IF;
+END $$;
+
+-- STEP
+CREATE UNIQUE INDEX CONCURRENTLY IF NOT EXISTS jobs_unique ON jobs (kind, unique_key)
+    WHERE unique_key IS NOT NULL AND state IN ('waiting', 'running');
+
+-- STEP: how the attempts of a kind are spaced, and how many there are.
+CREATE TABLE IF NOT EXISTS jobs_kinds (
+    kind text PRIMARY KEY,
+    attempts integer CHECK (attempts > 0),
+    -- After the first attempt so many seconds, twice as many after each other, and never more than the most.
+    first_delay double precision NOT NULL DEFAULT 1 CHECK (first_delay >= 0),
+    most_delay double precision NOT NULL DEFAULT 600 CHECK (most_delay BETWEEN 0 AND 31536000)
+);
+
+-- STEP: whether a job that has failed so often is dead.
+CREATE OR REPLACE FUNCTION jobs_is_last(attempt integer, attempts integer, kind text, otherwise integer) RETURNS boolean
+STABLE
+BEGIN ATOMIC
+    SELECT jobs_is_last.attempt >= coalesce(
+        jobs_is_last.attempts, (SELECT k.attempts FROM jobs_kinds k WHERE k.kind = jobs_is_last.kind), otherwise
+    );
+END;
+
+-- STEP: how long a job waits for its next attempt.
+CREATE OR REPLACE FUNCTION jobs_delay(attempt integer, kind text) RETURNS interval STABLE
+BEGIN ATOMIC
+    SELECT interval '1 second' * coalesce(
+        (SELECT least(power(2, least(attempt - 1, 60)) * k.first_delay, k.most_delay)
+            FROM jobs_kinds k WHERE k.kind = jobs_delay.kind),
+        least(power(2, least(attempt - 1, 60)), 600)
+    );
+END;
+
 -- STEP: the workers of this table alone are told, by a channel of the table's number.
 CREATE OR REPLACE FUNCTION jobs_tell() RETURNS trigger LANGUAGE plpgsql AS $$
 DECLARE
     near integer;
     told text;
 BEGIN
-    SELECT count(*), string_agg(id || ' ' || (extract(epoch FROM due) * 1000000)::bigint, ',')
+    SELECT count(*), string_agg(concat_ws(' ', id, (extract(epoch FROM due) * 1000000)::bigint, priority, kind), ',')
     INTO near, told
     FROM (
-        SELECT id, due FROM enqueued
+        SELECT id, due, priority, kind FROM enqueued
         WHERE state = 'waiting' AND due < clock_timestamp() + interval '600 milliseconds'
         LIMIT 101
     ) soon;
@@ -75,5 +128,101 @@ BEGIN
 END
 $$;
 
--- STEP: after so many attempts this job is dead, whatever its worker says. Where it is null, the worker says it.
-ALTER TABLE jobs ADD COLUMN IF NOT EXISTS attempts integer;
+-- STEP: an index whose making was broken off is made again.
+DO $$ BEGIN
+    IF EXISTS (SELECT FROM pg_index WHERE indexrelid = to_regclass('jobs_over') AND NOT indisvalid) THEN
+        DROP INDEX jobs_over;
+    END IF;
+END $$;
+
+-- STEP: what is over, for whoever prunes it or looks at the dead.
+CREATE INDEX CONCURRENTLY IF NOT EXISTS jobs_over ON jobs (state, ended) WHERE state IN ('done', 'dead');
+
+-- STEP: jobs that are enqueued again and again, by the workers: each time once, whatever dies.
+CREATE TABLE IF NOT EXISTS jobs_schedules (
+    name text PRIMARY KEY,
+    -- Minute, hour, day of the month, month and weekday (0 and 7 are Sunday): *, 5, 1-5, */10, or several behind commas.
+    cron text NOT NULL,
+    zone text NOT NULL DEFAULT 'UTC',
+    kind text NOT NULL DEFAULT '',
+    payload text NOT NULL DEFAULT '',
+    priority smallint NOT NULL DEFAULT 0,
+    attempts integer,
+    -- When its next job is due. What it missed while no worker lived is enqueued once.
+    next timestamptz NOT NULL
+);
+
+-- STEP: the numbers of a field of a schedule.
+CREATE OR REPLACE FUNCTION jobs_cron_field(field text, low integer, high integer) RETURNS integer[]
+LANGUAGE plpgsql IMMUTABLE AS $$
+DECLARE
+    part text;
+    words text[];
+    first integer;
+    last integer;
+    step integer;
+    found integer[] := '{}';
+BEGIN
+    FOREACH part IN ARRAY string_to_array(field, ',') LOOP
+        words := regexp_match(part, '^(\*|(\d{1,2})(?:-(\d{1,2}))?)(?:/(\d{1,2}))?$');
+        first := coalesce(words[2]::integer, low);
+        last := coalesce(words[3]::integer, CASE WHEN words[1] = '*' OR words[4] IS NOT NULL THEN high ELSE first END);
+        step := coalesce(words[4]::integer, 1);
+        IF words IS NULL OR first < low OR last > high OR first > last OR step < 1 THEN
+            RAISE EXCEPTION 'a schedule has no field %, of % to %', field, low, high;
+        END IF;
+        found := found || ARRAY(SELECT generate_series(first, last, step));
+    END LOOP;
+    RETURN found;
+END
+$$;
+
+-- STEP: the first time of a schedule after another.
+CREATE OR REPLACE FUNCTION jobs_next(cron text, zone text, since timestamptz) RETURNS timestamptz
+LANGUAGE plpgsql STABLE AS $$
+DECLARE
+    fields text[] := regexp_split_to_array(btrim(cron), '\s+');
+    today timestamp := date_trunc('day', since AT TIME ZONE zone);
+    days integer[];
+    weekdays integer[];
+    found timestamptz;
+BEGIN
+    IF array_length(fields, 1) <> 5 THEN
+        RAISE EXCEPTION 'a schedule has five fields: %', cron;
+    END IF;
+    days := jobs_cron_field(fields[3], 1, 31);
+    weekdays := jobs_cron_field(fields[5], 0, 7);
+    SELECT min(at) INTO found
+    FROM (
+        SELECT (day + make_interval(hours => hour, mins => minute)) AT TIME ZONE zone AS at
+        FROM (
+            SELECT day FROM generate_series(today, today + interval '9 years', interval '1 day') day
+            WHERE extract(month FROM day)::integer = ANY (jobs_cron_field(fields[4], 1, 12))
+                -- Where both days are named, either will do.
+                AND CASE WHEN fields[3] <> '*' AND fields[5] <> '*'
+                    THEN extract(day FROM day)::integer = ANY (days)
+                        OR weekdays && ARRAY[extract(dow FROM day)::integer, extract(isodow FROM day)::integer]
+                    ELSE extract(day FROM day)::integer = ANY (days)
+                        AND weekdays && ARRAY[extract(dow FROM day)::integer, extract(isodow FROM day)::integer]
+                END
+            ORDER BY day LIMIT 3
+        ) days,
+        unnest(jobs_cron_field(fields[2], 0, 23)) hour, unnest(jobs_cron_field(fields[1], 0, 59)) minute
+    ) times
+    WHERE at > since;
+    IF found IS NULL THEN
+        RAISE EXCEPTION 'a schedule that never comes: %', cron;
+    END IF;
+    RETURN found;
+END
+$$;
+
+-- STEP
+CREATE OR REPLACE FUNCTION jobs_plan() RETURNS trigger LANGUAGE plpgsql AS $$
+BEGIN
+    NEW.next := jobs_next(NEW.cron, NEW.zone, clock_timestamp());
+    RETURN NEW;
+END
+$$;
+CREATE OR REPLACE TRIGGER jobs_plan BEFORE INSERT OR UPDATE OF cron, zone ON jobs_schedules
+FOR EACH ROW EXECUTE FUNCTION jobs_plan();

@@ -513,7 +513,7 @@ fn nothing_is_done_where_a_watched_key_was_changed() {
     says(&mut client, "MULTI => +OK\nINCR a => +QUEUED\nEXEC => *1 :4");
 }
 
-/// One raises two keys together, and two others look at both, by a transaction and by an MGET.
+/// One raises two keys together, and sets both, and two others look at both, by a transaction and by an MGET.
 #[test]
 fn no_request_sees_half_of_a_transaction() {
     let keyspace = keyspace();
@@ -533,10 +533,11 @@ fn no_request_sees_half_of_a_transaction() {
             });
         }
         let mut client = client(&keyspace);
-        for _ in 0..3_000 {
+        let others: String = (0..100).map(|it| format!("other:{it} 1 ")).collect();
+        for at in 0..2_000 {
             says(&mut client, "MULTI => +OK\nINCR a => +QUEUED\nINCR b => +QUEUED");
-            ask(&mut client, "EXEC");
-            while client.session.next_reply().is_some() {}
+            said(&mut client, "EXEC");
+            says(&mut client, &format!("MSET a {at} {others}b {at} => +OK"));
         }
         is_over.store(true, SeqCst);
     });

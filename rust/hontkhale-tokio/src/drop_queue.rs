@@ -2,7 +2,7 @@
 //!
 //! A shard drops the value of an entry that was cancelled as it comes upon it, under its lock. The drop of a value is its
 //! user's code and may call the queue. So what stands in a shard is a [`Held`]: dropped there, it lays its value aside, and
-//! whoever had the shard drops the value afterwards, with [`Leavings::clear`].
+//! whoever had the shard drops the value afterwards, with [`DropQueue::clear`].
 
 use std::cell::RefCell;
 use std::sync::atomic::{AtomicBool, AtomicUsize, Ordering::SeqCst};
@@ -11,15 +11,15 @@ use std::sync::{Arc, Mutex, MutexGuard, PoisonError};
 /// A value in a shard.
 pub(crate) struct Held<T> {
     value: Option<T>,
-    lane: Arc<Lane<T>>,
+    hold: Arc<RouteHold<T>>,
 }
 
-/// The way of the values of one route. It has its own count of holds, so that threads of other routes don't wait for it.
+/// The hold of a drop queue by the values of one route. It has its own count, so that threads of other routes don't wait for it.
 #[repr(align(64))]
-pub(crate) struct Lane<T>(Arc<Leavings<T>>);
+pub(crate) struct RouteHold<T>(Arc<DropQueue<T>>);
 
 /// Values that were laid aside.
-pub(crate) struct Leavings<T> {
+pub(crate) struct DropQueue<T> {
     values: Mutex<Vec<T>>,
     count: AtomicUsize,
     /// Whether the queue has ended, which drops its values itself then: no lock of it is left.
@@ -27,8 +27,8 @@ pub(crate) struct Leavings<T> {
 }
 
 impl<T> Held<T> {
-    pub fn new(value: T, lane: &Arc<Lane<T>>) -> Held<T> {
-        Held { value: Some(value), lane: Arc::clone(lane) }
+    pub fn new(value: T, hold: &Arc<RouteHold<T>>) -> Held<T> {
+        Held { value: Some(value), hold: Arc::clone(hold) }
     }
 
     pub fn into_inner(mut self) -> T {
@@ -39,46 +39,46 @@ impl<T> Held<T> {
 impl<T> Drop for Held<T> {
     fn drop(&mut self) {
         if let Some(value) = self.value.take() {
-            self.lane.0.lay_aside(value);
+            self.hold.0.lay_aside(value);
         }
     }
 }
 
 thread_local! {
-    /// The leavings that this thread drops just now, one within another.
+    /// The drop queues whose values this thread drops just now, one within another.
     static DROPPING: RefCell<Vec<*const ()>> = const { RefCell::new(Vec::new()) };
 }
 
-/// That this thread drops certain leavings. A drop that has them dropped in turn leaves them to it: one drop within another
+/// That this thread drops the values of a drop queue. A drop that has them dropped in turn leaves them to it: one drop within another
 /// for each value would overflow the stack.
 struct Dropping(*const ());
 
 impl Dropping {
     /// None where this thread drops them already.
-    fn begin(leavings: *const ()) -> Option<Dropping> {
+    fn begin(drop_queue: *const ()) -> Option<Dropping> {
         let begun = DROPPING.try_with(|dropping| {
             let mut dropping = dropping.borrow_mut();
-            let is_new = !dropping.contains(&leavings);
+            let is_new = !dropping.contains(&drop_queue);
             if is_new {
-                dropping.push(leavings);
+                dropping.push(drop_queue);
             }
             is_new
         });
         // Where the thread ends, its own values may still be dropped.
-        begun.unwrap_or(true).then(|| Dropping(leavings))
+        begun.unwrap_or(true).then(|| Dropping(drop_queue))
     }
 }
 
 impl Drop for Dropping {
     fn drop(&mut self) {
-        let _ = DROPPING.try_with(|dropping| dropping.borrow_mut().retain(|leavings| *leavings != self.0));
+        let _ = DROPPING.try_with(|dropping| dropping.borrow_mut().retain(|drop_queue| *drop_queue != self.0));
     }
 }
 
-impl<T> Leavings<T> {
-    /// One lane for each of so many routes.
-    pub fn lanes(self: &Arc<Leavings<T>>, routes: usize) -> Vec<Arc<Lane<T>>> {
-        (0..routes).map(|_| Arc::new(Lane(Arc::clone(self)))).collect()
+impl<T> DropQueue<T> {
+    /// One hold for each of so many routes.
+    pub fn holds(self: &Arc<DropQueue<T>>, routes: usize) -> Vec<Arc<RouteHold<T>>> {
+        (0..routes).map(|_| Arc::new(RouteHold(Arc::clone(self)))).collect()
     }
 
     fn values(&self) -> MutexGuard<'_, Vec<T>> {
@@ -105,7 +105,7 @@ impl<T> Leavings<T> {
 
     #[cold]
     fn drop_all(&self) {
-        let Some(_dropping) = Dropping::begin((self as *const Leavings<T>).cast()) else {
+        let Some(_dropping) = Dropping::begin((self as *const DropQueue<T>).cast()) else {
             return;
         };
         loop {
@@ -125,8 +125,8 @@ impl<T> Leavings<T> {
     }
 }
 
-impl<T> Default for Leavings<T> {
-    fn default() -> Leavings<T> {
-        Leavings { values: Mutex::default(), count: AtomicUsize::new(0), is_over: AtomicBool::new(false) }
+impl<T> Default for DropQueue<T> {
+    fn default() -> DropQueue<T> {
+        DropQueue { values: Mutex::default(), count: AtomicUsize::new(0), is_over: AtomicBool::new(false) }
     }
 }
