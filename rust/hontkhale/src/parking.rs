@@ -11,7 +11,6 @@ mod source;
 mod waiting;
 
 pub use attended::{keep_or_leave, Attended};
-pub use dropping::Dropping;
 pub use fault::StreamFault;
 pub use parked::{let_sleep, ring, take, Leaver, Parked};
 pub use registering::{forget, register};

@@ -136,11 +136,9 @@ impl<T> Dropper<'_, T> {
 
 impl<T> Drop for Dropper<'_, T> {
     fn drop(&mut self) {
-        if self.is_at_it {
-            if self.place < self.queue.shards() {
-                let mut shard = self.queue.lock(self.place);
-                shard.attended.end_dropping(&mut self.is_at_it);
-            }
+        if self.is_at_it && self.place < self.queue.shards() {
+            let mut shard = self.queue.lock(self.place);
+            shard.attended.end_dropping(&mut self.is_at_it);
         }
     }
 }
