@@ -11,7 +11,7 @@ use Rattle.dq_parking.specs.Items.{StreamItem, Answer}
 use Rattle.dq_parking.specs.Items.{IfGiven, IfFault, OnEnd}
 use Rattle.dq_shards.specs.Shard.{ShardView, IsShard}
 use Rattle.dq_stream.specs.Over.{is_over}
-use Rattle.dq_stream.specs.Polls.{unparked, StreamPolls}
+use Rattle.dq_stream.specs.Polls.{unparked, StreamPolls, AnswersAt}
 use Rattle.dq_stream.specs.Answers.{IsLeastDue, IsFault}
 use Rattle.dq_stream.proofs.Least.{none_earlier, noted_at}
 use Rattle.dq_stream.specs.Gives.{IsGiven, Gives}
@@ -68,3 +68,14 @@ module _ {T : Type 0} where
     rest false f m (Ready (Some x)) same over ends polls =
         rw (same, ends refl) (λ xs last more. (item x (polls refl), more))
     rest false f m Pending same over ends polls = tt
+
+  -- the same of an answer that was given on a state of the shard of that number, by a stream that hadn't ended
+  module _ (cx cy : Context) (number tick : ℕ) where
+    pub value_at : (e : Bool) (a : Answer T) → e ≡ false → AnswersAt T number cx cy tick a → IfReady a (Gives T number e [])
+    value_at e a goes (old, new, before, after, (at, polls)) =
+        rw goes (value cx cy old new number before after at false a (λ over. absurd (cc)) (λ _. (tick, polls)))
+
+    pub rest_at : (e f : Bool) (m : ℕ) (a : Answer T) → e ≡ false → m ≡ number → f ≡ is_over a → AnswersAt T number cx cy tick a
+        → IfReady a (λ o. IfSome o (λ x. After (Gives T number e) x (Gives T m f)))
+    rest_at e f m a goes same ends (old, new, before, after, (at, polls)) =
+        rw goes (rest cx cy old new number before after at false f m a same (λ over. absurd (cc)) (λ _. ends) (λ _. (tick, polls)))

@@ -18,11 +18,11 @@ use Rattle.dq_parking.specs.Items.{StreamItem, Answer}
 use Rattle.dq_parking.specs.Wakers.{LeavesWaker}
 use Rattle.dq_parking.specs.Items.{IfGiven, OnEnd}
 use Rattle.dq_shards.specs.Shard.{ShardView, IsShard}
-use Rattle.dq_shards.specs.Changes.{ShardPollsSome}
+use Rattle.dq_shards.specs.Changes.{ShardPollsSome, OnNumbered}
 use Rattle.dq_shards.specs.Endings.{PieceOutsAreInForce}
 use Rattle.dq_stream.specs.Over.{is_over}
 use Rattle.dq_stream.specs.Polls.{unparked}
-use Rattle.dq_stream.specs.Paces.{PacedPolls, PacedPollsWith, IsAtWork}
+use Rattle.dq_stream.specs.Paces.{PacedPolls, PacedPollsWith, PacedAnswersAt, IsAtWork}
 use Rattle.dq_stream.specs.PacedGives.{IsPacedItem, PacedGives, PacedItemsAreInForce}
 use Rattle.dq_stream.specs.Answers.{IsLeastDue, IsParkedAtWake}
 use Rattle.dq_stream.proofs.Giving.{lawful}
@@ -69,6 +69,12 @@ module _ {T : Type 0} where
       → start ≡ unparked old → cy.is_woken ≡ true → PacedPollsWith start tick most slot None new → PacedPolls cx cy old tick most Pending new
   works_on cx cy start old new tick most slot begins woken is =
       inr (subst (λ (s : ShardView T). PacedPollsWith s tick most slot None new) begins is, woken)
+
+  -- the same on a state of the shard of that number
+  pub registered_pieces : (cx cy : Context) (number tick most : ℕ) (slot : Option Waker) (a : Answer T) → LeavesWaker cx cy slot
+      → OnNumbered {T = T} number (λ old r new. PacedPollsWith (unparked old) tick most slot r new) (Some a) → PacedAnswersAt T number cx cy tick most a
+  registered_pieces cx cy number tick most slot a left (old, new, before, after, (at, is)) =
+      (old, new, before, after, (at, by_registering_pieces cx cy old new tick most slot a left is))
 
   noted_once : (old new : ShardView T) (tick : ℕ) → new.core.noted ≡ max old.core.noted tick
       → noting old.core new.core.noted ≡ noting old.core tick
@@ -127,3 +133,14 @@ module _ {T : Type 0} where
     rest false f m (Ready (Some x)) same over ends polls =
         rw (same, ends refl) (λ xs last more. (item x (polls refl), more))
     rest false f m Pending same over ends polls = tt
+
+  -- the same of an answer that was given on a state of the shard of that number, by a stream that hadn't ended
+  module _ (cx cy : Context) (number tick most : ℕ) where
+    pub value_at : (e : Bool) (a : Answer T) → e ≡ false → PacedAnswersAt T number cx cy tick most a → IfReady a (PacedGives T number e [])
+    value_at e a goes (old, new, before, after, (at, polls)) =
+        rw goes (value cx cy old new number most before after at false a (λ over. absurd (cc)) (λ _. (tick, polls)))
+
+    pub rest_at : (e f : Bool) (m : ℕ) (a : Answer T) → e ≡ false → m ≡ number → f ≡ is_over a → PacedAnswersAt T number cx cy tick most a
+        → IfReady a (λ o. IfSome o (λ x. After (PacedGives T number e) x (PacedGives T m f)))
+    rest_at e f m a goes same ends (old, new, before, after, (at, polls)) =
+        rw goes (rest cx cy old new number most before after at false f m a same (λ over. absurd (cc)) (λ _. ends) (λ _. (tick, polls)))
