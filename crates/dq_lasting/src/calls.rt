@@ -75,7 +75,8 @@ impl<T: Drop, A: Allocator> LastingQueue<T, A> {
         ensures inserts { InsertsAtPlace self.now.shards place value when result }
     {
         let mut shard = self.lock_with_room(rt, place);
-        let (answer, leaver) = shard.insert_quietly(value, when);
+        // A value that waited for its drop where the entry is now is dropped once the lock is free.
+        let (answer, leaver, _crowded) = shard.insert_quietly(value, when);
         unlock(shard, leaver);
         answer
     }

@@ -43,23 +43,23 @@ pub(crate) fn nobody<R>(answer: R) -> (R, Leaver<Option<u64>>)
 pub(crate) type Inserted<T> = Result<Key, (LastingError, T)>;
 
 impl<T: Drop, A: Allocator> LastingShard<T, A> {
-    // As `insert`.
+    // As `insert`. What waited for its drop where the entry is now is handed over.
     #[inline]
     pub(crate) fn insert_quietly(
         &mut self,
         value: T,
         when: u64,
-    ) -> (Inserted<T>, Leaver<Option<u64>>)
+    ) -> (Inserted<T>, Leaver<Option<u64>>, Option<T>)
         ensures inserts { LastingInserts self.old value when result.0 self.new }
         ensures leaves { Leaves self.old.parked result.1.poller self.new.parked }
     {
         if !self.takes {
-            return nobody(Err((LastingError::Closed, value)));
+            return (Err((LastingError::Closed, value)), Leaver { poller: None }, None);
         }
-        let (answer, leaver) = self.attended.insert(value, when);
+        let (answer, leaver, crowded) = self.attended.insert(value, when);
         match answer {
-            Ok(key) => (Ok(key), leaver),
-            Err((error, value)) => (Err((LastingError::Core(error), value)), leaver),
+            Ok(key) => (Ok(key), leaver, crowded),
+            Err((error, value)) => (Err((LastingError::Core(error), value)), leaver, crowded),
         }
     }
 

@@ -174,7 +174,7 @@ impl<T: Drop, A: Allocator> LastingShard<T, A> {
         ensures inserts { LastingInserts self.old value when result self.new }
     {
         drop(self.take_crowded());
-        let (answer, leaver) = self.insert_quietly(value, when);
+        let (answer, leaver, _crowded) = self.insert_quietly(value, when);
         leaver.wake();
         answer
     }

@@ -69,9 +69,14 @@ impl<T, N, A: Allocator> Attended<T, N, A> {
 }
 
 impl<T: Drop, N: Until, A: Allocator> Attended<T, N, A> {
-    /// As [`DelayCore::insert`]. Refused, nothing changes.
+    /// As [`DelayCore::insert`]. Refused, nothing changes. What waited for its drop where the entry is now is handed over,
+    /// to be dropped once the lock is free: none, where it was taken out before.
     #[inline(always)]
-    pub fn insert(&mut self, value: T, when: u64) -> (Result<Key, (CoreError, T)>, Leaver<N>)
+    pub fn insert(
+        &mut self,
+        value: T,
+        when: u64,
+    ) -> (Result<Key, (CoreError, T)>, Leaver<N>, Option<T>)
         requires { MayWait N.lasts self.old.core self.old.parked }
         ensures refused { IfErr result.0 (λ e. self.new ≡ self.old) }
         ensures inserts { Inserts self.old.core value when result.0 self.new.core }
@@ -80,11 +85,14 @@ impl<T: Drop, N: Until, A: Allocator> Attended<T, N, A> {
         ensures attends { Attends N.lasts self.old.core self.old.parked result.1.poller
             self.new.core self.new.parked }
     {
-        // Who inserts took a value that waits for its drop out before, so none comes out here.
-        let (answer, _crowded) = self.core.insert_deferring(value, when);
+        let (answer, crowded) = self.core.insert_deferring(value, when);
         match answer {
-            Ok(key) => (Ok(key), keep_or_leave(&self.core, &mut self.parked)),
-            Err(refused) => (Err(refused), Leaver { poller: None }),
+            Ok(key) => (
+                Ok(key),
+                keep_or_leave(&self.core, &mut self.parked),
+                crowded,
+            ),
+            Err(refused) => (Err(refused), Leaver { poller: None }, crowded),
         }
     }
 

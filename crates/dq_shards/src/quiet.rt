@@ -30,7 +30,8 @@ impl<'q, T: Drop, A: Allocator> LockedShard<'q, T, A> {
     pub(crate) fn insert_and_unlock(mut self, value: T, when: u64) -> Result<Key, (CoreError, T)>
         ensures { LeavesShard (λ new. ShardInserts self.entry value when result new) }
     {
-        let (answer, leaver) = self.state.attended.insert(value, when);
+        // A value that waited for its drop where the entry is now is dropped once the lock is free.
+        let (answer, leaver, _crowded) = self.state.attended.insert(value, when);
         self.unlock(leaver);
         answer
     }

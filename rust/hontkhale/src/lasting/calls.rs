@@ -44,7 +44,8 @@ impl<T> LastingQueue<T> {
     fn insert_at(&self, place: usize, value: T, when: u64) -> Result<Key, (LastingError, T)> {
         // requires place < self.now.shards
         let mut shard = self.lock_with_room(place);
-        let (answer, leaver) = shard.insert_quietly(value, when);
+        // A value that waited for its drop where the entry is now is dropped once the lock is free.
+        let (answer, leaver, _crowded) = shard.insert_quietly(value, when);
         unlock(shard, leaver);
         answer
     }

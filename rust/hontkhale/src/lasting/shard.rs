@@ -99,7 +99,7 @@ impl<T> LastingShard<T> {
     #[inline]
     pub fn insert(&mut self, value: T, when: u64) -> Result<Key, (LastingError, T)> {
         drop(self.take_crowded());
-        let (answer, leaver) = self.insert_quietly(value, when);
+        let (answer, leaver, _crowded) = self.insert_quietly(value, when);
         leaver.wake();
         answer
     }

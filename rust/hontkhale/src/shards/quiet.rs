@@ -20,7 +20,8 @@ impl<'q, T> LockedShard<'q, T> {
     // As `ShardState::insert`, and then lets the lock go.
     #[inline(always)]
     pub(crate) fn insert_and_unlock(mut self, value: T, when: u64) -> Result<Key, (CoreError, T)> {
-        let (answer, leaver) = self.state.attended.insert(value, when);
+        // A value that waited for its drop where the entry is now is dropped once the lock is free.
+        let (answer, leaver, _crowded) = self.state.attended.insert(value, when);
         self.unlock(leaver);
         answer
     }
