@@ -13,7 +13,7 @@ ghost use Rattle.dq_stream.specs.PacedGives.{PacedGives};
 ghost use Rattle.dq_stream.specs.Answers.{IsLeastDue, IsParkedAtWake};
 
 use crate::parking::wait;
-use crate::stream::{ExpiredStream, drop_at_rest, ends};
+use crate::stream::{ExpiredStream, Polled, drop_at_rest, ends};
 use dq_core::{CoreError, Expired, Piece, Turn};
 use dq_parking::{Parked, StreamFault, TickSource, forget, let_sleep, register};
 use dq_shards::LockedShard;
@@ -111,7 +111,7 @@ impl<'q, T: Drop, S: TickSource, R: Wait, A: Allocator> ExpiredStream<'q, T, S, 
         steps: NonZeroU32,
         slot: &mut Option<Waker>,
         before: &mut Option<Parked>,
-    ) -> (Option<Poll<Option<Result<Expired<T>, StreamFault>>>>, usize)
+    ) -> (Option<Polled<T>>, usize)
         ensures polls { (tick : ℕ) × S.tells self.old.source tick self.new.source
             × OnNumbered {T = T} self.old.shard
             (λ old r new. PacedPollsWith (unparked old) tick steps.value slot.old r new) result.0 }
@@ -204,7 +204,7 @@ impl<'q, T: Drop, S: TickSource, R: Wait, A: Allocator> Stream for PacedStream<'
 }
 
 // Whether a stream has ended for good after this answer; it hasn't where more is to do.
-fn has_ended<T>(polled: &Option<Poll<Option<Result<Expired<T>, StreamFault>>>>) -> bool
+fn has_ended<T>(polled: &Option<Polled<T>>) -> bool
     ensures { result ≡ is_over_after polled.now }
 {
     match polled {
@@ -220,7 +220,7 @@ fn piece<T: Drop, S: TickSource, A: Allocator>(
     source: &mut S,
     slot: &mut Option<Waker>,
     steps: NonZeroU32,
-) -> Option<Poll<Option<Result<Expired<T>, StreamFault>>>>
+) -> Option<Polled<T>>
     ensures { (tick : ℕ) × S.tells source.old tick source.new
         × PacedPollsWith shard.old tick steps.value slot.old result shard.new }
 {

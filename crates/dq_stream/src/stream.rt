@@ -19,6 +19,9 @@ use futures::task::{Context, Poll, Source, Waker};
 use std::alloc::{Allocator, Global};
 use std::sync::Wait;
 
+// What a poll of a stream gives.
+pub(crate) type Polled<T> = Poll<Option<Result<Expired<T>, StreamFault>>>;
+
 /// What expires in one shard, at the ticks of a source.
 ///
 /// Each poll takes the shard's lock once. It gives one entry that is due. It ends for now where nothing is linked, and
@@ -118,7 +121,7 @@ impl<'q, T: Drop, S: TickSource, R: Wait, A: Allocator> ExpiredStream<'q, T, S, 
         &mut self,
         slot: &mut Option<Waker>,
         before: &mut Option<Parked>,
-    ) -> (Poll<Option<Result<Expired<T>, StreamFault>>>, usize)
+    ) -> (Polled<T>, usize)
         ensures polls { (tick : ℕ) × S.tells self.old.source tick self.new.source
             × OnNumbered {T = T} self.old.shard
             (λ old r new. StreamPollsWith (unparked old) tick slot.old r new) result.0 }
@@ -204,7 +207,7 @@ pub(crate) fn drop_at_rest<T: Drop, R: Wait, A: Allocator>(
     rt: &R,
     shard: usize,
     aside: usize,
-    answer: &Poll<Option<Result<Expired<T>, StreamFault>>>,
+    answer: &Polled<T>,
 ) {
     let gives = matches!(answer, Poll::Ready(Some(Ok(_))));
     if !gives {
@@ -213,7 +216,7 @@ pub(crate) fn drop_at_rest<T: Drop, R: Wait, A: Allocator>(
 }
 
 // Whether a stream has ended for good after this answer.
-pub(crate) fn ends<T>(answer: &Poll<Option<Result<Expired<T>, StreamFault>>>) -> bool
+pub(crate) fn ends<T>(answer: &Polled<T>) -> bool
     ensures { result ≡ is_over answer.now }
 {
     let Poll::Ready(Some(item)) = answer else {
@@ -233,7 +236,7 @@ fn turn<T: Drop, S: TickSource, A: Allocator>(
     shard: &mut LockedShard<'_, T, A>,
     source: &mut S,
     slot: &mut Option<Waker>,
-) -> Poll<Option<Result<Expired<T>, StreamFault>>>
+) -> Polled<T>
     ensures { (tick : ℕ) × S.tells source.old tick source.new
         × StreamPollsWith shard.old tick slot.old result shard.new }
 {

@@ -4,7 +4,7 @@ use crate::core::{CoreError, Expired, Piece, Turn};
 use crate::parking::{forget, let_sleep, register, Parked, StreamFault, TickSource};
 use crate::shards::LockedShard;
 use crate::stream::parking::wait;
-use crate::stream::stream::{drop_at_rest, ends, ExpiredStream};
+use crate::stream::stream::{drop_at_rest, ends, ExpiredStream, Polled};
 use core::num::NonZeroU32;
 use core::task::{Context, Poll, Waker};
 
@@ -66,7 +66,7 @@ impl<'q, T, S: TickSource> ExpiredStream<'q, T, S> {
         steps: NonZeroU32,
         slot: &mut Option<Waker>,
         before: &mut Option<Parked>,
-    ) -> (Option<Poll<Option<Result<Expired<T>, StreamFault>>>>, usize) {
+    ) -> (Option<Polled<T>>, usize) {
         let Ok(mut shard) = self.queue.enter(self.shard) else {
             unreachable!()
         };
@@ -107,7 +107,7 @@ impl<'q, T, S: TickSource> PacedStream<'q, T, S> {
 }
 
 // Whether a stream has ended for good after this answer; it hasn't where more is to do.
-fn has_ended<T>(polled: &Option<Poll<Option<Result<Expired<T>, StreamFault>>>>) -> bool {
+fn has_ended<T>(polled: &Option<Polled<T>>) -> bool {
     match polled {
         Some(answer) => ends(answer),
         None => false,
@@ -121,7 +121,7 @@ fn piece<T, S: TickSource>(
     source: &mut S,
     slot: &mut Option<Waker>,
     steps: NonZeroU32,
-) -> Option<Poll<Option<Result<Expired<T>, StreamFault>>>> {
+) -> Option<Polled<T>> {
     match shard.poll_some(source.now(), steps.get()) {
         Ok(Piece::Working) => None,
         Ok(Piece::Answer(Turn::Out(expired))) => Some(Poll::Ready(Some(Ok(expired)))),

@@ -6,6 +6,9 @@ use crate::shards::{LockedShard, QueueError, SharedDelayQueue};
 use crate::stream::parking::wait;
 use core::task::{Context, Poll, Waker};
 
+// What a poll of a stream gives.
+pub(crate) type Polled<T> = Poll<Option<Result<Expired<T>, StreamFault>>>;
+
 /// What expires in one shard, at the ticks of a source.
 ///
 /// Each poll takes the shard's lock once. It gives one entry that is due. It ends for now where nothing is linked, and
@@ -79,11 +82,7 @@ impl<'q, T, S: TickSource> ExpiredStream<'q, T, S> {
 
     // What a poll does under its shard's lock, by a task that left its waker. Who was parked there before goes out with the
     // answer, and so does how many values are set aside.
-    fn poll_entered(
-        &mut self,
-        slot: &mut Option<Waker>,
-        before: &mut Option<Parked>,
-    ) -> (Poll<Option<Result<Expired<T>, StreamFault>>>, usize) {
+    fn poll_entered(&mut self, slot: &mut Option<Waker>, before: &mut Option<Parked>) -> (Polled<T>, usize) {
         let Ok(mut shard) = self.queue.enter(self.shard) else {
             unreachable!()
         };
@@ -120,12 +119,7 @@ impl<'q, T, S: TickSource> ExpiredStream<'q, T, S> {
 
 // Drops so many values that are set aside in a shard, behind a poll that gave no entry. A drop that panics would lose the
 // entry that one gave.
-pub(crate) fn drop_at_rest<T>(
-    queue: &SharedDelayQueue<T>,
-    shard: usize,
-    aside: usize,
-    answer: &Poll<Option<Result<Expired<T>, StreamFault>>>,
-) {
+pub(crate) fn drop_at_rest<T>(queue: &SharedDelayQueue<T>, shard: usize, aside: usize, answer: &Polled<T>) {
     let gives = matches!(answer, Poll::Ready(Some(Ok(_))));
     if !gives {
         queue.drop_aside(shard, aside);
@@ -133,7 +127,7 @@ pub(crate) fn drop_at_rest<T>(
 }
 
 // Whether a stream has ended for good after this answer.
-pub(crate) fn ends<T>(answer: &Poll<Option<Result<Expired<T>, StreamFault>>>) -> bool {
+pub(crate) fn ends<T>(answer: &Polled<T>) -> bool {
     let Poll::Ready(Some(item)) = answer else {
         return false;
     };
@@ -147,11 +141,7 @@ pub(crate) fn ends<T>(answer: &Poll<Option<Result<Expired<T>, StreamFault>>>) ->
 }
 
 // One poll of a stream, while the shard's lock is held and none is parked there, by a task that left its waker.
-fn turn<T, S: TickSource>(
-    shard: &mut LockedShard<'_, T>,
-    source: &mut S,
-    slot: &mut Option<Waker>,
-) -> Poll<Option<Result<Expired<T>, StreamFault>>> {
+fn turn<T, S: TickSource>(shard: &mut LockedShard<'_, T>, source: &mut S, slot: &mut Option<Waker>) -> Polled<T> {
     match shard.poll(source.now()) {
         Ok(Turn::Out(expired)) => Poll::Ready(Some(Ok(expired))),
         Ok(Turn::Waiting { next }) => match wait(shard, next, slot) {
