@@ -19,6 +19,17 @@ use Rattle.dq_lasting.specs.Paces.{PollsSomeOrParks, PollsSomeOrParksWith, Polls
 use Rattle.dq_lasting.specs.Streams.{IsFaultOf}
 use Rattle.dq_lasting.proofs.Polled.{unparked, not_refused}
 
+module _ {T : Type 0} where
+  -- the shard waits after its poll, and then the waker is parked or there is none
+  pub waited_pieces : (old left new : LastingView T) (tick most : ℕ) (next : Option ℕ) (slot : Option Waker) (r : LastingAnswer T)
+      → LastingPollsSome old tick most (Ok (Answered (rest_of next))) left
+      → OnPending r (ParksLeftWaker slot left next new)
+      → IfReady r (λ a. (a ≡ Err no_memory) × (slot ≡ None) × (new ≡ left))
+      → PollsSomeOrParksWith old tick most slot (Some r) new
+  waited_pieces old left new tick most next slot Pending polls parks refused = (next, left, polls, parks)
+  waited_pieces old left new tick most next slot (Ready a) polls parks (is, none, same) =
+      rw is (inr (refl, none, (next, rw same polls)))
+
 module _ {T : Type 0} (cx cy : Context) where
   -- the waker that is parked, if one is, is the one that the task's registration left
   pub by_registering_pieces : (old new : LastingView T) (tick most : ℕ) (slot : Option Waker) (r : LastingAnswer T)
@@ -31,16 +42,6 @@ module _ {T : Type 0} (cx cy : Context) where
   by_registering_pieces old new tick most slot Pending left (next, at, polled, (waker, same, parked)) =
       inl (next, at, polled, (waker, rw same at left, parked))
 
-  -- the shard waits after its poll, and then the waker is parked or there is none
-  pub waited_pieces : (old left new : LastingView T) (tick most : ℕ) (next : Option ℕ) (slot : Option Waker) (r : LastingAnswer T)
-      → LastingPollsSome old tick most (Ok (Answered (rest_of next))) left
-      → OnPending r (ParksLeftWaker slot left next new)
-      → IfReady r (λ a. (a ≡ Err no_memory) × (slot ≡ None) × (new ≡ left))
-      → PollsSomeOrParksWith old tick most slot (Some r) new
-  waited_pieces old left new tick most next slot Pending polls parks refused = (next, left, polls, parks)
-  waited_pieces old left new tick most next slot (Ready a) polls parks (is, none, same) =
-      rw is (inr (refl, none, (next, rw same polls)))
-
   -- why a poll of a place is refused is a fault of the place's paced stream
   pub paced_fault : (n p tick most many : ℕ) (e : LastingError) (f : StreamFault) → many ≡ most → IsFaultOf e f
       → PollsSomeOrParksAt T n p cx cy tick many (Ready (Err e)) → LastingPacedPolls T n p cx cy tick most (Ready (Some (Err f)))
@@ -50,7 +51,7 @@ module _ {T : Type 0} (cx cy : Context) where
   -- what a poll of a place gives is an item of the place's paced stream
   pub paced_item : (n p tick most : ℕ) (a : LastingAnswer T) (x : Expired T) → a ≡ Ready (Ok x)
       → PollsSomeOrParksAt T n p cx cy tick most a → IsLastingPacedItem n p (Ok x)
-  paced_item n p tick most a x is (inl (out, refused)) = absurd (not_refused cx cy a x is refused)
+  paced_item n p tick most a x is (inl (out, refused)) = absurd (not_refused a x is refused)
   paced_item n p tick most a x is (inr (inside, (old, new, at, law, polls))) =
       let given : UnparksAndPollsSome old tick most (Ok (Answered (Out x))) new = rw is at polls in
-      (tick, most, (with_none_parked old, new, record { lasting = unparked cx cy old at.lasting; number = at.number }, law, given))
+      (tick, most, (with_none_parked old, new, record { lasting = unparked old at.lasting; number = at.number }, law, given))
