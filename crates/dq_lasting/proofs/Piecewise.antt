@@ -1,17 +1,18 @@
 -- What a poll by so many steps that parks leaves.
-use Rattle.std.proofs.Common.{◌≡◌, ℕ, refl, inl, inr, Option, Some, None, Ok, Err}
+use Rattle.std.proofs.Common.{◌≡◌, ℕ, ◌<◌, true, refl, inl, inr, Option, Some, None, Ok, Err}
 use Rattle.futures.specs.Poll.{IfReady, OnPending}
 use Rattle.futures.specs.declared.task.Poll.TheVariants.{Ready, Pending}
 use Rattle.futures.specs.declared.task.context.Context.{Context}
 use Rattle.futures.specs.declared.task.waker.Waker.{Waker}
 use Rattle.dq_core.specs.declared.outcomes.Expired.{Expired}
-use Rattle.dq_core.specs.declared.outcomes.Piece.TheVariants.{Answer as Answered, Working}
+use Rattle.dq_core.specs.declared.outcomes.Piece.TheVariants.{Answer as Answered}
 use Rattle.dq_core.specs.declared.outcomes.Turn.TheVariants.{Out}
 use Rattle.dq_parking.specs.Wakers.{LeavesWaker}
 use Rattle.dq_parking.specs.declared.fault.StreamFault.{StreamFault}
 use Rattle.dq_parking.specs.declared.fault.StreamFault.TheVariants.{TickTooLarge, NoMemory}
 use Rattle.dq_lasting.specs.declared.errors.LastingError.{LastingError}
 use Rattle.dq_lasting.specs.declared.errors.LastingError.TheVariants.{Core, Closed, Unknown}
+use Rattle.dq_lasting.specs.Answers.{AtPlace}
 use Rattle.dq_lasting.specs.Shard.{LastingView}
 use Rattle.dq_lasting.specs.Changes.{LastingPollsSome}
 use Rattle.dq_lasting.specs.Polling.{LastingAnswer, ParksLeftWaker, no_memory, rest_of, with_none_parked}
@@ -41,6 +42,14 @@ module _ {T : Type 0} (cx cy : Context) where
   by_registering_pieces old new tick most slot (Ready (Err Unknown)) left is = is
   by_registering_pieces old new tick most slot Pending left (next, at, polled, (waker, same, parked)) =
       inl (next, at, polled, (waker, rw same at left, parked))
+
+  -- where more is to do no answer is told, and the task is woken
+  pub worked_on : (n p tick most : ℕ) (slot : Option Waker) (r : Option (LastingAnswer T)) → ((a : LastingAnswer T) → r ≡ Some a → ⊥)
+      → p < n → cy.is_woken ≡ true
+      → AtPlace {T = T} n p (λ old given new. PollsSomeOrParksWith (with_none_parked old) tick most slot given new) r
+      → PollsSomeOrParksAt T n p cx cy tick most Pending
+  worked_on n p tick most slot (Some a) none inside woken polls = absurd (none a refl)
+  worked_on n p tick most slot None none inside woken (old, new, at, law, works) = inr (inside, (old, new, at, law, inr (works, woken)))
 
   -- why a poll of a place is refused is a fault of the place's paced stream
   pub paced_fault : (n p tick most many : ℕ) (e : LastingError) (f : StreamFault) → many ≡ most → IsFaultOf e f
