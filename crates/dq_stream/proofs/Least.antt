@@ -34,9 +34,6 @@ module _ {T : Type 0} (old new : ShardView T) (tick : ℕ) (x : Expired T) (poll
       let left = none_live_left m i (table_at m i).stamp x.deadline inside step.6 in
       subst (λ (n : Machine T). NoneLiveBefore n x.deadline) (sym step.7) left
 
-  pub noted_at : x.noted ≡ new.core.noted
-  noted_at = polled.0.2.run.2.2
-
 -- whatever entry is given was least and in force
 pub items : (T : Type 0) → OutsAreInForce T → ItemsAreInForce T
 items T in_force number x (tick, (old, new, before, after, (at, polled))) =

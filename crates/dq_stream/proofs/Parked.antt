@@ -11,9 +11,10 @@ use Rattle.dq_parking.specs.declared.fault.StreamFault.{StreamFault}
 use Rattle.dq_parking.specs.declared.fault.StreamFault.TheVariants.{TickTooLarge, NoMemory}
 use Rattle.dq_parking.specs.Wakers.{LeavesWaker}
 use Rattle.dq_parking.specs.Items.{Answer}
-use Rattle.dq_shards.specs.Shard.{ShardView}
+use Rattle.dq_shards.specs.Shard.{ShardView, IsShard}
+use Rattle.dq_shards.specs.Changes.{OnNumbered}
 use Rattle.dq_stream.specs.Wakers.{ParksWaker, ParksWith}
-use Rattle.dq_stream.specs.Polls.{StreamPolls, StreamPollsWith, unparked}
+use Rattle.dq_stream.specs.Polls.{StreamPolls, StreamPollsWith, AnswersAt, unparked}
 use Rattle.dq_stream.specs.Answers.{IsParkedAtWake}
 
 -- what is parked is what was there, and where nothing was it is refused
@@ -26,6 +27,13 @@ pub refuses_none : {T : Type 0} (slot : Option Waker) (r : Result (Unit {0}) Str
     → ParksWith old next slot r new → IfErr r (λ e. (e ≡ NoMemory) × (slot ≡ None) × (new ≡ old))
 refuses_none None r old new next with = rw (with.0) (refl, refl, with.1)
 refuses_none (Some waker) r old new next with = rw (with.0) tt
+
+-- a poll of a shard that was entered and whose poller was taken out then
+pub entered : {T : Type 0} (state start new : ShardView T) (number tick : ℕ) (slot : Option Waker) (a : Answer T)
+    → IsShard state → state.core.shard ≡ number → start ≡ unparked state → IsShard new → StreamPollsWith start tick slot a new
+    → OnNumbered {T = T} number (λ old r new. StreamPollsWith (unparked old) tick slot r new) a
+entered {T} state start new number tick slot a before at begins after is =
+    (state, new, before, after, (at, subst (λ (s : ShardView T). StreamPollsWith s tick slot a new) begins is))
 
 module _ {T : Type 0} (cx cy : Context) where
   -- the waker that is parked, if one is, is the one that the task's registration left
@@ -43,6 +51,12 @@ module _ {T : Type 0} (cx cy : Context) where
       → start ≡ unparked old → LeavesWaker cx cy slot → StreamPollsWith start tick slot a new → StreamPolls cx cy old tick a new
   from_start start old new tick slot a begins left is =
       by_registering old new tick slot a left (subst (λ (s : ShardView T). StreamPollsWith s tick slot a new) begins is)
+
+  -- the same on a state of the shard of that number
+  pub registered : (number tick : ℕ) (slot : Option Waker) (a : Answer T) → LeavesWaker cx cy slot
+      → OnNumbered {T = T} number (λ old r new. StreamPollsWith (unparked old) tick slot r new) a → AnswersAt T number cx cy tick a
+  registered number tick slot a left (old, new, before, after, (at, is)) =
+      (old, new, before, after, (at, by_registering old new tick slot a left is))
 
   -- a pending poll leaves the task parked at the next wake of the shard as it is then
   pub parked_at_wake : (old new : ShardView T) (tick : ℕ) (a : Answer T)
