@@ -13,18 +13,7 @@ use Rattle.dq_lasting.specs.Changes.{LastingPolls}
 use Rattle.dq_lasting.specs.Polling.{LastingAnswer, ParksLeftWaker, PollsOrParks, PollsOrParksWith, PollsOrParksAt, UnparksAndPolls, no_memory, rest_of, with_none_parked}
 use Rattle.dq_lasting.specs.Streams.{IsLastingItem}
 
-module _ {T : Type 0} (cx cy : Context) where
-  -- the waker that is parked, if one is, is the one that the task's registration left
-  pub by_registering : (old new : LastingView T) (tick : ℕ) (slot : Option Waker) (r : LastingAnswer T)
-      → LeavesWaker cx cy slot → PollsOrParksWith (with_none_parked old) tick slot r new → PollsOrParks cx cy old tick r new
-  by_registering old new tick slot (Ready (Ok x)) left is = is
-  by_registering old new tick slot (Ready (Err (Core e))) left (inl is) = inl is
-  by_registering old new tick slot (Ready (Err (Core e))) left (inr (why, none, polled)) = inr (why, rw none at left, polled)
-  by_registering old new tick slot (Ready (Err Closed)) left is = is
-  by_registering old new tick slot (Ready (Err Unknown)) left is = is
-  by_registering old new tick slot Pending left (next, at, polled, (waker, same, parked)) =
-      (next, at, polled, (waker, rw same at left, parked))
-
+module _ {T : Type 0} where
   -- the shard waits after its poll, and then the waker is parked or there is none
   pub waited : (old left new : LastingView T) (tick : ℕ) (next : Option ℕ) (slot : Option Waker) (r : LastingAnswer T)
       → LastingPolls old tick (Ok (rest_of next)) left
@@ -41,6 +30,18 @@ module _ {T : Type 0} (cx cy : Context) where
 
   pub not_refused : (a : LastingAnswer T) (x : Expired T) → a ≡ Ready (Ok x) → a ≡ Ready (Err Unknown) → ⊥
   not_refused a x is refused = cc
+
+module _ {T : Type 0} (cx cy : Context) where
+  -- the waker that is parked, if one is, is the one that the task's registration left
+  pub by_registering : (old new : LastingView T) (tick : ℕ) (slot : Option Waker) (r : LastingAnswer T)
+      → LeavesWaker cx cy slot → PollsOrParksWith (with_none_parked old) tick slot r new → PollsOrParks cx cy old tick r new
+  by_registering old new tick slot (Ready (Ok x)) left is = is
+  by_registering old new tick slot (Ready (Err (Core e))) left (inl is) = inl is
+  by_registering old new tick slot (Ready (Err (Core e))) left (inr (why, none, polled)) = inr (why, rw none at left, polled)
+  by_registering old new tick slot (Ready (Err Closed)) left is = is
+  by_registering old new tick slot (Ready (Err Unknown)) left is = is
+  by_registering old new tick slot Pending left (next, at, polled, (waker, same, parked)) =
+      (next, at, polled, (waker, rw same at left, parked))
 
   -- what a poll of a place gives is an item of the place's stream
   pub item : (n p tick : ℕ) (a : LastingAnswer T) (x : Expired T) → a ≡ Ready (Ok x)

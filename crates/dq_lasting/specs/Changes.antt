@@ -1,5 +1,5 @@
 -- What the calls of a shard do, as relations between its states.
-use Rattle.std.specs.Prelude.{◌≡◌, ℕ, ◌+◌, ◌<◌, ◌≤◌, ◌⊎◌, true, false, Option, Some, None}
+use Rattle.std.specs.Prelude.{◌≡◌, ℕ, ◌+◌, ◌≤◌, ◌⊎◌, true, false, Option, Some, None}
 use Rattle.std.specs.Prelude.{Result, Ok, Err, Bool, is_some, length, nat_lt, if◌then◌else◌}
 use Rattle.std.specs.List.{count_by}
 use Rattle.dq_ticks.specs.declared.keys.Key.{Key}

@@ -54,7 +54,11 @@ impl<T: Drop, A: Allocator> LastingShard<T, A> {
         ensures leaves { Leaves self.old.parked result.1.poller self.new.parked }
     {
         if !self.takes {
-            return (Err((LastingError::Closed, value)), Leaver { poller: None }, None);
+            return (
+                Err((LastingError::Closed, value)),
+                Leaver { poller: None },
+                None,
+            );
         }
         let (answer, leaver, crowded) = self.attended.insert(value, when);
         match answer {
