@@ -8,8 +8,9 @@ use Rattle.dq_ticks.specs.declared.words.Parts.{Parts}
 use Rattle.dq_wheel.specs.State.{Filing, filed_at}
 use Rattle.dq_core.specs.Words.{Counts, word_at, never, AreFresh}
 use Rattle.dq_core.specs.Slots.{Row, SlotRows, unused, row_at, is_held, is_free, IsRow}
-use Rattle.dq_core.specs.FreeSlots.{FreeIndexes, free_times, room_of, GivesBack}
-use Rattle.dq_core.specs.SlotRowsKept.{is_open, IsSlotRowsKept}
+use Rattle.dq_core.specs.FreeSlots.{FreeIndexes, free_times, room_of}
+use Rattle.dq_core.specs.Deferred.{Deferred, deferred_at}
+use Rattle.dq_core.specs.SlotRowsKept.{is_open, usable_times, GivesSlot, IsSlotRowsKept}
 use Rattle.dq_core.specs.Machine.{TableRow, Machine}
 use Rattle.dq_core.specs.Core.{Core, machine, table_of, IsSlot, IsLawful}
 use Rattle.dq_core.specs.Renewals.{never_used, fresh_machine, OldAreMissing}
@@ -25,14 +26,15 @@ unused_good : {T : Type 0} (last : ℕ) → IsRow last (unused {T = T})
 unused_good last = record { bound = omega arith; birth = λ h e. cc }
 
 -- a worn slot that holds nothing is not among the free ones
-pub worn_not_free : {T : Type 0} {last : ℕ} {rows : List (Row T)} {free : FreeIndexes} {taken spared : ℕ} → IsSlotRowsKept last rows free taken spared → (i : ℕ) → i < length rows → last ≤ (row_at rows i).stamp → (i < room_of free) × (free_times free i ≡ 0)
+pub worn_not_free : {T : Type 0} {last : ℕ} {rows : List (Row T)} {free : FreeIndexes} {waiting : Deferred} {taken spared : ℕ} → IsSlotRowsKept last rows free waiting taken spared → (i : ℕ) → i < length rows → last ≤ (row_at rows i).stamp → (i < room_of free) × (usable_times free waiting i ≡ 0) × (free_times free i ≡ 0) × (deferred_at waiting i ≡ 0)
 worn_not_free {last = last} {rows = rows} s i inside over =
     let k = s.room in
-    (omega arith, s.freed i ∙ ap one (and_right _ _ (and_right _ _ (le-ltb (row_at rows i).stamp last over))))
+    let none = s.freed i ∙ ap one (and_right _ _ (and_right _ _ (le-ltb (row_at rows i).stamp last over))) in
+    (omega arith, none, omega (arith, none), omega (arith, none))
 
 -- a worn slot is free once it is as if it had never been used
-pub worn_forgotten : {T : Type 0} {last : ℕ} {rows : List (Row T)} {free : FreeIndexes} {taken spared : ℕ} → IsSlotRowsKept last rows free taken spared → (more : FreeIndexes) (i : ℕ) → i < length rows → is_held (row_at rows i) ≡ false → last ≤ (row_at rows i).stamp → GivesBack free i more → IsSlotRowsKept last (set rows i unused) more taken (spared + 1)
-worn_forgotten {T = T} {last = last} {rows = rows} {free = free} {taken = taken} s more i inside none over g =
+pub worn_forgotten : {T : Type 0} {last : ℕ} {rows : List (Row T)} {free : FreeIndexes} {waiting : Deferred} {taken spared : ℕ} → IsSlotRowsKept last rows free waiting taken spared → (more : FreeIndexes) (aside : Deferred) (i : ℕ) → i < length rows → is_held (row_at rows i) ≡ false → last ≤ (row_at rows i).stamp → GivesSlot free waiting i more aside → IsSlotRowsKept last (set rows i unused) more aside taken (spared + 1)
+worn_forgotten {T = T} {last = last} {rows = rows} {free = free} {waiting = waiting} {taken = taken} s more aside i inside none over g =
     let r : Row T = row_at rows i in
     let used = s.slots.used in
     let frees = count_set (is_free last) rows i unused inside in
@@ -44,7 +46,7 @@ worn_forgotten {T = T} {last = last} {rows = rows} {free = free} {taken = taken}
     record {
       slots = slot_rows_set s.slots i unused (unused_good last);
       freed = λ j. ⊎_elim
-          (λ same. subst (λ k. free_times more k ≡ one (is_open last (set rows i unused) k)) (sym same) (g.one_more ∙ ap (λ n. n + 1) before.1 ∙ sym now_free ∙ sym (ap one (open_same last rows i unused inside))))
+          (λ same. subst (λ k. usable_times more aside k ≡ one (is_open last (set rows i unused) k)) (sym same) (g.one_more ∙ ap (λ n. n + 1) before.1 ∙ sym now_free ∙ sym (ap one (open_same last rows i unused inside))))
           (λ ne. g.others j ne ∙ s.freed j ∙ sym (ap one (open_other last rows i unused j ne)))
           (cases_eq j i);
       spare = let k = s.spare in omega arith;
@@ -57,8 +59,8 @@ none_or_held None e = refl
 none_or_held (Some x) e = cc
 
 -- a free slot stays free where it is as if it had never been used
-pub free_forgotten : {T : Type 0} {last : ℕ} {rows : List (Row T)} {free : FreeIndexes} {taken spared : ℕ} → IsSlotRowsKept last rows free taken spared → (i : ℕ) → i < length rows → is_held (row_at rows i) ≡ false → (row_at rows i).stamp < last → IsSlotRowsKept last (set rows i unused) free taken spared
-free_forgotten {T = T} {last = last} {rows = rows} {free = free} {taken = taken} s i inside none left =
+pub free_forgotten : {T : Type 0} {last : ℕ} {rows : List (Row T)} {free : FreeIndexes} {waiting : Deferred} {taken spared : ℕ} → IsSlotRowsKept last rows free waiting taken spared → (i : ℕ) → i < length rows → is_held (row_at rows i) ≡ false → (row_at rows i).stamp < last → IsSlotRowsKept last (set rows i unused) free waiting taken spared
+free_forgotten {T = T} {last = last} {rows = rows} {free = free} {waiting = waiting} {taken = taken} s i inside none left =
     let r : Row T = row_at rows i in
     let used = s.slots.used in
     let frees = count_set (is_free last) rows i unused inside in
@@ -72,7 +74,7 @@ free_forgotten {T = T} {last = last} {rows = rows} {free = free} {taken = taken}
     record {
       slots = slot_rows_set s.slots i unused (unused_good last);
       freed = λ j. ⊎_elim
-          (λ same. subst (λ k. free_times free k ≡ one (is_open last (set rows i unused) k)) (sym same) (s.freed i ∙ was_open ∙ sym now_free ∙ sym (ap one (open_same last rows i unused inside))))
+          (λ same. subst (λ k. usable_times free waiting k ≡ one (is_open last (set rows i unused) k)) (sym same) (s.freed i ∙ was_open ∙ sym now_free ∙ sym (ap one (open_same last rows i unused inside))))
           (λ ne. s.freed j ∙ sym (ap one (open_other last rows i unused j ne)))
           (cases_eq j i);
       spare = let k = s.spare in omega arith;

@@ -8,7 +8,8 @@ use Rattle.dq_core.specs.declared.slots.Held.{Held}
 use Rattle.dq_ticks.specs.declared.TheConstants.{CAPACITY_LIMIT, LAST_STAMP}
 use Rattle.dq_core.specs.Slots.{Row, SlotRows, unused, row_at, is_held, is_free, is_worn, IsRow, IsSlotRows, filled_row, vacated_row, raised_row}
 use Rattle.dq_core.specs.FreeSlots.{FreeIndexes, free_times, room_of, GivesBack}
-use Rattle.dq_core.specs.SlotRowsKept.{is_open, IsSlotRowsKept}
+use Rattle.dq_core.specs.Deferred.{Deferred, deferred_at, defers_room, Defers, TakesDeferred}
+use Rattle.dq_core.specs.SlotRowsKept.{is_open, usable_times, GivesSlot, TakesSlot, IsSlotRowsKept}
 
 -- one where the test holds
 abbrev one : Bool → ℕ
@@ -44,9 +45,9 @@ open_parts last rows i n true is e = let p = and_parts _ _ is in (ltb-true _ _ (
 open_parts last rows i n false is e = absurd (omega arith)
 
 -- the index that was taken is that of a free slot, and is free no more
-pub taken_is : {T : Type 0} {last : ℕ} {rows : List (Row T)} {free : FreeIndexes} {taken spared : ℕ} → IsSlotRowsKept last rows free taken spared → (rest : FreeIndexes) (i : ℕ) → GivesBack rest i free → (i < length rows) × (is_free last (row_at rows i) ≡ true) × (free_times rest i ≡ 0)
-taken_is {last = last} {rows = rows} s rest i g =
-    open_parts last rows i (free_times rest i) (is_open last rows i) refl (sym g.one_more ∙ s.freed i)
+pub taken_is : {T : Type 0} {last : ℕ} {rows : List (Row T)} {free : FreeIndexes} {waiting : Deferred} {taken spared : ℕ} → IsSlotRowsKept last rows free waiting taken spared → (rest : FreeIndexes) (ready : Deferred) (i : ℕ) → GivesSlot rest ready i free waiting → (i < length rows) × (is_free last (row_at rows i) ≡ true) × (usable_times rest ready i ≡ 0)
+taken_is {last = last} {rows = rows} s rest ready i g =
+    open_parts last rows i (usable_times rest ready i) (is_open last rows i) refl (sym g.one_more ∙ s.freed i)
 
 pub open_other : {T : Type 0} (last : ℕ) (rows : List (Row T)) (i : ℕ) (r : Row T) (j : ℕ) → j ≢ i → is_open last (set rows i r) j ≡ is_open last rows j
 open_other last rows i r j ne = rw (length-set rows i r, get_or-set_other rows i j r unused ne)
@@ -105,9 +106,9 @@ filled_good last r v left =
     born_of (Some h) = h.born
 
 -- after a free slot was filled
-pub filled_is : {T : Type 0} {last : ℕ} {rows : List (Row T)} {free : FreeIndexes} {taken spared : ℕ} → IsSlotRowsKept last rows free taken spared → (rest : FreeIndexes) (i : ℕ) (v : T) → GivesBack rest i free → IsSlotRowsKept last (set rows i (filled_row (row_at rows i) v)) rest (taken + 1) (spared - 1)
-filled_is {T = T} {last = last} {rows = rows} {free = free} {taken = taken} s rest i v g =
-    let t = taken_is s rest i g in
+pub filled_is : {T : Type 0} {last : ℕ} {rows : List (Row T)} {free : FreeIndexes} {waiting : Deferred} {taken spared : ℕ} → IsSlotRowsKept last rows free waiting taken spared → (rest : FreeIndexes) (ready : Deferred) (i : ℕ) (v : T) → GivesSlot rest ready i free waiting → IsSlotRowsKept last (set rows i (filled_row (row_at rows i) v)) rest ready (taken + 1) (spared - 1)
+filled_is {T = T} {last = last} {rows = rows} {free = free} {waiting = waiting} {taken = taken} s rest ready i v g =
+    let t = taken_is s rest ready i g in
     let r : Row T = row_at rows i in
     let f = free_is last r t.1 in
     let frees = count_set (is_free last) rows i (filled_row r v) t.0 in
@@ -117,7 +118,7 @@ filled_is {T = T} {last = last} {rows = rows} {free = free} {taken = taken} s re
     record {
       slots = slot_rows_set s.slots i (filled_row r v) (filled_good last r v f.1);
       freed = λ j. ⊎_elim
-          (λ same. subst (λ k. free_times rest k ≡ one (is_open last (set rows i (filled_row r v)) k)) (sym same) (t.2 ∙ sym (ap one (open_same last rows i (filled_row r v) t.0))))
+          (λ same. subst (λ k. usable_times rest ready k ≡ one (is_open last (set rows i (filled_row r v)) k)) (sym same) (t.2 ∙ sym (ap one (open_same last rows i (filled_row r v) t.0))))
           (λ ne. sym (g.others j ne) ∙ s.freed j ∙ sym (ap one (open_other last rows i (filled_row r v) j ne)))
           (cases_eq j i);
       spare = let k = s.spare in omega arith;
@@ -126,8 +127,8 @@ filled_is {T = T} {last = last} {rows = rows} {free = free} {taken = taken} s re
     }
 
 -- where a slot is held, another write that leaves it held changes neither the free indexes nor the counts
-pub raised_is : {T : Type 0} {last : ℕ} {rows : List (Row T)} {free : FreeIndexes} {taken spared : ℕ} → IsSlotRowsKept last rows free taken spared → (i : ℕ) → is_held (row_at rows i) ≡ true → (row_at rows i).stamp < last → IsSlotRowsKept last (set rows i (raised_row (row_at rows i))) free taken spared
-raised_is {T = T} {last = last} {rows = rows} {free = free} {taken = taken} s i held left =
+pub raised_is : {T : Type 0} {last : ℕ} {rows : List (Row T)} {free : FreeIndexes} {waiting : Deferred} {taken spared : ℕ} → IsSlotRowsKept last rows free waiting taken spared → (i : ℕ) → is_held (row_at rows i) ≡ true → (row_at rows i).stamp < last → IsSlotRowsKept last (set rows i (raised_row (row_at rows i))) free waiting taken spared
+raised_is {T = T} {last = last} {rows = rows} {free = free} {waiting = waiting} {taken = taken} s i held left =
     let inside = held_inside rows i held in
     let r : Row T = row_at rows i in
     let good = row_is s.slots i inside in
@@ -138,7 +139,7 @@ raised_is {T = T} {last = last} {rows = rows} {free = free} {taken = taken} s i 
     record {
       slots = slot_rows_set s.slots i (raised_row r) (record { bound = omega arith; birth = λ h e. let b = good.birth h e in (b.0, omega arith) });
       freed = λ j. ⊎_elim
-          (λ same. subst (λ k. free_times free k ≡ one (is_open last (set rows i (raised_row r)) k)) (sym same) (s.freed i ∙ ap one (and_right (ltb i (length rows)) _ (held_not_free last r held)) ∙ sym now_free ∙ sym (ap one (open_same last rows i (raised_row r) inside))))
+          (λ same. subst (λ k. usable_times free waiting k ≡ one (is_open last (set rows i (raised_row r)) k)) (sym same) (s.freed i ∙ ap one (and_right (ltb i (length rows)) _ (held_not_free last r held)) ∙ sym now_free ∙ sym (ap one (open_same last rows i (raised_row r) inside))))
           (λ ne. s.freed j ∙ sym (ap one (open_other last rows i (raised_row r) j ne)))
           (cases_eq j i);
       spare = let k = s.spare in omega arith;
@@ -147,18 +148,19 @@ raised_is {T = T} {last = last} {rows = rows} {free = free} {taken = taken} s i 
     }
 
 -- an index whose slot is held has its bit, and is not free
-pub not_free : {T : Type 0} {last : ℕ} {rows : List (Row T)} {free : FreeIndexes} {taken spared : ℕ} → IsSlotRowsKept last rows free taken spared → (i : ℕ) → is_held (row_at rows i) ≡ true → (i < room_of free) × (free_times free i ≡ 0)
+pub not_free : {T : Type 0} {last : ℕ} {rows : List (Row T)} {free : FreeIndexes} {waiting : Deferred} {taken spared : ℕ} → IsSlotRowsKept last rows free waiting taken spared → (i : ℕ) → is_held (row_at rows i) ≡ true → (i < room_of free) × (usable_times free waiting i ≡ 0) × (free_times free i ≡ 0) × (deferred_at waiting i ≡ 0)
 not_free {last = last} {rows = rows} s i held =
     let inside = held_inside rows i held in
     let k = s.room in
-    (omega arith, s.freed i ∙ ap one (and_right (ltb i (length rows)) _ (held_not_free last (row_at rows i) held)))
+    let none = s.freed i ∙ ap one (and_right (ltb i (length rows)) _ (held_not_free last (row_at rows i) held)) in
+    (omega arith, none, omega (arith, none), omega (arith, none))
 
 vacated_good : {T : Type 0} (last : ℕ) (r : Row T) → IsRow last r → IsRow last (vacated_row r)
 vacated_good last r good = record { bound = good.bound; birth = λ h e. cc }
 
 -- a held slot that is vacated at the last stamp is worn
-pub worn_is : {T : Type 0} {last : ℕ} {rows : List (Row T)} {free : FreeIndexes} {taken spared : ℕ} → IsSlotRowsKept last rows free taken spared → (i : ℕ) → is_held (row_at rows i) ≡ true → last ≤ (row_at rows i).stamp → IsSlotRowsKept last (set rows i (vacated_row (row_at rows i))) free (taken - 1) spared
-worn_is {T = T} {last = last} {rows = rows} {free = free} {taken = taken} s i held over =
+pub worn_is : {T : Type 0} {last : ℕ} {rows : List (Row T)} {free : FreeIndexes} {waiting : Deferred} {taken spared : ℕ} → IsSlotRowsKept last rows free waiting taken spared → (i : ℕ) → is_held (row_at rows i) ≡ true → last ≤ (row_at rows i).stamp → IsSlotRowsKept last (set rows i (vacated_row (row_at rows i))) free waiting (taken - 1) spared
+worn_is {T = T} {last = last} {rows = rows} {free = free} {waiting = waiting} {taken = taken} s i held over =
     let inside = held_inside rows i held in
     let r : Row T = row_at rows i in
     let frees = count_set (is_free last) rows i (vacated_row r) inside in
@@ -169,7 +171,7 @@ worn_is {T = T} {last = last} {rows = rows} {free = free} {taken = taken} s i he
     record {
       slots = slot_rows_set s.slots i (vacated_row r) (vacated_good last r (row_is s.slots i inside));
       freed = λ j. ⊎_elim
-          (λ same. subst (λ k. free_times free k ≡ one (is_open last (set rows i (vacated_row r)) k)) (sym same) (s.freed i ∙ ap one (and_right (ltb i (length rows)) _ (held_not_free last r held)) ∙ sym now_free ∙ sym (ap one (open_same last rows i (vacated_row r) inside))))
+          (λ same. subst (λ k. usable_times free waiting k ≡ one (is_open last (set rows i (vacated_row r)) k)) (sym same) (s.freed i ∙ ap one (and_right (ltb i (length rows)) _ (held_not_free last r held)) ∙ sym now_free ∙ sym (ap one (open_same last rows i (vacated_row r) inside))))
           (λ ne. s.freed j ∙ sym (ap one (open_other last rows i (vacated_row r) j ne)))
           (cases_eq j i);
       spare = let k = s.spare in omega arith;
@@ -178,8 +180,8 @@ worn_is {T = T} {last = last} {rows = rows} {free = free} {taken = taken} s i he
     }
 
 -- a held slot that is vacated below the last stamp is free
-pub freed_is : {T : Type 0} {last : ℕ} {rows : List (Row T)} {free : FreeIndexes} {taken spared : ℕ} → IsSlotRowsKept last rows free taken spared → (more : FreeIndexes) (i : ℕ) → is_held (row_at rows i) ≡ true → (row_at rows i).stamp < last → GivesBack free i more → IsSlotRowsKept last (set rows i (vacated_row (row_at rows i))) more (taken - 1) (spared + 1)
-freed_is {T = T} {last = last} {rows = rows} {free = free} {taken = taken} s more i held left g =
+pub freed_is : {T : Type 0} {last : ℕ} {rows : List (Row T)} {free : FreeIndexes} {waiting : Deferred} {taken spared : ℕ} → IsSlotRowsKept last rows free waiting taken spared → (more : FreeIndexes) (aside : Deferred) (i : ℕ) → is_held (row_at rows i) ≡ true → (row_at rows i).stamp < last → GivesSlot free waiting i more aside → IsSlotRowsKept last (set rows i (vacated_row (row_at rows i))) more aside (taken - 1) (spared + 1)
+freed_is {T = T} {last = last} {rows = rows} {free = free} {waiting = waiting} {taken = taken} s more aside i held left g =
     let inside = held_inside rows i held in
     let r : Row T = row_at rows i in
     let frees = count_set (is_free last) rows i (vacated_row r) inside in
@@ -191,7 +193,7 @@ freed_is {T = T} {last = last} {rows = rows} {free = free} {taken = taken} s mor
     record {
       slots = slot_rows_set s.slots i (vacated_row r) (vacated_good last r (row_is s.slots i inside));
       freed = λ j. ⊎_elim
-          (λ same. subst (λ k. free_times more k ≡ one (is_open last (set rows i (vacated_row r)) k)) (sym same) (g.one_more ∙ ap (λ n. n + 1) before.1 ∙ sym now_free ∙ sym (ap one (open_same last rows i (vacated_row r) inside))))
+          (λ same. subst (λ k. usable_times more aside k ≡ one (is_open last (set rows i (vacated_row r)) k)) (sym same) (g.one_more ∙ ap (λ n. n + 1) before.1 ∙ sym now_free ∙ sym (ap one (open_same last rows i (vacated_row r) inside))))
           (λ ne. g.others j ne ∙ s.freed j ∙ sym (ap one (open_other last rows i (vacated_row r) j ne)))
           (cases_eq j i);
       spare = let k = s.spare in omega arith;
@@ -200,7 +202,7 @@ freed_is {T = T} {last = last} {rows = rows} {free = free} {taken = taken} s mor
     }
 
 -- where no index is free, no slot is
-pub none_open : {T : Type 0} {last : ℕ} {rows : List (Row T)} {free : FreeIndexes} {taken spared : ℕ} → IsSlotRowsKept last rows free taken spared → ((i : ℕ) → free_times free i ≡ 0) → count_by (is_free last) rows ≡ 0
+pub none_open : {T : Type 0} {last : ℕ} {rows : List (Row T)} {free : FreeIndexes} {waiting : Deferred} {taken spared : ℕ} → IsSlotRowsKept last rows free waiting taken spared → ((i : ℕ) → usable_times free waiting i ≡ 0) → count_by (is_free last) rows ≡ 0
 none_open {T = T} {last = last} {rows = rows} s none =
     let all = sum_by-le (λ r. one (is_free last r)) 0 rows (All-from_get_or (λ r. one (is_free last r) ≤ 0) rows unused (λ i inside.
     let shut : one (ltb i (length rows) && is_free last (row_at rows i)) ≡ 0 = sym (s.freed i) ∙ none i in
@@ -209,7 +211,7 @@ none_open {T = T} {last = last} {rows = rows} s none =
     omega (arith, all)
 
 -- the slots that are worn are those that are neither held nor free
-pub worn_count : {T : Type 0} {last : ℕ} {rows : List (Row T)} {free : FreeIndexes} {taken spared : ℕ} → IsSlotRowsKept last rows free taken spared → (spared + taken ≤ length rows) × (length rows - taken - spared ≡ count_by (is_worn last) rows)
+pub worn_count : {T : Type 0} {last : ℕ} {rows : List (Row T)} {free : FreeIndexes} {waiting : Deferred} {taken spared : ℕ} → IsSlotRowsKept last rows free waiting taken spared → (spared + taken ≤ length rows) × (length rows - taken - spared ≡ count_by (is_worn last) rows)
 worn_count {last = last} {rows = rows} s =
     let all = parted last rows in
     let a = s.spare in
@@ -219,6 +221,64 @@ worn_count {last = last} {rows = rows} s =
 -- a row of which one slot changes has the room that it had
 pub room_kept : {T : Type 0} (rows : List (Row T)) (i : ℕ) (r : Row T) (n m : ℕ) → length rows ≤ n → m ≡ n → length (set rows i r) ≤ m
 room_kept rows i r n m room same = rw (length-set rows i r) (omega (arith, room, same))
+
+-- a slot that is freed may be taken once more
+pub gives_free : (free more : FreeIndexes) (waiting : Deferred) (i : ℕ) → GivesBack free i more → GivesSlot free waiting i more waiting
+gives_free free more waiting i g =
+    record {
+      one_more = omega (arith, g.one_more);
+      others = λ j ne. ap (λ n. n + deferred_at waiting j) (g.others j ne);
+      room = g.room;
+      waits_room = refl;
+    }
+
+-- so may a slot whose value waits from now on
+pub gives_waiting : (free : FreeIndexes) (waiting more : Deferred) (i : ℕ) → deferred_at waiting i ≡ 0 → Defers waiting i more → GivesSlot free waiting i free more
+gives_waiting free waiting more i none d =
+    record {
+      one_more = omega (arith, d.0, none);
+      others = λ j ne. ap (λ n. free_times free j + n) (d.2.1 j ne);
+      room = refl;
+      waits_room = d.2.0;
+    }
+
+-- what is taken for a fill was one that may be
+pub takes_given : (free rest : FreeIndexes) (waiting ready : Deferred) (i : ℕ) → TakesSlot free waiting (Some i) rest ready → GivesSlot rest ready i free waiting
+takes_given free rest waiting ready i =
+    ⊎_elim
+    (λ t. rw t.1 (gives_free rest free waiting i t.0))
+    (λ t. rw t.1 (took_waiting free waiting ready i t.2))
+  where
+    took_waiting : (free : FreeIndexes) (waiting ready : Deferred) (i : ℕ) → TakesDeferred waiting (Some i) ready → GivesSlot free ready i free waiting
+    took_waiting free waiting ready i t =
+        record {
+          one_more = omega (arith, t.1, t.3);
+          others = λ j ne. ap (λ n. free_times free j + n) (sym (t.4.1 j ne));
+          room = refl;
+          waits_room = sym t.4.0;
+        }
+
+-- a slot whose value waits is one of the row, and not among the free ones
+pub waiting_is : {T : Type 0} {last : ℕ} {rows : List (Row T)} {free : FreeIndexes} {waiting : Deferred} {taken spared : ℕ} → IsSlotRowsKept last rows free waiting taken spared → (i : ℕ) → deferred_at waiting i ≡ 1 → (i < length rows) × (i < room_of free) × (free_times free i ≡ 0)
+waiting_is {last = last} {rows = rows} {free = free} s i waits =
+    let sum = s.freed i in
+    let p = open_parts last rows i (free_times free i) (is_open last rows i) refl (omega (arith, sum, waits)) in
+    let k = s.room in
+    (p.0, omega (arith, k, p.0), p.2)
+
+-- a slot whose value was taken out is free
+pub moved_is : {T : Type 0} {last : ℕ} {rows : List (Row T)} {free : FreeIndexes} {waiting : Deferred} {taken spared : ℕ} → IsSlotRowsKept last rows free waiting taken spared → (more : FreeIndexes) (ready : Deferred) (i : ℕ) → TakesDeferred waiting (Some i) ready → GivesBack free i more → IsSlotRowsKept last rows more ready taken spared
+moved_is {last = last} {rows = rows} {free = free} {waiting = waiting} s more ready i t g =
+    record {
+      slots = s.slots;
+      freed = λ j. ⊎_elim
+          (λ same. rw same (omega (arith, s.freed i, g.one_more, t.1, t.3)))
+          (λ ne. omega (arith, s.freed j, g.others j ne, t.4.1 j ne))
+          (cases_eq j i);
+      spare = s.spare;
+      counted = s.counted;
+      room = omega (arith, s.room, g.room);
+    }
 
 -- what was read at an index is the slot there
 pub read_is : {T : Type 0} (rows : List (Row T)) (i : ℕ) (r : Row T) → i < length rows → r ≡ get_or rows i r → row_at rows i ≡ r
@@ -266,14 +326,14 @@ and_true true = refl
 and_true false = refl
 
 -- a new row
-pub new_is : {T : Type 0} (last n : ℕ) (rows : List (Row T)) (free : FreeIndexes) → 0 < last → last ≤ LAST_STAMP → n ≤ CAPACITY_LIMIT → rows ≡ replicate n unused → AreFirstFree n free → n ≤ room_of free → IsSlotRowsKept last rows free 0 n
-new_is {T = T} last n rows free used bound size are s room =
+pub new_is : {T : Type 0} (last n : ℕ) (rows : List (Row T)) (free : FreeIndexes) (waiting : Deferred) → 0 < last → last ≤ LAST_STAMP → n ≤ CAPACITY_LIMIT → rows ≡ replicate n unused → AreFirstFree n free → ((i : ℕ) → deferred_at waiting i ≡ 0) → n ≤ room_of free → IsSlotRowsKept last rows free waiting 0 n
+new_is {T = T} last n rows free waiting used bound size are s none room =
     let left : is_free last (unused {T = T}) ≡ true = lt-ltb 0 last used in
     let good : IsRow last (unused {T = T}) = record { bound = omega arith; birth = λ h e. cc } in
-    subst (λ rs. IsSlotRowsKept last rs free 0 n) (sym are)
+    subst (λ rs. IsSlotRowsKept last rs free waiting 0 n) (sym are)
     (record {
       slots = record { used = used; bound = bound; size = rw (length-replicate n (unused {T = T})) size; each = All-replicate (IsRow last) n unused good };
-      freed = λ i. s i ∙ rw (length-replicate n (unused {T = T}), unused_at {T = T} n i, left, and_true (ltb i n)) refl;
+      freed = λ i. let all : usable_times free waiting i ≡ one (ltb i n) = omega (arith, s i, none i) in all ∙ rw (length-replicate n (unused {T = T}), unused_at {T = T} n i, left, and_true (ltb i n)) refl;
       spare = let b = count_replicate (is_free last) (unused {T = T}) 1 (ap one left) n in omega arith;
       counted = let b = count_replicate is_held (unused {T = T}) 0 refl n in omega arith;
       room = rw (length-replicate n (unused {T = T})) room;

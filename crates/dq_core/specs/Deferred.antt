@@ -43,7 +43,7 @@ Undefers d i e =
 
 -- a slot that waited is taken out; none comes exactly where none waits
 abbrev pub TakesDeferred : Deferred → Option ℕ → Deferred → Type 0
-TakesDeferred d None e = (d.count ≡ 0) × (e ≡ d)
+TakesDeferred d None e = (d.count ≡ 0) × ((i : ℕ) → deferred_at d i ≡ 0) × (e ≡ d)
 TakesDeferred d (Some i) e =
     (i < defers_room d) × (deferred_at d i ≡ 1) × (e.count + 1 ≡ d.count) × (deferred_at e i ≡ 0)
     × OthersWait d i e

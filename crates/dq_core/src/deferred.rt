@@ -3,11 +3,11 @@
 //! A value's drop is a user's code: it may take long, call the queue or panic, so it runs only where a call is done
 //! with the queue. Until then the value stays in its slot: a row of its own would take as much memory again as all
 //! values do, and to move a value there and back would cost what its drop is put off for. A slot that waits for its
-//! drop may be filled again; the value then goes out beside the new one.
+//! drop may be filled again where no slot is free; the value then goes out beside the new one.
 //!
 //! The slots are bits of words, with a bit of a summary for each word that isn't 0, and a count of them. Each call
 //! takes constant time.
-ghost use Rattle.std.specs.Prelude.{◌≡◌, ℕ, ◌+◌, ◌*◌, ◌<◌, ◌≤◌, length, IfOk};
+ghost use Rattle.std.specs.Prelude.{◌≡◌, ℕ, ◌+◌, ◌*◌, ◌<◌, ◌≤◌, ◌↔◌, length, IfOk, IsTrue};
 ghost use Rattle.dq_core.specs.Deferred.{Deferred, deferred_at, Defers, Undefers, TakesDeferred, defers_room};
 
 use crate::free_slots::{Summary, clear_bit, filled_word, has_bit, set_bit, take_bit};
@@ -40,7 +40,8 @@ impl<A: Allocator> DeferredDrops<A> {
     /// Room for the slots below `capacity`, of which none waits.
     pub fn new(alloc: A, capacity: usize) -> Result<DeferredDrops<A>, AllocError>
         requires { capacity ≤ CAPACITY_LIMIT }
-        ensures { IfOk result (λ d. (capacity ≤ defers_room d) × (d.count ≡ 0)) }
+        ensures { IfOk result
+            (λ d. (capacity ≤ defers_room d) × (d.count ≡ 0) × ((i : ℕ) → deferred_at d i ≡ 0)) }
     {
         let words = capacity.saturating_sub(1) / 64 + 1;
         let bits = vec![in alloc; 0; words]?;
@@ -55,7 +56,8 @@ impl<A: Allocator> DeferredDrops<A> {
     /// How many slots wait.
     #[inline(always)]
     pub fn count(&self) -> usize
-        ensures { result ≡ self.now.count }
+        ensures exact { result ≡ self.now.count }
+        ensures bound { result ≤ CAPACITY_LIMIT }
     {
         self.count
     }
@@ -72,16 +74,18 @@ impl<A: Allocator> DeferredDrops<A> {
         self.count += 1;
     }
 
-    /// A slot waits no more.
-    pub fn remove(&mut self, index: usize)
+    /// A slot waits no more. It returns whether it did.
+    pub fn remove(&mut self, index: usize) -> bool
         requires { index < defers_room self.old }
-        ensures { Undefers self.old index self.new }
+        ensures waited { IsTrue result ↔ (deferred_at self.old index ≡ 1) }
+        ensures removed { Undefers self.old index self.new }
     {
         if !has_bit(&self.bits, index) {
-            return;
+            return false;
         }
         clear_bit(self.bits.as_mut_slice(), &mut self.summary, index);
         self.count -= 1;
+        true
     }
 
     /// Takes out a slot that waits; none comes exactly where the count is 0.

@@ -44,7 +44,8 @@ impl<T, W: Words, A: Allocator> DelayCore<T, W, A> {
         self.slots.take_aside()
     }
 
-    /// Takes out the value that waits for its drop in the slot that the next insert takes, if one does. Constant time.
+    /// Takes out the value that waits for its drop in the slot that the next insert takes, if one does: none while a
+    /// slot is free. Constant time.
     #[inline(always)]
     pub fn take_crowded(&mut self) -> Option<T>
         ensures { self.new ≡ self.old }

@@ -4,11 +4,14 @@
 //! is held there. A slot that holds nothing at the last stamp is worn: it is never used again. All the memory is
 //! taken by `new`. Every other call is of constant time but `forget`, which goes over every slot.
 //!
-//! A value that is let go stays in its slot, which holds nothing from then on, until somebody takes it out. No call
+//! A value that is let go stays in its slot, which holds nothing from then on, until somebody takes it out. Until then
+//! the slot isn't among the free ones: a fill takes it only where no slot is free, and hands the value over. No call
 //! drops a value: no impl here says that one may be dropped.
 ghost use Rattle.std.specs.Prelude.{◌≡◌, ℕ, ◌+◌, ◌<◌, ◌≤◌, ◌^◌, length, replicate, IfOk, MatchOption, Some, None, true, false};
 ghost use Rattle.std.specs.List.{count_by};
-ghost use Rattle.dq_core.specs.Deferred.{defers_room};
+ghost use Rattle.dq_core.specs.Deferred.{deferred_at, defers_room};
+ghost use Rattle.dq_core.specs.FreeSlots.{free_times, room_of};
+ghost use Rattle.dq_core.specs.SlotRowsKept.{GivesSlot, TakesSlot};
 
 use crate::deferred::DeferredDrops;
 use crate::free_slots::FreeSlots;
@@ -168,11 +171,14 @@ impl<T> Cell<T> {
 pub struct Slots<T, A: Allocator = Global> {
     last: u32,
     held_count: usize,
-    /// How many slots are free.
+    /// How many slots a fill may take: the free ones, and those of `deferred`.
     free_count: usize,
     cells: Vec<Cell<T>, A>,
     free: FreeSlots<A>,
+    /// The slots whose value waits for its drop, and which have a stamp left.
     deferred: DeferredDrops<A>,
+    /// The worn slots whose value waits for its drop.
+    deferred_worn: DeferredDrops<A>,
 }
 
 impl<T, A: Allocator> Model for Slots<T, A> {
@@ -185,8 +191,9 @@ impl<T, A: Allocator> Model for Slots<T, A> {
 
     ghost view = { λ a. record { last_stamp = a.last; rows = a.cells.items } };
 
-    ghost invariant = { λ a. IsSlotRowsKept a.last a.cells.items a.free a.held_count a.free_count
-        × (length a.cells.items ≤ defers_room a.deferred) };
+    ghost invariant = { λ a. IsSlotRowsKept a.last a.cells.items a.free a.deferred a.held_count a.free_count
+        × (length a.cells.items ≤ defers_room a.deferred)
+        × (length a.cells.items ≤ defers_room a.deferred_worn) };
 }
 
 impl<T, A: Allocator + Clone> Slots<T, A> {
@@ -202,6 +209,7 @@ impl<T, A: Allocator + Clone> Slots<T, A> {
             (λ s. s ≡ record { last_stamp = last; rows = replicate capacity unused }) }
     {
         let deferred = DeferredDrops::new(alloc.clone()?, capacity)?;
+        let deferred_worn = DeferredDrops::new(alloc.clone()?, capacity)?;
         let mut free = FreeSlots::new(alloc.clone()?, capacity)?;
         // No cell is made before all memory is there: one might hold a value, for all that its type says.
         let mut cells = Vec::with_capacity(alloc, capacity)?;
@@ -216,11 +224,12 @@ impl<T, A: Allocator + Clone> Slots<T, A> {
             cells,
             free,
             deferred,
+            deferred_worn,
         })
     }
 }
 
-// Notes that the value of a slot was let go there, and waits for its drop where it has one.
+// Notes that the value of a worn slot was let go there, and waits for its drop where it has one.
 #[inline(always)]
 fn mark<T, A: Allocator>(deferred: &mut DeferredDrops<A>, index: usize)
     requires { index < defers_room deferred.old }
@@ -231,14 +240,59 @@ fn mark<T, A: Allocator>(deferred: &mut DeferredDrops<A>, index: usize)
     }
 }
 
-// Notes that a value which waited for its drop, if one did, is out of its slot.
+// Gives a slot whose value was let go to the next fills: as a free one, or where the value waits for its drop as one
+// that is taken where none is free.
 #[inline(always)]
-fn unmark<T, A: Allocator>(deferred: &mut DeferredDrops<A>, index: usize, value: &Option<T>)
-    requires { index < defers_room deferred.old }
-    ensures { defers_room deferred.new ≡ defers_room deferred.old }
+fn set_aside<T, A: Allocator>(
+    free: &mut FreeSlots<A>,
+    deferred: &mut DeferredDrops<A>,
+    index: usize,
+)
+    requires room { index < room_of free.old }
+    requires held { free_times free.old index ≡ 0 }
+    requires bit { index < defers_room deferred.old }
+    requires taken { deferred_at deferred.old index ≡ 0 }
+    ensures { GivesSlot free.old deferred.old index free.new deferred.new }
 {
-    if mem::needs_drop::<T>() && value.is_some() {
-        deferred.remove(index);
+    if mem::needs_drop::<T>() {
+        deferred.add(index);
+    } else {
+        free.give(index);
+    }
+}
+
+// Gives a slot that isn't worn any more to the next fills, in its order. Where its value waits for its drop it is taken
+// where no slot is free.
+fn renew_slot<A: Allocator>(
+    free: &mut FreeSlots<A>,
+    deferred: &mut DeferredDrops<A>,
+    waits: bool,
+    index: usize,
+)
+    requires room { index < room_of free.old }
+    requires held { free_times free.old index ≡ 0 }
+    requires bit { index < defers_room deferred.old }
+    requires taken { deferred_at deferred.old index ≡ 0 }
+    ensures { GivesSlot free.old deferred.old index free.new deferred.new }
+{
+    if waits {
+        deferred.add(index);
+    } else {
+        free.set(index);
+    }
+}
+
+// Takes the slot of the next fill: a free one, and only where none is free one whose value waits for its drop.
+#[inline(always)]
+fn take_slot<A: Allocator>(
+    free: &mut FreeSlots<A>,
+    deferred: &mut DeferredDrops<A>,
+) -> Option<usize>
+    ensures { TakesSlot free.old deferred.old result free.new deferred.new }
+{
+    match free.take() {
+        Some(index) => Some(index),
+        None => deferred.take(),
     }
 }
 
@@ -339,20 +393,19 @@ impl<T, A: Allocator> Slots<T, A> {
         cell.held()
     }
 
-    /// Puts a value into a free slot, under that slot's next stamp, and returns its index, with the value that was set
-    /// aside there, if one was. It hands the value back where no slot is free.
+    /// Puts a value into a free slot, under that slot's next stamp, and returns its index. Where a value waits in each
+    /// of the free slots it returns the one that waited there too. It hands the value back where no slot is free.
     #[inline(always)]
     pub fn fill(&mut self, value: T) -> Result<(usize, Option<T>), T>
         ensures { IsFilled self.old value result self.new }
     {
-        let Some(index) = self.free.take() else {
+        let Some(index) = take_slot(&mut self.free, &mut self.deferred) else {
             return Err(value);
         };
         let cell = &mut self.cells[index];
         let crowded = cell.fill(value);
         self.held_count += 1;
         self.free_count -= 1;
-        unmark(&mut self.deferred, index, &crowded);
         Ok((index, crowded))
     }
 
@@ -381,11 +434,11 @@ impl<T, A: Allocator> Slots<T, A> {
     {
         let cell = &mut self.cells[index];
         cell.let_go();
-        let stamp = cell.stamp();
-        mark::<T, A>(&mut self.deferred, index);
-        if stamp < self.last {
-            self.free.give(index);
+        if cell.stamp() < self.last {
+            set_aside::<T, A>(&mut self.free, &mut self.deferred, index);
             self.free_count += 1;
+        } else {
+            mark::<T, A>(&mut self.deferred_worn, index);
         }
         self.held_count -= 1;
     }
@@ -394,17 +447,17 @@ impl<T, A: Allocator> Slots<T, A> {
     #[inline(always)]
     pub fn aside(&self) -> usize {
         if mem::needs_drop::<T>() {
-            self.deferred.count()
+            self.deferred.count() + self.deferred_worn.count()
         } else {
             0
         }
     }
 
-    /// Takes out a value that waits for its drop; none where none does.
-    pub fn take_aside(&mut self) -> Option<T>
+    // Takes out a value that waits for its drop in a worn slot; none where none does.
+    fn take_from_worn(&mut self) -> Option<T>
         ensures { self.new ≡ self.old }
     {
-        let Some(index) = self.deferred.take() else {
+        let Some(index) = self.deferred_worn.take() else {
             return None;
         };
         if index >= self.cells.len() {
@@ -414,22 +467,31 @@ impl<T, A: Allocator> Slots<T, A> {
         cell.take_aside()
     }
 
-    // Takes out the value that is set aside where the next fill puts its own.
+    /// Takes out a value that waits for its drop; none where none does.
+    pub fn take_aside(&mut self) -> Option<T>
+        ensures { self.new ≡ self.old }
+    {
+        let Some(index) = self.deferred.take() else {
+            return self.take_from_worn();
+        };
+        self.free.give(index);
+        let cell = &mut self.cells[index];
+        cell.take_aside()
+    }
+
+    // Takes out a value that waits for its drop where one waits in each slot that a fill may take.
     #[inline(never)]
     fn take_from_next(&mut self) -> Option<T>
         ensures { self.new ≡ self.old }
     {
-        let Some(index) = self.free.take() else {
+        let waiting = self.deferred.count();
+        if waiting == 0 || waiting < self.free_count {
             return None;
-        };
-        self.free.give(index);
-        let cell = &mut self.cells[index];
-        let crowded = cell.take_aside();
-        unmark(&mut self.deferred, index, &crowded);
-        crowded
+        }
+        self.take_aside()
     }
 
-    /// Takes out the value that is set aside where the next fill puts its own, if one is.
+    /// Takes out the value that is set aside where the next fill puts its own, if one is: none is while a slot is free.
     #[inline(always)]
     pub fn take_crowded(&mut self) -> Option<T>
         ensures { self.new ≡ self.old }
@@ -461,7 +523,8 @@ impl<T, A: Allocator> Slots<T, A> {
         let was_worn = cell.stamp() >= self.last;
         cell.forget();
         if was_worn {
-            self.free.set(index);
+            let waits = self.deferred_worn.remove(index);
+            renew_slot(&mut self.free, &mut self.deferred, waits, index);
             self.free_count += 1;
         }
     }

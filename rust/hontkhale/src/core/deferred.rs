@@ -3,7 +3,7 @@
 //! A value's drop is a user's code: it may take long, call the queue or panic, so it runs only where a call is done
 //! with the queue. Until then the value stays in its slot: a row of its own would take as much memory again as all
 //! values do, and to move a value there and back would cost what its drop is put off for. A slot that waits for its
-//! drop may be filled again; the value then goes out beside the new one.
+//! drop may be filled again where no slot is free; the value then goes out beside the new one.
 //!
 //! The slots are bits of words, with a bit of a summary for each word that isn't 0, and a count of them. Each call
 //! takes constant time.
@@ -51,14 +51,15 @@ impl DeferredDrops {
         self.count += 1;
     }
 
-    /// A slot waits no more.
-    pub fn remove(&mut self, index: usize) {
+    /// A slot waits no more. It returns whether it did.
+    pub fn remove(&mut self, index: usize) -> bool {
         // requires index < defers_room self.old
         if !has_bit(&self.bits, index) {
-            return;
+            return false;
         }
         clear_bit(self.bits.as_mut_slice(), &mut self.summary, index);
         self.count -= 1;
+        true
     }
 
     /// Takes out a slot that waits; none comes exactly where the count is 0.

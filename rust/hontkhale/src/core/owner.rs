@@ -28,7 +28,8 @@ impl<T, W: Words> DelayCore<T, W> {
         self.slots.take_aside()
     }
 
-    /// Takes out the value that waits for its drop in the slot that the next insert takes, if one does. Constant time.
+    /// Takes out the value that waits for its drop in the slot that the next insert takes, if one does: none while a
+    /// slot is free. Constant time.
     #[inline(always)]
     pub fn take_crowded(&mut self) -> Option<T> {
         self.slots.take_crowded()

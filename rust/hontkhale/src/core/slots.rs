@@ -4,7 +4,8 @@
 //! is held there. A slot that holds nothing at the last stamp is worn: it is never used again. All the memory is
 //! taken by `new`. Every other call is of constant time but `forget`, which goes over every slot.
 //!
-//! A value that is let go stays in its slot, which holds nothing from then on, until somebody takes it out. No call
+//! A value that is let go stays in its slot, which holds nothing from then on, until somebody takes it out. Until then
+//! the slot isn't among the free ones: a fill takes it only where no slot is free, and hands the value over. No call
 //! drops a value: no impl here says that one may be dropped.
 
 use crate::core::deferred::DeferredDrops;
@@ -128,11 +129,14 @@ impl<T> Cell<T> {
 pub struct Slots<T> {
     last: u32,
     held_count: usize,
-    /// How many slots are free.
+    /// How many slots a fill may take: the free ones, and those of `deferred`.
     free_count: usize,
     cells: Vec<Cell<T>>,
     free: FreeSlots,
+    /// The slots whose value waits for its drop, and which have a stamp left.
     deferred: DeferredDrops,
+    /// The worn slots whose value waits for its drop.
+    deferred_worn: DeferredDrops,
 }
 
 impl<T> Slots<T> {
@@ -142,6 +146,7 @@ impl<T> Slots<T> {
         // requires 0 < last
         // requires last ≤ LAST_STAMP
         let deferred = DeferredDrops::new(capacity)?;
+        let deferred_worn = DeferredDrops::new(capacity)?;
         let mut free = FreeSlots::new(capacity)?;
         // No cell is made before all memory is there: one might hold a value, for all that its type says.
         let mut cells = room_for(capacity)?;
@@ -156,11 +161,12 @@ impl<T> Slots<T> {
             cells,
             free,
             deferred,
+            deferred_worn,
         })
     }
 }
 
-// Notes that the value of a slot was let go there, and waits for its drop where it has one.
+// Notes that the value of a worn slot was let go there, and waits for its drop where it has one.
 #[inline(always)]
 fn mark<T>(deferred: &mut DeferredDrops, index: usize) {
     // requires index < defers_room deferred.old
@@ -169,12 +175,41 @@ fn mark<T>(deferred: &mut DeferredDrops, index: usize) {
     }
 }
 
-// Notes that a value which waited for its drop, if one did, is out of its slot.
+// Gives a slot whose value was let go to the next fills: as a free one, or where the value waits for its drop as one
+// that is taken where none is free.
 #[inline(always)]
-fn unmark<T>(deferred: &mut DeferredDrops, index: usize, value: &Option<T>) {
+fn set_aside<T>(free: &mut FreeSlots, deferred: &mut DeferredDrops, index: usize) {
+    // requires index < room_of free.old
+    // requires free_times free.old index ≡ 0
     // requires index < defers_room deferred.old
-    if mem::needs_drop::<T>() && value.is_some() {
-        deferred.remove(index);
+    // requires deferred_at deferred.old index ≡ 0
+    if mem::needs_drop::<T>() {
+        deferred.add(index);
+    } else {
+        free.give(index);
+    }
+}
+
+// Gives a slot that isn't worn any more to the next fills, in its order. Where its value waits for its drop it is taken
+// where no slot is free.
+fn renew_slot(free: &mut FreeSlots, deferred: &mut DeferredDrops, waits: bool, index: usize) {
+    // requires index < room_of free.old
+    // requires free_times free.old index ≡ 0
+    // requires index < defers_room deferred.old
+    // requires deferred_at deferred.old index ≡ 0
+    if waits {
+        deferred.add(index);
+    } else {
+        free.set(index);
+    }
+}
+
+// Takes the slot of the next fill: a free one, and only where none is free one whose value waits for its drop.
+#[inline(always)]
+fn take_slot(free: &mut FreeSlots, deferred: &mut DeferredDrops) -> Option<usize> {
+    match free.take() {
+        Some(index) => Some(index),
+        None => deferred.take(),
     }
 }
 
@@ -247,18 +282,17 @@ impl<T> Slots<T> {
         cell.held()
     }
 
-    /// Puts a value into a free slot, under that slot's next stamp, and returns its index, with the value that was set
-    /// aside there, if one was. It hands the value back where no slot is free.
+    /// Puts a value into a free slot, under that slot's next stamp, and returns its index. Where a value waits in each
+    /// of the free slots it returns the one that waited there too. It hands the value back where no slot is free.
     #[inline(always)]
     pub fn fill(&mut self, value: T) -> Result<(usize, Option<T>), T> {
-        let Some(index) = self.free.take() else {
+        let Some(index) = take_slot(&mut self.free, &mut self.deferred) else {
             return Err(value);
         };
         let cell = nth_mut(&mut self.cells, index);
         let crowded = cell.fill(value);
         self.held_count += 1;
         self.free_count -= 1;
-        unmark(&mut self.deferred, index, &crowded);
         Ok((index, crowded))
     }
 
@@ -282,11 +316,11 @@ impl<T> Slots<T> {
         // requires is_held (row_at self.old.rows index) ≡ true
         let cell = nth_mut(&mut self.cells, index);
         cell.let_go();
-        let stamp = cell.stamp();
-        mark::<T>(&mut self.deferred, index);
-        if stamp < self.last {
-            self.free.give(index);
+        if cell.stamp() < self.last {
+            set_aside::<T>(&mut self.free, &mut self.deferred, index);
             self.free_count += 1;
+        } else {
+            mark::<T>(&mut self.deferred_worn, index);
         }
         self.held_count -= 1;
     }
@@ -295,15 +329,15 @@ impl<T> Slots<T> {
     #[inline(always)]
     pub fn aside(&self) -> usize {
         if mem::needs_drop::<T>() {
-            self.deferred.count()
+            self.deferred.count() + self.deferred_worn.count()
         } else {
             0
         }
     }
 
-    /// Takes out a value that waits for its drop; none where none does.
-    pub fn take_aside(&mut self) -> Option<T> {
-        let index = self.deferred.take()?;
+    // Takes out a value that waits for its drop in a worn slot; none where none does.
+    fn take_from_worn(&mut self) -> Option<T> {
+        let index = self.deferred_worn.take()?;
         if index >= self.cells.len() {
             return None;
         }
@@ -311,18 +345,27 @@ impl<T> Slots<T> {
         cell.take_aside()
     }
 
-    // Takes out the value that is set aside where the next fill puts its own.
-    #[inline(never)]
-    fn take_from_next(&mut self) -> Option<T> {
-        let index = self.free.take()?;
+    /// Takes out a value that waits for its drop; none where none does.
+    pub fn take_aside(&mut self) -> Option<T> {
+        let Some(index) = self.deferred.take() else {
+            return self.take_from_worn();
+        };
         self.free.give(index);
         let cell = nth_mut(&mut self.cells, index);
-        let crowded = cell.take_aside();
-        unmark(&mut self.deferred, index, &crowded);
-        crowded
+        cell.take_aside()
     }
 
-    /// Takes out the value that is set aside where the next fill puts its own, if one is.
+    // Takes out a value that waits for its drop where one waits in each slot that a fill may take.
+    #[inline(never)]
+    fn take_from_next(&mut self) -> Option<T> {
+        let waiting = self.deferred.count();
+        if waiting == 0 || waiting < self.free_count {
+            return None;
+        }
+        self.take_aside()
+    }
+
+    /// Takes out the value that is set aside where the next fill puts its own, if one is: none is while a slot is free.
     #[inline(always)]
     pub fn take_crowded(&mut self) -> Option<T> {
         if self.aside() == 0 {
@@ -348,7 +391,8 @@ impl<T> Slots<T> {
         let was_worn = cell.stamp() >= self.last;
         cell.forget();
         if was_worn {
-            self.free.set(index);
+            let waits = self.deferred_worn.remove(index);
+            renew_slot(&mut self.free, &mut self.deferred, waits, index);
             self.free_count += 1;
         }
     }

@@ -151,23 +151,23 @@ struct Row {
 }
 
 const ROWS: &[Row] = &[
-    // Its cells, and of the free slots the small stack and the bits; the bits of those that wait for a drop; the
-    // wheel's row; the words.
+    // Its cells, and of the free slots the small stack and the bits; the bits of those that wait for a drop, and of
+    // the worn ones that do; the wheel's row; the words.
     Row {
         name: "a queue of one owner",
-        allocations: 6,
+        allocations: 7,
         aborting: &[],
         makes: |grants| asks(grants, || DelayCore::<Box<u64>, _>::with_capacity(4)),
     },
     Row {
         name: "a queue of one owner, of many entries",
-        allocations: 6,
+        allocations: 7,
         aborting: &[],
         makes: |grants| asks(grants, || DelayCore::<Box<u64>, _>::with_capacity(4_096)),
     },
     Row {
         name: "a queue over shared words",
-        allocations: 7,
+        allocations: 8,
         aborting: &[1],
         makes: |grants| asks(grants, || numbered_queue::<Box<u64>>(CoreConfig::of(4))),
     },
@@ -183,17 +183,17 @@ const ROWS: &[Row] = &[
         aborting: &[],
         makes: |grants| asks(grants, || PlainQueue::<Box<u64>>::new(4)),
     },
-    // The row of shards, that of who waits for their locks, and seven for each shard.
+    // The row of shards, that of who waits for their locks, and eight for each shard.
     Row {
         name: "a queue of one shard",
-        allocations: 9,
+        allocations: 10,
         aborting: &[3],
         makes: |grants| asks(grants, || Boxes::new(QueueConfig::of(1, 4))),
     },
     Row {
         name: "a queue of three shards",
-        allocations: 23,
-        aborting: &[3, 10, 17],
+        allocations: 26,
+        aborting: &[3, 11, 19],
         makes: |grants| asks(grants, || Boxes::new(QueueConfig::of(3, 4))),
     },
     Row {
@@ -204,8 +204,8 @@ const ROWS: &[Row] = &[
     },
     Row {
         name: "a lasting queue",
-        allocations: 16,
-        aborting: &[3, 10],
+        allocations: 18,
+        aborting: &[3, 11],
         makes: |grants| asks(grants, || Lasting::new(LastingConfig::of(2, 4))),
     },
     Row {
@@ -222,13 +222,13 @@ const ROWS: &[Row] = &[
     },
     Row {
         name: "the opening of a shard",
-        allocations: 6,
+        allocations: 7,
         aborting: &[1],
         makes: opening_of_a_shard,
     },
     Row {
         name: "a cache",
-        allocations: 6,
+        allocations: 7,
         aborting: &[],
         makes: |grants| asks(grants, || TtlCache::<char, u64>::new(2, LAST_STAMP)),
     },
@@ -247,14 +247,14 @@ const ROWS: &[Row] = &[
     },
     Row {
         name: "a refresh",
-        allocations: 6,
+        allocations: 7,
         aborting: &[],
         makes: refresh_of_a_cache,
     },
     Row {
         name: "sessions",
-        allocations: 16,
-        aborting: &[3, 10],
+        allocations: 18,
+        aborting: &[3, 11],
         makes: |grants| asks(grants, || IdleSessions::new(QueueConfig::of(2, 1), 10)),
     },
     Row {
@@ -271,7 +271,7 @@ const ROWS: &[Row] = &[
     },
     Row {
         name: "a script",
-        allocations: 23,
+        allocations: 24,
         aborting: &[],
         makes: script,
     },

@@ -4,9 +4,14 @@ use super::kit::{
     adds_up, insert, insert_cancelled, insert_lasting_cancelled, is_whole, lasting, panics, queue, within_the_limit,
     Drops, Queue, Value,
 };
-use hontkhale::{DelayCore, ExpiredStream, Piece, QueueConfig, SharedDelayQueue, Turn, VecWords};
+use hontkhale::{
+    CoreConfig, CoreError, DelayCore, ExpiredStream, Piece, QueueConfig, SharedDelayQueue, Turn, VecWords,
+    CAPACITY_LIMIT,
+};
+use std::sync::atomic::{AtomicUsize, Ordering};
 use std::sync::Arc;
 use std::task::{Context, Poll};
+use std::thread;
 
 // Three values of shard 0 are set aside: a poll reaped them, and dropped none, since it gave an entry.
 fn three_aside(queue: &Queue, drops: &Drops) {
@@ -72,26 +77,54 @@ fn what_is_set_aside_is_dropped_with_the_queue() {
     });
 }
 
-// 300 values are cleared, each of which puts another one in where it is dropped.
-#[test]
-fn a_clear_of_values_that_insert() {
-    within_the_limit(|| {
-        let queue: Arc<Queue> = Arc::new(SharedDelayQueue::new(QueueConfig::of(1, 300)).expect("a queue"));
-        let (drops, late) = (Drops::default(), Drops::default());
-        for when in 0..300 {
-            let (by_drop, late) = (queue.clone(), late.clone());
-            let value = drops.value_that(move || {
+// How deep the drops of values stand in one another.
+#[derive(Default)]
+struct Depth {
+    now: AtomicUsize,
+    deepest: AtomicUsize,
+}
+
+impl Depth {
+    fn inside(&self, call: impl FnOnce()) {
+        let now = self.now.fetch_add(1, Ordering::SeqCst) + 1;
+        self.deepest.fetch_max(now, Ordering::SeqCst);
+        call();
+        self.now.fetch_sub(1, Ordering::SeqCst);
+    }
+}
+
+// As many values are cleared as a shard has at most, each of which puts another one in where it is dropped. That insert
+// takes the slot that is free, and drops no value that waits: no drop runs inside another.
+fn clears_values_that_insert() {
+    let queue: Arc<Queue> = Arc::new(SharedDelayQueue::new(QueueConfig::of(1, CAPACITY_LIMIT)).expect("a queue"));
+    let (drops, late, depth) = (Drops::default(), Drops::default(), Arc::new(Depth::default()));
+    for when in 0..CAPACITY_LIMIT as u64 {
+        let (by_drop, late, nested) = (queue.clone(), late.clone(), depth.clone());
+        let value = drops.value_that(move || {
+            nested.inside(|| {
                 let refused = by_drop.insert_or_drop(0, late.value(), 1_000 + when);
                 assert!(refused.is_ok(), "there is room");
             });
-            insert(&queue, value, when);
-        }
-        assert_eq!(queue.clear(0), Ok(300));
-        assert_eq!((drops.count(), late.count(), aside(&queue)), (300, 0, 0));
-        assert_eq!(queue.tally(0).expect("a shard").linked, 300);
-        assert_eq!(queue.clear(0), Ok(300));
-        assert_eq!(late.count(), 300);
-        is_whole(&queue, &drops);
+        });
+        insert(&queue, value, when);
+    }
+    assert_eq!(queue.clear(0), Ok(CAPACITY_LIMIT));
+    assert_eq!(depth.deepest.load(Ordering::SeqCst), 1);
+    assert_eq!(
+        (drops.count(), late.count(), aside(&queue)),
+        (CAPACITY_LIMIT as u64, 0, 0)
+    );
+    assert_eq!(queue.clear(0), Ok(CAPACITY_LIMIT));
+    assert_eq!(late.count(), CAPACITY_LIMIT as u64);
+    is_whole(&queue, &drops);
+}
+
+#[test]
+fn a_clear_of_values_that_insert() {
+    within_the_limit(|| {
+        let small = thread::Builder::new().stack_size(256 * 1024);
+        let clears = small.spawn(clears_values_that_insert).expect("a thread");
+        assert!(clears.join().is_ok(), "it panicked");
     });
 }
 
@@ -239,4 +272,76 @@ fn one_owner_may_set_aside() {
     }
     drop(queue);
     assert_eq!(drops.count(), 9);
+}
+
+// Eight slots, in five of which a value waits: an insert hands one over only where no slot is free.
+#[test]
+fn an_insert_takes_a_free_slot_before_one_whose_value_waits() {
+    let drops = Drops::default();
+    let mut queue: DelayCore<Value, VecWords> = DelayCore::with_capacity(8).expect("a queue");
+    for when in 0..5 {
+        assert!(queue.insert(drops.value(), when).is_ok());
+    }
+    assert_eq!((queue.clear_deferring(), queue.aside()), (5, 5));
+    for when in 0..3 {
+        assert!(queue.take_crowded().is_none());
+        assert!(matches!(queue.insert_deferring(drops.value(), when), (Ok(_), None)));
+        assert_eq!((queue.aside(), drops.count()), (5, 0));
+    }
+    for left in (2..5).rev() {
+        assert!(matches!(queue.insert_deferring(drops.value(), 9), (Ok(_), Some(_))));
+        assert_eq!((queue.aside(), drops.count()), (left, 5 - left as u64));
+    }
+    assert!(queue.take_aside().is_some());
+    assert!(queue.take_crowded().is_none(), "the slot of what was taken out is free");
+    assert!(matches!(queue.insert_deferring(drops.value(), 9), (Ok(_), None)));
+    assert!(queue.take_crowded().is_some());
+    assert!(matches!(queue.insert_deferring(drops.value(), 9), (Ok(_), None)));
+    assert!(matches!(
+        queue.insert_deferring(drops.value(), 9),
+        (Err((CoreError::Full { linked: 8, worn: 0 }, _)), None)
+    ));
+    assert_eq!((queue.aside(), queue.clear(), drops.count()), (0, 8, 14));
+}
+
+// Two of four slots have had their only stamp, and a value waits in each: they are worn, and no insert takes them before
+// the queue is renewed. Then it does, and hands over what waits.
+#[test]
+fn a_value_waits_in_a_worn_slot() {
+    let drops = Drops::default();
+    let config = CoreConfig {
+        shard: 0,
+        capacity: 4,
+        last_stamp: 1,
+    };
+    let words = || VecWords::new(4).expect("words");
+    let Ok(mut queue) = DelayCore::new(config, words()) else {
+        panic!("a queue")
+    };
+    let full = |linked, worn| CoreError::Full { linked, worn };
+    for round in 1..=2 {
+        for when in 0..2 {
+            assert!(matches!(queue.insert_deferring(drops.value(), when), (Ok(_), None)));
+        }
+        assert_eq!(
+            (queue.clear_deferring(), queue.aside(), queue.worn()),
+            (2, 2 * round, 2 * round)
+        );
+    }
+    assert!(queue.take_crowded().is_none());
+    let (refused, crowded) = queue.insert_deferring(drops.value(), 9);
+    assert!(crowded.is_none() && refused.is_err_and(|refused| refused.0 == full(0, 4)));
+    assert!(queue.take_aside().is_some());
+    assert_eq!((queue.aside(), queue.worn(), drops.count()), (3, 4, 2));
+
+    assert!(queue.renew(1, words()).is_ok());
+    assert_eq!((queue.aside(), queue.worn()), (3, 0));
+    assert!(matches!(queue.insert_deferring(drops.value(), 9), (Ok(_), None)));
+    for left in (0..3).rev() {
+        assert!(matches!(queue.insert_deferring(drops.value(), 9), (Ok(_), Some(_))));
+        assert_eq!(queue.aside(), left);
+    }
+    let (refused, crowded) = queue.insert_deferring(drops.value(), 9);
+    assert!(crowded.is_none() && refused.is_err_and(|refused| refused.0 == full(4, 0)));
+    assert_eq!((queue.clear(), drops.count()), (4, 10));
 }

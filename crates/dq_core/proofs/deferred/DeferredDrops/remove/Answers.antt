@@ -20,8 +20,8 @@ invariant_of-self g c =
     rw (← whole, written)
     (kept_removed c.self.inside.bits.items c.clear_bit.new.bits c.self.inside.summary c.clear_bit.new.summary c.self.inside.current c.self.inside.current c.self.inside.count c.args.index kept same kept.last c.clear_bit.ensures.summed (omega (arith, inside, c.requires)) was c.clear_bit.ensures.cleared (rw c.as_mut_slice.ensures.value at c.clear_bit.ensures.others))
 
-pub returns : goal.returns
-returns g c =
+pub returns-clause-removed : goal.returns-clause-removed
+returns-clause-removed g c =
     let whole : length c.clear_bit.new.bits ≡ c.self.inside.bits.len = omega (arith, c.clear_bit.auto.bits, c.as_mut_slice.ensures.len) in
     let same : length c.clear_bit.new.bits ≡ length c.self.inside.bits.items = c.clear_bit.auto.bits ∙ ap length c.as_mut_slice.ensures.value in
     let written = take-append_seam c.clear_bit.new.bits (drop (length c.clear_bit.new.bits) c.self.inside.bits.items) in

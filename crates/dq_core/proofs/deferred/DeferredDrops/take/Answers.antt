@@ -2,12 +2,13 @@ use Rattle.std.proofs.Common.{◌≡◌, length, drop, ap, arith, ◌∙◌}
 use Rattle.std.proofs.Math.Seq.{take-append_seam}
 use Rattle.std.proofs.Common.{refl}
 use Rattle.dq_core.proofs.DeferredBits.{count_some, count_none, kept_removed}
+use Rattle.dq_core.proofs.FreeBits.{none_free}
 use Rattle.dq_core.proofs.deferred.DeferredDrops.take.Goals as goal
 
 pub returns-in_default : goal.returns-in_default
 returns-in_default g c =
     let none = rw c.deref.ensures.value at c.in_default.ensures in
-    (rw (← c.self.view_is) (count_none _ _ _ _ c.self.invariant none), refl)
+    (rw (← c.self.view_is) (count_none _ _ _ _ c.self.invariant none), rw (← c.self.view_is) (none_free _ none), refl)
 
 pub overflow_sub-self : goal.overflow_sub-self
 overflow_sub-self g c =

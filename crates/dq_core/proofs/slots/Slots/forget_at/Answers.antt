@@ -1,4 +1,4 @@
-use Rattle.std.proofs.Common.{◌≡◌, ◌<◌, false, length, ap, arith, refl}
+use Rattle.std.proofs.Common.{◌≡◌, ◌*◌, ◌<◌, false, length, ap, arith}
 use Rattle.dq_core.specs.Slots.{is_held, row_at}
 use Rattle.dq_core.proofs.SlotRows.{read_is, room_kept}
 use Rattle.dq_core.proofs.Renewing.{worn_forgotten}
@@ -11,4 +11,4 @@ invariant_of-self g c =
     let r = read_is c.self.inside.cells.items c.args.index c.index_mut-cell.result.now inside c.index_mut-cell.ensures.value in
     let same = ap (λ r. r.stamp) r in
     let at = c.stamp.ensures in
-    rw c.forget.ensures (worn_forgotten c.self.invariant.0 c.set.new.self c.args.index inside h (omega arith) c.set.ensures, room_kept c.self.inside.cells.items c.args.index _ _ _ c.self.invariant.1 refl)
+    rw c.forget.ensures (worn_forgotten c.self.invariant.0 _ _ c.args.index inside h (omega arith) c.renew_slot.ensures, room_kept c.self.inside.cells.items c.args.index _ _ _ c.self.invariant.1 (ap (λ n. 64 * n) c.renew_slot.ensures.waits_room), room_kept c.self.inside.cells.items c.args.index _ _ _ c.self.invariant.2 (ap (λ n. 64 * n) c.remove-waits.ensures.removed.2.0))

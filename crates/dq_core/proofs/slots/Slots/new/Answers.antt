@@ -8,7 +8,7 @@ use Rattle.dq_core.proofs.slots.Slots.new.Goals as goal
 pub invariant_of-result : goal.invariant_of-result
 invariant_of-result g c =
     let all : c.loop-index.index ≡ c.args.capacity = omega arith in
-    (new_is c.args.last c.args.capacity c.loop-index.cells.items _ c.requires.used c.requires.bound c.requires.size (rw (← all) c.loop-index.invariant.rows) (rw all at c.loop-index.invariant.freed) c.loop-index.invariant.room, rw (c.loop-index.invariant.rows, length-replicate c.loop-index.index unused, all) c.in_ok-deferred.ensures.0)
+    (new_is c.args.last c.args.capacity c.loop-index.cells.items _ _ c.requires.used c.requires.bound c.requires.size (rw (← all) c.loop-index.invariant.rows) (rw all at c.loop-index.invariant.freed) c.in_ok-deferred.ensures.2 c.loop-index.invariant.room, rw (c.loop-index.invariant.rows, length-replicate c.loop-index.index unused, all) c.in_ok-deferred.ensures.0, rw (c.loop-index.invariant.rows, length-replicate c.loop-index.index unused, all) c.in_ok-deferred_worn.ensures.0)
 
 pub loop-index-init : goal.loop-index-init
 loop-index-init g c =
