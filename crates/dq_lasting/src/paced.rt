@@ -22,6 +22,9 @@ use std::alloc::{Allocator, Global};
 use std::num::NonZeroU32;
 use std::sync::Wait;
 
+// What a poll gives where it has come to an end.
+type Polled<T> = Poll<Result<Expired<T>, LastingError>>;
+
 impl<T: Drop, A: Allocator> LastingShard<T, A> {
     // As `poll_or_park`, by at most `most` steps. None where more is to do, and then nothing is parked.
     fn poll_some_or_park(
@@ -29,7 +32,7 @@ impl<T: Drop, A: Allocator> LastingShard<T, A> {
         tick: u64,
         most: u32,
         slot: &mut Option<Waker>,
-    ) -> Option<Poll<Result<Expired<T>, LastingError>>>
+    ) -> Option<Polled<T>>
         ensures { PollsSomeOrParksWith self.old tick most slot.old result self.new }
     {
         match self.poll_some(tick, most) {
@@ -52,7 +55,7 @@ impl<T: Drop, A: Allocator> LastingQueue<T, A> {
         most: u32,
         slot: &mut Option<Waker>,
         before: &mut Option<Parked<Option<u64>>>,
-    ) -> (Option<Poll<Result<Expired<T>, LastingError>>>, usize)
+    ) -> (Option<Polled<T>>, usize)
         requires { place < self.now.shards }
         ensures { AtPlace {T = T} self.now.shards place (λ old r new.
             PollsSomeOrParksWith (with_none_parked old) tick most slot.old r new) result.0 }

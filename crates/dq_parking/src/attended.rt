@@ -24,6 +24,9 @@ use dq_ticks::{EntryId, Key};
 use dq_words::{Keeper, ManyTurn, poll_into};
 use std::alloc::{Allocator, Global};
 
+// What an insert gives: its key, or why it is refused and the value.
+type Inserted<T> = Result<Key, (CoreError, T)>;
+
 /// A queue over words that callers share, and the poller that is parked there.
 #[derive(Drop)]
 pub struct Attended<T, N = u64, A: Allocator = Global> {
@@ -72,11 +75,7 @@ impl<T: Drop, N: Until, A: Allocator> Attended<T, N, A> {
     /// As [`DelayCore::insert`]. Refused, nothing changes. What waited for its drop where the entry is now is handed over,
     /// to be dropped once the lock is free: none, where it was taken out before.
     #[inline(always)]
-    pub fn insert(
-        &mut self,
-        value: T,
-        when: u64,
-    ) -> (Result<Key, (CoreError, T)>, Leaver<N>, Option<T>)
+    pub fn insert(&mut self, value: T, when: u64) -> (Inserted<T>, Leaver<N>, Option<T>)
         requires { MayWait N.lasts self.old.core self.old.parked }
         ensures refused { IfErr result.0 (λ e. self.new ≡ self.old) }
         ensures inserts { Inserts self.old.core value when result.0 self.new.core }

@@ -142,11 +142,11 @@ fn calls<A: Allocator + Copy>(rt: &impl Abort, heap: A) -> Result<(), Fail> {
     every_call(rt, &mut queue(heap)?)
 }
 
-// Over a heap that refuses what comes behind the makings: one allocation of the words, four of the queue.
+// Over a heap that refuses what comes behind the makings: one allocation of the words, six of the queue.
 #[test]
 fn calls_take_no_memory(rt: HostRuntime) -> Result<(), Fail> {
     let all = LocalHeap::new(rt.alloc(), 1 << 16)?;
-    let heap = RefusingHeap::new(&all, 5);
+    let heap = RefusingHeap::new(&all, 7);
     calls(&rt, &heap)?;
     assert!(rt; !heap.has_refused());
     Ok(())

@@ -162,14 +162,14 @@ fn refusals(rt: &impl Abort, alloc: Global, making: Making, capacity: u16) -> Re
 const ALLOCATIONS: &[(Making, u64)] = &[
     // the row of entries and of the heads of the lists
     (Making::Wheel, 1),
-    // the cells, and of those that are free the small stack and the bits
-    (Making::Slots, 3),
+    // the cells, of those that are free the small stack and the bits, and two rows of bits of those whose value waits
+    (Making::Slots, 5),
     (Making::PlainWords, 1),
     // the row of zeros, the table's words, its row of no slots, and the table itself
     (Making::SharedWords, 4),
     // the slots and the wheel: the words are there already
-    (Making::QueueOverPlainWords, 4),
-    (Making::QueueOverSharedWords, 4),
+    (Making::QueueOverPlainWords, 6),
+    (Making::QueueOverSharedWords, 6),
     (Making::PlainTwin, 1),
 ];
 

@@ -117,7 +117,7 @@ where
 // The rows of shards and of who waits for their locks, and the words, wheel and slots of both; a name; the row of
 // callers.
 fn all_are_refused(rt: &impl Abort, places: &[Refused]) {
-    same(rt, "new", times(places, Refused::New), 18);
+    same(rt, "new", times(places, Refused::New), 22);
     same(rt, "login", times(places, Refused::Login), 1);
     same(rt, "handle", times(places, Refused::Handle), 1);
 }

@@ -141,12 +141,12 @@ fn counted<R: Abort + Wait>(rt: &R, all: &LocalHeap) -> Result<[u64; 5], Fail> {
 fn counts_each<R: Abort + Wait>(rt: &R, all: &LocalHeap) -> Result<(), Fail> {
     let counts = counted(rt, all)?;
     same(rt, "used", all.used(), 0);
-    same(rt, "refused", counts, [18, 1, 1, 7, 1]);
+    same(rt, "refused", counts, [22, 1, 1, 9, 1]);
     Ok(())
 }
 
-// A queue of two shards takes a row of them and one of who waits for their locks, and eight times for each: four for
-// its words, three for its slots, one for its wheel. A handle takes a row of callers, the states take one, and an
+// A queue of two shards takes a row of them and one of who waits for their locks, and ten times for each: four for
+// its words, five for its slots, one for its wheel. A handle takes a row of callers, the states take one, and an
 // opening takes the words and the slots anew.
 #[test]
 fn each_allocation_refused(rt: HostRuntime) -> Result<(), Fail> {

@@ -218,9 +218,9 @@ fn grants_of_the_makings<R: Abort + Wait>(rt: &R, alloc: Global) -> Result<Optio
 // Where the heap refuses whatever comes behind the makings' own allocations, each other call is accepted.
 #[test]
 fn other_calls_take_no_memory(rt: HostRuntime) -> Result<(), Fail> {
-    // The rows of the shards and of their waiters; of each shard its words (4), slots (3) and wheel (1); a handle's
+    // The rows of the shards and of their waiters; of each shard its words (4), slots (5) and wheel (1); a handle's
     // row.
-    let grants = 2 + 3 * 8 + 1;
+    let grants = 2 + 3 * 10 + 1;
     same(
         &rt,
         "grants",

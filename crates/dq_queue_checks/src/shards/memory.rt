@@ -120,12 +120,12 @@ where
 }
 
 // A queue takes a row of its shards, and one of who waits for their locks. Each shard takes four times for its words
-// (a row of zeros, the table's words, its row of no slots, the table itself), three times for its slots (cells, and
-// two rows of those that are free) and once for its wheel. A handle takes a row of callers.
+// (a row of zeros, the table's words, its row of no slots, the table itself), five times for its slots (cells, two rows
+// of those that are free, and two of those whose value waits) and once for its wheel. A handle takes a row of callers.
 #[test]
 fn each_allocation_is_refused(rt: HostRuntime) -> Result<(), Fail> {
-    same(&rt, "1 shard", refusals(&rt, 1)?, (10, 1));
-    same(&rt, "3 shards", refusals(&rt, 3)?, (26, 1));
+    same(&rt, "1 shard", refusals(&rt, 1)?, (12, 1));
+    same(&rt, "3 shards", refusals(&rt, 3)?, (32, 1));
     Ok(())
 }
 
@@ -162,5 +162,5 @@ fn issues<R: Abort + Wait>(rt: &R, heap: &Heap) -> Result<(), Fail> {
 #[test]
 fn issued_callers_take_no_memory(rt: HostRuntime) -> Result<(), Fail> {
     let all = LocalHeap::new(rt.alloc(), 1 << 16)?;
-    issues(&rt, &RefusingHeap::new(&all, 26))
+    issues(&rt, &RefusingHeap::new(&all, 32))
 }

@@ -9,14 +9,12 @@ use crate::parking::{forget, let_sleep, register, Parked, StreamFault, TickSourc
 use core::num::NonZeroU32;
 use core::task::{Context, Poll, Waker};
 
+// What a poll gives where it has come to an end.
+type Polled<T> = Poll<Result<Expired<T>, LastingError>>;
+
 impl<T> LastingShard<T> {
     // As `poll_or_park`, by at most `most` steps. None where more is to do, and then nothing is parked.
-    fn poll_some_or_park(
-        &mut self,
-        tick: u64,
-        most: u32,
-        slot: &mut Option<Waker>,
-    ) -> Option<Poll<Result<Expired<T>, LastingError>>> {
+    fn poll_some_or_park(&mut self, tick: u64, most: u32, slot: &mut Option<Waker>) -> Option<Polled<T>> {
         match self.poll_some(tick, most) {
             Ok(Piece::Working) => None,
             Ok(Piece::Answer(Turn::Out(expired))) => Some(Poll::Ready(Ok(expired))),
@@ -36,7 +34,7 @@ impl<T> LastingQueue<T> {
         most: u32,
         slot: &mut Option<Waker>,
         before: &mut Option<Parked<Option<u64>>>,
-    ) -> (Option<Poll<Result<Expired<T>, LastingError>>>, usize) {
+    ) -> (Option<Polled<T>>, usize) {
         // requires place < self.now.shards
         let mut shard = self.lock(place);
         *before = shard.take_parked();
