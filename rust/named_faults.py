@@ -214,9 +214,9 @@ FAULTS = [
     ),
     (
         "insert sweeps", "lasting/calls.rs",
-        "let (answer, leaver) = shard.insert_quietly(value, when);",
+        "let (answer, leaver, _crowded) = shard.insert_quietly(value, when);",
         "shard.sweep();\n"
-        "        let (answer, leaver) = shard.insert_quietly(value, when);",
+        "        let (answer, leaver, _crowded) = shard.insert_quietly(value, when);",
     ),
     (
         "sweep sweeps the next place", "lasting/calls.rs",

@@ -10,6 +10,9 @@ use crate::ticks::{EntryId, Key};
 use crate::words::{poll_into, Keeper, ManyTurn};
 use alloc::vec::Vec;
 
+// What an insert gives: its key, or why it is refused and the value.
+type Inserted<T> = Result<Key, (CoreError, T)>;
+
 /// A queue over words that callers share, and the poller that is parked there.
 pub struct Attended<T, N = u64> {
     /// The queue.
@@ -46,7 +49,7 @@ impl<T, N: Until> Attended<T, N> {
     /// As [`DelayCore::insert`]. Refused, nothing changes. What waited for its drop where the entry is now is handed over,
     /// to be dropped once the lock is free: none, where it was taken out before.
     #[inline(always)]
-    pub fn insert(&mut self, value: T, when: u64) -> (Result<Key, (CoreError, T)>, Leaver<N>, Option<T>) {
+    pub fn insert(&mut self, value: T, when: u64) -> (Inserted<T>, Leaver<N>, Option<T>) {
         // requires MayWait N.lasts self.old.core self.old.parked
         let (answer, crowded) = self.core.insert_deferring(value, when);
         match answer {
