@@ -4,8 +4,8 @@
 //! until a run meets no panic. After each run the queue is gone through: its tally adds up, what is live comes out in
 //! order and not early, each slot can be filled, and each value is dropped once.
 
-// The tests ask for a newer Rust than the crate.
-#![allow(clippy::incompatible_msrv)]
+// The tests ask for a newer Rust than the crate, and drop what a call gives whatever its type is.
+#![allow(clippy::incompatible_msrv, clippy::drop_non_drop, dropping_copy_types)]
 
 #[path = "panics/kit.rs"]
 mod kit;

@@ -171,7 +171,8 @@ pub fn panics_in_turn<Q: Subject>(name: &str, call: impl Fn(&mut Q, &Keys)) -> u
         for panics_at in 1.. {
             assert!(panics_at < 100, "{name} has no end of the program's code");
             DROPPED.with_borrow_mut(Vec::clear);
-            (KEYS.set(0), BY_A_DROP.set(false));
+            KEYS.set(0);
+            BY_A_DROP.set(false);
             let (mut queue, keys) = prepared::<Q>(state);
             PANICS_AT.set(panics_at);
             let ended = catch_unwind(AssertUnwindSafe(|| call(&mut queue, &keys)));
