@@ -33,6 +33,7 @@ pub struct ShardState<T, A: Allocator = Global> {
     // Shards stand in one row. Each is, behind its lock, a whole number of cache lines, and no line has what two of them
     // write. A test tells: where a field is added, some room has to be.
     pub(crate) attended: Attended<T, u64, A>,
+    _room: [u64; 5],
 }
 
 impl<T, A: Allocator> Model for ShardState<T, A> {
@@ -56,6 +57,7 @@ impl<T, A: Allocator> From<DelayCore<T, Keeper<A>, A>> for ShardState<T, A> {
         ShardState {
             _apart: [0; 7],
             attended: Attended::new(core),
+            _room: [0; 5],
         }
     }
 }
