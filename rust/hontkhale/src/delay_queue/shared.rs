@@ -142,9 +142,15 @@ impl<T> Shared<T> {
         if self.moved.load(SeqCst) == 0 {
             return Err(KeyError::Ended);
         }
-        let moves = self.moves();
+        let mut moves = self.moves();
         let place = moves.place(key).ok_or(KeyError::Ended)?;
-        self.step_at(&place, step)?.ok_or(KeyError::Ended)
+        let made = self.step_at(&place, step)?.ok_or(KeyError::Ended)?;
+        if let Step::Cancel = step {
+            // It doesn't come out, so that nobody else forgets where it is.
+            moves.end(&place);
+            self.moved.store(moves.len(), SeqCst);
+        }
+        Ok(made)
     }
 
     /// A step on the entry at a place; none where it isn't there, or isn't live.
@@ -458,34 +464,32 @@ impl<T> Shared<T> {
         let segment = self.segment(place.segment()).ok_or(Unmoved::Ended)?;
         let at = segment.place_of(place.number());
         let mut source = segment.enter(at);
-        let deadline = source.deadline(&place.entry()).map_err(|_| Unmoved::Ended)?;
-        let tick = tick.unwrap_or(deadline);
+        source.deadline(&place.entry()).map_err(|_| Unmoved::Ended)?;
         let key = moves.key(place);
         // From here on whoever doesn't find the entry at its place asks for where it was moved.
         self.moved.store(moves.len() + 1, SeqCst);
         let moved = self.put_elsewhere(&mut source, (place.segment(), at), &place.entry(), tick);
-        if let Ok(present) = &moved {
+        if let Ok((present, _)) = &moved {
             moves.note(key, *present);
         }
         drop(source);
-        moves.purge(|place| self.is_linked(place));
         self.moved.store(moves.len(), SeqCst);
-        moved.map(|_| tick)
+        moved.map(|(_, tick)| tick)
     }
 
     /// Takes an entry out of a shard whose lock is held, and puts it in anew: there, or in the first shard that has room. No
-    /// value is dropped meanwhile: a shard where some are set aside isn't taken.
+    /// value is dropped meanwhile: a shard where some are set aside isn't taken. It gives the entry's present key and deadline.
     fn put_elsewhere(
         &self,
         source: &mut Locked<'_, T>,
         from: (usize, usize),
         entry: &EntryId,
-        tick: u64,
-    ) -> Result<Key, Unmoved> {
+        tick: Option<u64>,
+    ) -> Result<(Key, u64), Unmoved> {
         let takes = |shard: &Locked<'_, T>| shard.has_room() && shard.aside() == 0;
         if takes(source) {
             let removed = source.remove(entry).map_err(|_| Unmoved::Ended)?;
-            return Ok(self.put(source, from.0, removed.value, tick));
+            return Ok(self.put(source, from.0, removed, tick));
         }
         for (at, segment) in self.segments() {
             for place in 0..segment.rows.len() {
@@ -495,27 +499,19 @@ impl<T> Shared<T> {
                 let mut other = segment.enter(place);
                 if takes(&other) {
                     let removed = source.remove(entry).map_err(|_| Unmoved::Ended)?;
-                    return Ok(self.put(&mut other, at, removed.value, tick));
+                    return Ok(self.put(&mut other, at, removed, tick));
                 }
             }
         }
         Err(Unmoved::NoRoom)
     }
 
-    fn put(&self, shard: &mut Locked<'_, T>, at: usize, value: T, tick: u64) -> Key {
-        let key = shard.insert(value, tick).map_err(|(error, _)| error);
+    fn put(&self, shard: &mut Locked<'_, T>, at: usize, removed: Removed<T>, tick: Option<u64>) -> (Key, u64) {
+        // An extend takes no lock: the deadline that counts is the one with which the entry was taken out.
+        let tick = tick.unwrap_or(removed.deadline);
+        let key = shard.insert(removed.value, tick).map_err(|(error, _)| error);
         shard.lower_hint(tick);
-        self.key(at, &key.expect("a shard that has a free slot"))
-    }
-
-    fn is_linked(&self, place: &Key) -> bool {
-        let Some(segment) = self.segment(place.segment()) else {
-            return false;
-        };
-        segment
-            .enter(segment.place_of(place.number()))
-            .filed(&place.entry())
-            .is_some()
+        (self.key(at, &key.expect("a shard that has a free slot")), tick)
     }
 }
 
