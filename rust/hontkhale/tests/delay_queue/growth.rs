@@ -69,6 +69,34 @@ fn a_receiver_in_a_quiet_moment_frees_what_was_cancelled() {
     assert_eq!((drops.count(0), queue.stats().cancelled), (1, 0));
 }
 
+/// Also one that waits for nothing, and one that finds the queue closed. The values count as cancelled until they are dropped.
+#[test]
+fn a_receiver_drops_what_it_freed_before_it_returns_none() {
+    let (clock, drops) = (ManualClock::new(), Drops::default());
+    let queue = DelayQueue::builder().clock(&clock).build();
+    let cancels = |numbers: std::ops::Range<u64>| {
+        for number in numbers {
+            let key = queue.insert(drops.value(number), ms(1)).expect("room");
+            queue.cancel(&key).expect("it waits");
+        }
+        clock.advance(ms(1));
+    };
+    cancels(0..10);
+    assert!(queue.recv_timeout(ms(0)).is_none());
+    assert_eq!(queue.stats().cancelled, 0);
+    assert!(drops.are_once(10));
+    queue.insert(drops.value(10), ms(2)).expect("room");
+    cancels(11..20);
+    clock.advance(ms(1));
+    // The values that were freed on the way to it are dropped with the next call.
+    assert_eq!(queue.try_recv().map(|expired| expired.value.number), Some(10));
+    assert_eq!(queue.stats().cancelled, 9);
+    queue.close();
+    assert!(queue.recv().is_none());
+    assert_eq!(queue.stats().cancelled, 0);
+    assert!(drops.are_once(20));
+}
+
 #[test]
 fn a_deadline_a_century_away_comes_out_then() {
     let clock = ManualClock::new();
