@@ -2,6 +2,7 @@
 
 use crate::core::{CallError, CoreError, Look, Removed};
 use crate::delay_queue::callers::{route, Front, Handles};
+use crate::delay_queue::dropping::{Dropping, LetGo};
 use crate::delay_queue::errors::{InsertErrorKind, KeyError};
 use crate::delay_queue::key::Key;
 use crate::delay_queue::moves::Moves;
@@ -43,6 +44,7 @@ pub(crate) struct Shared<T> {
     /// Held while a segment is made.
     grows: Mutex<()>,
     moves: Mutex<Moves>,
+    pub let_go: Arc<LetGo<T>>,
     /// How many entries were moved. It isn't 0 from before one is taken out of its place.
     moved: AtomicUsize,
     /// By how many ticks an entry was late at most as it came out.
@@ -213,6 +215,7 @@ impl<T> Shared<T> {
             open: AtomicUsize::new(0),
             grows: Mutex::default(),
             moves: Mutex::new(Moves::new()),
+            let_go: Arc::new(LetGo::new()),
             moved: AtomicUsize::new(0),
             latest: AtomicU64::new(0),
             swept: AtomicU64::new(0),
@@ -353,7 +356,8 @@ impl<T> Shared<T> {
             return Ok(());
         }
         let slot = self.segments.get(open).ok_or(InsertErrorKind::Full)?;
-        let segment = Segment::new(self.limits.of_segment(open)).map_err(|_| InsertErrorKind::NoMemory)?;
+        let segment =
+            Segment::new(self.limits.of_segment(open), &self.let_go).map_err(|_| InsertErrorKind::NoMemory)?;
         let _ = slot.set(Box::new(segment));
         self.open.store(open + 1, SeqCst);
         Ok(())
@@ -518,14 +522,18 @@ impl<T> Shared<T> {
 impl<T> Shared<T> {
     /// Drops the values that were let go and that nobody dropped yet. No lock is held meanwhile.
     pub fn tidy(&self) {
+        if self.let_go.has_some() {
+            self.let_go.drop_all();
+        }
         for (_, segment) in self.segments().filter(|(_, segment)| segment.has_aside.load(SeqCst)) {
             segment.drop_all_aside();
         }
     }
 
-    /// Whether there are such values.
+    /// Whether there are no such values that this thread may drop now.
     pub fn is_tidy(&self) -> bool {
-        !self.segments().any(|(_, segment)| segment.has_aside.load(SeqCst))
+        let has_some = || self.segments().any(|(_, segment)| segment.has_aside.load(SeqCst));
+        Dropping::is_begun() || !(self.let_go.has_some() || has_some())
     }
 
     /// A bounded part of what is done where nothing is due: cancelled entries are freed, and worn shards renewed.
@@ -571,6 +579,9 @@ impl<T> Shared<T> {
     /// dropped.
     #[cold]
     fn renew(&self, segment: &Segment<T>, at: usize) {
+        let Some(_dropping) = Dropping::begin() else {
+            return;
+        };
         if segment.is_renewed.swap(true, SeqCst) {
             return;
         }
