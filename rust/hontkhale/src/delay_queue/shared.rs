@@ -318,6 +318,8 @@ impl<T> Shared<T> {
     fn insert_elsewhere(&self, value: T, tick: u64) -> Result<Key, (InsertErrorKind, T)> {
         let mut value = value;
         for turn in 0.. {
+            // It is read first: where another thread has made a segment since, that one is tried before one more is made.
+            let open = self.open.load(SeqCst);
             for (at, segment) in self.segments() {
                 for place in (0..segment.rows.len()).filter(|place| segment.rows[*place].has_room()) {
                     match self.insert_at(at, segment, place, value, tick) {
@@ -326,7 +328,6 @@ impl<T> Shared<T> {
                     }
                 }
             }
-            let open = self.open.load(SeqCst);
             if turn == 0 && open > 0 {
                 self.make_room();
             } else if let Err(kind) = self.grow(open) {

@@ -3,6 +3,8 @@
 use crate::kit::{ms, Drops, FAR};
 use hontkhale::delay_queue::{InsertErrorKind, ManualClock};
 use hontkhale::DelayQueue;
+use std::sync::Barrier;
+use std::thread;
 use std::time::Duration;
 
 #[test]
@@ -20,6 +22,25 @@ fn an_empty_queue_takes_little_and_grows_as_entries_come() {
         queue.insert(number, FAR).expect("room");
     }
     assert_eq!(queue.stats().memory, memory);
+}
+
+/// No segment is made where another thread has just made one that has room.
+#[test]
+fn eight_threads_take_no_more_memory_than_one() {
+    let memory_of = |threads: u64| {
+        let queue = DelayQueue::builder().shards(2).build();
+        let begins = Barrier::new(threads as usize);
+        let inserts = || {
+            begins.wait();
+            (0..16_000 / threads).for_each(|number| assert!(queue.insert(number, FAR).is_ok()));
+        };
+        thread::scope(|scope| (0..threads).for_each(|_| drop(scope.spawn(inserts))));
+        queue.stats().memory
+    };
+    let memory = memory_of(1);
+    for _ in 0..100 {
+        assert_eq!(memory_of(8), memory);
+    }
 }
 
 #[test]
