@@ -10,6 +10,7 @@ use crate::delay_queue::segment::{Locked, Segment};
 use crate::delay_queue::waking::NEVER;
 use crate::lasting::{Kept, LastingConfig, LastingHandle};
 use crate::ticks::{self, EntryId, CAPACITY_LIMIT};
+use crate::LAST_TICK;
 use std::sync::atomic::{AtomicU64, AtomicUsize, Ordering::SeqCst};
 use std::sync::{Arc, Mutex, MutexGuard, OnceLock, PoisonError};
 
@@ -66,7 +67,7 @@ pub(crate) enum Step {
 }
 
 impl Step {
-    /// An extend to a tick. Beyond the last one it is refused once the key is found to be of the queue.
+    /// An extend to a tick. Beyond the last one it is refused once the key is found to be of the queue, live or not.
     pub fn to(tick: Option<u64>) -> Step {
         Step::Extend(tick.unwrap_or(u64::MAX))
     }
@@ -89,6 +90,9 @@ impl Step {
 pub(crate) fn quick_step(front: &Arc<Front>, key: &Key, step: Step) -> Option<Result<u64, KeyError>> {
     if key.queue() != front.number() {
         return Some(Err(KeyError::WrongQueue));
+    }
+    if matches!(step, Step::Extend(tick) if tick > LAST_TICK) {
+        return Some(Err(KeyError::TooFar));
     }
     let made = front.with_handles(|handles| match handles.get_mut(key.segment()) {
         Some(Some(handle)) => Some(step.make(handle, &key.inner())),
