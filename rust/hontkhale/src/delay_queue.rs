@@ -318,7 +318,8 @@ impl<T> DelayQueue<T> {
     }
 
     /// A moment that isn't after any deadline, none where no entry is there. It is the first deadline, or an earlier one that
-    /// was extended or cancelled since. It takes the lock of the shards that may have it, and may look at each of their entries.
+    /// was extended or cancelled since; where all deadlines are more than two years away it is an earlier moment too. It takes
+    /// the lock of the shards that may have it, and may look at each of their entries.
     pub fn next_deadline(&self) -> Option<Instant> {
         self.shared
             .first_filed_before(NEVER)
