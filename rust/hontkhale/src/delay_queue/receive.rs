@@ -257,6 +257,8 @@ pub struct Drain<'q, T> {
     segment: usize,
     place: usize,
     slot: usize,
+    /// The moves of entries that were made as this way through the shards began.
+    moves: u64,
 }
 
 impl<'q, T> Drain<'q, T> {
@@ -266,7 +268,23 @@ impl<'q, T> Drain<'q, T> {
             segment: 0,
             place: 0,
             slot: 0,
+            moves: shared.moves_made.load(SeqCst),
         }
+    }
+
+    /// The next live entry on the way through the shards.
+    fn next_on_the_way(&mut self) -> Option<(Key, Instant, T)> {
+        let shared = self.shared;
+        while let Some(segment) = shared.segment(self.segment) {
+            if let Some(taken) = self.next_here(segment) {
+                return Some(taken);
+            }
+            (self.place, self.slot) = (self.place + 1, 0);
+            if self.place == segment.rows.len() {
+                (self.segment, self.place) = (self.segment + 1, 0);
+            }
+        }
+        None
     }
 
     /// The next live entry of the present shard. What was cancelled is freed on the way.
@@ -294,17 +312,18 @@ impl<T> Iterator for Drain<'_, T> {
     fn next(&mut self) -> Option<(Key, Instant, T)> {
         // What was cancelled is dropped while nothing is in hand.
         self.shared.tidy();
-        let shared = self.shared;
-        while let Some(segment) = shared.segment(self.segment) {
-            if let Some(taken) = self.next_here(segment) {
+        loop {
+            if let Some(taken) = self.next_on_the_way() {
                 return Some(taken);
             }
-            (self.place, self.slot) = (self.place + 1, 0);
-            if self.place == segment.rows.len() {
-                (self.segment, self.place) = (self.segment + 1, 0);
+            // What was moved meanwhile may be where the way has been.
+            let again = Drain::new(self.shared);
+            if again.moves == self.moves {
+                break;
             }
+            *self = again;
         }
-        shared.tidy();
+        self.shared.tidy();
         None
     }
 }

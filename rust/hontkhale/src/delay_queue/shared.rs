@@ -48,6 +48,8 @@ pub(crate) struct Shared<T> {
     pub let_go: Arc<LetGo<T>>,
     /// How many entries were moved. It isn't 0 from before one is taken out of its place.
     moved: AtomicUsize,
+    /// The moves since the queue's making.
+    pub moves_made: AtomicU64,
     /// By how many ticks an entry was late at most as it came out.
     pub latest: AtomicU64,
     /// The accepted cancels as the sweep of all shards began that is under way, and where it goes on.
@@ -221,6 +223,7 @@ impl<T> Shared<T> {
             moves: Mutex::new(Moves::new()),
             let_go: Arc::new(LetGo::new()),
             moved: AtomicUsize::new(0),
+            moves_made: AtomicU64::new(0),
             latest: AtomicU64::new(0),
             swept: AtomicU64::new(0),
             sweep_at: AtomicUsize::new(0),
@@ -480,6 +483,7 @@ impl<T> Shared<T> {
         let moved = self.put_elsewhere(&mut source, (place.segment(), at), &place.entry(), tick);
         if let Ok((present, _)) = &moved {
             moves.note(key, *present);
+            self.moves_made.fetch_add(1, SeqCst);
         }
         drop(source);
         self.moved.store(moves.len(), SeqCst);

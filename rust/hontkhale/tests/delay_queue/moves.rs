@@ -4,7 +4,7 @@ use crate::kit::{ms, within_the_limit, FAR};
 use hontkhale::delay_queue::{Key, ManualClock};
 use hontkhale::DelayQueue;
 use std::sync::atomic::{AtomicBool, Ordering::SeqCst};
-use std::sync::Mutex;
+use std::sync::{Barrier, Mutex};
 use std::thread;
 
 /// Extends an entry as long as another thread makes its calls, and tells whether an extend was lost that was accepted.
@@ -85,6 +85,36 @@ fn what_was_moved_comes_out_with_its_key_while_others_are_moved() {
             inserted.sort();
             ended.sort();
             assert!(inserted == ended, "a key came out that was never given");
+        }
+    });
+}
+
+/// It would miss an entry that is moved from where it comes to where it has been.
+#[test]
+fn a_clear_takes_out_what_is_moved_meanwhile() {
+    within_the_limit(|| {
+        for round in 0..100 {
+            // Slots that are left may have stamps here.
+            let queue = DelayQueue::builder().shards(4).last_stamp(2 + round % 4).build();
+            let insert = |number| queue.insert(number, FAR).expect("room");
+            let keys: Vec<_> = (0..500_u64).map(insert).collect();
+            let (begins, is_over) = (Barrier::new(3), AtomicBool::new(false));
+            let moves = || {
+                begins.wait();
+                while !is_over.load(SeqCst) {
+                    for key in &keys {
+                        let _ = queue.reset(key, FAR);
+                    }
+                }
+            };
+            thread::scope(|scope| {
+                let movers = [(); 2].map(|()| scope.spawn(moves));
+                begins.wait();
+                queue.clear();
+                is_over.store(true, SeqCst);
+                movers.into_iter().for_each(|mover| mover.join().unwrap());
+            });
+            assert_eq!(queue.len(), 0);
         }
     });
 }
