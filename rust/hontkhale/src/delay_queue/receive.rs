@@ -337,6 +337,7 @@ impl<T> fmt::Debug for Drain<'_, T> {
 #[cfg(test)]
 mod tests {
     use crate::DelayQueue;
+    use std::panic::catch_unwind;
     use std::time::Duration;
 
     #[test]
@@ -353,5 +354,28 @@ mod tests {
         });
         assert_eq!(received.map(|expired| expired.value), Some("due"));
         assert!(queue.recv().is_none());
+    }
+    /// It would never sleep otherwise.
+    #[test]
+    fn a_receiver_of_a_thread_that_panics_comes_to_an_end_of_its_drops() {
+        struct Receives(DelayQueue<String>);
+        impl Drop for Receives {
+            fn drop(&mut self) {
+                assert!(self.0.try_recv().is_none() && self.0.try_recv().is_none());
+                self.0
+                    .insert(self.0.shared.is_tidy().to_string(), Duration::ZERO)
+                    .expect("room");
+            }
+        }
+        let queue = DelayQueue::new();
+        let key = queue.insert("cancelled".to_string(), Duration::ZERO).expect("room");
+        queue.cancel(&key).expect("it waits");
+        let receives = Receives(queue.clone());
+        let panicked = catch_unwind(move || {
+            let _receives = receives;
+            panic!("a thread that panics");
+        });
+        assert!(panicked.is_err());
+        assert_eq!(queue.recv().map(|expired| expired.value).as_deref(), Some("true"));
     }
 }

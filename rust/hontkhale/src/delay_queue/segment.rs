@@ -48,7 +48,9 @@ struct Left<'s, T> {
 impl<T> Drop for Left<'_, T> {
     fn drop(&mut self) {
         if thread::panicking() {
-            self.segment.note_aside(self.place);
+            // The other places weren't come to, and this one is noted as its lock is let go, where values are left there.
+            self.segment.has_aside.store(true, SeqCst);
+            drop(self.segment.enter(self.place));
         }
     }
 }
