@@ -6,6 +6,7 @@
 
 mod builder;
 mod callers;
+mod dropping;
 mod errors;
 mod handle;
 mod key;
@@ -72,7 +73,8 @@ use waking::NEVER;
 ///
 /// # What a value's drop may do
 /// The queue drops the values of entries that were cancelled, and those that are left as its last clone is dropped. It holds no
-/// lock meanwhile, so a drop may call the queue. A drop that panics passes through the call that made it; no entry but the
+/// lock meanwhile, so a drop may call the queue. What these calls let go in their turn is dropped after it, so that the stack
+/// holds one drop at a time. A drop that panics passes through the call that made it; no entry but the
 /// dropped one is lost, though a value that was handed to [`insert`](DelayQueue::insert) is dropped with the call.
 ///
 /// # The end
@@ -316,7 +318,8 @@ impl<T> DelayQueue<T> {
     }
 
     /// A moment that isn't after any deadline, none where no entry is there. It is the first deadline, or an earlier one that
-    /// was extended or cancelled since. It takes the lock of the shards that may have it, and may look at each of their entries.
+    /// was extended or cancelled since; where all deadlines are more than two years away it is an earlier moment too. It takes
+    /// the lock of the shards that may have it, and may look at each of their entries.
     pub fn next_deadline(&self) -> Option<Instant> {
         self.shared
             .first_filed_before(NEVER)
@@ -344,7 +347,9 @@ impl<T> DelayQueue<T> {
 
     /// Takes out all that waits, and drops it. It returns how many entries these were.
     pub fn clear(&self) -> usize {
-        self.drain().count()
+        self.drain()
+            .map(|(.., value)| self.shared.let_go.drop_value(value))
+            .count()
     }
 
     /// Takes out what waits, one entry after the other, in no promised order: its key, its deadline and its value, for a

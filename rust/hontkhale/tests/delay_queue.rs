@@ -16,6 +16,8 @@ mod growth;
 mod keys;
 #[path = "delay_queue/model.rs"]
 mod model;
+#[path = "delay_queue/moves.rs"]
+mod moves;
 #[path = "delay_queue/receivers.rs"]
 mod receivers;
 #[path = "delay_queue/servers.rs"]

@@ -10,5 +10,7 @@ mod calls;
 mod makings;
 #[path = "memory/many.rs"]
 mod many;
+#[path = "memory/queues.rs"]
+mod queues;
 #[path = "memory/refusing.rs"]
 mod refusing;

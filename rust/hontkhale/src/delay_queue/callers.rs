@@ -96,12 +96,23 @@ impl Front {
         self.is_ended.load(SeqCst)
     }
 
-    /// Ends the queue: no callers of it are kept here from now on.
+    /// Ends the queue: no callers of it are kept here from now on, nor by this thread. Another thread that has some lets them
+    /// go as it ends, or as it comes to a queue that it has none of.
     pub fn end(&self) {
         self.is_ended.store(true, SeqCst);
         let idle = mem::take(&mut *self.idle());
         let shared = mem::take(&mut *self.shared());
         drop((idle, shared));
+        let _ = KEPT.try_with(|kept| {
+            let mut kept = kept.try_borrow_mut().ok()?;
+            let place = &mut kept[self.id as usize % PLACES];
+            let is_own = |kept: &Kept| kept.id == self.id;
+            if place.as_ref().is_some_and(is_own) {
+                place.take()
+            } else {
+                None
+            }
+        });
     }
 
     fn idle(&self) -> MutexGuard<'_, Vec<Handles>> {

@@ -143,7 +143,8 @@ impl<T> Drop for Timeout<T> {
     fn drop(&mut self) {
         // The value is dropped at once: what it holds, such as a socket, is wanted no longer.
         if let Some(queue) = &self.queue {
-            drop(queue.remove(&self.key));
+            let removed = queue.remove(&self.key);
+            let _ = removed.map(|value| queue.shared.let_go.drop_value(value));
         }
     }
 }

@@ -3,15 +3,11 @@
 use crate::delay_queue::key::Key;
 use std::collections::HashMap;
 
-/// From how many on the moved entries are looked through for those that have ended.
-const FIRST_PURGE: usize = 64;
-
 pub(crate) struct Moves {
     /// The present key by the user's.
     places: HashMap<Key, Key>,
     /// The user's key by the present one.
     keys: HashMap<Key, Key>,
-    purge_at: usize,
 }
 
 impl Moves {
@@ -19,7 +15,6 @@ impl Moves {
         Moves {
             places: HashMap::new(),
             keys: HashMap::new(),
-            purge_at: FIRST_PURGE,
         }
     }
 
@@ -54,16 +49,5 @@ impl Moves {
                 key
             }
         }
-    }
-
-    /// Forgets those that have ended, where there are twice as many as the last time.
-    pub fn purge(&mut self, mut is_there: impl FnMut(&Key) -> bool) {
-        if self.places.len() < self.purge_at {
-            return;
-        }
-        self.keys.retain(|place, _| is_there(place));
-        let keys = &self.keys;
-        self.places.retain(|_, place| keys.contains_key(place));
-        self.purge_at = FIRST_PURGE.max(2 * self.places.len());
     }
 }

@@ -16,14 +16,6 @@ const STEPS: u32 = 256;
 /// How many entries are taken out under one lock.
 const TAKEN_AT_ONCE: usize = 64;
 
-/// What a wait came to.
-enum Waited<R> {
-    Took(R),
-    /// Values are to be dropped.
-    Untidy,
-    Over,
-}
-
 /// A place in the line of those that wait.
 struct Seat<'q, T> {
     shared: &'q Shared<T>,
@@ -42,18 +34,19 @@ impl<T> Shared<T> {
     pub fn wait_for<R>(&self, until: Option<Instant>, mut take: impl FnMut() -> Option<R>) -> Option<R> {
         loop {
             self.tidy();
+            // It is asked first: what was put in before a close, or was due in time, comes out.
+            let is_over = self.is_over(until);
             if let Some(taken) = take() {
                 return Some(taken);
             }
-            if self.is_over(until) {
+            if is_over {
+                self.tidy();
                 return None;
             }
             self.use_quiet_moment();
-            match self.wait_in_line(until, &mut take) {
-                Waited::Took(taken) => return Some(taken),
-                Waited::Untidy => {}
-                // What has come due meanwhile comes out.
-                Waited::Over => return take(),
+            let taken = self.wait_in_line(until, &mut take);
+            if taken.is_some() {
+                return taken;
             }
         }
     }
@@ -62,7 +55,8 @@ impl<T> Shared<T> {
         self.front.bell.is_closed() || until.is_some_and(|until| until <= self.front.time.now())
     }
 
-    fn wait_in_line<R>(&self, until: Option<Instant>, take: &mut impl FnMut() -> Option<R>) -> Waited<R> {
+    /// What `take` takes; none once values are to be dropped, or the wait is over.
+    fn wait_in_line<R>(&self, until: Option<Instant>, take: &mut impl FnMut() -> Option<R>) -> Option<R> {
         let mut seat = Seat {
             shared: self,
             wait: self.front.join(),
@@ -71,20 +65,18 @@ impl<T> Shared<T> {
             match seat.wait.step(&self.front.bell, || self.least_hint()) {
                 Todo::Step => {}
                 Todo::Take => {
-                    if let Some(taken) = take() {
-                        return Waited::Took(taken);
-                    }
-                    if !self.is_tidy() {
-                        return Waited::Untidy;
+                    let taken = take();
+                    if taken.is_some() || !self.is_tidy() {
+                        return taken;
                     }
                 }
                 Todo::Sleep(tick) => {
                     if self.is_over(until) {
-                        return Waited::Over;
+                        return None;
                     }
                     self.sleep(tick, until);
                 }
-                Todo::Leave => return Waited::Over,
+                Todo::Leave => return None,
             }
         }
     }
@@ -265,6 +257,8 @@ pub struct Drain<'q, T> {
     segment: usize,
     place: usize,
     slot: usize,
+    /// The moves of entries that were made as this way through the shards began.
+    moves: u64,
 }
 
 impl<'q, T> Drain<'q, T> {
@@ -274,7 +268,23 @@ impl<'q, T> Drain<'q, T> {
             segment: 0,
             place: 0,
             slot: 0,
+            moves: shared.moves_made.load(SeqCst),
         }
+    }
+
+    /// The next live entry on the way through the shards.
+    fn next_on_the_way(&mut self) -> Option<(Key, Instant, T)> {
+        let shared = self.shared;
+        while let Some(segment) = shared.segment(self.segment) {
+            if let Some(taken) = self.next_here(segment) {
+                return Some(taken);
+            }
+            (self.place, self.slot) = (self.place + 1, 0);
+            if self.place == segment.rows.len() {
+                (self.segment, self.place) = (self.segment + 1, 0);
+            }
+        }
+        None
     }
 
     /// The next live entry of the present shard. What was cancelled is freed on the way.
@@ -302,17 +312,18 @@ impl<T> Iterator for Drain<'_, T> {
     fn next(&mut self) -> Option<(Key, Instant, T)> {
         // What was cancelled is dropped while nothing is in hand.
         self.shared.tidy();
-        let shared = self.shared;
-        while let Some(segment) = shared.segment(self.segment) {
-            if let Some(taken) = self.next_here(segment) {
+        loop {
+            if let Some(taken) = self.next_on_the_way() {
                 return Some(taken);
             }
-            (self.place, self.slot) = (self.place + 1, 0);
-            if self.place == segment.rows.len() {
-                (self.segment, self.place) = (self.segment + 1, 0);
+            // What was moved meanwhile may be where the way has been.
+            let again = Drain::new(self.shared);
+            if again.moves == self.moves {
+                break;
             }
+            *self = again;
         }
-        shared.tidy();
+        self.shared.tidy();
         None
     }
 }
@@ -320,5 +331,51 @@ impl<T> Iterator for Drain<'_, T> {
 impl<T> fmt::Debug for Drain<'_, T> {
     fn fmt(&self, f: &mut fmt::Formatter<'_>) -> fmt::Result {
         f.debug_struct("Drain").finish_non_exhaustive()
+    }
+}
+
+#[cfg(test)]
+mod tests {
+    use crate::DelayQueue;
+    use std::panic::catch_unwind;
+    use std::time::Duration;
+
+    #[test]
+    fn what_was_put_in_just_before_the_close_comes_out() {
+        let queue = DelayQueue::new();
+        let mut is_first = true;
+        let received = queue.shared.wait_for(None, || {
+            let taken = queue.shared.take_one();
+            if std::mem::take(&mut is_first) {
+                queue.insert("due", Duration::ZERO).expect("room");
+                queue.close();
+            }
+            taken
+        });
+        assert_eq!(received.map(|expired| expired.value), Some("due"));
+        assert!(queue.recv().is_none());
+    }
+    /// It would never sleep otherwise.
+    #[test]
+    fn a_receiver_of_a_thread_that_panics_comes_to_an_end_of_its_drops() {
+        struct Receives(DelayQueue<String>);
+        impl Drop for Receives {
+            fn drop(&mut self) {
+                assert!(self.0.try_recv().is_none() && self.0.try_recv().is_none());
+                self.0
+                    .insert(self.0.shared.is_tidy().to_string(), Duration::ZERO)
+                    .expect("room");
+            }
+        }
+        let queue = DelayQueue::new();
+        let key = queue.insert("cancelled".to_string(), Duration::ZERO).expect("room");
+        queue.cancel(&key).expect("it waits");
+        let receives = Receives(queue.clone());
+        let panicked = catch_unwind(move || {
+            let _receives = receives;
+            panic!("a thread that panics");
+        });
+        assert!(panicked.is_err());
+        assert_eq!(queue.recv().map(|expired| expired.value).as_deref(), Some("true"));
     }
 }

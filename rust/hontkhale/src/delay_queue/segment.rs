@@ -1,10 +1,12 @@
 //! A queue's rows of shards, which are made one after the other as entries come.
 
+use crate::delay_queue::dropping::{Dropping, LetGo};
 use crate::delay_queue::waking::NEVER;
 use crate::lasting::{LastingConfig, LastingQueue, LockedLasting};
 use crate::{CoreError, EntryId};
 use std::ops::{Deref, DerefMut};
 use std::sync::atomic::{AtomicBool, AtomicU64, AtomicUsize, Ordering::SeqCst};
+use std::sync::Arc;
 use std::thread;
 
 /// What is known of a shard without its lock. Whoever holds the lock writes it.
@@ -30,6 +32,7 @@ pub(crate) struct Segment<T> {
     pub is_worn: AtomicBool,
     /// Whether values are set aside in one of the shards.
     pub has_aside: AtomicBool,
+    let_go: Arc<LetGo<T>>,
     /// Held by the one thread that renews shards.
     pub is_renewed: AtomicBool,
     /// The tick from which on shards are renewed next.
@@ -45,7 +48,9 @@ struct Left<'s, T> {
 impl<T> Drop for Left<'_, T> {
     fn drop(&mut self) {
         if thread::panicking() {
-            self.segment.note_aside(self.place);
+            // The other places weren't come to, and this one is noted as its lock is let go, where values are left there.
+            self.segment.has_aside.store(true, SeqCst);
+            drop(self.segment.enter(self.place));
         }
     }
 }
@@ -59,7 +64,7 @@ pub(crate) struct Locked<'s, T> {
 
 impl<T> Segment<T> {
     /// A row of empty shards.
-    pub fn new(config: LastingConfig) -> Result<Segment<T>, CoreError> {
+    pub fn new(config: LastingConfig, let_go: &Arc<LetGo<T>>) -> Result<Segment<T>, CoreError> {
         let row = || Row {
             hint: AtomicU64::new(NEVER),
             has_room: AtomicBool::new(true),
@@ -72,6 +77,7 @@ impl<T> Segment<T> {
             capacity: config.shards * config.capacity,
             is_worn: AtomicBool::new(false),
             has_aside: AtomicBool::new(false),
+            let_go: Arc::clone(let_go),
             is_renewed: AtomicBool::new(false),
             renew_at: AtomicU64::new(0),
         })
@@ -106,12 +112,21 @@ impl<T> Segment<T> {
         }
     }
 
-    /// Drops the values that are set aside at a place, while its lock is free.
+    /// Drops the values that are set aside at a place, while its lock is free. Within a drop they are let go.
     pub fn drop_aside(&self, place: usize) {
         self.rows[place].has_aside.store(false, SeqCst);
         let _left = Left { segment: self, place };
         let aside = self.queue.aside(place).expect("a shard of the segment");
-        self.queue.drop_aside(place, aside);
+        match Dropping::begin() {
+            Some(dropping) => {
+                self.queue.drop_aside(place, aside);
+                self.let_go.drop_rest(&dropping);
+            }
+            None => {
+                let take = |_| self.queue.lock(place).attended.core.take_aside();
+                (0..aside).map_while(take).for_each(|value| self.let_go.push(value));
+            }
+        }
     }
 
     fn note_aside(&self, place: usize) {

@@ -2,6 +2,7 @@
 
 use crate::core::{CallError, CoreError, Look, Removed};
 use crate::delay_queue::callers::{route, Front, Handles};
+use crate::delay_queue::dropping::{Dropping, LetGo};
 use crate::delay_queue::errors::{InsertErrorKind, KeyError};
 use crate::delay_queue::key::Key;
 use crate::delay_queue::moves::Moves;
@@ -9,6 +10,7 @@ use crate::delay_queue::segment::{Locked, Segment};
 use crate::delay_queue::waking::NEVER;
 use crate::lasting::{Kept, LastingConfig, LastingHandle};
 use crate::ticks::{self, EntryId, CAPACITY_LIMIT};
+use crate::LAST_TICK;
 use std::sync::atomic::{AtomicU64, AtomicUsize, Ordering::SeqCst};
 use std::sync::{Arc, Mutex, MutexGuard, OnceLock, PoisonError};
 
@@ -43,8 +45,11 @@ pub(crate) struct Shared<T> {
     /// Held while a segment is made.
     grows: Mutex<()>,
     moves: Mutex<Moves>,
+    pub let_go: Arc<LetGo<T>>,
     /// How many entries were moved. It isn't 0 from before one is taken out of its place.
     moved: AtomicUsize,
+    /// The moves since the queue's making.
+    pub moves_made: AtomicU64,
     /// By how many ticks an entry was late at most as it came out.
     pub latest: AtomicU64,
     /// The accepted cancels as the sweep of all shards began that is under way, and where it goes on.
@@ -64,7 +69,7 @@ pub(crate) enum Step {
 }
 
 impl Step {
-    /// An extend to a tick. Beyond the last one it is refused once the key is found to be of the queue.
+    /// An extend to a tick. Beyond the last one it is refused once the key is found to be of the queue, live or not.
     pub fn to(tick: Option<u64>) -> Step {
         Step::Extend(tick.unwrap_or(u64::MAX))
     }
@@ -87,6 +92,9 @@ impl Step {
 pub(crate) fn quick_step(front: &Arc<Front>, key: &Key, step: Step) -> Option<Result<u64, KeyError>> {
     if key.queue() != front.number() {
         return Some(Err(KeyError::WrongQueue));
+    }
+    if matches!(step, Step::Extend(tick) if tick > LAST_TICK) {
+        return Some(Err(KeyError::TooFar));
     }
     let made = front.with_handles(|handles| match handles.get_mut(key.segment()) {
         Some(Some(handle)) => Some(step.make(handle, &key.inner())),
@@ -142,9 +150,15 @@ impl<T> Shared<T> {
         if self.moved.load(SeqCst) == 0 {
             return Err(KeyError::Ended);
         }
-        let moves = self.moves();
+        let mut moves = self.moves();
         let place = moves.place(key).ok_or(KeyError::Ended)?;
-        self.step_at(&place, step)?.ok_or(KeyError::Ended)
+        let made = self.step_at(&place, step)?.ok_or(KeyError::Ended)?;
+        if let Step::Cancel = step {
+            // It doesn't come out, so that nobody else forgets where it is.
+            moves.end(&place);
+            self.moved.store(moves.len(), SeqCst);
+        }
+        Ok(made)
     }
 
     /// A step on the entry at a place; none where it isn't there, or isn't live.
@@ -207,7 +221,9 @@ impl<T> Shared<T> {
             open: AtomicUsize::new(0),
             grows: Mutex::default(),
             moves: Mutex::new(Moves::new()),
+            let_go: Arc::new(LetGo::new()),
             moved: AtomicUsize::new(0),
+            moves_made: AtomicU64::new(0),
             latest: AtomicU64::new(0),
             swept: AtomicU64::new(0),
             sweep_at: AtomicUsize::new(0),
@@ -309,6 +325,8 @@ impl<T> Shared<T> {
     fn insert_elsewhere(&self, value: T, tick: u64) -> Result<Key, (InsertErrorKind, T)> {
         let mut value = value;
         for turn in 0.. {
+            // It is read first: where another thread has made a segment since, that one is tried before one more is made.
+            let open = self.open.load(SeqCst);
             for (at, segment) in self.segments() {
                 for place in (0..segment.rows.len()).filter(|place| segment.rows[*place].has_room()) {
                     match self.insert_at(at, segment, place, value, tick) {
@@ -317,7 +335,6 @@ impl<T> Shared<T> {
                     }
                 }
             }
-            let open = self.open.load(SeqCst);
             if turn == 0 && open > 0 {
                 self.make_room();
             } else if let Err(kind) = self.grow(open) {
@@ -347,7 +364,8 @@ impl<T> Shared<T> {
             return Ok(());
         }
         let slot = self.segments.get(open).ok_or(InsertErrorKind::Full)?;
-        let segment = Segment::new(self.limits.of_segment(open)).map_err(|_| InsertErrorKind::NoMemory)?;
+        let segment =
+            Segment::new(self.limits.of_segment(open), &self.let_go).map_err(|_| InsertErrorKind::NoMemory)?;
         let _ = slot.set(Box::new(segment));
         self.open.store(open + 1, SeqCst);
         Ok(())
@@ -458,34 +476,33 @@ impl<T> Shared<T> {
         let segment = self.segment(place.segment()).ok_or(Unmoved::Ended)?;
         let at = segment.place_of(place.number());
         let mut source = segment.enter(at);
-        let deadline = source.deadline(&place.entry()).map_err(|_| Unmoved::Ended)?;
-        let tick = tick.unwrap_or(deadline);
+        source.deadline(&place.entry()).map_err(|_| Unmoved::Ended)?;
         let key = moves.key(place);
         // From here on whoever doesn't find the entry at its place asks for where it was moved.
         self.moved.store(moves.len() + 1, SeqCst);
         let moved = self.put_elsewhere(&mut source, (place.segment(), at), &place.entry(), tick);
-        if let Ok(present) = &moved {
+        if let Ok((present, _)) = &moved {
             moves.note(key, *present);
+            self.moves_made.fetch_add(1, SeqCst);
         }
         drop(source);
-        moves.purge(|place| self.is_linked(place));
         self.moved.store(moves.len(), SeqCst);
-        moved.map(|_| tick)
+        moved.map(|(_, tick)| tick)
     }
 
     /// Takes an entry out of a shard whose lock is held, and puts it in anew: there, or in the first shard that has room. No
-    /// value is dropped meanwhile: a shard where some are set aside isn't taken.
+    /// value is dropped meanwhile: a shard where some are set aside isn't taken. It gives the entry's present key and deadline.
     fn put_elsewhere(
         &self,
         source: &mut Locked<'_, T>,
         from: (usize, usize),
         entry: &EntryId,
-        tick: u64,
-    ) -> Result<Key, Unmoved> {
+        tick: Option<u64>,
+    ) -> Result<(Key, u64), Unmoved> {
         let takes = |shard: &Locked<'_, T>| shard.has_room() && shard.aside() == 0;
         if takes(source) {
             let removed = source.remove(entry).map_err(|_| Unmoved::Ended)?;
-            return Ok(self.put(source, from.0, removed.value, tick));
+            return Ok(self.put(source, from.0, removed, tick));
         }
         for (at, segment) in self.segments() {
             for place in 0..segment.rows.len() {
@@ -495,41 +512,37 @@ impl<T> Shared<T> {
                 let mut other = segment.enter(place);
                 if takes(&other) {
                     let removed = source.remove(entry).map_err(|_| Unmoved::Ended)?;
-                    return Ok(self.put(&mut other, at, removed.value, tick));
+                    return Ok(self.put(&mut other, at, removed, tick));
                 }
             }
         }
         Err(Unmoved::NoRoom)
     }
 
-    fn put(&self, shard: &mut Locked<'_, T>, at: usize, value: T, tick: u64) -> Key {
-        let key = shard.insert(value, tick).map_err(|(error, _)| error);
+    fn put(&self, shard: &mut Locked<'_, T>, at: usize, removed: Removed<T>, tick: Option<u64>) -> (Key, u64) {
+        // An extend takes no lock: the deadline that counts is the one with which the entry was taken out.
+        let tick = tick.unwrap_or(removed.deadline);
+        let key = shard.insert(removed.value, tick).map_err(|(error, _)| error);
         shard.lower_hint(tick);
-        self.key(at, &key.expect("a shard that has a free slot"))
-    }
-
-    fn is_linked(&self, place: &Key) -> bool {
-        let Some(segment) = self.segment(place.segment()) else {
-            return false;
-        };
-        segment
-            .enter(segment.place_of(place.number()))
-            .filed(&place.entry())
-            .is_some()
+        (self.key(at, &key.expect("a shard that has a free slot")), tick)
     }
 }
 
 impl<T> Shared<T> {
     /// Drops the values that were let go and that nobody dropped yet. No lock is held meanwhile.
     pub fn tidy(&self) {
+        if self.let_go.has_some() {
+            self.let_go.drop_all();
+        }
         for (_, segment) in self.segments().filter(|(_, segment)| segment.has_aside.load(SeqCst)) {
             segment.drop_all_aside();
         }
     }
 
-    /// Whether there are such values.
+    /// Whether there are no such values that this thread may drop now.
     pub fn is_tidy(&self) -> bool {
-        !self.segments().any(|(_, segment)| segment.has_aside.load(SeqCst))
+        let has_some = || self.segments().any(|(_, segment)| segment.has_aside.load(SeqCst));
+        Dropping::is_begun() || !(self.let_go.has_some() || has_some())
     }
 
     /// A bounded part of what is done where nothing is due: cancelled entries are freed, and worn shards renewed.
@@ -575,6 +588,9 @@ impl<T> Shared<T> {
     /// dropped.
     #[cold]
     fn renew(&self, segment: &Segment<T>, at: usize) {
+        let Some(_dropping) = Dropping::begin() else {
+            return;
+        };
         if segment.is_renewed.swap(true, SeqCst) {
             return;
         }

@@ -51,12 +51,14 @@ impl<T> Segment<T> {
         shard.filed(&shard.peek()?.entry())
     }
 
-    /// How many cancelled entries were freed.
+    /// How many cancelled entries were freed, but for those whose values are set aside.
     fn reaped(&self) -> u64 {
-        let tallies = (0..self.rows.len()).map(|place| self.enter(place).tally());
-        tallies
-            .map(|tally| tally.past.cancelled + tally.present.cancelled)
-            .sum()
+        let reaped = |place| {
+            let shard = self.enter(place);
+            let tally = shard.tally();
+            tally.past.cancelled + tally.present.cancelled - shard.aside() as u64
+        };
+        (0..self.rows.len()).map(reaped).sum()
     }
 
     fn memory(&self) -> usize {

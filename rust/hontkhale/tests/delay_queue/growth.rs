@@ -3,6 +3,8 @@
 use crate::kit::{ms, Drops, FAR};
 use hontkhale::delay_queue::{InsertErrorKind, ManualClock};
 use hontkhale::DelayQueue;
+use std::sync::Barrier;
+use std::thread;
 use std::time::Duration;
 
 #[test]
@@ -20,6 +22,25 @@ fn an_empty_queue_takes_little_and_grows_as_entries_come() {
         queue.insert(number, FAR).expect("room");
     }
     assert_eq!(queue.stats().memory, memory);
+}
+
+/// No segment is made where another thread has just made one that has room.
+#[test]
+fn eight_threads_take_no_more_memory_than_one() {
+    let memory_of = |threads: u64| {
+        let queue = DelayQueue::builder().shards(2).build();
+        let begins = Barrier::new(threads as usize);
+        let inserts = || {
+            begins.wait();
+            (0..16_000 / threads).for_each(|number| assert!(queue.insert(number, FAR).is_ok()));
+        };
+        thread::scope(|scope| (0..threads).for_each(|_| drop(scope.spawn(inserts))));
+        queue.stats().memory
+    };
+    let memory = memory_of(1);
+    for _ in 0..100 {
+        assert_eq!(memory_of(8), memory);
+    }
 }
 
 #[test]
@@ -67,6 +88,34 @@ fn a_receiver_in_a_quiet_moment_frees_what_was_cancelled() {
         assert!(queue.recv_timeout(ms(1)).is_none());
     }
     assert_eq!((drops.count(0), queue.stats().cancelled), (1, 0));
+}
+
+/// Also one that waits for nothing, and one that finds the queue closed. The values count as cancelled until they are dropped.
+#[test]
+fn a_receiver_drops_what_it_freed_before_it_returns_none() {
+    let (clock, drops) = (ManualClock::new(), Drops::default());
+    let queue = DelayQueue::builder().clock(&clock).build();
+    let cancels = |numbers: std::ops::Range<u64>| {
+        for number in numbers {
+            let key = queue.insert(drops.value(number), ms(1)).expect("room");
+            queue.cancel(&key).expect("it waits");
+        }
+        clock.advance(ms(1));
+    };
+    cancels(0..10);
+    assert!(queue.recv_timeout(ms(0)).is_none());
+    assert_eq!(queue.stats().cancelled, 0);
+    assert!(drops.are_once(10));
+    queue.insert(drops.value(10), ms(2)).expect("room");
+    cancels(11..20);
+    clock.advance(ms(1));
+    // The values that were freed on the way to it are dropped with the next call.
+    assert_eq!(queue.try_recv().map(|expired| expired.value.number), Some(10));
+    assert_eq!(queue.stats().cancelled, 9);
+    queue.close();
+    assert!(queue.recv().is_none());
+    assert_eq!(queue.stats().cancelled, 0);
+    assert!(drops.are_once(20));
 }
 
 #[test]

@@ -7,6 +7,7 @@ use std::cell::Cell;
 use std::collections::{BTreeSet, HashMap};
 use std::mem::size_of;
 use std::thread;
+use std::time::Duration;
 
 fn is_sent<T: Send>() {}
 fn is_shared<T: Send + Sync + Clone>() {}
@@ -99,11 +100,38 @@ fn a_deadline_that_is_too_far_is_refused_and_changes_nothing() {
     let queue = DelayQueue::new();
     let key = queue.insert((), FAR).expect("room");
     let deadline = queue.deadline(&key);
-    let too_far = std::time::Duration::from_secs(140 * 366 * 24 * 3_600);
+    let too_far = Duration::from_secs(140 * 366 * 24 * 3_600);
     assert_eq!(queue.extend(&key, too_far), Err(KeyError::TooFar));
     assert_eq!(queue.reset(&key, too_far), Err(KeyError::TooFar));
     assert_eq!(queue.handle().extend(&key, too_far), Err(KeyError::TooFar));
     assert_eq!(queue.deadline(&key), deadline);
+}
+
+/// Also in a thread that reached for none of the queue's entries before.
+#[test]
+fn of_several_refusals_the_first_that_is_told_is_returned() {
+    let (queue, other) = (DelayQueue::new(), DelayQueue::<u64>::new());
+    let key = queue.insert((), FAR).expect("room");
+    queue.remove(&key).expect("it waits");
+    let refusals = || {
+        let of_queue = [
+            queue.extend(&key, Duration::MAX).err(),
+            queue.reset(&key, Duration::MAX).err(),
+        ];
+        let of_other = [
+            other.extend(&key, Duration::MAX).err(),
+            other.reset(&key, Duration::MAX).err(),
+        ];
+        assert_eq!(of_queue, [Some(KeyError::TooFar); 2]);
+        assert_eq!(of_other, [Some(KeyError::WrongQueue); 2]);
+        assert_eq!(queue.handle().extend(&key, Duration::MAX), Err(KeyError::TooFar));
+        assert_eq!(queue.extend(&key, FAR), Err(KeyError::Ended));
+    };
+    thread::scope(|scope| drop(scope.spawn(refusals)));
+    refusals();
+    let key = queue.insert((), FAR).expect("room");
+    queue.extend(&key, FAR).expect("it waits");
+    refusals();
 }
 
 #[test]

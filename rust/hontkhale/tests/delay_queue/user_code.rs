@@ -1,7 +1,7 @@
 //! What a value's drop may do: it calls the queue, and it panics, while no lock is held.
 
-use crate::kit::{ms, within_the_limit, Drops, FAR};
-use hontkhale::delay_queue::ManualClock;
+use crate::kit::{ms, within_the_limit, Drops, Value, FAR};
+use hontkhale::delay_queue::{ManualClock, Timeout};
 use hontkhale::DelayQueue;
 use std::panic::{catch_unwind, AssertUnwindSafe};
 use std::thread;
@@ -108,5 +108,78 @@ fn an_insert_that_meets_a_drop_that_panics_puts_nothing_in() {
         assert_eq!((panicked, inserted, queue.len()), (128, 872, 872));
         queue.clear();
         assert!(drops.are_once(1_128));
+    });
+}
+
+/// How many values are dropped on a stack that holds some hundred calls.
+const MANY: u64 = 2_000;
+
+fn on_a_small_stack(test: impl FnOnce() + Send + 'static) {
+    let thread = thread::Builder::new().stack_size(256 * 1_024);
+    thread.spawn(test).expect("a thread").join().expect("the test passes");
+}
+
+type Calls = fn(&DelayQueue<Value>, &Drops, u64);
+
+/// Has all values dropped by calls on the queue, each of which makes a call in its drop.
+fn drops_many(within: Calls, are_cancelled: bool, all: Calls) {
+    let (clock, drops) = (ManualClock::new(), Drops::default());
+    let queue = DelayQueue::builder().clock(&clock).build();
+    let insert = |number: u64| {
+        let (clone, counts) = (queue.clone(), drops.clone());
+        let value = drops.value(number);
+        let value = value.then(move || within(&clone, &counts, 2 * MANY + number));
+        queue.insert(value, ms(10)).expect("room")
+    };
+    let keys: Vec<_> = (0..MANY).map(insert).collect();
+    for key in keys.iter().filter(|_| are_cancelled) {
+        queue.cancel(key).expect("it waits");
+    }
+    clock.advance(ms(10));
+    all(&queue, &drops, MANY);
+    while !queue.is_empty() {
+        queue.clear();
+    }
+    assert!(queue.try_recv().is_none());
+    assert!(drops.are_once(MANY));
+    assert_eq!(queue.stats().cancelled, 0);
+}
+
+#[test]
+fn no_drop_stands_on_the_stack_of_another() {
+    let inserts: Calls = |queue, drops, number| {
+        queue.insert(drops.value(number), FAR).expect("room");
+    };
+    let clears: Calls = |queue, _, _| {
+        queue.clear();
+    };
+    let receives: Calls = |queue, _, _| drop(queue.recv_timeout(ms(0)));
+    let tries: Calls = |queue, _, _| drop(queue.try_recv());
+    let inserts_many: Calls = |queue, drops, first| {
+        (first..first + 1_000).for_each(|number| drop(queue.insert(drops.value(number), FAR)));
+    };
+    within_the_limit(move || {
+        for all in [tries, receives, clears, inserts_many] {
+            for within in [inserts, receives, tries, clears] {
+                on_a_small_stack(move || drops_many(within, true, all));
+            }
+        }
+        on_a_small_stack(move || drops_many(clears, false, clears));
+        on_a_small_stack(move || drops_many(inserts, false, clears));
+    });
+}
+
+/// A guard that is the value of another guard's entry, and so on.
+#[test]
+fn a_chain_of_guards_is_dropped_link_by_link() {
+    struct Link(#[allow(dead_code)] Option<Timeout<Link>>);
+    on_a_small_stack(|| {
+        let queue = DelayQueue::new();
+        let mut last = None;
+        for _ in 0..MANY {
+            last = Some(queue.guard(Link(last), FAR).expect("room"));
+        }
+        drop(last);
+        assert!(queue.is_empty());
     });
 }

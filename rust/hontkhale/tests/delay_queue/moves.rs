@@ -1,0 +1,120 @@
+//! An entry that is moved while other threads reach for it, as worn slots and shards are left: no slot has a second stamp here.
+
+use crate::kit::{ms, within_the_limit, FAR};
+use hontkhale::delay_queue::{Key, ManualClock};
+use hontkhale::DelayQueue;
+use std::sync::atomic::{AtomicBool, Ordering::SeqCst};
+use std::sync::{Barrier, Mutex};
+use std::thread;
+
+/// Extends an entry as long as another thread makes its calls, and tells whether an extend was lost that was accepted.
+fn loses_an_extend(queue: &DelayQueue<u64>, key: &Key, begun: &AtomicBool, is_over: &AtomicBool) -> bool {
+    let first = queue.deadline(key).expect("it waits");
+    for turn in 1.. {
+        let deadline = queue.extend_at(key, first + ms(turn)).expect("it waits");
+        begun.store(true, SeqCst);
+        if queue.deadline(key).expect("it waits") < deadline {
+            return true;
+        }
+        if is_over.load(SeqCst) {
+            break;
+        }
+    }
+    false
+}
+
+/// An extend takes no lock, so that it may come at any step of the move of its entry out of a worn shard.
+#[test]
+fn no_extend_is_lost_while_its_entry_is_moved() {
+    within_the_limit(|| {
+        for _ in 0..400 {
+            let clock = ManualClock::new();
+            let queue = DelayQueue::builder().shards(2).last_stamp(1).clock(&clock).build();
+            let key = queue.insert(0, FAR).expect("room");
+            let (begun, is_over) = (AtomicBool::new(false), AtomicBool::new(false));
+            let is_lost = thread::scope(|scope| {
+                let extends = scope.spawn(|| loses_an_extend(&queue, &key, &begun, &is_over));
+                while !begun.load(SeqCst) {
+                    thread::yield_now();
+                }
+                for number in 0..200 {
+                    let other = queue.insert(number, FAR).expect("room");
+                    queue.remove(&other).expect("it waits");
+                    clock.advance(ms(10));
+                }
+                is_over.store(true, SeqCst);
+                extends.join().unwrap()
+            });
+            assert!(!is_lost);
+        }
+    });
+}
+
+/// Puts entries in and moves each. Of three two are due then.
+fn moves_entries(queue: &DelayQueue<u64>, keys: &Mutex<Vec<Key>>) {
+    for number in 0..2_000 {
+        let key = queue.insert(number, FAR).expect("room");
+        keys.lock().unwrap().push(key);
+        queue.reset(&key, FAR * 2).expect("it waits");
+        queue
+            .reset(&key, if number % 3 == 0 { FAR } else { ms(0) })
+            .expect("it waits");
+    }
+}
+
+#[test]
+fn what_was_moved_comes_out_with_its_key_while_others_are_moved() {
+    within_the_limit(|| {
+        for _ in 0..20 {
+            let queue = DelayQueue::builder().shards(4).last_stamp(1).build();
+            let (inserted, received) = (Mutex::new(Vec::new()), Mutex::new(Vec::new()));
+            thread::scope(|scope| {
+                let receives = || {
+                    queue
+                        .iter()
+                        .for_each(|expired| received.lock().unwrap().push(expired.key))
+                };
+                let receivers = [(); 2].map(|()| scope.spawn(receives));
+                let movers = [(); 2].map(|()| scope.spawn(|| moves_entries(&queue, &inserted)));
+                movers.into_iter().for_each(|mover| mover.join().unwrap());
+                queue.close();
+                receivers.into_iter().for_each(|receiver| receiver.join().unwrap());
+            });
+            let (mut inserted, mut ended) = (inserted.into_inner().unwrap(), received.into_inner().unwrap());
+            ended.extend(queue.drain().map(|(key, ..)| key));
+            inserted.sort();
+            ended.sort();
+            assert!(inserted == ended, "a key came out that was never given");
+        }
+    });
+}
+
+/// It would miss an entry that is moved from where it comes to where it has been.
+#[test]
+fn a_clear_takes_out_what_is_moved_meanwhile() {
+    within_the_limit(|| {
+        for round in 0..100 {
+            // Slots that are left may have stamps here.
+            let queue = DelayQueue::builder().shards(4).last_stamp(2 + round % 4).build();
+            let insert = |number| queue.insert(number, FAR).expect("room");
+            let keys: Vec<_> = (0..500_u64).map(insert).collect();
+            let (begins, is_over) = (Barrier::new(3), AtomicBool::new(false));
+            let moves = || {
+                begins.wait();
+                while !is_over.load(SeqCst) {
+                    for key in &keys {
+                        let _ = queue.reset(key, FAR);
+                    }
+                }
+            };
+            thread::scope(|scope| {
+                let movers = [(); 2].map(|()| scope.spawn(moves));
+                begins.wait();
+                queue.clear();
+                is_over.store(true, SeqCst);
+                movers.into_iter().for_each(|mover| mover.join().unwrap());
+            });
+            assert_eq!(queue.len(), 0);
+        }
+    });
+}
