@@ -63,10 +63,11 @@ class Wire:
 class Apart:
     """A network namespace, whose link to this one can be cut: packets are lost then, as between two hosts."""
 
-    def __init__(self):
-        self.name = f"jobs-{os.getpid()}"
-        self.link = f"jobs{os.getpid()}"
-        self.host, self.guest = (f"10.213.{os.getpid() % 251}.{number}" for number in (1, 2))
+    def __init__(self, number=0):
+        self.name = f"jobs-{os.getpid()}-{number}"
+        self.link = f"jobs{os.getpid()}-{number}"
+        net = f"10.{213 + number}.{os.getpid() % 251}"
+        self.host, self.guest = f"{net}.1", f"{net}.2"
 
     def __enter__(self):
         self.ip("netns", "add", self.name)

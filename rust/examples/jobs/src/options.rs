@@ -248,6 +248,11 @@ fn worker(given: &mut Given) -> Result<WorkerOptions, String> {
         metrics: given.address("--metrics")?,
         http: given.address("--http")?,
     };
+    check(&options)?;
+    Ok(options)
+}
+
+fn check(options: &WorkerOptions) -> Result<(), String> {
     if !(1..=1_000).contains(&options.clients) {
         return Err("--clients is 1 to 1000".to_owned());
     }
@@ -261,14 +266,20 @@ fn worker(given: &mut Given) -> Result<WorkerOptions, String> {
     if options.attempts < 1 {
         return Err("--attempts is 1 at least".to_owned());
     }
-    let is_plain = |text: &str| !text.is_empty() && text.len() <= 24 && text.bytes().all(|it| it.is_ascii_graphic());
-    if !is_plain(&options.name) {
+    // A slash and a space part what workers tell each other.
+    let is_plain = |text: &str, most| {
+        (1..=most).contains(&text.len()) && text.bytes().all(|it| it.is_ascii_graphic() && it != b'/')
+    };
+    if !is_plain(&options.name, 24) {
         return Err(format!("{} is no --name: it has 1 to 24 plain characters", options.name));
     }
-    if options.announce.as_deref().map_or(false, |it| !is_plain(it)) {
-        return Err("--announce has 1 to 24 plain characters".to_owned());
+    if options.announce.as_deref().map_or(false, |it| !is_plain(it, 200)) {
+        return Err("--announce has 1 to 200 plain characters, and no slash".to_owned());
     }
-    Ok(options)
+    if options.effect.is_none() && options.announce.is_none() && options.listen.ip().is_unspecified() {
+        return Err("--announce has to say where holders reach a worker that listens everywhere".to_owned());
+    }
+    Ok(())
 }
 
 /// The first line of a file.
@@ -326,6 +337,7 @@ mod tests {
             ("worker --database host=x --lease 1000", "--write-every"),
             ("worker --database host=x --clients 1001", "--clients"),
             ("worker --database host=x --sessions 1", "--sessions"),
+            ("worker --database host=x --listen 0.0.0.0:6500", "--announce"),
             ("enqueue many --database host=x", "many"),
             ("enqueue 5 --database", "--database"),
             ("status status", "status"),

@@ -62,7 +62,7 @@ pub async fn run(worker: Arc<Worker>) {
 /// Owns partitions by one session, which takes no others at first.
 async fn own(worker: &Worker, modesty: Duration) -> Result<(), Error> {
     let (sender, mut told) = unbounded_channel();
-    let mut database = worker.options.database.named(&format!("jobs {} {}", worker.address, worker.options.name));
+    let mut database = worker.options.database.named(&format!("jobs {}", worker.options.name));
     database.statement_timeout = database.statement_timeout.min(STATEMENT);
     database.lock_timeout = database.lock_timeout.min(STATEMENT);
     let session = Session::open(&database, &worker.metrics, sender).await?;
