@@ -1,4 +1,4 @@
-"""Three workers, each with a link of its own, that are killed, stopped and cut off at drawn moments, and the database once.
+"""Three workers that are killed, stopped and cut off at drawn moments, each behind a link of its own, and the database.
 
 Effects are had once. What a holder was told of a lease holds, and one attempt of a job alone is done.
 """
@@ -171,22 +171,23 @@ def holders(it, hosts, seed):
         thread.ends = True
     for thread in holding:
         thread.join(60)
-    given = {(int(job), int(attempt)): float(at) for job, attempt, at in it.sql(
-        "SELECT job, attempt, extract(epoch FROM at) FROM given"
-    )}
+    rows = it.sql("SELECT job, attempt, extract(epoch FROM at) FROM given")
+    given = {(int(job), int(attempt)): float(at) for job, attempt, at in rows}
     failed = set().union(*(it.failed for it in holding))
     told = {attempt: until for it in holding for attempt, until in it.told.items() if attempt not in failed}
-    early = [(attempt, until - given[attempt[0], attempt[1] + 1]) for attempt, until in told.items() if (
-        given.get((attempt[0], attempt[1] + 1), until) < until - 0.01
-    )]
+    early = [
+        (attempt, until - given[attempt[0], attempt[1] + 1])
+        for attempt, until in told.items()
+        if given.get((attempt[0], attempt[1] + 1), until) < until - 0.01
+    ]
     assert not early, f"{len(early)} jobs were given again before what holders were told: {early[:5]}"
     done = [attempt for it in holding for attempt in it.done]
     last = {int(id): int(attempt) for id, attempt in it.sql("SELECT id, attempt FROM jobs")}
     wrong = [attempt for attempt in done if last[attempt[0]] != attempt[1]]
     assert not wrong and len(set(it[0] for it in done)) == len(set(done)), wrong[:5]
     print(
-        f"chaos, seed {seed}: {happened}: 1,500 jobs by {len(given)} attempts, {len(told)} of them told until when, none "
-        f"replaced sooner, one of each job done; all {took:.1f} s after it",
+        f"chaos, seed {seed}: {happened}: 1,500 jobs by {len(given)} attempts, {len(told)} of them told until when, "
+        f"none replaced sooner, one of each job done; all {took:.1f} s after it",
         flush=True,
     )
 

@@ -13,8 +13,8 @@ pub const HELP: &str = "jobs VERB [OPTION..]: delayed jobs and leases in Postgre
   jobs worker              runs a worker until SIGTERM, which drains it
     --listen IP:PORT         where holders take jobs over the Redis protocol, 127.0.0.1:6500 where none is given
     --announce HOST:PORT     the address that holders are sent to, the one it listens at where none is given
-    --effect SQL             does each due job itself, by this statement over the rows of `taken`
-                             (id, due, payload, attempt, started, kind), in the transaction that takes it, and doesn't listen
+    --effect SQL             does each due job itself, by this statement over the rows of `taken` (id, due, payload,
+                             attempt, started, kind), in the transaction that takes it, and doesn't listen
     --name TEXT              told by `jobs status`, `worker` where none is given
     --lease MS               how long a job is given out without a heartbeat, 10000 where none is given
     --write-every MS         how often heartbeats are written to the table, 2000 where none is given
@@ -48,7 +48,8 @@ pub const HELP: &str = "jobs VERB [OPTION..]: delayed jobs and leases in Postgre
   --lock-timeout MS        how long a statement waits for what another session has locked, 5000 where none is given
   --help                   this text
 
-Holders say JOBS.TAKE [count] [WAIT ms] [KIND name..], JOBS.BEAT id attempt, JOBS.DONE id attempt, JOBS.FAIL id attempt [reason].
+Holders say JOBS.TAKE [count] [WAIT ms] [KIND name..], JOBS.BEAT id attempt, JOBS.DONE id attempt,
+JOBS.FAIL id attempt [reason].
 Holders have no TLS: keep --listen and --metrics where only those reach them who may.";
 
 #[derive(Clone)]
@@ -148,7 +149,7 @@ impl Given {
         let (url, wish) = tls::split(&url)?;
         let tls = Tls::new(&wish)?;
         let mut config: Config = url.parse().map_err(|_| {
-            "--database or JOBS_DATABASE names no database: it is postgres://user@host/name or host=.. user=.. dbname=.."
+            "--database or JOBS_DATABASE names no database: it is postgres://user@host/name or host=.. dbname=.."
         })?;
         if config.get_connect_timeout().is_none() {
             config.connect_timeout(CONNECT);
