@@ -9,7 +9,7 @@ use tokio_postgres::Config;
 
 pub const HELP: &str = "jobs VERB [OPTION..]: delayed jobs and leases in PostgreSQL
 
-  jobs setup               makes the table, its indexes and its trigger where they are missing
+  jobs setup               makes the tables where they are missing, and changes those of an older program
   jobs worker              runs a worker until SIGTERM, which drains it
     --listen IP:PORT         where holders take jobs over the Redis protocol, 127.0.0.1:6500 where none is given
     --announce HOST:PORT     the address that holders are sent to, the one it listens at where none is given
