@@ -420,6 +420,7 @@ def full_table(it, count):
 
         wait_for(first, 120)
         after = it.number("SELECT extract(epoch FROM min(at)) FROM effects") - begun
+        assert after < 5, f"the first job was done {after:.1f} s after the worker was started"
         time.sleep(5)
         rate = ""
         if "ago" in name:

@@ -67,7 +67,8 @@ async fn own(worker: &Worker, modesty: Duration) -> Result<(), Error> {
     database.lock_timeout = database.lock_timeout.min(STATEMENT);
     let session = Session::open(&database, &worker.metrics, sender).await?;
     let table: i64 = session.query("SELECT 'jobs'::regclass::oid::bigint", &[]).await?[0].get(0);
-    session.batch(&format!("LISTEN jobs_{table}")).await?;
+    // What is due first is read in the order of the index, however few rows the database takes all that is due for.
+    session.batch(&format!("LISTEN jobs_{table}; SET enable_bitmapscan = off")).await?;
     let modest_until = Instant::now() + modesty;
     let mut owner = Owner {
         worker,
