@@ -120,7 +120,8 @@ class Cluster:
 
     def spawn(self, *words, env=None, log=None, url=None, within=()):
         out = open(self.room / (log or "workers"), "ab")
-        process = subprocess.Popen([*within, JOBS, *words, "--database", url or self.url], stdout=out, stderr=out, env=env)
+        command = [*within, JOBS, *words, "--database", url or self.url]
+        process = subprocess.Popen(command, stdout=out, stderr=out, env=env)
         out.close()
         self.processes.append(process)
         return process

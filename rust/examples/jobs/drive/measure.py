@@ -31,7 +31,7 @@ def database_seconds(it):
     for child in children:
         try:
             total += times(child)[0]
-        except FileNotFoundError:
+        except (FileNotFoundError, ProcessLookupError):
             # It has ended, and stands in its parent's sum from now on.
             pass
     return total
@@ -314,8 +314,8 @@ def beats(seconds):
             f"{database:.2f} of the "
             f"database, both {worker + database:.2f}; a write of the leases every 5 s took {longest:.2f} s at "
             f"most, {wal:.1f} MB of log a "
-            f"second, {hot:.0f}% of the rows stayed on their page; after a SIGKILL the earliest lease ends "
-            f"{early:.2f} s early; "
+            f"second, {hot:.0f}% of the rows stayed on their page; after a SIGKILL the earliest lease is "
+            f"{early:.2f} s shorter than a whole one, as its holder was told; "
             f"the beaters were {late:.2f} s late at most",
             flush=True,
         )

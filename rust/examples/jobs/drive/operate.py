@@ -160,7 +160,10 @@ def kinds(it):
 def unique(it):
     """One job of a kind and a key waits or runs."""
     it.sql("TRUNCATE jobs")
-    one = "INSERT INTO jobs (kind, unique_key, due) VALUES ('mail', 'ann', now() + interval '1 hour') ON CONFLICT DO NOTHING"
+    one = (
+        "INSERT INTO jobs (kind, unique_key, due) VALUES ('mail', 'ann', now() + interval '1 hour') "
+        "ON CONFLICT DO NOTHING"
+    )
     it.sql(f"{one}; {one}")
     assert it.number("SELECT count(*) FROM jobs") == 1
     it.sql(f"UPDATE jobs SET state = 'dead'; {one}; {one}")
@@ -187,7 +190,7 @@ def schedules(it):
         ("0 8 29 2 *", "Europe/Berlin", "2026-03-01 00:00Z", "2028-02-29 07:00Z"),
         ("5 0 * * *", "Asia/Tokyo", "2026-06-01 15:05Z", "2026-06-02 15:05Z"),
     ]:
-        rows = it.sql(f"SELECT jobs_next('{cron}', '{zone}', '{since}') = '{expected}', jobs_next('{cron}', '{zone}', '{since}')")
+        rows = it.sql(f"SELECT next = '{expected}', next FROM jobs_next('{cron}', '{zone}', '{since}') next")
         assert rows[0][0] == "t", (cron, rows)
     it.sql("INSERT INTO jobs_schedules (name, cron, payload) VALUES ('yearly', '0 0 1 1 *', 'beat')")
     workers = [it.spawn("worker", "--effect", EFFECT, "--keep-done", "3600000") for _ in range(3)]
@@ -211,7 +214,10 @@ def schedules(it):
     for worker in workers:
         worker.terminate()
     assert [worker.wait(30) for worker in workers] == [0, 0, 0]
-    print(f"operator: a schedule fired {fired} times, each once though workers were killed; old done jobs were pruned", flush=True)
+    print(
+        f"operator: a schedule fired {fired} times, each once though workers were killed; old done jobs were pruned",
+        flush=True,
+    )
 
 
 def page(it):
@@ -248,11 +254,15 @@ def page(it):
     assert it.number("SELECT count(*) FROM jobs WHERE state = 'dead'") == 5
     status, text = ask("/retry", f"token={token}&id={id}".encode())
     assert status == 200 and text.count("<form") == 4, (status, text)
-    wait_for(lambda: it.number(f"SELECT count(*) FROM jobs WHERE state = 'done' AND attempt = 2 AND id = {id}") == 1, 20)
+    again = f"SELECT count(*) FROM jobs WHERE state = 'done' AND attempt = 2 AND id = {id}"
+    wait_for(lambda: it.number(again) == 1, 20)
     assert ask("/metrics")[0] == 200
     worker.terminate()
     assert worker.wait(30) == 0
-    print("operator: the page shows workers, lateness and dead jobs, and its button can't be pressed from elsewhere", flush=True)
+    print(
+        "operator: the page shows workers, lateness and dead jobs, and its button can't be pressed from elsewhere",
+        flush=True,
+    )
 
 
 def main():

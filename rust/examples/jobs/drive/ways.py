@@ -136,7 +136,10 @@ def failover(it):
         Holder([f"127.0.0.1:{port}"]).take(5)
         end(worker)
     it.start()
-    print(f"ways: the standby was promoted in the middle of 10,000 jobs: each done once, the first {back:.1f} s after it", flush=True)
+    print(
+        f"ways: the standby was promoted in the middle of 10,000 jobs: each done once, the first {back:.1f} s after it",
+        flush=True,
+    )
 
 
 def main():

@@ -29,6 +29,9 @@ DELETE FROM jobs WHERE id = ANY (ARRAY(
 ))
 RETURNING id";
 
+/// Workers that ended without a word.
+const FORGET: &str = "DELETE FROM jobs_workers WHERE until < now() - interval '1 minute'";
+
 /// Does it until the worker ends.
 pub async fn run(worker: Arc<Worker>) {
     let mut pruned: Option<Instant> = None;
@@ -38,6 +41,8 @@ pub async fn run(worker: Arc<Worker>) {
         }
         if pruned.map_or(true, |it| it.elapsed() > PRUNE_EVERY) && !prune(&worker).await {
             pruned = Some(Instant::now());
+            // Whoever comes next forgets them.
+            let _ = worker.links.query(FORGET, &[]).await;
         }
         tokio::time::sleep(SCHEDULES_EVERY).await;
     }

@@ -79,8 +79,8 @@ impl Error {
 
     /// Whether a limit of time or of resources ended it: of an effect, it may be one job that wants too much.
     pub fn is_limit(&self) -> bool {
-        self.is_of(&["53"])
-            || matches!(self.code(), Some(code) if [SqlState::QUERY_CANCELED, SqlState::LOCK_NOT_AVAILABLE].contains(code))
+        let limits = [SqlState::QUERY_CANCELED, SqlState::LOCK_NOT_AVAILABLE];
+        self.is_of(&["53"]) || self.code().map_or(false, |it| limits.contains(it))
     }
 
     /// Whether the database can't run the statement whatever its parameters: a table that is missing, say.

@@ -53,10 +53,8 @@ impl Beats {
     pub fn beat(&mut self, worker: &Worker, id: i64, attempt: i32) -> Beat {
         let until = worker.clock.now() + worker.options.lease.as_millis() as u64;
         if let Some(lease) = self.known.get(&id) {
-            if lease.attempt == attempt {
-                if self.handle.extend(&lease.key, until).is_ok() {
-                    return extended(worker, lease);
-                }
+            if lease.attempt == attempt && self.handle.extend(&lease.key, until).is_ok() {
+                return extended(worker, lease);
             }
             self.known.remove(&id);
         }

@@ -81,8 +81,8 @@ impl Lateness {
         }
     }
 
-    /// Of each piece that had jobs: how many seconds ago it was, and the microseconds that the half and all but one of a
-    /// hundred weren't later than, by the ends of their buckets.
+    /// Of each piece that had jobs: how many seconds ago it was, and the microseconds that the half, and all but one of
+    /// a hundred, weren't later than, by the ends of their buckets.
     pub fn recent(&self, second: u64) -> Vec<(u64, f64, f64)> {
         let recent = self.recent.lock().unwrap_or_else(PoisonError::into_inner);
         let of = |(piece, counts): &(u64, [u32; BUCKETS.len()])| {

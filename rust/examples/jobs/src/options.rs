@@ -9,12 +9,12 @@ use tokio_postgres::Config;
 
 pub const HELP: &str = "jobs VERB [OPTION..]: delayed jobs and leases in PostgreSQL
 
-  jobs setup               makes the table, its indexes and its trigger where they are missing
+  jobs setup               makes the tables where they are missing, and changes those of an older program
   jobs worker              runs a worker until SIGTERM, which drains it
     --listen IP:PORT         where holders take jobs over the Redis protocol, 127.0.0.1:6500 where none is given
     --announce HOST:PORT     the address that holders are sent to, the one it listens at where none is given
-    --effect SQL             does each due job itself, by this statement over the rows of `taken`
-                             (id, due, payload, attempt, started, kind), in the transaction that takes it, and doesn't listen
+    --effect SQL             does each due job itself, by this statement over the rows of `taken` (id, due, payload,
+                             attempt, started, kind), in the transaction that takes it, and doesn't listen
     --name TEXT              told by `jobs status`, `worker` where none is given
     --lease MS               how long a job is given out without a heartbeat, 10000 where none is given
     --write-every MS         how often heartbeats are written to the table, 2000 where none is given
@@ -48,7 +48,8 @@ pub const HELP: &str = "jobs VERB [OPTION..]: delayed jobs and leases in Postgre
   --lock-timeout MS        how long a statement waits for what another session has locked, 5000 where none is given
   --help                   this text
 
-Holders say JOBS.TAKE [count] [WAIT ms] [KIND name..], JOBS.BEAT id attempt, JOBS.DONE id attempt, JOBS.FAIL id attempt [reason].
+Holders say JOBS.TAKE [count] [WAIT ms] [KIND name..], JOBS.BEAT id attempt, JOBS.DONE id attempt,
+JOBS.FAIL id attempt [reason].
 Holders have no TLS: keep --listen and --metrics where only those reach them who may.";
 
 #[derive(Clone)]
@@ -148,7 +149,7 @@ impl Given {
         let (url, wish) = tls::split(&url)?;
         let tls = Tls::new(&wish)?;
         let mut config: Config = url.parse().map_err(|_| {
-            "--database or JOBS_DATABASE names no database: it is postgres://user@host/name or host=.. user=.. dbname=.."
+            "--database or JOBS_DATABASE names no database: it is postgres://user@host/name or host=.. dbname=.."
         })?;
         if config.get_connect_timeout().is_none() {
             config.connect_timeout(CONNECT);
@@ -248,6 +249,11 @@ fn worker(given: &mut Given) -> Result<WorkerOptions, String> {
         metrics: given.address("--metrics")?,
         http: given.address("--http")?,
     };
+    check(&options)?;
+    Ok(options)
+}
+
+fn check(options: &WorkerOptions) -> Result<(), String> {
     if !(1..=1_000).contains(&options.clients) {
         return Err("--clients is 1 to 1000".to_owned());
     }
@@ -261,14 +267,20 @@ fn worker(given: &mut Given) -> Result<WorkerOptions, String> {
     if options.attempts < 1 {
         return Err("--attempts is 1 at least".to_owned());
     }
-    let is_plain = |text: &str| !text.is_empty() && text.len() <= 24 && text.bytes().all(|it| it.is_ascii_graphic());
-    if !is_plain(&options.name) {
+    // A slash and a space part what workers tell each other.
+    let is_plain = |text: &str, most| {
+        (1..=most).contains(&text.len()) && text.bytes().all(|it| it.is_ascii_graphic() && it != b'/')
+    };
+    if !is_plain(&options.name, 24) {
         return Err(format!("{} is no --name: it has 1 to 24 plain characters", options.name));
     }
-    if options.announce.as_deref().map_or(false, |it| !is_plain(it)) {
-        return Err("--announce has 1 to 24 plain characters".to_owned());
+    if options.announce.as_deref().map_or(false, |it| !is_plain(it, 200)) {
+        return Err("--announce has 1 to 200 plain characters, and no slash".to_owned());
     }
-    Ok(options)
+    if options.effect.is_none() && options.announce.is_none() && options.listen.ip().is_unspecified() {
+        return Err("--announce has to say where holders reach a worker that listens everywhere".to_owned());
+    }
+    Ok(())
 }
 
 /// The first line of a file.
@@ -326,6 +338,7 @@ mod tests {
             ("worker --database host=x --lease 1000", "--write-every"),
             ("worker --database host=x --clients 1001", "--clients"),
             ("worker --database host=x --sessions 1", "--sessions"),
+            ("worker --database host=x --listen 0.0.0.0:6500", "--announce"),
             ("enqueue many --database host=x", "many"),
             ("enqueue 5 --database", "--database"),
             ("status status", "status"),

@@ -1,5 +1,5 @@
-//! Which partitions a worker owns, by rows of the table: it renews its terms, takes partitions up to a fair share, reads
-//! what is due soon, and is told the rest.
+//! Which partitions a worker owns, by rows of a table: it renews its terms, takes partitions up to a fair share,
+//! reads what is due soon, and is told the rest.
 
 use crate::clock::tick_before;
 use crate::db::{tell, Delay, Error, Param, Session, Told};
@@ -62,12 +62,13 @@ pub async fn run(worker: Arc<Worker>) {
 /// Owns partitions by one session, which takes no others at first.
 async fn own(worker: &Worker, modesty: Duration) -> Result<(), Error> {
     let (sender, mut told) = unbounded_channel();
-    let mut database = worker.options.database.named(&format!("jobs {} {}", worker.address, worker.options.name));
+    let mut database = worker.options.database.named(&format!("jobs {}", worker.options.name));
     database.statement_timeout = database.statement_timeout.min(STATEMENT);
     database.lock_timeout = database.lock_timeout.min(STATEMENT);
     let session = Session::open(&database, &worker.metrics, sender).await?;
     let table: i64 = session.query("SELECT 'jobs'::regclass::oid::bigint", &[]).await?[0].get(0);
-    session.batch(&format!("LISTEN jobs_{table}")).await?;
+    // What is due first is read in the order of the index, however few rows the database takes all that is due for.
+    session.batch(&format!("LISTEN jobs_{table}; SET enable_bitmapscan = off")).await?;
     let modest_until = Instant::now() + modesty;
     let mut owner = Owner {
         worker,
@@ -175,15 +176,15 @@ impl Owner<'_> {
             answer => answer?,
         };
         self.most = (self.most * 2).min(WAITING_ROOM);
-        let now = micros(rows[0].get(0));
+        let now = micros(rows[0].get(9));
         worker.clock.note(sent, now);
         worker.partitions.note_read(&asked, waiting(&rows[0]), now);
-        worker.note_elsewhere(rows[0].get::<_, Option<_>>(5).unwrap_or_default());
+        worker.note_elsewhere(rows[0].get::<_, Option<_>>(4).unwrap_or_default());
         let (waiting, leases) = worker.partitions.counts();
         worker.metrics.indexed.set(waiting as u64);
         worker.metrics.leases.set(leases as u64);
-        self.agree(&rows[0].get::<_, Vec<i64>>(4)).await?;
-        let (is_new, workers, free): (bool, i64, Vec<i16>) = (rows[0].get(1), rows[0].get(2), rows[0].get(3));
+        self.agree(&rows[0].get::<_, Vec<i64>>(3)).await?;
+        let (is_new, workers, free): (bool, i64, Vec<i16>) = (rows[0].get(0), rows[0].get(1), rows[0].get(2));
         self.balance(is_new, workers.max(1) as usize, free).await
     }
 
@@ -314,8 +315,8 @@ fn notified(job: &str) -> Option<Waiting> {
 
 /// The jobs of a reading.
 fn waiting(row: &Row) -> Vec<Waiting> {
-    let (ids, dues): (Vec<i64>, Vec<SystemTime>) = (row.get(6), row.get(7));
-    let (priorities, kinds): (Vec<i16>, Vec<&str>) = (row.get(8), row.get(9));
+    let (ids, dues): (Vec<i64>, Vec<SystemTime>) = (row.get(5), row.get(6));
+    let (priorities, kinds): (Vec<i16>, Vec<&str>) = (row.get(7), row.get(8));
     let jobs = ids.into_iter().zip(dues).zip(priorities.into_iter().zip(kinds));
     jobs.map(|((id, due), (priority, kind))| Waiting { id, due: micros(due), priority, kind: kind.into() }).collect()
 }

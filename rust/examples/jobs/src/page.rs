@@ -22,8 +22,9 @@ const BOTTOM: f64 = 100.0;
 const TOP: f64 = 1e8;
 
 const HEAD: &str = "<!DOCTYPE html><html lang=en><meta charset=utf-8><title>jobs</title><style>
-body{font:14px sans-serif;margin:2em;max-width:60em}table{border-collapse:collapse}td,th{padding:.2em .8em;text-align:left;
-border-bottom:1px solid #ccc;overflow-wrap:anywhere}svg{border:1px solid #ccc}form{margin:0}h2{font-size:1.1em}
+body{font:14px sans-serif;margin:2em;max-width:60em}table{border-collapse:collapse}td,th{padding:.2em .8em;
+text-align:left;border-bottom:1px solid #ccc;overflow-wrap:anywhere}svg{border:1px solid #ccc}form{margin:0}
+h2{font-size:1.1em}
 </style><h1>jobs</h1>";
 
 pub struct Page {

@@ -11,8 +11,8 @@ use std::time::Duration;
 pub const WAITING_ROOM: usize = 2_048;
 /// The most leases of a partition that are given out.
 pub const LEASE_ROOM: usize = 4_096;
-/// How long a transaction may be open that enqueues a job which is due already, in microseconds, for the next reading to
-/// find it: later ones are told by a notification, or found by the next reading of the whole partition.
+/// How long a transaction may be open that enqueues a job which is due already, in microseconds, for the next reading
+/// to find it: later ones are told by a notification, or found by the next reading of the whole partition.
 const LATE: i64 = 2_000_000;
 
 /// A lease of an attempt, whose deadline in force stands in the index.
@@ -236,8 +236,8 @@ impl Partitions {
         }
     }
 
-    /// The table has been asked about jobs that were out: they aren't held any more. Where one still waits, since not all
-    /// were taken, the next reading tells.
+    /// The table has been asked about jobs that were out: they aren't held any more. Where one still waits, since not
+    /// all were taken, the next reading tells.
     pub fn note_asked(&self, ids: &[i64], taken: usize) {
         for id in ids {
             let mut partition = self.enter(partition_of(*id));

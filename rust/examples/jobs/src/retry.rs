@@ -1,5 +1,5 @@
-//! Brings dead jobs back: they wait again, with some attempts more. The numbers of their attempts go on, since holders of
-//! the old ones may still have a word.
+//! Brings dead jobs back: they wait again, with some attempts more. The numbers of their attempts go on, since holders
+//! of the old ones may still have a word.
 
 use crate::enqueue::connect;
 use crate::options::RetryOptions;
@@ -10,7 +10,8 @@ UPDATE jobs SET state = 'waiting', due = clock_timestamp(), attempts = attempt +
 WHERE id = ANY (ARRAY(
     SELECT id FROM jobs j WHERE state = 'dead' AND ($1::bigint[] IS NULL OR id = ANY($1)) AND (
         unique_key IS NULL OR NOT EXISTS (
-            SELECT FROM jobs o WHERE o.kind = j.kind AND o.unique_key = j.unique_key AND o.state IN ('waiting', 'running')
+            SELECT FROM jobs o
+            WHERE o.kind = j.kind AND o.unique_key = j.unique_key AND o.state IN ('waiting', 'running')
         )
     )
     ORDER BY id LIMIT 1000 FOR NO KEY UPDATE SKIP LOCKED

@@ -2,19 +2,51 @@
 //! that its worker owns: `$1` is the worker's number, and `$2` its terms by partition. Rows that others have locked are
 //! left out, so that nobody waits for them.
 
-/// What waits in some partitions, is due since a time of each and within a horizon, with the clock, the number of workers, the partitions that
-/// nobody owns and the terms of this worker, so that a worker with nothing to do asks for one thing alone.
-pub const READ: &str = "
-SELECT clock_timestamp(), clock_timestamp() - pg_postmaster_start_time() < interval '3 seconds',
-    (SELECT count(*) FROM jobs_workers WHERE NOT jobs_is_free(worker, until, $5::float8 * interval '1 second')),
+/// The partitions that the worker owns by the terms that it knows. It stands in each statement, since the database would
+/// plan a function of SQL again at each call.
+macro_rules! owned {
+    () => {
+        "ANY (ARRAY(SELECT p.partition FROM jobs_partitions p
+            WHERE p.owner = $1::bigint AND p.term = ($2::bigint[])[p.partition + 1]))"
+    };
+}
+
+/// Whether others may take a partition, or don't count a worker any more: its term is over, or it was silent for so long
+/// that less than some seconds are left of it, and its session has ended.
+macro_rules! free {
+    ($owner:literal, $left:literal) => {
+        concat!(
+            "until < now() OR until < now() + ",
+            $left,
+            "::float8 * interval '1 second' AND NOT EXISTS (
+                SELECT FROM jobs_workers w JOIN pg_stat_activity a ON a.pid = w.pid WHERE w.worker = ",
+            $owner,
+            ")"
+        )
+    };
+}
+
+/// What waits in some partitions, is due since a time of each and within a horizon, with the clock, the number of
+/// workers, the partitions that nobody owns, the terms of this worker and the others that have jobs for holders, so
+/// that a worker with nothing to do asks for one thing alone.
+pub const READ: &str = concat!(
+    "
+SELECT clock_timestamp() - pg_postmaster_start_time() < interval '3 seconds',
+    (SELECT count(*) FROM jobs_workers o WHERE NOT (",
+    free!("o.worker", "$5"),
+    ")),
     (SELECT coalesce(array_agg(partition), '{}') FROM jobs_partitions
-        WHERE jobs_is_free(owner, until, $5::float8 * interval '1 second')),
+        WHERE ",
+    free!("owner", "$5"),
+    "),
     (SELECT array_agg(CASE WHEN owner = $1::bigint THEN term ELSE 0 END ORDER BY partition) FROM jobs_partitions),
     (SELECT array_agg(concat_ws(' ', p.partition, w.address) || '/' || array_to_string(w.ready, ' '))
         FROM jobs_workers w JOIN LATERAL (
             SELECT partition FROM jobs_partitions WHERE owner = w.worker ORDER BY partition LIMIT 1
         ) p ON true WHERE w.worker <> $1 AND w.ready <> '{}' AND w.until > now()),
-    waiting.ids, waiting.dues, waiting.priorities, waiting.kinds
+    waiting.ids, waiting.dues, waiting.priorities, waiting.kinds,
+    -- When all else of the answer is known.
+    clock_timestamp()
 FROM (
     SELECT coalesce(array_agg(j.id), '{}') AS ids, coalesce(array_agg(j.due), '{}') AS dues,
         coalesce(array_agg(j.priority), '{}') AS priorities, coalesce(array_agg(j.kind), '{}') AS kinds
@@ -24,7 +56,8 @@ FROM (
             AND due < now() + $3::float8 * interval '1 second'
         ORDER BY due LIMIT $4::bigint
     ) j
-) waiting";
+) waiting"
+);
 
 /// The worker lives, and its terms go on.
 pub const RENEW: &str = "
@@ -38,14 +71,18 @@ WHERE partition = ANY (ARRAY(SELECT partition FROM jobs_partitions WHERE owner =
 RETURNING partition, term";
 
 /// Takes partitions that nobody owns any more: a term begins.
-pub const TAKE_PARTITIONS: &str = "
+pub const TAKE_PARTITIONS: &str = concat!(
+    "
 UPDATE jobs_partitions SET owner = $1::bigint, term = term + 1, until = now() + $3::float8 * interval '1 second'
 WHERE partition = ANY (ARRAY(
     SELECT partition FROM jobs_partitions
-    WHERE partition = ANY($2::smallint[]) AND jobs_is_free(owner, until, $4::float8 * interval '1 second')
+    WHERE partition = ANY($2::smallint[]) AND (",
+    free!("owner", "$4"),
+    ")
     FOR NO KEY UPDATE SKIP LOCKED
 ))
-RETURNING partition, term";
+RETURNING partition, term"
+);
 /// Lets partitions go: whoever comes first takes them.
 pub const LET_GO: &str = "
 UPDATE jobs_partitions SET owner = NULL, until = '-infinity'
@@ -53,8 +90,8 @@ WHERE partition = ANY (ARRAY(
     SELECT partition FROM jobs_partitions WHERE partition = ANY($2::smallint[]) AND owner = $1::bigint
     FOR NO KEY UPDATE SKIP LOCKED
 ))";
-/// The worker has ended, and others ended a minute ago without a word.
-pub const LEAVE: &str = "DELETE FROM jobs_workers WHERE worker = $1::bigint OR until < now() - interval '1 minute'";
+/// The worker has ended.
+pub const LEAVE: &str = "DELETE FROM jobs_workers WHERE worker = $1::bigint";
 /// The address of the worker that owns a partition.
 pub const OWNER: &str = "
 SELECT w.address FROM jobs_partitions p JOIN jobs_workers w ON w.worker = p.owner
@@ -69,59 +106,75 @@ pub const LEASES_OF: &str = "
 SELECT id, attempt, lease_until FROM jobs WHERE state = 'running' AND id = ANY($1::bigint[])";
 
 /// Gives jobs out, each with a lease: as many as begin within the first 4 MiB of their payloads.
-pub const TAKE: &str = "
+pub const TAKE: &str = concat!(
+    "
 WITH sized AS MATERIALIZED (
     SELECT id, sum(octet_length(payload)) OVER (ORDER BY due, id) - octet_length(payload) AS begins FROM jobs
     WHERE id = ANY($3::bigint[]) AND state = 'waiting' AND due <= now()
 ), free AS MATERIALIZED (
     SELECT id FROM jobs
     WHERE id = ANY (ARRAY(SELECT id FROM sized WHERE begins < 4194304)) AND state = 'waiting' AND due <= now()
-        AND partition = ANY ((SELECT jobs_owned($1, $2))::smallint[])
+        AND partition = ",
+    owned!(),
+    "
     FOR NO KEY UPDATE SKIP LOCKED
 )
 UPDATE jobs SET state = 'running', attempt = attempt + 1, started = clock_timestamp(), ended = NULL,
     lease_until = date_trunc('milliseconds', now() + $4::float8 * interval '1 second')
 WHERE id = ANY (ARRAY(SELECT id FROM free))
-RETURNING id, attempt, lease_until, payload, started, due";
+RETURNING id, attempt, lease_until, payload, started, due"
+);
 
 /// Begins the statement that takes jobs and has an effect at once; the effect stands within.
-pub const BEGIN_EFFECT: &str = "
+pub const BEGIN_EFFECT: &str = concat!(
+    "
 WITH jobs_free AS MATERIALIZED (
     SELECT id FROM jobs
     WHERE id = ANY($3::bigint[]) AND state = 'waiting' AND due <= now()
-        AND partition = ANY ((SELECT jobs_owned($1, $2))::smallint[])
+        AND partition = ",
+    owned!(),
+    "
     FOR NO KEY UPDATE SKIP LOCKED
 ), taken AS (
     UPDATE jobs SET state = 'done', attempt = attempt + 1, started = clock_timestamp(), ended = clock_timestamp()
     WHERE id = ANY (ARRAY(SELECT id FROM jobs_free))
     RETURNING id, due, payload, attempt, started, kind
-), effect AS MATERIALIZED (";
+), effect AS MATERIALIZED ("
+);
 /// Ends it. The rows of the effect are counted, since a SELECT within WITH that nobody reads isn't run.
 pub const END_EFFECT: &str = ") SELECT started, due, attempt FROM taken, (SELECT count(*) FROM effect) it";
 /// Ends it where the effect has no rows to read: an INSERT, UPDATE or DELETE without RETURNING is run anyway.
 pub const END_EFFECT_WITHOUT_ROWS: &str = ") SELECT started, due, attempt FROM taken";
 
 /// An attempt of a job that waits has failed: it waits longer each time, and after the last attempt it is dead.
-pub const FAIL_WAITING: &str = "
+pub const FAIL_WAITING: &str = concat!(
+    "
 WITH free AS MATERIALIZED (
     SELECT id FROM jobs
     WHERE id = $3::bigint AND state = 'waiting' AND due <= now()
-        AND partition = ANY ((SELECT jobs_owned($1, $2))::smallint[])
+        AND partition = ",
+    owned!(),
+    "
     FOR NO KEY UPDATE SKIP LOCKED
 )
 UPDATE jobs SET attempt = attempt + 1, started = clock_timestamp(), ended = clock_timestamp(), error = $4::text,
     state = CASE WHEN jobs_is_last(attempt + 1, attempts, kind, $5) THEN 'dead' ELSE 'waiting' END,
-    due = CASE WHEN jobs_is_last(attempt + 1, attempts, kind, $5) THEN due ELSE now() + jobs_delay(attempt + 1, kind) END
+    due = CASE WHEN jobs_is_last(attempt + 1, attempts, kind, $5) THEN due
+        ELSE now() + jobs_delay(attempt + 1, kind) END
 WHERE id = ANY (ARRAY(SELECT id FROM free))
-RETURNING state";
+RETURNING state"
+);
 
 /// Holders are done. A second word of the same attempt changes nothing and is answered as the first. A job comes once
 /// more as it stood before: what didn't end then, since another has locked it, isn't the holder's fault.
-pub const DONE: &str = "
+pub const DONE: &str = concat!(
+    "
 WITH free AS MATERIALIZED (
     SELECT j.id FROM unnest($3::bigint[], $4::int[]) AS v(id, attempt)
     JOIN jobs j ON j.id = v.id AND j.attempt = v.attempt AND j.state = 'running'
-    WHERE j.partition = ANY ((SELECT jobs_owned($1, $2))::smallint[])
+    WHERE j.partition = ",
+    owned!(),
+    "
     FOR NO KEY UPDATE OF j SKIP LOCKED
 ), done AS (
     UPDATE jobs SET state = 'done', lease_until = NULL, ended = clock_timestamp()
@@ -131,14 +184,18 @@ WITH free AS MATERIALIZED (
 SELECT id, state FROM done
 UNION ALL
 SELECT j.id, j.state FROM unnest($3::bigint[], $4::int[]) AS v(id, attempt)
-JOIN jobs j ON j.id = v.id AND j.attempt = v.attempt AND j.state IN ('running', 'done')";
+JOIN jobs j ON j.id = v.id AND j.attempt = v.attempt AND j.state IN ('running', 'done')"
+);
 
 /// Holders have failed. A job comes once more as it stood before, as of those that are done.
-pub const FAIL: &str = "
+pub const FAIL: &str = concat!(
+    "
 WITH free AS MATERIALIZED (
     SELECT j.id, v.error FROM unnest($3::bigint[], $4::int[], $5::text[]) AS v(id, attempt, error)
     JOIN jobs j ON j.id = v.id AND j.attempt = v.attempt AND j.state = 'running'
-    WHERE j.partition = ANY ((SELECT jobs_owned($1, $2))::smallint[])
+    WHERE j.partition = ",
+    owned!(),
+    "
     FOR NO KEY UPDATE OF j SKIP LOCKED
 ), failed AS (
     UPDATE jobs j SET lease_until = NULL, ended = clock_timestamp(), error = free.error,
@@ -151,29 +208,38 @@ WITH free AS MATERIALIZED (
 SELECT id, state FROM failed
 UNION ALL
 SELECT j.id, j.state FROM unnest($3::bigint[], $4::int[]) AS v(id, attempt)
-JOIN jobs j ON j.id = v.id AND j.attempt = v.attempt AND j.state = 'running'";
+JOIN jobs j ON j.id = v.id AND j.attempt = v.attempt AND j.state = 'running'"
+);
 
 /// Leases have ended: their jobs wait again, and after the last attempt they are dead.
-pub const EXPIRE: &str = "
+pub const EXPIRE: &str = concat!(
+    "
 WITH free AS MATERIALIZED (
     SELECT j.id FROM unnest($3::bigint[], $4::int[]) AS v(id, attempt)
     JOIN jobs j ON j.id = v.id AND j.attempt = v.attempt AND j.state = 'running' AND j.lease_until <= now()
-    WHERE j.partition = ANY ((SELECT jobs_owned($1, $2))::smallint[])
+    WHERE j.partition = ",
+    owned!(),
+    "
     FOR NO KEY UPDATE OF j SKIP LOCKED
 )
 UPDATE jobs SET lease_until = NULL, ended = clock_timestamp(), error = 'the lease ended',
     state = CASE WHEN jobs_is_last(attempt, attempts, kind, $5) THEN 'dead' ELSE 'waiting' END
 WHERE id = ANY (ARRAY(SELECT id FROM free))
-RETURNING id, state, due, priority, kind";
+RETURNING id, state, due, priority, kind"
+);
 
 /// Writes what holders have extended in memory, and tells which leases stand in the table now.
-pub const WRITE_LEASES: &str = "
+pub const WRITE_LEASES: &str = concat!(
+    "
 WITH free AS MATERIALIZED (
     SELECT j.id, v.lease_until
     FROM unnest($3::bigint[], $4::int[], $5::timestamptz[]) AS v(id, attempt, lease_until)
     JOIN jobs j ON j.id = v.id AND j.attempt = v.attempt AND j.state = 'running'
-    WHERE j.partition = ANY ((SELECT jobs_owned($1, $2))::smallint[])
+    WHERE j.partition = ",
+    owned!(),
+    "
     FOR NO KEY UPDATE OF j SKIP LOCKED
 )
 UPDATE jobs j SET lease_until = greatest(j.lease_until, free.lease_until) FROM free WHERE j.id = free.id
-RETURNING j.id";
+RETURNING j.id"
+);

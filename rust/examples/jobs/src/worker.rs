@@ -17,6 +17,7 @@ use std::collections::hash_map::RandomState;
 use std::error::Error;
 use std::hash::{BuildHasher, Hasher};
 use std::io;
+use std::net::SocketAddr;
 use std::sync::atomic::{AtomicBool, Ordering::SeqCst};
 use std::sync::{Arc, Mutex, PoisonError};
 use tokio::net::TcpListener;
@@ -153,27 +154,16 @@ pub async fn run(options: WorkerOptions) -> Result<(), Box<dyn Error>> {
     let (end, ending) = watch::channel(false);
     let listener = match options.effect {
         Some(_) => None,
-        None => Some(TcpListener::bind(options.listen).await.map_err(|it| format!("{}: {it}", options.listen))?),
+        None => Some(bind(options.listen).await?),
     };
     let address = match (&options.announce, &listener) {
         (Some(address), _) => address.clone(),
         (None, Some(listener)) => listener.local_addr()?.to_string(),
         (None, None) => "-".to_owned(),
     };
-    let scraped = match options.metrics {
-        Some(address) => Some(TcpListener::bind(address).await.map_err(|it| format!("{address}: {it}"))?),
-        None => None,
-    };
     let worker = Arc::new(Worker::new(options, address, ending)?);
     tell(format_args!("worker {} at {}", worker.options.name, worker.address));
-    if let Some(listener) = scraped {
-        tokio::spawn(scrape::serve(worker.clone(), listener, None));
-    }
-    if let Some(address) = worker.options.http {
-        let listener = TcpListener::bind(address).await.map_err(|it| format!("{address}: {it}"))?;
-        let page = Page::new(listener.local_addr()?);
-        tokio::spawn(scrape::serve(worker.clone(), listener, Some(page)));
-    }
+    watched(&worker).await?;
     setup::check(&worker.options.database).await?;
     let statement = match &worker.options.effect {
         Some(effect) => effect::statement(&worker.links, sql::BEGIN_EFFECT, effect).await?,
@@ -191,6 +181,23 @@ pub async fn run(options: WorkerOptions) -> Result<(), Box<dyn Error>> {
         _ = signals.next() => return Err(LEFT.into()),
     }
     tell(format_args!("worker {} has ended", worker.options.name));
+    Ok(())
+}
+
+async fn bind(address: SocketAddr) -> Result<TcpListener, String> {
+    TcpListener::bind(address).await.map_err(|error| format!("{address}: {error}"))
+}
+
+/// Serves its numbers and its page, where they are wanted.
+async fn watched(worker: &Arc<Worker>) -> Result<(), Box<dyn Error>> {
+    if let Some(address) = worker.options.metrics {
+        tokio::spawn(scrape::serve(worker.clone(), bind(address).await?, None));
+    }
+    if let Some(address) = worker.options.http {
+        let listener = bind(address).await?;
+        let page = Page::new(listener.local_addr()?);
+        tokio::spawn(scrape::serve(worker.clone(), listener, Some(page)));
+    }
     Ok(())
 }
 

@@ -27,29 +27,13 @@ CREATE TABLE IF NOT EXISTS jobs_workers (
 CREATE TABLE IF NOT EXISTS jobs_partitions (
     partition smallint PRIMARY KEY,
     owner bigint,
-    -- Rises by one when a worker takes the partition. Each write of a job or a lease names it, so that a worker that was
-    -- cut off changes nothing once another has taken the partition.
+    -- Rises by one when a worker takes the partition. Each write of a job or a lease names it, so that a worker that
+    -- was cut off changes nothing once another has taken the partition.
     term bigint NOT NULL DEFAULT 0,
     -- Nobody else takes it before.
     until timestamptz NOT NULL DEFAULT '-infinity'
 ) WITH (fillfactor = 10, autovacuum_vacuum_threshold = 1000);
 INSERT INTO jobs_partitions (partition) SELECT generate_series(0, 63) ON CONFLICT DO NOTHING;
-
--- STEP: whether others may take a partition: its term is over, or its owner was silent for so long that less than `left_over`
--- is left of it, and the owner's session has ended.
-CREATE OR REPLACE FUNCTION jobs_is_free(owner bigint, until timestamptz, left_over interval) RETURNS boolean STABLE
-BEGIN ATOMIC
-    SELECT until < now() OR until < now() + left_over AND NOT EXISTS (
-        SELECT FROM jobs_workers w JOIN pg_stat_activity a ON a.pid = w.pid WHERE w.worker = jobs_is_free.owner
-    );
-END;
-
--- STEP: the partitions that a worker owns, of those whose terms it knows.
-CREATE OR REPLACE FUNCTION jobs_owned(worker bigint, terms bigint[]) RETURNS smallint[] STABLE
-BEGIN ATOMIC
-    SELECT coalesce(array_agg(p.partition), '{}') FROM jobs_partitions p
-    WHERE p.owner = worker AND p.term = terms[p.partition + 1];
-END;
 
 -- STEP: what a job is, beside its payload. A holder takes the kinds that it names.
 ALTER TABLE jobs ADD COLUMN IF NOT EXISTS kind text NOT NULL DEFAULT '';
@@ -141,7 +125,8 @@ CREATE INDEX CONCURRENTLY IF NOT EXISTS jobs_over ON jobs (state, ended) WHERE s
 -- STEP: jobs that are enqueued again and again, by the workers: each time once, whatever dies.
 CREATE TABLE IF NOT EXISTS jobs_schedules (
     name text PRIMARY KEY,
-    -- Minute, hour, day of the month, month and weekday (0 and 7 are Sunday): *, 5, 1-5, */10, or several behind commas.
+    -- Minute, hour, day of the month, month and weekday (0 and 7 are Sunday): *, 5, 1-5, */10, or some of them between
+    -- commas.
     cron text NOT NULL,
     zone text NOT NULL DEFAULT 'UTC',
     kind text NOT NULL DEFAULT '',

@@ -1,0 +1,214 @@
+"""Three workers that are killed, stopped and cut off at drawn moments, each behind a link of its own, and the database.
+
+Effects are had once. What a holder was told of a lease holds, and one attempt of a job alone is done.
+"""
+import contextlib
+import os
+import random
+import signal
+import sys
+import threading
+import time
+
+from cluster import EFFECT, cluster, free_port, wait_for
+from holder import GONE, Connection, Refusal
+from hostile import exactly_once
+from stalls import Apart, Wire
+
+SECONDS = 25
+
+
+class Host:
+    """A worker behind a link, which is started again when it was killed."""
+
+    def __init__(self, it, stack, number, words):
+        self.it = it
+        self.apart = stack.enter_context(Apart(number))
+        self.wire = Wire(it.port, self.apart.host)
+        self.address = f"{self.apart.guest}:{free_port()}"
+        listen = [] if "--effect" in words else ["--listen", self.address]
+        self.words = ["worker", "--name", f"w{number}", "--attempts", "100", *listen, *words]
+        self.start()
+
+    def start(self):
+        self.process = self.it.spawn(*self.words, url=self.wire.url(self.it.url), within=self.apart.within)
+
+    def kill(self, _seconds):
+        self.process.kill()
+        self.process.wait()
+        self.start()
+
+    def stop(self, seconds):
+        self.process.send_signal(signal.SIGSTOP)
+        time.sleep(seconds)
+        self.process.send_signal(signal.SIGCONT)
+
+    def cut(self, seconds):
+        self.apart.cut()
+        time.sleep(seconds)
+        self.apart.mend()
+
+    def cut_database(self, seconds):
+        self.wire.cut()
+        time.sleep(seconds)
+        self.wire.mend()
+
+    def suffer(self, draws, until, happened):
+        while time.monotonic() < until:
+            time.sleep(draws.uniform(0.5, 4))
+            what = draws.choice([self.kill, self.stop, self.cut, self.cut_database])
+            happened.append(what.__name__)
+            what(draws.uniform(0.5, 8))
+
+
+def trouble(it, hosts, seed):
+    """Lets each host suffer for some seconds, and stops the database hard once."""
+    until, happened = time.monotonic() + SECONDS, []
+    threads = [
+        threading.Thread(target=host.suffer, args=[random.Random(f"{seed} {number}"), until, happened])
+        for number, host in enumerate(hosts)
+    ]
+    for thread in threads:
+        thread.start()
+    time.sleep(random.Random(seed).uniform(5, 20))
+    it.stop("immediate")
+    it.start()
+    for thread in threads:
+        thread.join()
+    return ", ".join(f"{happened.count(name)} {name}" for name in ("kill", "stop", "cut", "cut_database"))
+
+
+class Holding(threading.Thread):
+    """Takes jobs wherever it finds some, beats, and ends them, or is silent, as it draws."""
+
+    def __init__(self, addresses, seed):
+        super().__init__(daemon=True)
+        self.draws, self.addresses = random.Random(seed), addresses
+        # What it was told at least: until when each attempt is its own, and which are done or failed.
+        self.told, self.done, self.failed = {}, [], set()
+        self.ends = False
+
+    def run(self):
+        while not self.ends:
+            address = self.draws.choice(self.addresses)
+            with contextlib.suppress(*GONE):
+                connection = Connection(address, timeout=3)
+                sent = time.time()
+                jobs = connection.call("JOBS.TAKE", 5, "WAIT", 300)
+                if isinstance(jobs, list):
+                    for id, attempt, left, _ in jobs:
+                        self.told[id, attempt] = sent + left / 1000
+                    self.hold(address, [(id, attempt) for id, attempt, *_ in jobs])
+                connection.close()
+
+    def say(self, address, word, attempt):
+        """The answer of whoever owns the job, and when it was asked."""
+        for _ in range(20):
+            sent = time.time()
+            try:
+                connection = Connection(address, timeout=3)
+                reply = connection.call(word, *attempt)
+                connection.close()
+            except GONE:
+                address, reply = self.draws.choice(self.addresses), Refusal("TRYAGAIN")
+            if not isinstance(reply, Refusal) or reply.startswith("FENCED"):
+                return reply, sent
+            if reply.startswith("MOVED"):
+                address = reply.split()[2]
+            time.sleep(0.2)
+        return Refusal("TRYAGAIN"), sent
+
+    def hold(self, address, attempts):
+        for _ in range(self.draws.randrange(4)):
+            time.sleep(0.3)
+            for attempt in attempts:
+                left, sent = self.say(address, "JOBS.BEAT", attempt)
+                if not isinstance(left, Refusal):
+                    self.told[attempt] = max(self.told[attempt], sent + left / 1000)
+        for attempt in attempts:
+            what = self.draws.random()
+            if what < 0.8:
+                if self.say(address, "JOBS.DONE", attempt)[0] == "OK":
+                    self.done.append(attempt)
+            elif what < 0.9:
+                # Its answer may be lost.
+                self.failed.add(attempt)
+                self.say(address, "JOBS.FAIL", attempt)
+
+
+def effects(it, hosts, seed):
+    it.jobs("enqueue", "20000", "--spread", str(SECONDS * 1000))
+    happened = trouble(it, hosts, seed)
+    over = time.monotonic()
+    exactly_once(it, 20000)
+    took = time.monotonic() - over
+    assert it.number("SELECT count(*) FROM jobs WHERE attempt <> 1") == 0
+    print(f"chaos, seed {seed}: {happened}: 20,000 effects once, all {took:.1f} s after it", flush=True)
+
+
+def holders(it, hosts, seed):
+    it.sql(
+        "CREATE TABLE IF NOT EXISTS given (job bigint, attempt integer, at timestamptz); TRUNCATE given; "
+        "CREATE OR REPLACE FUNCTION note_given() RETURNS trigger LANGUAGE plpgsql AS $$ BEGIN INSERT INTO given VALUES "
+        "(NEW.id, NEW.attempt, NEW.started); RETURN NULL; END $$; "
+        "CREATE OR REPLACE TRIGGER note_given AFTER UPDATE ON jobs FOR EACH ROW WHEN (OLD.state = 'waiting' AND "
+        "NEW.state = 'running') EXECUTE FUNCTION note_given()"
+    )
+    it.jobs("enqueue", "1500", "--spread", str(SECONDS * 1000))
+    holding = [Holding([host.address for host in hosts], f"{seed} {number}") for number in range(12)]
+    for thread in holding:
+        thread.start()
+    happened = trouble(it, hosts, seed)
+    over = time.monotonic()
+
+    def all_done():
+        """each job is done"""
+        return it.number("SELECT count(*) FROM jobs WHERE state <> 'done'") == 0
+
+    wait_for(all_done, 180, every=0.5)
+    took = time.monotonic() - over
+    for thread in holding:
+        thread.ends = True
+    for thread in holding:
+        thread.join(60)
+    rows = it.sql("SELECT job, attempt, extract(epoch FROM at) FROM given")
+    given = {(int(job), int(attempt)): float(at) for job, attempt, at in rows}
+    failed = set().union(*(it.failed for it in holding))
+    told = {attempt: until for it in holding for attempt, until in it.told.items() if attempt not in failed}
+    early = [
+        (attempt, until - given[attempt[0], attempt[1] + 1])
+        for attempt, until in told.items()
+        if given.get((attempt[0], attempt[1] + 1), until) < until - 0.01
+    ]
+    assert not early, f"{len(early)} jobs were given again before what holders were told: {early[:5]}"
+    done = [attempt for it in holding for attempt in it.done]
+    last = {int(id): int(attempt) for id, attempt in it.sql("SELECT id, attempt FROM jobs")}
+    wrong = [attempt for attempt in done if last[attempt[0]] != attempt[1]]
+    assert not wrong and len(set(it[0] for it in done)) == len(set(done)), wrong[:5]
+    print(
+        f"chaos, seed {seed}: {happened}: 1,500 jobs by {len(given)} attempts, {len(told)} of them told until when, "
+        f"none replaced sooner, one of each job done; all {took:.1f} s after it",
+        flush=True,
+    )
+
+
+def main(quick):
+    if os.geteuid() != 0:
+        print("chaos isn't run, since only root makes network namespaces", flush=True)
+        return
+    for seed in range(1, 2 if quick else 6):
+        for case, words in [
+            (effects, ["--effect", EFFECT]),
+            (holders, ["--lease", "6000", "--write-every", "1000"]),
+        ]:
+            with cluster() as it, contextlib.ExitStack() as stack:
+                hosts = [Host(it, stack, number, words) for number in range(3)]
+                it.wait_for_owners(3)
+                case(it, hosts, seed)
+                for host in hosts:
+                    host.process.terminate()
+                assert [host.process.wait(60) for host in hosts] == [0, 0, 0]
+
+
+if __name__ == "__main__":
+    main(quick="--quick" in sys.argv)
