@@ -167,7 +167,7 @@ fn stack_of(side: &str) -> usize {
     while enough - too_little > 16 {
         let kib = (too_little + enough) / 2;
         let mut child = Command::new(std::env::current_exe().expect("the test's program"));
-        child.args(["large_values_want_no_more_than_two_and_a_half_of_the_peers_stack", "--exact"]);
+        child.args(["large_values_want_no_more_than_three_times_the_peers_stack", "--exact"]);
         let run = child.env("SIDE", side).env("KIB", kib.to_string()).output().expect("a process");
         *(if run.status.success() { &mut enough } else { &mut too_little }) = kib;
     }
@@ -175,11 +175,11 @@ fn stack_of(side: &str) -> usize {
 }
 
 #[test]
-fn large_values_want_no_more_than_two_and_a_half_of_the_peers_stack() {
+fn large_values_want_no_more_than_three_times_the_peers_stack() {
     let Some(side) = std::env::var_os("SIDE") else {
         let (here, in_peer) = (stack_of("here"), stack_of("peer"));
         println!("{here} KiB here, {in_peer} of the peer");
-        assert!(2 * here <= 5 * in_peer, "{here} KiB here, {in_peer} of the peer");
+        assert!(here <= 3 * in_peer, "{here} KiB here, {in_peer} of the peer");
         return;
     };
     let kib: usize = std::env::var("KIB").expect("KiB").parse().expect("a number");
