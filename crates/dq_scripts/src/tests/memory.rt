@@ -88,13 +88,13 @@ fn refused_memory(rt: HostRuntime) -> Result<(), Fail> {
             "a expired 5\naaaaaaaaaaaaaaaaaaaaaaaaaaaaaaaa expired 5\ntick 9",
         ),
     ];
-    each_command_takes_memory(&rt, rt.alloc(), 6, "delay 1", table, 43)
+    each_command_takes_memory(&rt, rt.alloc(), 6, "delay 1", table, 45)
 }
 
 #[test]
 fn refused_memory_at_every_command(rt: HostRuntime) -> Result<(), Fail> {
     for first in ["delay 1", "delay 2"] {
-        each_command_takes_memory(&rt, rt.alloc(), 2, first, &EVERY_COMMAND, 59)?;
+        each_command_takes_memory(&rt, rt.alloc(), 2, first, &EVERY_COMMAND, 61)?;
     }
     Ok(())
 }
