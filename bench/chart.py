@@ -24,9 +24,9 @@ ONE_QUEUE = [
 BY_NAME = [(f"{row}, {shards} shard{'s' * (shards > 1)}, {threads} thread{'s' * (threads > 1)}", f"{row}/{shards}", 10_000, threads)
            for row in ("insert", "reset", "remove", "poll", "extend") for shards, threads in ((4, 4), (1, 1))]
 PRODUCTS = {
-    "SharedDelayQueue of the crate hontkhale, called by name": (stored.RUST_CHECKED_SHARDS, BY_NAME),
-    "shared_queue of the crate hontkhale: one owner, and callers in other threads": (stored.RUST_CHECKED, ONE_QUEUE),
-    "hontkhale-tokio, with a handle": (stored.ADAPTER_HANDLE, ONE_QUEUE),
+    "hontkhale: SharedDelayQueue, each call but an extend under its shard's lock": (stored.RUST_CHECKED_SHARDS, BY_NAME),
+    "hontkhale: shared_queue, one owner, and callers that extend in other threads": (stored.RUST_CHECKED, ONE_QUEUE),
+    "hontkhale-tokio: DelayQueue, with a handle": (stored.ADAPTER_HANDLE, ONE_QUEUE),
 }
 LONGEST_PEERS = {"heap-best": HEAP, "heap-indexed": OTHER, "delay-queue": QUEUE, stored.RUST_CHECKED: OURS}
 

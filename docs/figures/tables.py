@@ -326,7 +326,7 @@ FRONT_ROWS = {
 def headline():
     """What a reader links by default, beside locked queues: the longest calls, then the median of each kind of call and its best run."""
     lines = [row("", *FRONT), "|---" + "|--:" * len(FRONT) + "|"]
-    for call, words in (("cancel", "longest poll, after 65,536 cancels"), ("extend", "longest poll, after 65,536 extends")):
+    for call, words in (("cancel", "longest poll after 65,536 cancels, no locks"), ("extend", "longest poll after 65,536 extends, no locks")):
         peers = (its[0].removesuffix("-locked") for its in FRONT.values())
         lines.append(row(words, *(f"{us_text(runs.longest(f'longest-{call}', 'poll', it, '65536'))} µs" for it in peers)))
     for words, (name, threads) in FRONT_ROWS.items():
