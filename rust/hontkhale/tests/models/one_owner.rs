@@ -331,6 +331,7 @@ fn plays<Q: Queue, C: ByKey<Q>>(seed: u64, new: impl Fn(Round) -> Play<Q, C>) {
     }
 }
 
+// promise: core.removed-cleared
 #[test]
 fn the_queue_of_one_owner_answers_as_a_map_does() {
     plays(1, |round| {
