@@ -87,6 +87,7 @@ mod tests {
     use super::*;
     use std::test::Fail;
 
+    // promise: replay.capacity-refused
     #[test]
     fn capacities(rt: HostRuntime) -> Result<(), Fail> {
         for (words, capacity) in [
@@ -100,6 +101,7 @@ mod tests {
         Ok(())
     }
 
+    // promise: replay.program-main
     #[test]
     fn refused_words(rt: HostRuntime) {
         for (word, kind) in [

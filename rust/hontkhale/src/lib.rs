@@ -86,6 +86,7 @@ pub mod delay_queue;
 mod due;
 mod fresh;
 mod index;
+mod law;
 #[cfg(feature = "std")]
 mod locks;
 mod memory;
@@ -133,7 +134,8 @@ pub use crate::delay_queue::DelayQueue;
 #[cfg(feature = "std")]
 pub use crate::lasting::{
     BadLastingNumber, Ended, HandleError, HandleRenewError, Kept, LastingConfig, LastingError, LastingHandle,
-    LastingPacedStream, LastingQueue, LastingStream, LastingTally, LastingTotals, LockedLasting, PlaceState, ReopenError,
+    LastingPacedStream, LastingQueue, LastingStream, LastingTally, LastingTotals, LockedLasting, PlaceState,
+    ReopenError,
 };
 #[cfg(feature = "std")]
 pub use crate::pool::{HandlePool, Lent};

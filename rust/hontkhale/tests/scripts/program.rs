@@ -102,12 +102,14 @@ a carriage return before it counts as part of the last word, so `delay 1` is the
 docs/SCRIPT.md has every command. Ctrl-D ends a script that is typed in a terminal.
 ";
 
+// promise: replay.program-main
 #[test]
 fn help_goes_to_standard_output() {
     is_told(&["--help"], "", HELP, "", 0);
     is_told(&["-h"], FIVE_LINES, HELP, "", 0);
 }
 
+// promise: replay.capacity-refused
 #[test]
 fn capacities() {
     for capacity in ["1", "65536"] {
@@ -115,6 +117,7 @@ fn capacities() {
     }
 }
 
+// promise: replay.program-main
 #[test]
 fn refused_words_are_told_on_standard_error() {
     let refused = [

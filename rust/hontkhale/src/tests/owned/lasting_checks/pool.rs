@@ -49,6 +49,7 @@ fn two_handles_serve(queue: &Numbers, pool: &Pool) -> Result<(), Fail> {
     Ok(())
 }
 
+// promise: pool.lent-handle
 #[test]
 fn many_threads_share_two_handles() -> Result<(), Fail> {
     let queue = LastingQueue::new(LastingConfig::of(2, 4))?;
@@ -78,6 +79,7 @@ fn one_place(pool: &HandlePool<Box<u64>>) -> Result<(), Fail> {
     Ok(())
 }
 
+// promise: pool.put-handle
 #[test]
 fn a_full_pool_hands_back() -> Result<(), Fail> {
     let pool = HandlePool::new(1)?;
