@@ -316,10 +316,10 @@ FRONT = {"`hontkhale`": ("rust-checked", "rust-checked-shards"), "`hontkhale-tok
          "best heap in a `Mutex`": ("heap-best-locked",), "`Mutex<DelayQueue>`": ("delay-queue-locked",)}
 # Its rows, the worst for us first: by the words of each the row of the run, and the threads.
 FRONT_ROWS = {
-    **{f"{call}, 4 threads over 4 shards": (f"{call}/4", 4) for call in ("insert", "remove", "poll", "extend")},
+    **{f"{call}, 4 threads over 4 shards": (f"{call}/4", 4) for call in ("insert", "extend")},
     **{f"{call}, one owner": (call, 1) for call in ("insert", "reset", "remove", "poll")},
     "cancel, with its freeing": ("cancel", 1), "idle timeouts, by resets": ("heartbeat", 1), "idle timeouts, by extends": ("mixed", 1),
-    "extend beside the owner's polls, 1 thread": ("callers", 1), "extend beside the owner's polls, 4 threads": ("callers", 4),
+    "extend, 4 threads beside the owner's polls": ("callers", 4),
 }
 
 
