@@ -134,7 +134,7 @@ pub use crate::delay_queue::DelayQueue;
 #[cfg(feature = "std")]
 pub use crate::lasting::{
     BadLastingNumber, Ended, HandleError, HandleRenewError, Kept, LastingConfig, LastingError, LastingHandle,
-    LastingPacedStream, LastingQueue, LastingStream, LastingTally, LastingTotals, LockedLasting, PlaceState,
+    LastingPacedStream, LastingQueue, LastingStream, LastingTally, LastingTotals, ParkedPoller, PlaceState,
     ReopenError,
 };
 #[cfg(feature = "std")]

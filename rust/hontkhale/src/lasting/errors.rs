@@ -27,6 +27,12 @@ impl fmt::Display for LastingError {
 #[cfg(feature = "std")]
 impl std::error::Error for LastingError {}
 
+impl From<CoreError> for LastingError {
+    fn from(error: CoreError) -> LastingError {
+        LastingError::Core(error)
+    }
+}
+
 /// Why a shard isn't opened again.
 #[derive(Clone, Copy, Debug, PartialEq, Eq)]
 pub enum ReopenError {

@@ -25,7 +25,7 @@ trait Calls: Send + Sync {
 }
 
 macro_rules! calls {
-    ($queue:ty, $closes:expr, $linked:expr) => {
+    ($queue:ty, $closes:expr, $aside:expr, $linked:expr) => {
         impl Calls for $queue {
             fn insert(&self, value: Node, when: u64) -> Key {
                 <$queue>::insert(self, 0, value, when).unwrap_or_else(|_| panic!("room"))
@@ -61,7 +61,7 @@ macro_rules! calls {
                 $closes(self)
             }
             fn aside(&self) -> usize {
-                self.enter(0).expect("a shard").aside()
+                $aside(self)
             }
             fn linked(&self) -> u64 {
                 $linked(self)
@@ -70,10 +70,16 @@ macro_rules! calls {
     };
 }
 
-calls!(SharedDelayQueue<Node>, |_: &Self| (), |queue: &Self| queue.tally(0).expect("a shard").linked);
+calls!(
+    SharedDelayQueue<Node>,
+    |_: &Self| (),
+    |queue: &Self| queue.enter(0).expect("a shard").aside(),
+    |queue: &Self| queue.tally(0).expect("a shard").linked
+);
 calls!(
     LastingQueue<Node>,
     |queue: &Self| queue.close(0).expect("a shard"),
+    |queue: &Self| LastingQueue::aside(queue, 0).expect("a shard"),
     |queue: &Self| queue.tally(0).expect("a shard").present.linked
 );
 
@@ -154,8 +160,12 @@ const MANY: usize = 50_000;
 
 /// Runs a test on a thread whose stack has no room for drops that nest by thousands.
 fn on_a_small_stack(test: impl FnOnce() + Send + 'static) {
-    let runs = thread::Builder::new().stack_size(256 * 1024).spawn(test).expect("a thread");
-    runs.join().unwrap_or_else(|panicked| std::panic::resume_unwind(panicked));
+    let runs = thread::Builder::new()
+        .stack_size(256 * 1024)
+        .spawn(test)
+        .expect("a thread");
+    runs.join()
+        .unwrap_or_else(|panicked| std::panic::resume_unwind(panicked));
 }
 
 // Cancelled entries, of which each one's drop makes this call with its number, and one call that lets them go.
@@ -204,7 +214,9 @@ fn drops_that_sweep_in_a_reap() {
 
 #[test]
 fn drops_that_sweep_in_a_poll() {
-    each_drop_calls(sweeps_the_next, |queue, _| assert!(queue.poll(10 + MANY as u64).is_none()));
+    each_drop_calls(sweeps_the_next, |queue, _| {
+        assert!(queue.poll(10 + MANY as u64).is_none())
+    });
 }
 
 #[test]

@@ -6,9 +6,11 @@ mod parking;
 mod pieces;
 mod play;
 mod pool;
+mod rounds;
 mod six_places;
 mod steps;
 mod streams;
 mod tasks;
+mod twins;
 
 use crate::tests::lasting_checks::same;
