@@ -28,8 +28,8 @@ MODULES = {
     "dq_pool": "pool",
     "dq_replay": "replay",
 }
-# What is told where a closure of `lend` put another shard's state in a shard's place.
-SWAPPED = "a closure of `lend` put the state of another shard here"
+# What is told where another shard's state stands in a shard's place: a closure of `lend`, or who entered both, put it there.
+SWAPPED = "the state of another shard was put here"
 
 
 class Source:

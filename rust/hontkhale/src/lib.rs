@@ -139,7 +139,7 @@ pub use crate::lasting::{
 pub use crate::pool::{HandlePool, Lent};
 #[cfg(feature = "std")]
 pub use crate::shards::{
-    Handle, HandlesOut, LockedShard, Parked, QueueConfig, QueueError, ShardState, SharedDelayQueue, Totals, SHARD_LIMIT,
+    Handle, HandlesOut, Parked, QueueConfig, QueueError, ShardState, SharedDelayQueue, Totals, SHARD_LIMIT,
 };
 #[cfg(feature = "std")]
 pub use crate::stream::{ExpiredStream, MillisecondTicks, PacedStream, StreamFault, TickSource};
