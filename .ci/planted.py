@@ -4,7 +4,7 @@
 usage: .ci/planted.py [gate | edits]     (both, if neither is named)
 
   gate    `.ci/gate.py` over parts that only say what they are told to; takes a second
-  edits   `test-edits` over a small crate, which .ci/planted has, with edits planted; takes minutes, and wants the kit
+  edits   `tools/test-edits` over a small crate, which .ci/planted has, with edits planted; takes minutes, and wants the kit
 
 Each case is told with what went wrong. The status is 1 where one did.
 """
@@ -18,15 +18,15 @@ import tempfile
 
 TOP = pathlib.Path(__file__).resolve().parent.parent
 # What a part says and its status: of `rt ci`, of test-edits and of rust/test.
-WELL = {"rt": ("29 passed, 0 failed", 0), "test-edits": ("442 passed, 0 failed", 0), "rust/test": ("500 passed, 0 failed", 0)}
+WELL = {"rt": ("29 passed, 0 failed", 0), "tools/test-edits": ("442 passed, 0 failed", 0), "rust/test": ("500 passed, 0 failed", 0)}
 # Each case: what isn't well in it, the gate's last line and status, and a line that it has to have.
 GATES = [
     ({}, "971 passed, 0 failed", 0, "== rust/test"),
     ({"rt": ("28 passed, 1 failed", 1)}, "528 passed, 1 failed", 1, "rt ci failed, so the wrong bodies were not tried"),
     ({"rt": ("no memory", 2)}, "500 passed, 1 failed", 2, "rt ci failed, so the wrong bodies were not tried"),
-    ({"test-edits": ("test-edits: NOT REFUSED: it\\n440 passed, 2 failed", 1)}, "969 passed, 2 failed", 1, "test-edits: NOT REFUSED: it"),
-    ({"test-edits": ("it was ended", 130)}, "529 passed, 1 failed", 1, "it was ended"),
-    ({"test-edits": ("442 passed, 0 failed", 1)}, "971 passed, 1 failed", 1, "442 passed, 0 failed"),
+    ({"tools/test-edits": ("test-edits: NOT REFUSED: it\\n440 passed, 2 failed", 1)}, "969 passed, 2 failed", 1, "test-edits: NOT REFUSED: it"),
+    ({"tools/test-edits": ("it was ended", 130)}, "529 passed, 1 failed", 1, "it was ended"),
+    ({"tools/test-edits": ("442 passed, 0 failed", 1)}, "971 passed, 1 failed", 1, "442 passed, 0 failed"),
     ({"rust/test": ("498 passed, 2 failed", 1)}, "969 passed, 2 failed", 1, "498 passed, 2 failed"),
     ({"docs/check": ("a figure differs", 1)}, "0 passed, 1 failed", 1, "a figure differs"),
     ({"c/check": ("a hash differs", 1)}, "0 passed, 1 failed", 1, "a hash differs"),
@@ -67,7 +67,7 @@ def script(path, says, status):
 def gate(folder, parts, last, status, line):
     """What went wrong where the parts say these."""
     parts = {"docs/check": ("", 0), "c/check": ("", 0), **WELL, **parts}
-    for name in ("docs/check", "c/check", "test-edits", "rust/test"):
+    for name in ("docs/check", "c/check", "tools/test-edits", "rust/test"):
         script(folder / name, *parts[name])
     for name in ("rt", "cargo"):
         script(folder / "bin" / name, *parts.get(name, ("", 0)))
@@ -97,9 +97,9 @@ def try_gates():
 
 
 def lay_out(folder):
-    """A tree of test-edits and the small crate alone, with the planted edits. Its source has another ending in .ci/planted,
+    """A tree of the tools and the small crate alone, with the planted edits. Its source has another ending in .ci/planted,
     since `rt ci` refuses a source of no crate."""
-    shutil.copy(TOP / "test-edits", folder)
+    shutil.copytree(TOP / "tools", folder / "tools")
     shutil.copy(TOP / "HANDLES", folder)
     (folder / "crates.txt").write_text("small:\n", encoding="utf-8")
     for part, name, copied in (("src", "idle.rattle", "idle.rt"), ("specs", "Idle.specs", "Idle.antt")):
@@ -116,7 +116,7 @@ def lay_out(folder):
 
 def edits(folder, words, told, line="test-edits: "):
     """What went wrong where test-edits tries these: of each edit what it has to tell, a line that it has, the counts."""
-    ran = subprocess.run(["python3", "test-edits", *words], cwd=folder, **SAID)
+    ran = subprocess.run(["python3", "tools/test-edits", *words], cwd=folder, **SAID)
     lost = {it: how for it, how in told.items() if how}
     last = f"{len(told) - len(lost)} passed, {len(lost)} failed"
     wrong = [f"no line tells {how} of {it}" for it, how in lost.items() if f"test-edits: {how}: small/{it}:" not in ran.stdout]

@@ -202,7 +202,7 @@ def gate():
     return "\n".join([*lines, *(row(*it) for it in told)])
 
 
-PARTS = {"rt-ci": "`rt ci`", "test-edits": "`./test-edits`", "rust-test": "`rust/test`, behind the others", "whole": "the whole gate"}
+PARTS = {"rt-ci": "`rt ci`", "test-edits": "`tools/test-edits`", "rust-test": "`rust/test`, behind the others", "whole": "the whole gate"}
 SUMS = {"queue": "proofs and tests of what a user runs", "tests": "the tests' crates", "example": "the examples", "bench": "the bench's load",
         "plain_rust": "cargo's tests", "all-edits": "checks with edits in them"}
 # What earlier runs of the gate were, by the file of each.
@@ -395,7 +395,7 @@ def edit(name):
             added = text[len(before) :].strip() if stays else text
             lines.append("+   " + added)
     told = textwrap.wrap(runs.told("refused", name, "printed"), 110, break_on_hyphens=False)
-    return "\n".join([*lines, "```", "", "```text", f"$ ./test-edits {name}", *told, "```"])
+    return "\n".join([*lines, "```", "", "```text", f"$ tools/test-edits {name}", *told, "```"])
 
 
 PIECE_WAYS = ("whole", "pieces-16", "pieces-64", "pieces-256")

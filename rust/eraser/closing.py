@@ -1,10 +1,8 @@
 """What has a `requires` and is reached from safe Rust, and how the list `rust/closed` says that it is closed."""
 import re
 
-from ghosts import clause
 from kit import made
-from laws import functions
-from tokens import Refused, angle_close_of, close_of
+from rattle import Refused, angle_close_of, clause, close_of, functions
 
 WAYS = {"inside", "checked", "user code"}
 

@@ -9,7 +9,7 @@ import indexes
 import kit
 import laws
 import paths
-from tokens import Refused, close_of, text_of, tokens_of
+from rattle import Refused, close_of, item_start, text_of, tokens_of, words_at
 
 TOP = Path(__file__).resolve().parent.parent.parent
 OUT = TOP / "rust" / "hontkhale" / "src"
@@ -76,10 +76,10 @@ def without_empty_tests(tokens):
     """A test that only called laws has nothing left."""
     at = 0
     while at < len(tokens) - 6:
-        if ghosts.words_at(tokens, at, "#", "[", "test", "]", "fn"):
+        if words_at(tokens, at, "#", "[", "test", "]", "fn"):
             opening = at + 6
             body = close_of(tokens, opening) + 1
-            if ghosts.words_at(tokens, body, "{", "}"):
+            if words_at(tokens, body, "{", "}"):
                 del tokens[at:body + 2]
                 continue
         at += 1
@@ -92,7 +92,7 @@ def erase_modules(source, gone, names):
     while at < len(tokens) - 2:
         if tokens[at].text == "mod" and tokens[at + 2].text == ";":
             if (source.crate, source.module_path() + (tokens[at + 1].text,)) in gone:
-                start = laws.item_start(tokens, at)
+                start = item_start(tokens, at)
                 del tokens[start:at + 3]
                 at = start
                 continue
@@ -146,7 +146,7 @@ def rebuilt_uses(source, gone, names):
 def test_module(tokens):
     """Where the module of a file's tests begins, which is its last item; none where it has none."""
     for at in range(len(tokens) - 8):
-        if ghosts.words_at(tokens, at, "#", "[", "cfg", "(", "test", ")", "]", "mod") and tokens[at + 9].text == "{":
+        if words_at(tokens, at, "#", "[", "cfg", "(", "test", ")", "]", "mod") and tokens[at + 9].text == "{":
             return at
     return None
 

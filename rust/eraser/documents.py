@@ -2,7 +2,6 @@
 import re
 
 from hand import Hand
-from tokens import CLOSES
 
 LINK = re.compile(r"\[`((?:dq_\w+::)?)(\w+)((?:::\w+)?)`\](?![(\[:])")
 DEFINITION = re.compile(r"(\]: )crate::(\w+)")

@@ -71,6 +71,7 @@ mod tests {
     use super::*;
     use std::test::Fail;
 
+    // promise: replay.capacity-refused
     #[test]
     fn capacities(rt: HostRuntime) -> Result<(), Fail> {
         for (words, capacity) in [
@@ -84,6 +85,7 @@ mod tests {
         Ok(())
     }
 
+    // promise: replay.program-main
     #[test]
     fn refused_words(rt: HostRuntime) {
         for (word, kind) in [

@@ -97,16 +97,19 @@ fn refuses<R: Abort + AllocGlobal>(rt: &R, word: &str, is_closed: bool, wanted: 
     assert_eq!(rt; terminal.errors.into_inner().as_str(), wanted.1);
 }
 
+// promise: replay.program-main
 #[test]
 fn help_goes_to_standard_output(rt: HostRuntime) {
     refuses(&rt, "--help", false, (HELP, "", 0));
 }
 
+// promise: replay.program-main
 #[test]
 fn help_that_nobody_can_read_is_a_write_fault(rt: HostRuntime) {
     refuses(&rt, "--help", true, ("", "", 3));
 }
 
+// promise: replay.program-main
 #[test]
 fn refused_words_are_told_on_standard_error(rt: HostRuntime) {
     for (word, text) in [("--capacity=0", CAPACITY_OF_0), ("script", A_FILE)] {
@@ -114,6 +117,7 @@ fn refused_words_are_told_on_standard_error(rt: HostRuntime) {
     }
 }
 
+// promise: replay.program-main
 #[test]
 fn refusals_have_their_status(rt: HostRuntime) {
     for (refusal, text, status) in [

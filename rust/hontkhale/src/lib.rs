@@ -86,6 +86,7 @@ pub mod delay_queue;
 mod entries;
 mod fresh;
 mod index;
+mod law;
 #[cfg(feature = "std")]
 mod locks;
 mod memory;

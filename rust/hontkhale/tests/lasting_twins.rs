@@ -183,6 +183,7 @@ fn call(
     (place, answers.0, answers.1)
 }
 
+// promise: lasting.name-entered
 #[test]
 fn calls_by_name_are_those_of_entered_shards() {
     let config = LastingConfig {
@@ -224,6 +225,7 @@ fn calls_by_name_are_those_of_entered_shards() {
     assert!((0..PLACES).any(|place| state(&named, place).number > PLACES as u32));
 }
 
+// promise: lasting.name-entered
 #[test]
 fn a_refused_insert_changes_nothing() {
     let queue = LastingQueue::new(LastingConfig::of(PLACES, 4)).unwrap();
@@ -248,6 +250,7 @@ fn a_refused_insert_changes_nothing() {
     refused(LastingError::Closed);
 }
 
+// promise: lasting.name-entered
 #[test]
 fn places_that_are_not_there_are_unknown() {
     let queue: LastingQueue<u64> = LastingQueue::new(LastingConfig::of(PLACES, 4)).unwrap();

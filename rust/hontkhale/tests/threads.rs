@@ -235,6 +235,7 @@ fn ends_beside_extends<Q, H: Send>(queue: Q, keys: &[Key], handles: Vec<H>, exte
     }
 }
 
+// promise: rust.queue-dropped
 #[test]
 fn a_queue_of_one_owner_ends_beside_extends() {
     for _round in 0..50 {
@@ -245,6 +246,7 @@ fn a_queue_of_one_owner_ends_beside_extends() {
     }
 }
 
+// promise: rust.queue-dropped
 #[test]
 fn a_queue_of_shards_ends_beside_extends() {
     for _round in 0..50 {
@@ -257,6 +259,7 @@ fn a_queue_of_shards_ends_beside_extends() {
     }
 }
 
+// promise: rust.queue-dropped
 #[test]
 fn a_lasting_queue_ends_beside_extends() {
     for _round in 0..50 {

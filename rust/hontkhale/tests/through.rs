@@ -143,6 +143,7 @@ fn polls_through_give_what_whole_polls_give() {
     give_what_whole_polls_give::<Shared>();
 }
 
+// promise: lasting.poll-through
 #[test]
 fn lasting_polls_through_give_what_whole_polls_give() {
     give_what_whole_polls_give::<Lasting>();
@@ -168,6 +169,7 @@ fn polls_through_are_refused_as_polls() {
     are_refused_as_polls::<Shared>();
 }
 
+// promise: lasting.poll-through
 #[test]
 fn lasting_polls_through_are_refused_as_polls() {
     are_refused_as_polls::<Lasting>();
@@ -205,6 +207,7 @@ fn another_thread_gets_in_between_the_pieces() {
     let_another_thread_in::<Shared>();
 }
 
+// promise: lasting.poll-through
 #[test]
 fn another_thread_gets_in_between_the_pieces_of_a_lasting_queue() {
     let_another_thread_in::<Lasting>();
@@ -236,6 +239,7 @@ fn many_threads_call_beside_polls_through() {
     let_many_threads_call::<Shared>();
 }
 
+// promise: lasting.poll-through
 #[test]
 fn many_threads_call_beside_polls_through_of_a_lasting_queue() {
     let_many_threads_call::<Lasting>();

@@ -10,10 +10,10 @@ use alloc::vec::Vec;
 /// Which of the lists each index stands in, if any.
 pub struct Circles {
     /// The entries, and behind them the heads of the lists.
-    rows: Vec<Row>,
+    pub(crate) rows: Vec<Row>,
     capacity: usize,
     /// The list that is open: its circle hangs on the head of list 0, and its entries are seen there.
-    opened: Option<usize>,
+    pub(crate) opened: Option<usize>,
     /// The tick at which it was opened, where they are seen to be filed.
     since: u64,
 }

@@ -13,8 +13,8 @@ const CACHED: usize = 16_384;
 
 /// Which list each index stands in, if any, with a bit for each list that isn't empty.
 pub struct Lists {
-    circles: Circles,
-    maps: Maps,
+    pub(crate) circles: Circles,
+    pub(crate) maps: Maps,
 }
 
 // Clears the bit of a list where its last index has left it.

@@ -55,7 +55,7 @@ impl From<AllocError> for WheelError {
 pub struct Wheel {
     tick: u64,
     moved: u64,
-    lists: Lists,
+    pub(crate) lists: Lists,
 }
 
 // What the number says that is kept for an index.

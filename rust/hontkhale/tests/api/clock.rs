@@ -13,6 +13,7 @@ fn ago(length: Duration) -> Instant {
         .expect("a machine that has run for a while")
 }
 
+// promise: stream.tick-clock
 #[test]
 fn whole_milliseconds_that_never_go_back() {
     let mut ticks = MillisecondTicks::since(ago(Duration::from_micros(7_999)));
@@ -26,6 +27,7 @@ fn whole_milliseconds_that_never_go_back() {
 }
 
 // Who asks later is told no earlier tick.
+// promise: stream.tick-clock
 #[test]
 fn one_start_one_time() {
     let start = ago(Duration::from_millis(3));
@@ -41,6 +43,7 @@ fn a_start_in_the_future() {
     assert_eq!(ticks.now(), 0);
 }
 
+// promise: stream.tick-clock
 #[test]
 fn stream_by_a_clock() {
     let queue = SharedDelayQueue::new(QueueConfig::of(1, 8)).expect("a queue");
@@ -54,6 +57,7 @@ fn stream_by_a_clock() {
 }
 
 // The same source serves the stream of a lasting queue.
+// promise: parking.source-serves
 #[test]
 fn a_lasting_stream_by_a_clock() {
     let queue = LastingQueue::new(LastingConfig::of(2, 8)).expect("a queue");

@@ -60,6 +60,7 @@ fn by_one(queue: &Numbers) -> Result<Done, Fail> {
     Ok(worker.finish())
 }
 
+// promise: lasting.generations-last
 #[test]
 fn one_owner() -> Result<(), Fail> {
     for last_stamp in 2..4 {
@@ -88,6 +89,7 @@ fn by_four(queue: &Numbers) -> Result<Done, Fail> {
     Ok(inserted.fold(poller.finish(), Done::with))
 }
 
+// promise: lasting.generations-last
 #[test]
 fn four_threads_over_four_shards() -> Result<(), Fail> {
     for last_stamp in 2..4 {
@@ -128,6 +130,7 @@ fn goes_on(queue: &Numbers) -> Result<(u64, u64, u64), Fail> {
 
 // Each shard has one slot with all of its stamps. Where those of the first are spent the second takes a few entries,
 // until the first is opened again. None is refused.
+// promise: lasting.shard-holds
 #[test]
 fn one_slot_goes_on() -> Result<(), Fail> {
     let queue = LastingQueue::new(LastingConfig::of(2, 1))?;

@@ -51,6 +51,7 @@ fn pieces_of(queue: &Numbers, most: u32) -> Result<(), Fail> {
 
 // Each slot is worn after its second entry, so shards are opened again time and again. A piece of one step leaves most
 // of a full slot for later.
+// promise: lasting.pieces-go
 #[test]
 fn pieces_over_renewals() -> Result<(), Fail> {
     let config = LastingConfig {

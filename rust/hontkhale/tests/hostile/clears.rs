@@ -148,11 +148,13 @@ fn rounds(other: Other) -> Result<(), Fail> {
     Ok(())
 }
 
+// promise: shards.entry-ends
 #[test]
 fn cancels_against_clear() -> Result<(), Fail> {
     rounds(Other::Clears)
 }
 
+// promise: shards.entry-ends
 #[test]
 fn cancels_against_sweep() -> Result<(), Fail> {
     rounds(Other::Sweeps)
@@ -160,6 +162,7 @@ fn cancels_against_sweep() -> Result<(), Fail> {
 
 // Of an entry's reset and the cancel by its first key one is accepted: a cancelled entry isn't reset, and the key of a
 // reset one is stale.
+// promise: shards.entry-ends
 #[test]
 fn cancels_against_resets() -> Result<(), Fail> {
     rounds(Other::Resets)

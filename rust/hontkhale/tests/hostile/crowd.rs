@@ -128,6 +128,7 @@ fn adds_up(queue: &Numbers, counts: &Counts) -> Result<(), Fail> {
     Ok(())
 }
 
+// promise: shards.entry-ends
 #[test]
 fn four_handles_and_four_pollers() -> Result<(), Fail> {
     // On a busy machine the threads may run one after the other, and no handle meets a live entry: such a run is made

@@ -157,6 +157,7 @@ fn races_afresh(config: QueueConfig) -> Result<(), Fail> {
     races(&queue, &keys)
 }
 
+// promise: shards.200-entries
 #[test]
 fn extends_cancels_and_polls() -> Result<(), Fail> {
     for config in ONE_AND_FOUR {

@@ -76,6 +76,7 @@ fn all_come(queue: &Boxes) -> Result<(), Fail> {
 }
 
 // Each entry ends once: so many came, their values add up, and the shard counted each once.
+// promise: shards.pieces-give
 #[test]
 fn a_thread_inserts_between_pieces() -> Result<(), Fail> {
     for _ in 0..ROUNDS {
@@ -142,6 +143,7 @@ fn all_end_once(steps: u32) -> Result<(), Fail> {
     Ok(())
 }
 
+// promise: shards.pieces-give
 #[test]
 fn a_thread_extends_and_cancels_between_pieces() -> Result<(), Fail> {
     for _ in 0..ROUNDS {

@@ -42,6 +42,7 @@ fn boxes() -> [Box<u64>; 5] {
     [1, 2, 3, 4, 5].map(Box::new)
 }
 
+// promise: core.new-issue
 #[test]
 fn calls_take_no_memory() {
     let mut plain = DelayCore::with_capacity(4).expect("a queue");
@@ -55,6 +56,7 @@ fn calls_take_no_memory() {
 }
 
 // Callers are issued, up to the limit, without memory, and make their calls so.
+// promise: words.caller-takes
 #[test]
 fn callers_take_no_memory() {
     for capacity in [4, 4_096] {
@@ -116,6 +118,7 @@ fn calls_by_shard(queue: &Boxes, shard: usize, value: Box<u64>) {
     );
 }
 
+// promise: shards.memory-making
 #[test]
 fn other_calls_take_no_memory() {
     let queue = Boxes::new(QueueConfig::of(3, 4)).expect("a queue");
@@ -132,6 +135,7 @@ fn other_calls_take_no_memory() {
 }
 
 // A handle is refused behind the limit, and takes memory before that is known.
+// promise: shards.callers-issued
 #[test]
 fn issued_callers_take_no_memory() {
     let queue = Boxes::new(QueueConfig::of(3, 4)).expect("a queue");

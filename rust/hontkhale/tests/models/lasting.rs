@@ -534,18 +534,21 @@ fn over_generations(seed: u64, calls: u64, places: &[usize], first: u64) {
     assert!(reopened * 200 > calls, "only {reopened} generations ended");
 }
 
+// promise: lasting.place-agrees
 #[test]
 fn the_lasting_queue_answers_as_maps_do_over_generations() {
     over_generations(4, calls(), &[2, 3, 5], 0);
 }
 
 // After each call every place is as its model is, not only the one that was called.
+// promise: core.removed-cleared lasting.place-agrees
 #[test]
 fn six_places_answer_as_maps_do() {
     ends(|| over_generations(5, calls() / 2, &[6], 0));
 }
 
 // The same beyond a tick that has more bits than the lower levels of a wheel can tell apart.
+// promise: lasting.place-agrees
 #[test]
 fn six_places_answer_as_maps_do_late() {
     ends(|| over_generations(6, calls() / 4, &[6], 1 << 40));

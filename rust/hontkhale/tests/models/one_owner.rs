@@ -58,6 +58,7 @@ queues! {
     sweep() -> usize,
     sweep_some(from: usize, count: usize) -> Swept,
     clear() -> usize,
+    check_law() -> Result<(), &'static str>,
 }
 
 // Who makes the calls by key.
@@ -237,7 +238,10 @@ impl<Q: Queue, C: ByKey<Q>> Play<Q, C> {
         match draw.below(8) {
             0 => assert_eq!(self.queue.sweep(), self.model.sweep(), "sweep"),
             1 if draw.one_in(4) => assert_eq!(self.queue.clear(), self.model.clear(), "clear"),
-            2 => self.compares_wheel(),
+            2 => {
+                self.compares_wheel();
+                assert_eq!(self.queue.check_law(), Ok(()), "the law");
+            }
             _ => {
                 let (from, count) = (draw.below(80) as usize, draw.below(80) as usize);
                 assert_eq!(
@@ -328,6 +332,7 @@ fn plays<Q: Queue, C: ByKey<Q>>(seed: u64, new: impl Fn(Round) -> Play<Q, C>) {
     }
 }
 
+// promise: core.removed-cleared
 #[test]
 fn the_queue_of_one_owner_answers_as_a_map_does() {
     plays(1, |round| {

@@ -131,6 +131,7 @@ fn calls_of(most: u32) -> usize {
     workings + 1
 }
 
+// promise: core.piece-looks
 #[test]
 fn a_piece_makes_so_many_steps() {
     let steps = calls_of(1);

@@ -37,6 +37,7 @@ fn a_queue_with_entries_drops_every_value() {
     assert_eq!(dropped.get(), 101);
 }
 
+// promise: core.removed-cleared
 #[test]
 fn removed_and_cleared_values_are_dropped() {
     let (dropped, value) = counted();

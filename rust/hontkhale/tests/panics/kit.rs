@@ -107,6 +107,8 @@ pub trait Subject: Sized {
     fn sweep(&mut self);
     fn clear(&mut self);
     fn tally(&mut self) -> Tally;
+    /// Goes through all that the queue keeps.
+    fn check_law(&mut self) -> Result<(), &'static str>;
 }
 
 /// The states from which each call is made.
@@ -139,6 +141,7 @@ fn prepared<Q: Subject>(state: State) -> (Q, Keys) {
 
 // What has to hold of a queue whatever panicked in it.
 fn is_whole<Q: Subject>(mut queue: Q, what: &str) {
+    assert_eq!(queue.check_law(), Ok(()), "{what}");
     let tally = queue.tally();
     assert_eq!(
         tally.inserted,

@@ -52,6 +52,10 @@ impl Subject for Queue {
             moves: 0,
         }
     }
+
+    fn check_law(&mut self) -> Result<(), &'static str> {
+        (0..2).try_for_each(|place| self.queue.check_law(place))
+    }
 }
 
 // The program's code in a call panics at least so often, over all states, with a task parked in the shard and without.

@@ -33,6 +33,10 @@ impl Subject for Queue {
     fn tally(&mut self) -> Tally {
         DelayCore::tally(self)
     }
+
+    fn check_law(&mut self) -> Result<(), &'static str> {
+        DelayCore::check_law(self)
+    }
 }
 
 // The program's code in a call panics at least so often, over all states.

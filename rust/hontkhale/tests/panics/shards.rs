@@ -42,6 +42,10 @@ impl Subject for Queue {
     fn tally(&mut self) -> Tally {
         self.queue.tally(0).expect("a shard")
     }
+
+    fn check_law(&mut self) -> Result<(), &'static str> {
+        self.queue.lend(0, |state| state.check_law()).expect("a shard")
+    }
 }
 
 // The program's code in a call panics at least so often, over all states, with a task parked in the shard and without.

@@ -89,12 +89,14 @@ Options:
   -h, --help          Print help
 ";
 
+// promise: replay.program-main
 #[test]
 fn help_goes_to_standard_output() {
     is_told(&["--help"], "", HELP, "", 0);
     is_told(&["-h"], FIVE_LINES, HELP, "", 0);
 }
 
+// promise: replay.capacity-refused
 #[test]
 fn capacities() {
     for capacity in ["1", "65536"] {
@@ -102,6 +104,7 @@ fn capacities() {
     }
 }
 
+// promise: replay.program-main
 #[test]
 fn refused_words_are_told_on_standard_error() {
     let refused = [

@@ -39,6 +39,7 @@ fn insert_both(slow: &mut SlowQueue, plain: &mut PlainQueue<u64>, value: u64, wh
     answer == Ok(when.max(slow.tick)) && slow.insert(free, value, when).is_some()
 }
 
+// promise: plain.comes-out
 #[test]
 fn the_model_agrees_with_the_plain_queue() -> Result<(), Fail> {
     // 300 calls of a fresh queue and a fresh model.

@@ -105,6 +105,7 @@ fn end(side: Side) -> Result<(u64, hontkhale::shards::Totals), Fail> {
     Ok((cancels, side.queue.audit()?))
 }
 
+// promise: shards.pieces-give
 #[test]
 fn pieces_give_what_whole_polls_give() -> Result<(), Fail> {
     for round in 0..calls() / TURNS {

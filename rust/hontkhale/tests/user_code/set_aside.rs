@@ -118,6 +118,7 @@ fn clears_values_that_insert() {
     is_whole(&queue, &drops);
 }
 
+// promise: shards.name-drops
 #[test]
 fn a_clear_of_values_that_insert() {
     within_the_limit(|| {
@@ -145,6 +146,7 @@ fn lets_go_in_hand(call: impl FnOnce(&Queue, &Drops) + Send + 'static) {
     });
 }
 
+// promise: shards.name-drops
 #[test]
 fn lend_drops_behind_its_lock() {
     lets_go_in_hand(|queue, drops| {
@@ -274,6 +276,7 @@ fn one_owner_may_set_aside() {
 }
 
 // Eight slots, in five of which a value waits: an insert hands one over only where no slot is free.
+// promise: slots.value-let
 #[test]
 fn an_insert_takes_a_free_slot_before_one_whose_value_waits() {
     let drops = Drops::default();
@@ -305,6 +308,7 @@ fn an_insert_takes_a_free_slot_before_one_whose_value_waits() {
 
 // Two of four slots have had their only stamp, and a value waits in each: they are worn, and no insert takes them before
 // the queue is renewed. Then it does, and hands over what waits.
+// promise: slots.value-let
 #[test]
 fn a_value_waits_in_a_worn_slot() {
     let drops = Drops::default();

@@ -108,6 +108,7 @@ impl Load {
     }
 }
 
+// promise: lasting.insert-up
 #[test]
 fn none_is_refused_while_more_than_a_quarter_is_free() {
     let mut draw = Draw::new(9);
