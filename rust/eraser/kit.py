@@ -1,9 +1,7 @@
 """Rules for what the kit has otherwise than std: memory that may be refused, locks, wakers, hashers, formatting."""
-from ghosts import words_at
 from handed import where_list
-from laws import functions, opening_of
 from lists import value_end
-from tokens import OPENS, Refused, Token, close_of, tokens_of
+from rattle import OPENS, Refused, close_of, functions, tokens_of, words_at
 
 # Paths of std, and where a crate without std has them.
 PLACES = {

@@ -8,8 +8,10 @@
 mod draw;
 
 use draw::{calls, Draw};
-use hontkhale::{CoreError, LastingConfig, LastingError, LastingQueue, QueueConfig, QueueError, SharedDelayQueue};
-use hontkhale::{EntryId, Turn, LAST_TICK};
+use hontkhale::lasting::{LastingConfig, LastingError, LastingQueue};
+use hontkhale::owner::CoreError;
+use hontkhale::owner::{EntryId, Turn, LAST_TICK};
+use hontkhale::shards::{QueueConfig, QueueError, SharedDelayQueue};
 use std::fmt::Debug;
 use std::num::NonZeroU32;
 use std::sync::atomic::{AtomicBool, Ordering::SeqCst};
@@ -110,7 +112,7 @@ queue!(
     Lasting,
     LastingConfig,
     LastingError,
-    |tally: hontkhale::LastingTally| tally.present
+    |tally: hontkhale::lasting::LastingTally| tally.present
 );
 
 fn steps(steps: u32) -> NonZeroU32 {
@@ -150,6 +152,7 @@ fn polls_through_give_what_whole_polls_give() {
     give_what_whole_polls_give::<Shared>();
 }
 
+// promise: lasting.poll-through
 #[test]
 fn lasting_polls_through_give_what_whole_polls_give() {
     give_what_whole_polls_give::<Lasting>();
@@ -175,6 +178,7 @@ fn polls_through_are_refused_as_polls() {
     are_refused_as_polls::<Shared>();
 }
 
+// promise: lasting.poll-through
 #[test]
 fn lasting_polls_through_are_refused_as_polls() {
     are_refused_as_polls::<Lasting>();
@@ -212,6 +216,7 @@ fn another_thread_gets_in_between_the_pieces() {
     let_another_thread_in::<Shared>();
 }
 
+// promise: lasting.poll-through
 #[test]
 fn another_thread_gets_in_between_the_pieces_of_a_lasting_queue() {
     let_another_thread_in::<Lasting>();
@@ -243,6 +248,7 @@ fn many_threads_call_beside_polls_through() {
     let_many_threads_call::<Shared>();
 }
 
+// promise: lasting.poll-through
 #[test]
 fn many_threads_call_beside_polls_through_of_a_lasting_queue() {
     let_many_threads_call::<Lasting>();
@@ -275,11 +281,13 @@ fn give_way_to_who_waits_for_their_shard<Q: Queue>() {
     assert!(!gives_way(&queue, 0) && !gives_way(&queue, 1), "nobody waits any more");
 }
 
+// promise: shards.poll-through-makes
 #[test]
 fn polls_through_give_way_to_who_waits_for_their_shard() {
     give_way_to_who_waits_for_their_shard::<Shared>();
 }
 
+// promise: lasting.poll-through
 #[test]
 fn lasting_polls_through_give_way_to_who_waits_for_their_shard() {
     give_way_to_who_waits_for_their_shard::<Lasting>();

@@ -18,6 +18,7 @@ use std::sync::Wait;
 use std::test::Fail;
 
 // Ended for now it goes on, up to a tick that is refused. After that it gives not even what is due.
+// promise: shards.change-wakes stream.poll-next-does
 #[test]
 fn stream_by_hand(rt: HostRuntime) -> Result<(), Fail> {
     play_over(
@@ -49,6 +50,7 @@ fn stream_by_hand(rt: HostRuntime) -> Result<(), Fail> {
     )
 }
 
+// promise: shards.change-wakes stream.poller-taken
 #[test]
 fn ring_wakes_once(rt: HostRuntime) -> Result<(), Fail> {
     play_over(
@@ -65,6 +67,7 @@ fn ring_wakes_once(rt: HostRuntime) -> Result<(), Fail> {
     )
 }
 
+// promise: shards.change-wakes stream.poller-taken
 #[test]
 fn parked_then_removed(rt: HostRuntime) -> Result<(), Fail> {
     let (queue, task) = letters_and_task(&rt, &[])?;
@@ -104,6 +107,7 @@ fn refuses_then_parks<R: Abort + Wait>(rt: &R, queue: &Letters, task: &Task) -> 
     play(rt, queue, task, &[Poll(0, Waits), Parked(Some(10))])
 }
 
+// promise: stream.park-with-parks
 #[test]
 fn waker_copy_refused(rt: HostRuntime) -> Result<(), Fail> {
     let (queue, task) = letters_and_task(&rt, &[('v', 10)])?;
@@ -149,6 +153,7 @@ where
     Ok(())
 }
 
+// promise: stream.order-end
 #[test]
 fn three_in_order_collected(rt: HostRuntime) -> Result<(), Fail> {
     let queue = letters(rt.alloc(), 1)?;

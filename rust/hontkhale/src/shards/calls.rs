@@ -11,7 +11,7 @@ impl<T> SharedDelayQueue<T> {
     /// As [`ShardState::reset`], `when` a tick of one millisecond. Refused as Unknown for a shard out of range,
     /// before all else, and then as TooFar, as Missing, as WasCancelled and as Worn.
     ///
-    /// [`ShardState::reset`]: crate::ShardState::reset
+    /// [`ShardState::reset`]: crate::shards::ShardState::reset
     pub fn reset(&self, entry: &EntryId, when: u64) -> Result<Key, QueueError> {
         let mut shard = self.enter(entry.shard() as usize)?;
         let (answer, leaver) = shard.attended.reset(entry, when);
@@ -22,7 +22,7 @@ impl<T> SharedDelayQueue<T> {
     /// As [`ShardState::remove`]. Refused as Unknown for a shard out of range, before all else, and then as Missing
     /// and as WasCancelled.
     ///
-    /// [`ShardState::remove`]: crate::ShardState::remove
+    /// [`ShardState::remove`]: crate::shards::ShardState::remove
     pub fn remove(&self, entry: &EntryId) -> Result<Removed<T>, QueueError> {
         let mut shard = self.enter(entry.shard() as usize)?;
         let (answer, leaver) = shard.attended.remove(entry);
@@ -33,20 +33,20 @@ impl<T> SharedDelayQueue<T> {
     /// As [`ShardState::deadline`], a tick of one millisecond. Refused as Unknown for a shard out of range, before
     /// all else, and then as Missing and as WasCancelled.
     ///
-    /// [`ShardState::deadline`]: crate::ShardState::deadline
+    /// [`ShardState::deadline`]: crate::shards::ShardState::deadline
     pub fn deadline(&self, entry: &EntryId) -> Result<u64, QueueError> {
         let mut shard = self.enter(entry.shard() as usize)?;
         let answer = shard.deadline(entry);
         Ok(answer?)
     }
 
-    /// As [`ShardState::next_wake`](crate::ShardState::next_wake). Refused as Unknown for a shard out of range.
+    /// As [`ShardState::next_wake`](crate::shards::ShardState::next_wake). Refused as Unknown for a shard out of range.
     pub fn next_wake(&self, shard: usize) -> Result<Option<u64>, QueueError> {
         let shard = self.enter(shard)?;
         Ok(shard.next_wake())
     }
 
-    /// As [`ShardState::tally`](crate::ShardState::tally). Refused as Unknown for a shard out of range.
+    /// As [`ShardState::tally`](crate::shards::ShardState::tally). Refused as Unknown for a shard out of range.
     pub fn tally(&self, shard: usize) -> Result<Tally, QueueError> {
         let shard = self.enter(shard)?;
         Ok(shard.tally())

@@ -99,7 +99,8 @@ impl<T> SharedDelayQueue<T> {
     /// [`SharedDelayQueue::lend`]:
     ///
     /// ```
-    /// use hontkhale::{QueueConfig, SharedDelayQueue, Turn};
+    /// use hontkhale::owner::Turn;
+    /// use hontkhale::shards::{QueueConfig, SharedDelayQueue};
     ///
     /// let queue = SharedDelayQueue::new(QueueConfig::of(1, 100))?;
     /// for number in 0..10 {
@@ -113,7 +114,7 @@ impl<T> SharedDelayQueue<T> {
     ///     out
     /// })?;
     /// assert_eq!(out, 10);
-    /// # Ok::<(), hontkhale::QueueError>(())
+    /// # Ok::<(), hontkhale::shards::QueueError>(())
     /// ```
     pub fn poll(&self, shard: usize, tick: u64) -> Result<Turn<T>, QueueError> {
         let mut locked = self.enter(shard)?;
@@ -132,7 +133,8 @@ impl<T> SharedDelayQueue<T> {
     /// The shard's lock is held for this piece alone: other threads may take it between two pieces.
     ///
     /// ```
-    /// use hontkhale::{Piece, QueueConfig, SharedDelayQueue, Turn};
+    /// use hontkhale::owner::{Piece, Turn};
+    /// use hontkhale::shards::{QueueConfig, SharedDelayQueue};
     ///
     /// let queue = SharedDelayQueue::new(QueueConfig::of(1, 100))?;
     /// queue.insert_or_drop(0, "value", 100_000)?;
@@ -143,7 +145,7 @@ impl<T> SharedDelayQueue<T> {
     ///     }
     /// };
     /// assert!(matches!(turn, Turn::Out(expired) if expired.value == "value"));
-    /// # Ok::<(), hontkhale::QueueError>(())
+    /// # Ok::<(), hontkhale::shards::QueueError>(())
     /// ```
     pub fn poll_some(&self, shard: usize, tick: u64, most: u32) -> Result<Piece<T>, QueueError> {
         let mut locked = self.enter(shard)?;
@@ -168,7 +170,8 @@ impl<T> SharedDelayQueue<T> {
     /// noted then.
     ///
     /// ```
-    /// use hontkhale::{QueueConfig, SharedDelayQueue, Turn};
+    /// use hontkhale::owner::Turn;
+    /// use hontkhale::shards::{QueueConfig, SharedDelayQueue};
     /// use std::num::NonZeroU32;
     ///
     /// let queue = SharedDelayQueue::new(QueueConfig::of(1, 1_000))?;
@@ -176,7 +179,7 @@ impl<T> SharedDelayQueue<T> {
     /// let steps = NonZeroU32::new(64).expect("some");
     /// let turn = queue.poll_through(0, 100_000, steps)?;
     /// assert!(matches!(turn, Turn::Out(expired) if expired.value == "value"));
-    /// # Ok::<(), hontkhale::QueueError>(())
+    /// # Ok::<(), hontkhale::shards::QueueError>(())
     /// ```
     pub fn poll_through(&self, shard: usize, tick: u64, most: NonZeroU32) -> Result<Turn<T>, QueueError> {
         loop {
@@ -199,7 +202,8 @@ impl<T> SharedDelayQueue<T> {
     /// Unknown for a shard out of range, before all else, and then TickTooLarge beyond the last tick. Nothing changes then.
     ///
     /// ```
-    /// use hontkhale::{ManyTurn, QueueConfig, SharedDelayQueue};
+    /// use hontkhale::owner::ManyTurn;
+    /// use hontkhale::shards::{QueueConfig, SharedDelayQueue};
     ///
     /// let queue = SharedDelayQueue::new(QueueConfig::of(1, 1_000))?;
     /// for number in 0..100 {
@@ -210,7 +214,7 @@ impl<T> SharedDelayQueue<T> {
     /// assert_eq!(row.drain(..).count(), 64);
     /// assert_eq!(queue.poll_many(0, 5, &mut row), Ok(ManyTurn::Idle));
     /// assert_eq!(row.len(), 36);
-    /// # Ok::<(), hontkhale::QueueError>(())
+    /// # Ok::<(), hontkhale::shards::QueueError>(())
     /// ```
     pub fn poll_many(&self, shard: usize, tick: u64, row: &mut Vec<Expired<T>>) -> Result<ManyTurn, QueueError> {
         let before = row.len();
@@ -238,14 +242,14 @@ impl<T> SharedDelayQueue<T> {
     /// A shard is swept in pieces, with its lock free between them:
     ///
     /// ```
-    /// use hontkhale::{QueueConfig, SharedDelayQueue};
+    /// use hontkhale::shards::{QueueConfig, SharedDelayQueue};
     ///
     /// let queue: SharedDelayQueue<u8> = SharedDelayQueue::new(QueueConfig::of(1, 100))?;
     /// let mut next = Some(0);
     /// while let Some(from) = next {
     ///     next = queue.sweep_some(0, from, 64)?.next;
     /// }
-    /// # Ok::<(), hontkhale::QueueError>(())
+    /// # Ok::<(), hontkhale::shards::QueueError>(())
     /// ```
     pub fn sweep_some(&self, shard: usize, from: usize, count: usize) -> Result<Swept, QueueError> {
         let mut locked = self.enter(shard)?;
@@ -272,21 +276,6 @@ impl<T> SharedDelayQueue<T> {
         let aside = unlock(locked, leaver);
         self.drop_aside(shard, aside);
         Ok(cleared)
-    }
-
-    /// Calls `f` once with the shard's state while its lock is held, and gives back its answer. Refused as Unknown
-    /// exactly out of range; `f` isn't called then. What `f` does on the shard it does on the state, and what it
-    /// wakes it wakes under the lock: see [`SharedDelayQueue::enter`] for what waits for ever. What it reaps or
-    /// clears is dropped behind the lock; but of values that wait an insert drops one, before its entry is in, where it
-    /// finds no other slot for that.
-    pub fn lend<O, F: FnOnce(&mut ShardState<T>) -> O>(&self, shard: usize, f: F) -> Result<O, QueueError> {
-        // requires F.IsAlwaysCallable f
-        let mut locked = self.enter(shard)?;
-        let answer = f(&mut locked);
-        let aside = locked.aside();
-        drop(locked);
-        self.drop_aside(shard, aside);
-        Ok(answer)
     }
 
     /// Drops the values that are set aside in a shard, each while the shard's lock is free. `most` is how many the caller has left there: of none nothing is done, and no lock is taken. Else it
@@ -324,5 +313,23 @@ impl<T> SharedDelayQueue<T> {
             };
             drop(value);
         }
+    }
+}
+
+// A contract can't speak of a closure whose argument has an allocator of the caller's choice.
+impl<T> SharedDelayQueue<T> {
+    /// Calls `f` once with the shard's state while its lock is held, and gives back its answer. Refused as Unknown
+    /// exactly out of range; `f` isn't called then. What `f` does on the shard it does on the state, and what it
+    /// wakes it wakes under the lock: see [`SharedDelayQueue::enter`] for what waits for ever. What it reaps or
+    /// clears is dropped behind the lock; but of values that wait an insert drops one, before its entry is in, where it
+    /// finds no other slot for that.
+    pub fn lend<O, F: FnOnce(&mut ShardState<T>) -> O>(&self, shard: usize, f: F) -> Result<O, QueueError> {
+        // requires F.IsAlwaysCallable f
+        let mut locked = self.enter(shard)?;
+        let answer = f(&mut locked);
+        let aside = locked.aside();
+        drop(locked);
+        self.drop_aside(shard, aside);
+        Ok(answer)
     }
 }

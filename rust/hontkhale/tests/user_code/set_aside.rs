@@ -4,10 +4,10 @@ use super::kit::{
     adds_up, insert, insert_cancelled, insert_lasting, insert_lasting_cancelled, is_whole, lasting, panics, queue,
     within_the_limit, Drops, Lasting, Queue, Value,
 };
-use hontkhale::{
-    CoreConfig, CoreError, DelayCore, ExpiredStream, LastingStream, Piece, QueueConfig, SharedDelayQueue, Turn,
-    VecWords, CAPACITY_LIMIT,
-};
+use hontkhale::lasting::LastingStream;
+use hontkhale::owner::{CoreConfig, CoreError, DelayCore, Piece, Turn, VecWords, CAPACITY_LIMIT};
+use hontkhale::shards::{QueueConfig, SharedDelayQueue};
+use hontkhale::streams::ExpiredStream;
 use std::num::NonZeroU32;
 use std::sync::atomic::{AtomicUsize, Ordering};
 use std::sync::Arc;
@@ -58,7 +58,7 @@ fn what_is_set_aside_shows_nowhere() {
             .lend(0, |shard| {
                 assert_eq!((shard.len(), shard.peek()), (0, None));
                 (0..8).for_each(|index| {
-                    let entry = hontkhale::EntryId::new(0, index, 1);
+                    let entry = hontkhale::owner::EntryId::new(0, index, 1);
                     assert!(shard.place(&entry).is_none() && shard.remove(&entry).is_err());
                 });
             })
@@ -120,6 +120,7 @@ fn clears_values_that_insert() {
     is_whole(&queue, &drops);
 }
 
+// promise: shards.name-drops
 #[test]
 fn a_clear_of_values_that_insert() {
     within_the_limit(|| {
@@ -147,6 +148,7 @@ fn lets_go_in_hand(call: impl FnOnce(&Queue, &Drops) + Send + 'static) {
     });
 }
 
+// promise: shards.name-drops
 #[test]
 fn lend_drops_behind_its_lock() {
     lets_go_in_hand(|queue, drops| {
@@ -178,6 +180,7 @@ fn a_stream_drops_behind_its_lock() {
     });
 }
 
+// promise: shards.name-drops
 #[test]
 fn each_call_by_name_drops_what_it_reaps() {
     let steps = NonZeroU32::new(100).expect("some");
@@ -226,6 +229,7 @@ fn polls_a_paced_stream(queue: &Lasting) {
         .is_pending());
 }
 
+// promise: lasting.name-drops
 #[test]
 fn each_call_of_a_lasting_queue_drops_what_it_reaps() {
     let steps = NonZeroU32::new(100).expect("some");
@@ -242,6 +246,7 @@ fn each_call_of_a_lasting_queue_drops_what_it_reaps() {
 
 // Seven values are set aside behind one whose drop panicked. An insert that finds no other slot drops one, and its drop
 // may call the queue: the lock is free.
+// promise: shards.name-drops
 #[test]
 fn an_insert_drops_behind_its_lock() {
     within_the_limit(|| {
@@ -261,6 +266,7 @@ fn an_insert_drops_behind_its_lock() {
     });
 }
 
+// promise: lasting.name-drops
 #[test]
 fn an_insert_into_a_lasting_queue_drops_behind_its_lock() {
     within_the_limit(|| {
@@ -282,7 +288,7 @@ fn an_insert_into_a_lasting_queue_drops_behind_its_lock() {
 // Always tells tick 10.
 struct Late;
 
-impl hontkhale::TickSource for Late {
+impl hontkhale::streams::TickSource for Late {
     fn now(&mut self) -> u64 {
         10
     }
@@ -377,6 +383,7 @@ fn one_owner_may_set_aside() {
 }
 
 // Eight slots, in five of which a value waits: an insert hands one over only where no slot is free.
+// promise: slots.value-let
 #[test]
 fn an_insert_takes_a_free_slot_before_one_whose_value_waits() {
     let drops = Drops::default();
@@ -408,6 +415,7 @@ fn an_insert_takes_a_free_slot_before_one_whose_value_waits() {
 
 // Two of four slots have had their only stamp, and a value waits in each: they are worn, and no insert takes them before
 // the queue is renewed. Then it does, and hands over what waits.
+// promise: slots.value-let
 #[test]
 fn a_value_waits_in_a_worn_slot() {
     let drops = Drops::default();

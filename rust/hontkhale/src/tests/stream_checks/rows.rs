@@ -12,6 +12,7 @@ use crate::stream::StreamFault;
 use crate::stream::parking::park_with;
 
 // Ended for now it goes on, up to a tick that is refused. After that it gives not even what is due.
+// promise: shards.change-wakes stream.poll-next-does
 #[test]
 fn stream_by_hand() -> Result<(), Fail> {
     play_over(
@@ -42,6 +43,7 @@ fn stream_by_hand() -> Result<(), Fail> {
     )
 }
 
+// promise: shards.change-wakes stream.poller-taken
 #[test]
 fn ring_wakes_once() -> Result<(), Fail> {
     play_over(
@@ -57,6 +59,7 @@ fn ring_wakes_once() -> Result<(), Fail> {
     )
 }
 
+// promise: shards.change-wakes stream.poller-taken
 #[test]
 fn parked_then_removed() -> Result<(), Fail> {
     let (queue, task) = letters_and_task(&[])?;
@@ -95,6 +98,7 @@ fn refuses_then_parks(queue: &Letters, task: &Task) -> Result<(), Fail> {
     play(queue, task, &[Poll(0, Waits), Parked(Some(10))])
 }
 
+// promise: stream.park-with-parks
 #[test]
 fn waker_copy_refused() -> Result<(), Fail> {
     let (queue, task) = letters_and_task(&[('v', 10)])?;
@@ -133,6 +137,7 @@ fn gives_three(queue: &Letters) -> Result<(), Fail> {
     Ok(())
 }
 
+// promise: stream.order-end
 #[test]
 fn three_in_order_collected() -> Result<(), Fail> {
     let queue = letters(1)?;

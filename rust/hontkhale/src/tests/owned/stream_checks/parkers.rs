@@ -40,6 +40,7 @@ fn wakes_the_second(queue: &Letters, first: &MockTask, second: &MockTask) -> Res
 }
 
 // The one before is not woken, then or later.
+// promise: shards.shard-behind
 #[test]
 fn parked_in_the_place_of_another() -> Result<(), Fail> {
     let queue = letters(1)?;
@@ -71,6 +72,7 @@ fn wakes_what_is_taken(queue: &Letters, task: &MockTask, wakes: bool) -> Result<
     Ok(())
 }
 
+// promise: shards.change-wakes
 #[test]
 fn taken_out_and_woken() -> Result<(), Fail> {
     let queue = letters(1)?;
@@ -78,6 +80,7 @@ fn taken_out_and_woken() -> Result<(), Fail> {
     wakes_what_is_taken(&queue, &task, true)
 }
 
+// promise: shards.change-wakes
 #[test]
 fn taken_out_and_let_sleep() -> Result<(), Fail> {
     let queue = letters(1)?;

@@ -3,9 +3,9 @@
 use crate::index::nth;
 use crate::memory::AllocError;
 use crate::ticks::{LEVELS, SLOTS};
-use crate::wheel::beside::Beside;
-use crate::wheel::circles::Circles;
-use crate::wheel::maps::{clear_bit, first_list, set_bit, Maps};
+use crate::wheels::beside::Beside;
+use crate::wheels::circles::Circles;
+use crate::wheels::maps::{clear_bit, first_list, set_bit, Maps};
 
 // The rows of so many indexes, and what lies beside them, mostly are in a processor's own cache: to read them ahead
 // would cost more than it saves.
@@ -13,8 +13,8 @@ const CACHED: usize = 16_384;
 
 /// Which list each index stands in, if any, with a bit for each list that isn't empty.
 pub struct Lists {
-    circles: Circles,
-    maps: Maps,
+    pub(crate) circles: Circles,
+    pub(crate) maps: Maps,
 }
 
 // Clears the bit of a list where its last index has left it.

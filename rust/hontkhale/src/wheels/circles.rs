@@ -1,19 +1,19 @@
 //! Lists of indexes, linked both ways, in a fixed row, with what is kept of each index.
 
 use crate::memory::AllocError;
-use crate::wheel::beside::Beside;
-use crate::wheel::cascade::scatter;
-use crate::wheel::maps::Maps;
-use crate::wheel::row::{append, detach, detach_first, hang, lone_rows, once_near, row_at, Row};
+use crate::wheels::beside::Beside;
+use crate::wheels::cascade::scatter;
+use crate::wheels::maps::Maps;
+use crate::wheels::row::{append, detach, detach_first, hang, lone_rows, once_near, row_at, Row};
 use alloc::vec::Vec;
 
 /// Which of the lists each index stands in, if any.
 pub struct Circles {
     /// The entries, and behind them the heads of the lists.
-    rows: Vec<Row>,
+    pub(crate) rows: Vec<Row>,
     capacity: usize,
     /// The list that is open: its circle hangs on the head of list 0, and its entries are seen there.
-    opened: Option<usize>,
+    pub(crate) opened: Option<usize>,
     /// The tick at which it was opened, where they are seen to be filed.
     since: u64,
 }

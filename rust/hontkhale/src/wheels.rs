@@ -23,10 +23,10 @@
 mod beside;
 mod cascade;
 mod circles;
-mod homes;
+pub(crate) mod homes;
 mod lists;
 mod maps;
-mod row;
+pub(crate) mod row;
 mod wheel;
 
 pub use beside::Beside;
