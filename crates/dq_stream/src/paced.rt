@@ -13,7 +13,7 @@ ghost use Rattle.dq_stream.specs.PacedGives.{PacedGives};
 ghost use Rattle.dq_stream.specs.Answers.{IsLeastDue, IsParkedAtWake};
 
 use crate::parking::wait;
-use crate::stream::{ExpiredStream, Polled, ends, gives};
+use crate::stream::{ExpiredStream, Polled, dropped_behind, ends};
 use dq_core::{CoreError, Expired, Piece, Turn};
 use dq_parking::{Parked, StreamFault, TickSource, forget, let_sleep, register};
 use dq_shards::ShardState;
@@ -191,11 +191,10 @@ impl<'q, T: Drop, S: TickSource, R: Wait, A: Allocator> Stream for PacedStream<'
                     .drop_aside(self.stream.rt, self.stream.shard, aside);
                 return Poll::Pending;
             };
-            if !gives(&answer) {
-                self.stream
-                    .queue
-                    .drop_aside(self.stream.rt, self.stream.shard, aside);
-            }
+            let aside = dropped_behind(&answer, aside);
+            self.stream
+                .queue
+                .drop_aside(self.stream.rt, self.stream.shard, aside);
             answer
         }
     }

@@ -4,7 +4,7 @@ use crate::core::{CoreError, Expired, Piece, Turn};
 use crate::parking::{forget, let_sleep, register, Parked, StreamFault, TickSource};
 use crate::shards::ShardState;
 use crate::stream::parking::wait;
-use crate::stream::stream::{ends, gives, ExpiredStream, Polled};
+use crate::stream::stream::{dropped_behind, ends, ExpiredStream, Polled};
 use core::num::NonZeroU32;
 use core::task::{Context, Poll, Waker};
 
@@ -100,9 +100,8 @@ impl<'q, T, S: TickSource> PacedStream<'q, T, S> {
                 self.stream.queue.drop_aside(self.stream.shard, aside);
                 return Poll::Pending;
             };
-            if !gives(&answer) {
-                self.stream.queue.drop_aside(self.stream.shard, aside);
-            }
+            let aside = dropped_behind(&answer, aside);
+            self.stream.queue.drop_aside(self.stream.shard, aside);
             answer
         }
     }

@@ -112,17 +112,20 @@ impl<'q, T, S: TickSource> ExpiredStream<'q, T, S> {
             let (answer, aside) = self.poll_entered(&mut slot, &mut before);
             let_sleep(before);
             forget(slot);
-            if !gives(&answer) {
-                self.queue.drop_aside(self.shard, aside);
-            }
+            let aside = dropped_behind(&answer, aside);
+            self.queue.drop_aside(self.shard, aside);
             answer
         }
     }
 }
 
-// Whether a poll gave an entry, which a drop that panics would lose.
-pub(crate) fn gives<T>(answer: &Polled<T>) -> bool {
-    matches!(answer, Poll::Ready(Some(Ok(_))))
+// How many of the values that are set aside are dropped behind a poll: none where it gave an entry, which a drop that panics
+// would lose.
+pub(crate) fn dropped_behind<T>(answer: &Polled<T>, aside: usize) -> usize {
+    match answer {
+        Poll::Ready(Some(Ok(_))) => 0,
+        _ => aside,
+    }
 }
 
 // Whether a stream has ended for good after this answer.
