@@ -1,7 +1,7 @@
 #!/usr/bin/env python3
 """The gate: what the pages say, the C file's hashes, the tests of the plain Rust, `rt ci`, and the wrong bodies.
 
-The first two take seconds, and nothing else is tried where one of them fails. `test-edits` comes behind `rt ci`, if
+The first two take seconds, and nothing else is tried where one of them fails. `tools/test-edits` comes behind `rt ci`, if
 that passed, with a check for each processor. The tests of the plain Rust run beside the two where there is more than
 one processor, and what they said is told whole at the end. The last line counts what passed and what failed in all.
 The status is that of `rt ci`, or 1 where only another part failed.
@@ -70,7 +70,7 @@ def proved():
     if parts[0][0]:
         say("rt ci failed, so the wrong bodies were not tried")
         return parts
-    return [*parts, shown(["python3", "test-edits", "--built", "-j", str(processors)])]
+    return [*parts, shown(["python3", "tools/test-edits", "--built", "-j", str(processors)])]
 
 
 class Tests:

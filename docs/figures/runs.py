@@ -101,12 +101,6 @@ def lost_life_cells(peer, call=""):
     return sum(lives()[it] < lives()[("rust-shards", *it[1:])] for it in life_cells(peer, call))
 
 
-def entry_bytes(name):
-    """The bytes of an entry beside its value, as the load's stored run prints them."""
-    text = text_of(TOP / "bench" / "load" / "stdout")
-    return int(re.search(rf"\b{re.escape(name)} (\d+)(?:,|$)", text.splitlines()[-1])[1])
-
-
 def rows_of(name):
     """The rows of a file of results/."""
     return [it.split("\t") for it in text_of(RESULTS / f"{name}.tsv").splitlines() if it and not it.startswith("#")]

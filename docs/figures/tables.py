@@ -189,26 +189,9 @@ def life_standing():
     return "\n".join(lines)
 
 
-def gate():
-    """What the crates take in the gate: each that a user runs, and the others together by their role."""
-    noted, sums = runs.noted("gate"), {}
-    for crate in (it for it in tree.crates() if it.role != "bench"):
-        name = f"`{crate.name}`" if crate.role == "queue" else ROLES[crate.role]
-        proof, edits = (float(noted.get((crate.name, it), 0)) for it in ("proof", "edits"))
-        took = (proof, len(crate.edits()), edits)
-        sums[name] = [one + other for one, other in zip(sums.get(name, (0, 0, 0)), took)]
-    lines = [row("Crate", "Proof, tests and programs", "Edits", "Their checks"), "|---" + "|--:" * 3 + "|"]
-    told = ((name, *(f"{it:.1f}" if isinstance(it, float) and it else str(it or "") for it in its)) for name, its in sums.items())
-    return "\n".join([*lines, *(row(*it) for it in told)])
-
-
-PARTS = {"rt-ci": "`rt ci`", "test-edits": "`./test-edits`", "rust-test": "`rust/test`, behind the others", "whole": "the whole gate"}
+PARTS = {"rt-ci": "`rt ci`", "test-edits": "`tools/test-edits`", "rust-test": "`rust/test`, after the others", "whole": "the whole gate"}
 SUMS = {"queue": "proofs and tests of what a user runs", "tests": "the tests' crates", "example": "the examples", "bench": "the bench's load",
         "plain_rust": "cargo's tests", "all-edits": "checks with edits in them"}
-# What earlier runs of the gate were, by the file of each.
-RUNS = {"gate_on_two_cores": "one by one, by `rt ci`", "gate_in_pieces": "one by one, by `rt ci`, which tried few of them",
-        "gate_on_four_cores": "many in one check", "gate_with_callees": "many in one check, which looks for one goal of each",
-        "gate": "many in one check, which takes what `rt ci` proved"}
 
 
 def gate_parts():
@@ -219,34 +202,6 @@ def gate_parts():
     lines = [row("Part", "Clock", "Processor"), "|---|--:|--:|"]
     lines += [row(words, *(f"{float(noted[part, it]):.1f}" for it in ("clock", "processor"))) for part, words in PARTS.items() if (part, "clock") in noted]
     lines += [row(f"of it {words}", "", f"{float(noted[name, 'minutes']):.1f}") for name, words in SUMS.items() if (name, "minutes") in noted]
-    return "\n".join(lines)
-
-
-def gate_runs():
-    """What whole runs of the gate took, the first one first."""
-    lines = [row("Day", "Cores", "Wrong bodies", "How they were tried", "Clock", "Processor"), "|---|--:|--:|---|--:|--:|"]
-    for file, words in RUNS.items():
-        noted = runs.noted(file)
-        day, cores, edits = (noted.get(("whole", it), "") for it in ("day", "cores", "edits"))
-        clock, processor = (f"{float(it):.0f}" if it else "" for it in (noted.get(("whole", it)) for it in ("clock", "processor")))
-        lines.append(row(day, cores, edits, words, clock, processor))
-    return "\n".join(lines)
-
-
-def forms():
-    """What a proof of a crate took of a processor before and after it got new forms, in seconds."""
-    noted = runs.noted("forms")
-    lines = [row("Crate", "Before", "After"), "|---|--:|--:|"]
-    crates = dict.fromkeys(name for name, _ in noted)
-    return "\n".join([*lines, *(row(f"`{it}`", *(noted[it, when] for when in ("before", "after"))) for it in crates)])
-
-
-def first_answer():
-    """What a fresh clone takes until the README's script is answered."""
-    ways = {"`./delay-replay --unproved`": ("unproved", "s"), "`./delay-replay`": ("proved", "min")}
-    lines = [row("How", "Clock", "Processor"), "|---|--:|--:|"]
-    for words, (way, unit) in ways.items():
-        lines.append(row(words, *(f"{runs.stored('first_answer', way, it):.0f} {unit}" for it in ("clock", "processor"))))
     return "\n".join(lines)
 
 
@@ -355,27 +310,28 @@ def beside_delay_queue():
     return "\n".join(lines)
 
 
-def losses():
-    """In how many rows the best heap in a `Mutex` is faster than the crate's shards, and the longest polls of each."""
-    heap, us = "heap-best-locked", lambda peer: f"{runs.longest('longest-cancel', 'poll', peer, '65536') / 1000:,.0f} µs"
-    lost = lambda lost, cells: f"{lost} of {len(cells)}"
-    cells = (lost(runs.lost_shard_cells(heap), runs.shard_cells(heap)), lost(runs.lost_shard_cells(heap, "extend"), runs.shard_cells(heap, "extend")),
-             lost(runs.lost_life_cells(heap), runs.life_cells(heap)))
-    lines = [row("The best heap in a `Mutex` is faster in", "its share"), "|---|--:|"]
-    lines += [row(*it) for it in zip(("calls by name", "of them extends, which take no lock", "whole lives of entries, beside the build without bounds checks"), cells)]
-    lines += ["", row("The poll that frees 65,536 cancelled entries", "takes"), "|---|--:|"]
-    polls = {"a shard's, under its lock": "ours-shards", "through the drop-in, with a handle": "adapter-handle", "the best heap's": "heap-best"}
-    return "\n".join([*lines, *(row(words, us(peer)) for words, peer in polls.items())])
+# The columns of the front page's table: the cargo crates with their default features, and what others use. Our first one has two names in
+# the run, one of a queue with callers and one of shards that are called by name.
+FRONT = {"`hontkhale`": ("rust-checked", "rust-checked-shards"), "`hontkhale-tokio`": ("adapter-handle",),
+         "best heap in a `Mutex`": ("heap-best-locked",), "`Mutex<DelayQueue>`": ("delay-queue-locked",)}
+# Its rows, the worst for us first: by the words of each the row of the run, and the threads.
+FRONT_ROWS = {
+    **{f"{call}, 4 threads over 4 shards": (f"{call}/4", 4) for call in ("insert", "extend")},
+    **{f"{call}, one owner": (call, 1) for call in ("insert", "reset", "remove", "poll")},
+    "cancel, with its freeing": ("cancel", 1), "idle timeouts, by resets": ("heartbeat", 1), "idle timeouts, by extends": ("mixed", 1),
+    "extend, 4 threads beside the owner's polls": ("callers", 4),
+}
 
 
 def headline():
-    """An extend of what a reader links by default, beside its floor and beside locked queues."""
-    peers = {"`hontkhale`": "rust-checked", "the drop-in, by a handle": "adapter-handle", "a bare `fetch_max`": "fetch-max",
-             "best heap in a `Mutex`": "heap-best-locked", "lazy heap in a `Mutex`": "heap-note-locked",
-             "`Mutex<DelayQueue>` of tokio-util": "delay-queue-locked"}
-    lines = [row("An extend, in ns", *peers), "|---" + "|--:" * len(peers) + "|"]
-    for threads, words in ((1, "one thread"), (4, "four threads")):
-        lines.append(row(f"{words} beside the owner's polls", *(with_best("callers", it, 10000, threads) for it in peers.values())))
+    """What a reader links by default, beside locked queues: the longest calls, then the median of each kind of call and its best run."""
+    lines = [row("", *FRONT), "|---" + "|--:" * len(FRONT) + "|"]
+    for call, words in (("cancel", "longest poll after 65,536 cancels, no locks"), ("extend", "longest poll after 65,536 extends, no locks")):
+        peers = (its[0].removesuffix("-locked") for its in FRONT.values())
+        lines.append(row(words, *(f"{us_text(runs.longest(f'longest-{call}', 'poll', it, '65536'))} µs" for it in peers)))
+    for words, (name, threads) in FRONT_ROWS.items():
+        found = ([it for it in its if (it, name, 10000, threads) in runs.bench()] for its in FRONT.values())
+        lines.append(row(words, *(with_best(name, its[0], 10000, threads) if its else "" for its in found)))
     return "\n".join(lines)
 
 
@@ -395,7 +351,7 @@ def edit(name):
             added = text[len(before) :].strip() if stays else text
             lines.append("+   " + added)
     told = textwrap.wrap(runs.told("refused", name, "printed"), 110, break_on_hyphens=False)
-    return "\n".join([*lines, "```", "", "```text", f"$ ./test-edits {name}", *told, "```"])
+    return "\n".join([*lines, "```", "", "```text", f"$ tools/test-edits {name}", *told, "```"])
 
 
 PIECE_WAYS = ("whole", "pieces-16", "pieces-64", "pieces-256")
@@ -492,20 +448,15 @@ TABLES = {
     "renewing": renewing,
     "headline": headline,
     "beside-delay-queue": beside_delay_queue,
-    "losses": losses,
     "evidence": evidence,
     "constants": constants,
-    "first-answer": first_answer,
     "speed": speed,
     "shared-speed": shared_speed,
     "longest": longest,
     "standing": standing,
     "shard-standing": shard_standing,
     "life-standing": life_standing,
-    "gate": gate,
     "gate-parts": gate_parts,
-    "forms": forms,
-    "gate-runs": gate_runs,
     "sizes": sizes,
     "instructions": instructions,
     "edit": edit,

@@ -2,12 +2,15 @@
 
 import collections
 import functools
-import importlib.machinery
-import importlib.util
 import pathlib
 import re
+import sys
 
 TOP = pathlib.Path(__file__).resolve().parents[2]
+sys.path[:0] = [str(TOP / "tools"), str(TOP / "tools" / "edits")]
+
+import source
+
 CRATES = TOP / "crates"
 # The tests in plain Rust that have no source in crates/: each file's folder. Those of the first were erased once.
 OWNED = TOP / "rust" / "hontkhale" / "src" / "tests" / "owned"
@@ -149,7 +152,7 @@ class Crate:
         return [name for it in self.sources for name in TEST.findall(text_of(it))]
 
     def edits(self):
-        """Its wrong bodies, which `test-edits` tries."""
+        """Its wrong bodies, which `tools/test-edits` tries."""
         return [it.stem for it in files(self.folder / "edits", ".edit")]
 
     def stale_edits(self):
@@ -157,23 +160,14 @@ class Crate:
         return [it.stem for it in files(self.folder / "edits", ".edit") if not self.applies(it)]
 
     def applies(self, edit):
-        """Whether an edit can be applied, as `test-edits` reads it."""
-        pairs = test_edits().pairs_of(edit)
+        """Whether an edit can be applied, as `tools/test-edits` reads it."""
+        pairs = source.read(edit).pairs
         paths = {it[0] for it in pairs if (self.folder / it[0]).is_file()}
         try:
-            test_edits().applied(pairs, {it: text_of(self.folder / it) for it in paths})
-        except test_edits().Fault:
+            source.applied(pairs, {it: text_of(self.folder / it) for it in paths})
+        except source.Fault:
             return False
         return bool(pairs)
-
-
-@functools.lru_cache(maxsize=None)
-def test_edits():
-    """The script `test-edits`, as a module."""
-    loader = importlib.machinery.SourceFileLoader("test_edits", str(TOP / "test-edits"))
-    module = importlib.util.module_from_spec(importlib.util.spec_from_loader("test_edits", loader))
-    loader.exec_module(module)
-    return module
 
 
 @functools.lru_cache(maxsize=None)

@@ -9,7 +9,7 @@ import indexes
 import kit
 import laws
 import paths
-from tokens import Refused, close_of, text_of, tokens_of
+from rattle import Refused, close_of, item_start, text_of, tokens_of, words_at
 
 TOP = Path(__file__).resolve().parent.parent.parent
 OUT = TOP / "rust" / "hontkhale" / "src"
@@ -17,7 +17,7 @@ OUT = TOP / "rust" / "hontkhale" / "src"
 # The crates, and the modules that they become.
 MODULES = {
     "dq_ticks": "ticks",
-    "dq_wheel": "wheel",
+    "dq_wheel": "wheels",
     "dq_core": "core",
     "dq_words": "words",
     "dq_parking": "parking",
@@ -25,11 +25,10 @@ MODULES = {
     "dq_stream": "stream",
     "dq_apps": "apps",
     "dq_lasting": "lasting",
-    "dq_pool": "pool",
     "dq_replay": "replay",
 }
-# What is told where a closure of `lend` put another shard's state in a shard's place.
-SWAPPED = "a closure of `lend` put the state of another shard here"
+# What is told where another shard's state stands in a shard's place: a closure of `lend`, or who entered both, put it there.
+SWAPPED = "the state of another shard was put here"
 
 
 class Source:
@@ -77,10 +76,10 @@ def without_empty_tests(tokens):
     """A test that only called laws has nothing left."""
     at = 0
     while at < len(tokens) - 6:
-        if ghosts.words_at(tokens, at, "#", "[", "test", "]", "fn"):
+        if words_at(tokens, at, "#", "[", "test", "]", "fn"):
             opening = at + 6
             body = close_of(tokens, opening) + 1
-            if ghosts.words_at(tokens, body, "{", "}"):
+            if words_at(tokens, body, "{", "}"):
                 del tokens[at:body + 2]
                 continue
         at += 1
@@ -93,7 +92,7 @@ def erase_modules(source, gone, names):
     while at < len(tokens) - 2:
         if tokens[at].text == "mod" and tokens[at + 2].text == ";":
             if (source.crate, source.module_path() + (tokens[at + 1].text,)) in gone:
-                start = laws.item_start(tokens, at)
+                start = item_start(tokens, at)
                 del tokens[start:at + 3]
                 at = start
                 continue
@@ -147,7 +146,7 @@ def rebuilt_uses(source, gone, names):
 def test_module(tokens):
     """Where the module of a file's tests begins, which is its last item; none where it has none."""
     for at in range(len(tokens) - 8):
-        if ghosts.words_at(tokens, at, "#", "[", "cfg", "(", "test", ")", "]", "mod") and tokens[at + 9].text == "{":
+        if words_at(tokens, at, "#", "[", "cfg", "(", "test", ")", "]", "mod") and tokens[at + 9].text == "{":
             return at
     return None
 
@@ -226,6 +225,7 @@ def put_uses(tokens, found):
 def erased(hand, closed, said):
     """The erased text of each file, by its path in the crate."""
     found = sources(hand, said)
+    closed.learn({MODULES[source.crate]: source.text for source in found if source.module_path() == ()})
     for source in found:
         source.tokens = guarded(source, without_ghosts_but_clauses, source.tokens)
     names = laws.law_names([source.tokens for source in found])

@@ -1,8 +1,7 @@
 """`derive(Error)` with its texts, as `Display` and `std::error::Error` written out."""
 import re
 
-from ghosts import words_at
-from tokens import Refused, close_of, tokens_of
+from rattle import Refused, close_of, tokens_of, words_at
 
 
 def fields_of(tokens, brace):

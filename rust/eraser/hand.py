@@ -1,7 +1,7 @@
 """What no rule turns: the places that are done by hand, and how what has a `requires` is closed."""
 from pathlib import Path
 
-from tokens import Refused
+from rattle import Refused
 
 TOP = Path(__file__).resolve().parent.parent.parent
 

@@ -1,7 +1,6 @@
 """Rules for what each call is handed and std needs not: the runtime, the allocator, the name of a source of wakes."""
-from laws import functions
 from lists import begins_element, element_end, value_end, without
-from tokens import OPENS, Refused, close_of
+from rattle import OPENS, Refused, close_of, functions
 
 # Bounds that say no more than that a type is a runtime or an allocator.
 RUNTIME = {"Wait"}

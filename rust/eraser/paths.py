@@ -1,6 +1,6 @@
 """Paths: a crate becomes a module, and what is imported is what is named."""
 from kit import IMPORTS, PLACES, formatted, made
-from tokens import Refused, close_of, tokens_of
+from rattle import Refused
 
 # What is imported from the crate's own modules where it is named.
 PROVIDED = {

@@ -1,18 +1,10 @@
-//! Values that were let go under a shard's lock: they are dropped once it is free.
-//!
-//! A value's drop is a user's code: it may call the queue, and it may panic. So no call by name drops a value while
-//! it holds a lock. What is reaped or cleared is set aside in the shard, and one thread takes it out and drops it
-//! behind the lock. Where a drop panics the shard is whole, and what is still set aside is dropped by a later call.
-ghost use Rattle.std.specs.Prelude.{◌≡◌, ◌<◌};
-ghost use Rattle.dq_shards.specs.Shard.{IsShard};
-
-use crate::locked::LockedShard;
+//! Values that were let go under a shard's lock, and the thread that takes them out.
 use crate::queue::SharedDelayQueue;
 use crate::state::ShardState;
 use std::alloc::Allocator;
 use std::sync::Wait;
 
-impl<T: Drop, A: Allocator> ShardState<T, A> {
+impl<T, A: Allocator> ShardState<T, A> {
     /// How many values are set aside: those of entries that were reaped or cleared, and that aren't dropped yet.
     /// Constant time.
     #[inline(always)]
@@ -21,109 +13,38 @@ impl<T: Drop, A: Allocator> ShardState<T, A> {
     }
 }
 
-impl<T: Drop, A: Allocator> SharedDelayQueue<T, A> {
-    // As `lock`, for an insert, which has a place for each value that is set aside. One that has none is dropped before it,
-    // while the lock is free: a drop that panics then loses no key.
-    #[inline(always)]
-    pub(crate) fn lock_with_room<R: Wait>(&self, rt: &R, shard: usize) -> LockedShard<'_, T, A>
-        requires { shard < self.now }
-        ensures law { IsShard result }
-        ensures number { result.core.shard ≡ shard }
-    {
-        let mut locked = self.lock(rt, shard);
-        match locked.state.attended.core.take_crowded() {
-            None => locked,
-            Some(crowded) => {
-                drop(locked);
-                drop(crowded);
-                self.lock_once_there_is_room(rt, shard)
-            }
-        }
-    }
-
-    #[inline(never)]
-    fn lock_once_there_is_room<R: Wait>(&self, rt: &R, shard: usize) -> LockedShard<'_, T, A>
-        requires { shard < self.now }
-        ensures law { IsShard result }
-        ensures number { result.core.shard ≡ shard }
-    {
-        for _ in rt.forever() {
-            let mut locked = self.lock(rt, shard);
-            match locked.state.attended.core.take_crowded() {
-                None => return locked,
-                Some(crowded) => {
-                    drop(locked);
-                    drop(crowded);
-                }
-            }
-        }
-        unreachable!()
-    }
-
-    // Drops what is set aside in a shard until nothing is left, where no thread does so already.
-    #[inline(never)]
-    fn drop_all_aside<R: Wait>(&self, rt: &R, shard: usize) {
-        let mut dropper = Dropper {
-            queue: self,
-            rt,
-            shard,
-            is_at_it: false,
-        };
-        for _ in rt.forever() {
-            if !dropper.drops_one() {
-                return;
-            }
-        }
-        unreachable!()
-    }
-
-    /// Drops the values that are set aside in a shard, each while the shard's lock is free. `most` is how many the caller has left there: of none nothing is done, and no lock is taken. Else it
-    /// goes on until none is left.
-    ///
-    /// One thread at a time does it. Where another is at it, or a value's drop that this one runs makes the call, that one
-    /// drops these values too, and the call returns at once. Where a drop panics, a later call drops
-    /// the rest.
-    ///
-    /// The calls by name do it by themselves, and so does [`SharedDelayQueue::lend`]; whoever holds a shard by
-    /// [`SharedDelayQueue::enter`] asks [`ShardState::aside`] before it lets the shard go. Of a shard out of range there is
-    /// nothing to drop.
-    ///
-    /// ```ignore
-    /// let mut state = queue.enter(&rt, shard)?;
-    /// state.sweep();
-    /// let aside = state.aside();
-    /// drop(state);
-    /// queue.drop_aside(&rt, shard, aside);
-    /// ```
-    #[inline(always)]
-    pub fn drop_aside<R: Wait>(&self, rt: &R, shard: usize, most: usize) {
-        if most > 0 {
-            self.drop_all_aside(rt, shard);
-        }
-    }
-}
-
 // The thread that drops what is set aside in a shard. Where a value's drop panics, others may do it from then on.
-struct Dropper<'q, T: Drop, R: Wait, A: Allocator> {
+pub(crate) struct Dropper<'q, T, R: Wait, A: Allocator> {
     queue: &'q SharedDelayQueue<T, A>,
     rt: &'q R,
     shard: usize,
     is_at_it: bool,
 }
 
-impl<T: Drop, R: Wait, A: Allocator> Dropper<'_, T, R, A> {
-    // Drops a value once the lock is free. False where none was left to it.
-    fn drops_one(&mut self) -> bool {
+impl<'q, T, R: Wait, A: Allocator> Dropper<'q, T, R, A> {
+    pub(crate) fn of(
+        queue: &'q SharedDelayQueue<T, A>,
+        rt: &'q R,
+        shard: usize,
+    ) -> Dropper<'q, T, R, A> {
+        Dropper {
+            queue,
+            rt,
+            shard,
+            is_at_it: false,
+        }
+    }
+
+    // Takes a value out, for a drop while the lock is free. None where none was left to it.
+    pub(crate) fn take_one(&mut self) -> Option<T> {
         let Ok(mut locked) = self.queue.enter(self.rt, self.shard) else {
-            return false;
+            return None;
         };
-        let value = locked.state.attended.take_one(&mut self.is_at_it);
-        drop(locked);
-        value.is_some()
+        locked.attended.take_one(&mut self.is_at_it)
     }
 }
 
-impl<T: Drop, R: Wait, A: Allocator> Drop for Dropper<'_, T, R, A> {
+impl<T, R: Wait, A: Allocator> Drop for Dropper<'_, T, R, A> {
     fn drop(self) {
         let Dropper {
             queue,
@@ -133,7 +54,7 @@ impl<T: Drop, R: Wait, A: Allocator> Drop for Dropper<'_, T, R, A> {
         } = self;
         if is_at_it {
             if let Ok(mut locked) = queue.enter(rt, shard) {
-                locked.state.attended.end_dropping(&mut is_at_it);
+                locked.attended.end_dropping(&mut is_at_it);
             }
         }
     }

@@ -143,7 +143,7 @@ fn refused(refusal: WordsError) -> QueueError
     }
 }
 
-impl<T: Drop, A: Allocator> SharedDelayQueue<T, A> {
+impl<T, A: Allocator> SharedDelayQueue<T, A> {
     // One caller more of a shard.
     fn issue_of<R: Wait>(&self, rt: &R, shard: usize) -> Result<Caller<A>, WordsError>
         requires { shard < self.now }
@@ -156,7 +156,7 @@ impl<T: Drop, A: Allocator> SharedDelayQueue<T, A> {
     }
 }
 
-impl<T: Drop, A: Allocator + Clone + Drop> SharedDelayQueue<T, A> {
+impl<T, A: Allocator + Clone + Drop> SharedDelayQueue<T, A> {
     /// A handle, with a caller of each shard, issued in turn under that shard's lock. Refused as NoMemory where there
     /// is no room for the callers, and then, shard by shard, as TooManyHandles where 1,024 callers were issued, given
     /// back or not, and as NoMemory. The callers that were issued before are given back then, but stay counted.

@@ -35,6 +35,7 @@ pub fn seen_from(rt: &impl Abort, tick: u64, filed: u64) -> Option<(usize, u64, 
     }
 }
 
+// promise: ticks.digit-seven
 #[test]
 fn place_table(rt: HostRuntime) {
     for (row, (tick, filed, level, slot, start)) in PLACES.iter().enumerate() {
@@ -43,12 +44,14 @@ fn place_table(rt: HostRuntime) {
     }
 }
 
+// promise: ticks.level-of-highest
 #[test]
 fn equal_ticks_have_no_level(rt: HostRuntime) {
     same(&rt, "first", level_of(0, 0), None);
     same(&rt, "last", level_of(LAST_TICK, LAST_TICK), None);
 }
 
+// promise: ticks.level-of-highest
 #[test]
 fn top_level_is_the_highest(rt: HostRuntime) {
     same(&rt, "level", level_of(0, LAST_TICK), Some(5));
@@ -62,6 +65,7 @@ fn top_level_is_the_highest(rt: HostRuntime) {
     );
 }
 
+// promise: ticks.span
 #[test]
 fn spans_grow_by_64(rt: HostRuntime) {
     let spans = [span(0), span(1), span(2), span(3), span(4), span(5)];

@@ -10,6 +10,7 @@ pub fn plain_queue(alloc: Global, capacity: usize) -> Result<DelayCore<char, Vec
     DelayCore::with_capacity(alloc, capacity)
 }
 
+// promise: core.numbers-out
 #[test]
 fn capacities_out_of_range(rt: HostRuntime) -> Result<(), Fail> {
     let bad = Some(CoreError::BadConfig);
@@ -22,6 +23,7 @@ fn capacities_out_of_range(rt: HostRuntime) -> Result<(), Fail> {
     Ok(())
 }
 
+// promise: core.numbers-out
 #[test]
 fn numbers_out_of_range_are_named(rt: HostRuntime) -> Result<(), Fail> {
     let table: &[(usize, u32, Option<BadNumber>)] = &[

@@ -34,6 +34,7 @@ fn refuses(
     same(rt, capacity, refusal(alloc, config, rows), answer);
 }
 
+// promise: core.numbers-out
 #[test]
 fn bad_configs(rt: HostRuntime) {
     let bad = CoreError::BadConfig;
@@ -71,6 +72,7 @@ fn inserts(rt: &impl Abort, queue: &mut DelayCore<char, VecWords>) {
     same(rt, "insert", queue.insert('v', 0).is_ok(), true);
 }
 
+// promise: core.numbers-out
 #[test]
 fn queue_and_words_are_send(rt: HostRuntime) -> Result<(), Fail> {
     inserts(&rt, &mut moved(queue_of_one(rt.alloc())?));

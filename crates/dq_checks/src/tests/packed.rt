@@ -21,6 +21,7 @@ const WORDS: [(u32, Mark, u64, u64); 8] = [
     (1048575, Mark::LiveMark, 0, 0xffff_f000_0000_0000),
 ];
 
+// promise: ticks.pack-makes
 #[test]
 fn packed_vector(rt: HostRuntime) {
     let parts = Parts {
@@ -32,6 +33,7 @@ fn packed_vector(rt: HostRuntime) {
     same(&rt, "unpack", unpack(17592186044426), parts);
 }
 
+// promise: ticks.pack-makes
 #[test]
 fn word_table_both_ways(rt: HostRuntime) {
     for (stamp, mark, field, word) in WORDS {
@@ -50,6 +52,7 @@ fn is_live_at_its_stamp(rt: &impl Abort, word: u64, of: u32, deadline: Option<u6
     }
 }
 
+// promise: ticks.stamp-field
 #[test]
 fn parts_one_by_one(rt: HostRuntime) {
     for (of, mark, when, word) in WORDS {

@@ -55,6 +55,7 @@ fn stands(rt: &impl Abort, queue: &Queue, len: usize, tick: u64, noted: u64) {
     same(rt, "is_empty", queue.is_empty(), len == 0);
 }
 
+// promise: plain.comes-out
 #[test]
 fn plain_queue_walk(rt: HostRuntime) -> Result<(), Fail> {
     walk(&rt, &mut PlainQueue::new(rt.alloc(), 2)?);
@@ -76,6 +77,7 @@ fn walk(rt: &impl Abort, queue: &mut Queue) {
     stands(rt, queue, 0, 100, 100);
 }
 
+// promise: plain.comes-out
 #[test]
 fn plain_insert_before_the_tick_is_due_at_it(rt: HostRuntime) -> Result<(), Fail> {
     inserts_before_the_tick(&rt, &mut PlainQueue::new(rt.alloc(), 1)?);
@@ -111,6 +113,7 @@ fn last_tick_and_beyond(rt: &impl Abort, queue: &mut Queue) {
     gives(rt, queue, 4398046511103, (4398046511103, 'a'));
 }
 
+// promise: plain.deadline-ever
 #[test]
 fn plain_limits(rt: HostRuntime) -> Result<(), Fail> {
     for capacity in &[0, 65537] {

@@ -73,6 +73,7 @@ fn limits(rt: &impl Abort, words: &mut VecWords) {
     extends_to_the_last_tick(rt, words);
 }
 
+// promise: known.row-limits
 #[test]
 fn plain_words_limits(rt: HostRuntime) -> Result<(), Fail> {
     limits(&rt, &mut one_word(rt.alloc())?);
@@ -80,6 +81,7 @@ fn plain_words_limits(rt: HostRuntime) -> Result<(), Fail> {
 }
 
 // A settle wants the word as it stands. So what an answer tells of it is matched in this body.
+// promise: known.word-changes
 #[test]
 fn plain_words_end_once(rt: HostRuntime) -> Result<(), Fail> {
     let mut words = VecWords::new(rt.alloc(), 1)?;

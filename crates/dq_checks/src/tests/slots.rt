@@ -28,6 +28,7 @@ fn vacates(rt: &impl Abort, slots: &mut Slots<char>, stamp: u32, value: char) {
     same(rt, "vacate", (held.born, held.value), (stamp, value));
 }
 
+// promise: slots.slot-filled
 #[test]
 fn a_slot_wears_out_at_its_last_stamp(rt: HostRuntime) -> Result<(), Fail> {
     wears_out(&rt, &mut Slots::new(rt.alloc(), 1, 2)?);
@@ -55,6 +56,7 @@ fn raises(rt: &impl Abort, slots: &mut Slots<char>) {
     same(rt, "raise", (slots.stamp(1), slots.born(1)), (2, Some(1)));
 }
 
+// promise: slots.slot-filled
 #[test]
 fn a_raise_keeps_the_birth_stamp(rt: HostRuntime) -> Result<(), Fail> {
     fills_and_raises(&rt, &mut Slots::new(rt.alloc(), 3, 5)?);

@@ -13,6 +13,7 @@ use std::alloc::Global;
 use std::process::Abort;
 use std::test::Fail;
 
+// promise: wheel.link-unlink
 #[test]
 fn wheel_cascade(rt: HostRuntime) -> Result<(), Fail> {
     let calls = &[
@@ -63,6 +64,7 @@ fn waits(
     Ok(())
 }
 
+// promise: wheel.advance-goes
 #[test]
 fn beyond_one_lap(rt: HostRuntime) -> Result<(), Fail> {
     let slot = (Place::InSlot { level: 5, slot: 0 }, 68719476736);
@@ -86,6 +88,7 @@ fn slot_of(rt: &impl Abort, tick: u64, filed: u64) -> (Place, u64) {
     }
 }
 
+// promise: wheel.place-filed
 #[test]
 fn places_by_tick(rt: HostRuntime) -> Result<(), Fail> {
     let rows: &[(u64, u64)] = &[
@@ -113,6 +116,7 @@ fn places_by_tick(rt: HostRuntime) -> Result<(), Fail> {
     plays(&rt, rt.alloc(), 1, at_once)
 }
 
+// promise: wheel.link-unlink
 #[test]
 fn unlinks_from_a_shared_slot(rt: HostRuntime) -> Result<(), Fail> {
     // The first, the last and the one between leave in turn: the slot's bit stays until the last one left.
@@ -139,6 +143,7 @@ fn unlinks_from_a_shared_slot(rt: HostRuntime) -> Result<(), Fail> {
     plays(&rt, rt.alloc(), 3, calls)
 }
 
+// promise: wheel.new-tick
 #[test]
 fn bad_configs(rt: HostRuntime) {
     for capacity in [0, 65537] {
@@ -167,6 +172,7 @@ fn suffices(
     Ok(())
 }
 
+// promise: wheel.new-tick
 #[test]
 fn refused_memory(rt: HostRuntime) -> Result<(), Fail> {
     // The rows of four indexes and of the heads take 24 bytes each.
@@ -212,6 +218,7 @@ fn fills_and_empties(rt: &impl Abort, wheel: &mut Wheel) {
     each_answers(rt, wheel, end);
 }
 
+// promise: wheel.pop-due-nothing
 #[test]
 fn full_wheel_to_the_last_tick(rt: HostRuntime) -> Result<(), Fail> {
     let mut wheel = Wheel::new(rt.alloc(), CAPACITY_LIMIT)?;
@@ -256,6 +263,7 @@ fn arrives(rt: &impl Abort, wheel: &mut Wheel) {
     same(rt, "moved", wheel.moved(), 0);
 }
 
+// promise: wheel.arrive-does
 #[test]
 fn arrives_at_each_slot(rt: HostRuntime) -> Result<(), Fail> {
     let mut wheel = Wheel::new(rt.alloc(), 4)?;
@@ -263,6 +271,7 @@ fn arrives_at_each_slot(rt: HostRuntime) -> Result<(), Fail> {
     Ok(())
 }
 
+// promise: wheel.arrive-does
 #[test]
 fn due_while_a_slot_is_open(rt: HostRuntime) -> Result<(), Fail> {
     let calls = &[
@@ -291,6 +300,7 @@ fn due_while_a_slot_is_open(rt: HostRuntime) -> Result<(), Fail> {
     plays(&rt, rt.alloc(), 5, calls)
 }
 
+// promise: wheel.arrive-does
 #[test]
 fn arrives_a_lap_ahead(rt: HostRuntime) -> Result<(), Fail> {
     let calls = &[

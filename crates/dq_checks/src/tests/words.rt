@@ -50,6 +50,7 @@ fn issues_to_the_limit(rt: &impl Abort, keeper: &mut Keeper) -> Result<(), Fail>
 }
 
 // A live word is ended as its keeper is dropped, at the deadline in force, and its caller is told.
+// promise: words.keeper-drop
 #[test]
 fn a_dropped_keeper_ends_its_live_words(rt: HostRuntime) -> Result<(), Fail> {
     let mut keeper = Keeper::new(rt.alloc(), 1)?;
@@ -70,6 +71,7 @@ fn a_dropped_keeper_ends_its_live_words(rt: HostRuntime) -> Result<(), Fail> {
     Ok(())
 }
 
+// promise: words.first-second
 #[test]
 fn words_first_pass(rt: HostRuntime) -> Result<(), Fail> {
     let mut keeper = Keeper::new(rt.alloc(), 1)?;
@@ -117,6 +119,7 @@ fn gives_back(rt: &impl Abort, caller: Caller, cancels: u64) {
     );
 }
 
+// promise: words.first-second
 #[test]
 fn words_second_pass(rt: HostRuntime) -> Result<(), Fail> {
     let mut keeper = Keeper::new(rt.alloc(), 1)?;
@@ -149,6 +152,7 @@ fn words_second_pass(rt: HostRuntime) -> Result<(), Fail> {
     Ok(())
 }
 
+// promise: known.row-limits words.caller-takes
 #[test]
 fn bad_configs(rt: HostRuntime) -> Result<(), Fail> {
     let capacities: &[usize] = &[0, 65537];

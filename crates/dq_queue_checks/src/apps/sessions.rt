@@ -104,6 +104,7 @@ fn walk(
     Ok(())
 }
 
+// promise: sessions.login-queue sessions.into-queue-queue
 #[test]
 fn sessions_walk(rt: HostRuntime) -> Result<(), Fail> {
     let sessions = sessions(rt.alloc(), IDLE)?;
@@ -159,6 +160,7 @@ fn idles_for<R: Abort + Wait + AllocGlobal>(
 }
 
 // A session's deadline may be the last tick and no later one; a sum that has no `u64` is later too.
+// promise: sessions.login-queue
 #[test]
 fn idle_beyond_the_last_tick(rt: HostRuntime) -> Result<(), Fail> {
     let rows = [

@@ -60,6 +60,7 @@ fn audits<R: Abort + Wait>(rt: &R, queue: &Letters) -> Result<(), Fail> {
 
 // Fails where the queue's audit tells the totals of fresh shards (audit_of_fresh_shards), and where a handle's
 // give_back drops its callers (give_back_drops_its_callers).
+// promise: shards.callers-issued
 #[test]
 fn audit_after_give_back(rt: HostRuntime) -> Result<(), Fail> {
     let queue = SharedDelayQueue::new(rt.alloc(), QueueConfig::of(1, 4))?;
@@ -78,6 +79,7 @@ fn extends_inside_lend<R: Abort + Wait>(rt: &R, queue: &Letters) -> Result<(), F
 }
 
 // A handle's call takes no lock, so it goes on while the same thread holds the shard's.
+// promise: shards.callers-issued
 #[test]
 fn extend_inside_lend(rt: HostRuntime) -> Result<(), Fail> {
     let queue = SharedDelayQueue::new(rt.alloc(), QueueConfig::of(1, 4))?;
@@ -109,6 +111,7 @@ fn limits<R: Abort + Wait>(rt: &R, queue: &Letters) -> Result<(), Fail> {
 }
 
 // Fails where a queue always refuses a handle as too many (handle_always_too_many).
+// promise: shards.callers-issued
 #[test]
 fn handle_limit(rt: HostRuntime) -> Result<(), Fail> {
     let queue: Letters = SharedDelayQueue::new(rt.alloc(), QueueConfig::of(1, 4))?;
@@ -151,6 +154,7 @@ fn reaches_the_limit<R: Abort + Wait>(rt: &R, queue: &Letters) -> Result<(), Fai
     Ok(())
 }
 
+// promise: shards.callers-issued
 #[test]
 fn issue_by_lend(rt: HostRuntime) -> Result<(), Fail> {
     let queue: Letters = SharedDelayQueue::new(rt.alloc(), QueueConfig::of(2, 4))?;
@@ -192,6 +196,7 @@ fn refuses_handles<R: Abort + Wait>(rt: &R, queue: &Letters) -> Result<(), Fail>
 
 // Fails where a refused `handle` keeps what it issued (handle_keeps_what_it_issued): what it issued in the shards
 // before stays counted as issued, but isn't out.
+// promise: shards.callers-issued
 #[test]
 fn refused_handle_gives_back(rt: HostRuntime) -> Result<(), Fail> {
     let queue: Letters = SharedDelayQueue::new(rt.alloc(), QueueConfig::of(3, 1))?;

@@ -117,12 +117,14 @@ fn comes_in_pieces<R: Abort + Wait + AllocGlobal>(
     fill_and_poll(rt, &queue, heap, way)
 }
 
+// promise: shards.pieces-give
 #[test]
 fn pieces_by_name(rt: HostRuntime) -> Result<(), Fail> {
     let heap = LocalHeap::new(rt.alloc(), 1 << 12)?;
     comes_in_pieces(&rt, &heap, Way::ByName)
 }
 
+// promise: shards.pieces-give
 #[test]
 fn pieces_by_lend(rt: HostRuntime) -> Result<(), Fail> {
     let heap = LocalHeap::new(rt.alloc(), 1 << 12)?;

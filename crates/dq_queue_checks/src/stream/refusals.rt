@@ -49,12 +49,14 @@ fn ends_for_good<R: Abort + Wait>(rt: &R, queue: &Letters, task: &Task) -> Resul
     gives_to_another(rt, queue, task, &mut stream)
 }
 
+// promise: stream.tick-beyond
 #[test]
 fn refused_tick_ends_for_good(rt: HostRuntime) -> Result<(), Fail> {
     let (queue, task) = letters_and_task(&rt, &[('v', 10)])?;
     ends_for_good(&rt, &queue, &task)
 }
 
+// promise: stream.tick-beyond
 #[test]
 fn last_tick_is_taken(rt: HostRuntime) -> Result<(), Fail> {
     play_over(
@@ -98,6 +100,7 @@ fn gives_out_of_a_heap<R: Abort + Wait>(
     Ok(())
 }
 
+// promise: stream.order-end
 #[test]
 fn polls_take_none_of_the_queues_memory(rt: HostRuntime) -> Result<(), Fail> {
     let heap = LocalHeap::new(rt.alloc(), 1 << 16)?;

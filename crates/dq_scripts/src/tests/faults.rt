@@ -7,6 +7,7 @@ use dq_ticks::CAPACITY_LIMIT;
 use std::process::Abort;
 use std::test::Fail;
 
+// promise: replay.written-function
 #[test]
 fn unfinished_and_bad_header(rt: HostRuntime) {
     for (script, line, kind) in [
@@ -24,12 +25,14 @@ fn unfinished_and_bad_header(rt: HostRuntime) {
 /// A script whose third line has a fault, and what is answered before it.
 pub const FAULTY: (&str, &str) = ("delay 1\ninsert a 5\ninsert b\n", "a at 5\n");
 
+// promise: replay.written-function
 #[test]
 fn stops_at_fault(rt: HostRuntime) {
     let fault = fault_at(3, FaultKind::BadShape);
     runs(&rt, 4, FAULTY.0.as_bytes(), FAULTY.1, fault);
 }
 
+// promise: replay.written-function
 #[test]
 fn one_fault_each(rt: HostRuntime) -> Result<(), Fail> {
     for (line, kind) in [
@@ -55,6 +58,7 @@ fn one_fault_each(rt: HostRuntime) -> Result<(), Fail> {
     Ok(())
 }
 
+// promise: replay.written-function
 #[test]
 fn lines_of_128_bytes_and_more(rt: HostRuntime) -> Result<(), Fail> {
     for (line, kind) in [
@@ -69,6 +73,7 @@ fn lines_of_128_bytes_and_more(rt: HostRuntime) -> Result<(), Fail> {
     Ok(())
 }
 
+// promise: replay.capacity-refused
 #[test]
 fn bad_capacities(rt: HostRuntime) {
     let script = b"delay 1\ninsert a 5\n".as_slice();
@@ -82,6 +87,7 @@ fn bad_capacities(rt: HostRuntime) {
     }
 }
 
+// promise: replay.capacity-refused
 #[test]
 fn greatest_capacity(rt: HostRuntime) {
     runs(&rt, 65536, b"delay 1\ninsert a 5\n", "a at 5\n", Ok(()));
@@ -98,6 +104,7 @@ fn tells<R: Abort + AllocGlobal>(rt: &R, fault: ReplayFault, text: &str, status:
     assert_eq!(rt; report(&fault, &mut Full(&mut 0)), status);
 }
 
+// promise: replay.status-fault replay.faults-reader
 #[test]
 fn reports(rt: HostRuntime) {
     let kind = FaultKind::TooManyLines;
@@ -117,6 +124,7 @@ fn reports(rt: HostRuntime) {
     }
 }
 
+// promise: replay.status-fault
 #[test]
 fn reports_each_kind(rt: HostRuntime) {
     for (kind, text) in [

@@ -49,6 +49,7 @@ fn fails_behind<R: Abort + AllocGlobal>(rt: &R, bytes: &[u8], answers: &str) {
     assert_eq!(rt; errors, 1);
 }
 
+// promise: replay.read-fault replay.faults-reader
 #[test]
 fn read_error_mid_line(rt: HostRuntime) {
     for (bytes, answers) in [
@@ -61,6 +62,7 @@ fn read_error_mid_line(rt: HostRuntime) {
 }
 
 // Behind each byte of a script; the last such read is the one that would find the input's end.
+// promise: replay.write-fault
 #[test]
 fn fault_at_each_read(rt: HostRuntime) -> Result<(), Fail> {
     let (script, _) = joined(rt.alloc(), "delay 1", &THREE_NAMES)?;
@@ -101,6 +103,7 @@ impl Read for Again {
     }
 }
 
+// promise: replay.run-returns
 #[test]
 fn endless_lines(rt: HostRuntime) {
     let mut count = 0;
@@ -115,6 +118,7 @@ fn endless_lines(rt: HostRuntime) {
 }
 
 // A script may end behind its last possible line.
+// promise: replay.run-returns
 #[test]
 fn greatest_number_of_lines(rt: HostRuntime) {
     let mut count = 0;
@@ -127,6 +131,7 @@ fn greatest_number_of_lines(rt: HostRuntime) {
     assert_eq!(rt; count, 999_999 * 7);
 }
 
+// promise: replay.run-returns
 #[test]
 fn endless_line(rt: HostRuntime) {
     let mut written = Vec::new(rt.alloc());

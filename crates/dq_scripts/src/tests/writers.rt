@@ -39,6 +39,7 @@ impl Write for Full<'_> {
     }
 }
 
+// promise: replay.write-fault replay.faults-reader
 #[test]
 fn zero_byte_write(rt: HostRuntime) -> Result<(), Fail> {
     let (script, _) = joined(rt.alloc(), "delay 1", &TWO_NAMES)?;
@@ -101,6 +102,7 @@ fn fails_behind<R: Abort + AllocGlobal>(rt: &R, script: &[u8], written: &[u8]) {
     assert_eq!(rt; errors, 1);
 }
 
+// promise: replay.write-fault
 #[test]
 fn short_writes_then_error(rt: HostRuntime) -> Result<(), Fail> {
     let (script, _) = joined(rt.alloc(), "delay 1", &TWO_NAMES)?;
@@ -108,6 +110,7 @@ fn short_writes_then_error(rt: HostRuntime) -> Result<(), Fail> {
     Ok(())
 }
 
+// promise: replay.write-fault
 #[test]
 fn fault_at_each_write(rt: HostRuntime) -> Result<(), Fail> {
     let (script, answers) = joined(rt.alloc(), "delay 1", &THREE_NAMES)?;
@@ -165,6 +168,7 @@ fn flushes_once<R: Abort + AllocGlobal>(
     assert_eq!(rt; flushes, 1);
 }
 
+// promise: replay.write-fault replay.faults-reader
 #[test]
 fn flush_error(rt: HostRuntime) -> Result<(), Fail> {
     let (script, answers) = joined(rt.alloc(), "delay 1", &TWO_NAMES)?;
