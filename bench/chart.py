@@ -1,6 +1,7 @@
-"""The charts of a run, as SVG of 900 pixels: panels of numbers, each with its name, on an axis that is drawn.
+#!/usr/bin/env python3
+"""bench/chart.py: draws the charts of the stored run, as SVG of 900 pixels: panels of bars on a linear axis from 0.
 
-On a linear axis from 0 a number is a bar. On a logarithmic one it is a dot, since a bar's length would tell nothing there.
+`bench/run` draws them once it has stored a run. After a change of this file draw them by `python3 bench/chart.py`.
 """
 
 import math
@@ -58,10 +59,6 @@ def rectangle(x, y, wide, tall, fill, told=""):
     return f'<rect x="{x:.1f}" y="{y:.1f}" width="{wide:.1f}" height="{tall:.1f}" fill="{fill}">{title}</rect>'
 
 
-def dot(x, y, fill, told):
-    return f'<circle cx="{x:.1f}" cy="{y:.1f}" r="4.5" fill="{fill}" stroke="#444" stroke-width="0.7"><title>{escape(told)}</title></circle>'
-
-
 def beside(x, y, words):
     """A number beside its bar or dot, over a white ground where a line of the axis goes through."""
     yield rectangle(x - 1, y - 9, 6.1 * len(words) + 2, 11, "white")
@@ -111,32 +108,14 @@ class Panel:
             if bar.name:
                 yield text(left - 5, top + BAR - 1.5, bar.name, 10.5, "end")
             at = axis.place(bar.value) * room
-            if axis.has_zero:
-                yield rectangle(left, top, max(at, 1), BAR, bar.colour, bar.told)
-            else:
-                yield dot(left + at, top + BAR / 2, bar.colour, bar.told)
-            yield from beside(left + at + (4 if axis.has_zero else 8), top + BAR - 1.5, bar.written)
-
-
-class Logarithmic:
-    """One axis of a whole chart, whose ticks are the powers of ten."""
-
-    words, unit, has_zero = "Logarithmic axes: a line is ten times the one before.", "", False
-
-    def __init__(self, values):
-        self.low = 10 ** math.floor(math.log10(max(min(values), 0.1)))
-        self.span = math.log(max(values) / self.low)
-        powers = (self.low * 10**it for it in range(12))
-        self.ticks = [it for it in powers if it <= max(values)]
-
-    def place(self, value):
-        return math.log(max(value, self.low) / self.low) / self.span
+            yield rectangle(left, top, max(at, 1), BAR, bar.colour, bar.told)
+            yield from beside(left + at + 4, top + BAR - 1.5, bar.written)
 
 
 class Linear:
     """An axis of one panel, from 0 on, with one to three lines."""
 
-    words, has_zero = "Linear axes from 0, one a panel.", True
+    words = "Linear axes from 0, one a panel."
 
     def __init__(self, values, unit=""):
         self.greatest, self.unit = max(values), unit
@@ -148,9 +127,8 @@ class Linear:
         return value / self.greatest
 
 
-def drawn(title, lines, about, columns, legend=(), name_room=NAME, axis_of=None):
-    """A chart of lines of panels: on one logarithmic axis, or each on its own as `axis_of` makes it of its numbers."""
-    shared = Logarithmic([value for line in lines for panel in line for value in panel.values()])
+def drawn(title, lines, about, columns, legend=(), name_room=NAME, axis_of=Linear):
+    """A chart of lines of panels, each on its own axis as `axis_of` makes it of its numbers."""
     wide = (WIDTH - 2 * MARGIN - (columns - 1) * 18) / columns
     heights = [max(panel.height() for panel in line) for line in lines]
     tall = HEAD + sum(heights) + 26
@@ -169,11 +147,10 @@ def drawn(title, lines, about, columns, legend=(), name_room=NAME, axis_of=None)
     y = HEAD
     for line, height in zip(lines, heights):
         for column, panel in enumerate(line):
-            axis = axis_of(panel.values()) if axis_of else shared
+            axis = axis_of(panel.values())
             parts.extend(panel.draw(MARGIN + column * (wide + 18), y, wide, axis, name_room))
         y += height
-    words = Linear.words if axis_of else Logarithmic.words
-    parts.append(text(MARGIN, tall - 9, f"{about[0].split(';')[0]}. One run: the ratios count. {words}", 10.5, fill="#555"))
+    parts.append(text(MARGIN, tall - 9, f"{about[0].split(';')[0]}. One run: the ratios count. {Linear.words}", 10.5, fill="#555"))
     return "\n".join([*parts, "</svg>"]) + "\n"
 
 
@@ -181,53 +158,8 @@ def told(case, peer):
     return f"{case}: {stored.NAMES[peer]} {case.median(peer):.1f} ns, best {case.best(peer):.1f}"
 
 
-def bars_of(case):
-    return [Bar(name_of(peer), COLOURS[peer], case.median(peer), told(case, peer)) for peer in stored.NAMES if peer in case.samples]
-
-
 def found(cases, row, entries, threads=1):
     return next((case for case in cases if case.key == (row, entries, threads)), None)
-
-
-def grid(lines):
-    """Lines of panels, of those that have some bars."""
-    lines = [[Panel(title, bars_of(case)) for title, case in line if case] for line in lines]
-    return [line for line in lines if line]
-
-
-def rows_chart(cases, about, title, rows):
-    sizes = sorted({case.entries for case in cases if case.row in rows})
-    lines = grid([[(f"{row}, {size:,} entries", found(cases, row, size)) for size in sizes] for row in rows])
-    return lines and drawn(title, lines, about, 3, [("Nanoseconds an operation, medians: further left is faster", "")])
-
-
-def threads_chart(cases, about):
-    shown = [case for case in cases if case.row == "callers"]
-    sizes, threads = sorted({case.entries for case in shown}), sorted({case.threads for case in shown})
-    lines = grid([[(f"{many} thread{'s' * (many > 1)}, {size:,} entries", found(cases, "callers", size, many)) for size in sizes]
-                  for many in threads])
-    title = "An extend in its thread, beside the owner's polls"
-    return lines and drawn(title, lines, about, 3, [("Nanoseconds, medians: further left is faster", "")])
-
-
-def shards_chart(cases, about):
-    sizes = {case.entries for case in cases if case.shards and not case.is_full}
-    size = 10_000 if 10_000 in sizes else min(sizes, default=0)
-
-    def line(row):
-        yield f"{row}: 1 shard, 1 thread", found(cases, f"{row}/1", size, 1)
-        yield f"{row}: 4 shards, 4 threads", found(cases, f"{row}/4", size, 4)
-        yield f"{row}: a shard for each of 4", found(cases, f"{stored.OWN}{row}/4", size, 4)
-
-    lines = grid([list(line(row)) for row in stored.SHARD_ROWS])
-    title = f"The shared queue, {size:,} entries a shard"
-    return lines and drawn(title, lines, about, 3, [("Nanoseconds a call, medians: further left is faster", "")])
-
-
-def full_chart(cases, about):
-    full = [(f"{case.call}, {case.threads} thread{'s' * (case.threads > 1)}", case) for case in cases if case.is_full]
-    lines = grid([full[at:at + 3] for at in range(0, len(full), 3)])
-    return lines and drawn("64 full shards, 4.2 million entries", lines, about, 3, [("Nanoseconds a call: further left is faster", "")])
 
 
 def longest_chart(cases, about):
@@ -247,7 +179,7 @@ def longest_chart(cases, about):
     shown = [[case for case in cases if case.row == row and case.spreads] for row in stored.LONGEST_ROWS]
     lines = [[panel(case) for case in line] for line in shown if line]
     return lines and drawn("The longest poll, after sessions were touched or cancelled", lines, about, 3,
-                           [("Microseconds of the longest of all polls: shorter is better", "")], axis_of=Linear)
+                           [("Microseconds of the longest of all polls: shorter is better", "")])
 
 
 def front_chart(cases, about):
@@ -279,16 +211,19 @@ def front_chart(cases, about):
                  legend.items(), name_room=8, axis_of=lambda values: Linear(values, "x"))
 
 
-def charts(cases, about):
-    """The charts that a run has: the part that stands in the file's name, and the text."""
-    for part, text_of in (
-        ("", front_chart(cases, about)),
-        ("calls", rows_chart(cases, about, "One call", stored.SINGLE_ROWS)),
-        ("whole", rows_chart(cases, about, "With all that the calls leave behind", stored.WHOLE_ROWS)),
-        ("threads", threads_chart(cases, about)),
-        ("shards", shards_chart(cases, about)),
-        ("full", full_chart(cases, about)),
-        ("longest", longest_chart(cases, about)),
-    ):
-        if text_of:
-            yield part, text_of
+def charts():
+    """The charts of the stored run, by their files."""
+    cases, about = stored.read()
+    drawn_ones = {"latest.svg": front_chart(cases, about), "latest-longest.svg": longest_chart(cases, about)}
+    return {stored.RESULTS / name: text for name, text in drawn_ones.items() if text}
+
+
+def stale():
+    """The charts that aren't what the stored samples make."""
+    return [path for path, text in charts().items() if not path.exists() or path.read_text() != text]
+
+
+if __name__ == "__main__":
+    for path, picture in charts().items():
+        path.write_text(picture)
+        print(path.name)
