@@ -48,6 +48,11 @@ def ns_text(value):
     return f"{value:,.0f}" if value >= 10 else f"{value:.1f}"
 
 
+def us_text(value):
+    """Nanoseconds as microseconds."""
+    return f"{value / 1000:,.0f}" if value >= 10000 else f"{value / 1000:.1f}" if value >= 95 else f"{value / 1000:.2f}"
+
+
 # The rows of the bench's table, each with its words.
 SPEED = {
     "insert": "insert",
@@ -81,14 +86,28 @@ def shared_speed():
                                for it in calls))
 
 
+# The columns of the front page's table: the cargo crates with their default features, and what others use. Our first one has two
+# names in the run, one of a queue with callers and one of shards that are called by name.
+FRONT = {"`hontkhale`": ("rust-checked", "rust-checked-shards"), "`hontkhale-tokio`": ("adapter-handle",),
+         "best heap in a `Mutex`": ("heap-best-locked",), "`Mutex<DelayQueue>`": ("delay-queue-locked",)}
+# Its rows, the worst for us first: by the words of each the row of the run, and the threads.
+FRONT_ROWS = {
+    **{f"{call}, 4 threads over 4 shards": (f"{call}/4", "4") for call in ("insert", "extend")},
+    **{f"{call}, one owner": (call, "1") for call in ("insert", "reset", "remove", "poll")},
+    "cancel, with its freeing": ("cancel", "1"), "idle timeouts, by resets": ("heartbeat", "1"), "idle timeouts, by extends": ("mixed", "1"),
+    "extend, 4 threads beside the owner's polls": ("callers", "4"),
+}
+
+
 def headline():
-    """An extend of what a reader links by default, beside its floor and beside locked queues."""
-    peers = {"`hontkhale`": "rust-checked", "the drop-in, by a handle": "adapter-handle", "a bare `fetch_max`": "fetch-max",
-             "best heap in a `Mutex`": "heap-best-locked", "lazy heap in a `Mutex`": "heap-note-locked",
-             "`Mutex<DelayQueue>` of tokio-util": "delay-queue-locked"}
-    both = lambda *cell: f"{ns_text(run()[cell])} ({ns_text(run(min)[cell])})"
-    return grid(["An extend, in ns", *peers], ([f"{words} beside the owner's polls", *(both(it, "callers", "10000", threads) for it in peers.values())]
-                                               for threads, words in (("1", "one thread"), ("4", "four threads"))))
+    """What a reader links by default, beside locked queues: the longest calls, then the median of each kind of call and its best run."""
+    def both(name, threads, peers):
+        its = [(peer, name, "10000", threads) for peer in peers if (peer, name, "10000", threads) in run()]
+        return f"{ns_text(run()[its[0]])} ({ns_text(run(min)[its[0]])})" if its else ""
+
+    rows = [[f"longest poll after 65,536 {call}s, no locks", *(f"{us_text(longest_of(f'longest-{call}', its[0].removesuffix('-locked'), '65536'))} µs"
+                                                               for its in FRONT.values())] for call in ("cancel", "extend")]
+    return grid(["", *FRONT], [*rows, *([words, *(both(*its, peers) for peers in FRONT.values())] for words, its in FRONT_ROWS.items())])
 
 
 # What a reader links, by its name in the stored run.
@@ -129,17 +148,6 @@ def cells_of(peer, kind, call=""):
 def lost(ours, cells):
     """In how many cells a peer is faster than ours."""
     return sum(run()[cell] < run()[(ours, *cell[1:])] for cell in cells)
-
-
-def losses():
-    """In how many rows the best heap in a `Mutex` is faster than the crate's shards, and the longest polls of each."""
-    told = lambda ours, *which: f"{lost(ours, cells_of('heap-best-locked', *which))} of {len(cells_of('heap-best-locked', *which))}"
-    shares = {"calls by name": told("ours-shards", "calls"), "of them extends, which take no lock": told("ours-shards", "calls", "extend"),
-              "whole lives of entries, beside the build without bounds checks": told("rust-shards", "lives")}
-    polls = {"a shard's, under its lock": "ours-shards", "through the drop-in, with a handle": "adapter-handle", "the best heap's": "heap-best"}
-    took = lambda peer: f"{longest_of('longest-cancel', peer, '65536') / 1000:,.0f} µs"
-    return "\n".join([grid(["The best heap in a `Mutex` is faster in", "its share"], shares.items()), "",
-                      grid(["The poll that frees 65,536 cancelled entries", "takes"], ((words, took(it)) for words, it in polls.items()))])
 
 
 def standing():
@@ -190,8 +198,7 @@ def longest():
     """The longest poll of each kind, in microseconds."""
     peers = {"ours-owned": "ours, one owner", "ours": "ours, shared words", "ours-shards": "ours, a shard", "heap-best": "best heap",
              "heap-indexed": "indexed heap", "hashed-wheel": "hashed wheel", "delay-queue": "`DelayQueue`"}
-    us = lambda value: f"{value / 1000:,.0f}" if value >= 10000 else f"{value / 1000:.1f}" if value >= 95 else f"{value / 1000:.2f}"
-    return grid(["Touched by", "Entries", *peers.values()], ([f"{call}s", f"{int(size):,}", *(us(longest_of(f"longest-{call}", it, size)) for it in peers)]
+    return grid(["Touched by", "Entries", *peers.values()], ([f"{call}s", f"{int(size):,}", *(us_text(longest_of(f"longest-{call}", it, size)) for it in peers)]
                                                              for call in ("extend", "reset", "cancel") for size in SIZES))
 
 
@@ -355,7 +362,7 @@ def lasts(*sizes):
                 ([f"{capacity:,}", shards, *(told(capacity * shards * stamps / it) for it in RATES)] for capacity, shards in shapes), 0)
 
 
-TABLES = (adapter, ahead, beside, beside_delay_queue, edit, evidence, fair, gate, headline, instructions, lasts, life_standing, longest, losses,
+TABLES = (adapter, ahead, beside, beside_delay_queue, edit, evidence, fair, gate, headline, instructions, lasts, life_standing, longest,
           pieces, renewing, shard_standing, shared_speed, sizes, speed, standing)
 
 

@@ -17,7 +17,7 @@ OUT = TOP / "rust" / "hontkhale" / "src"
 # The crates, and the modules that they become.
 MODULES = {
     "dq_ticks": "ticks",
-    "dq_wheel": "wheel",
+    "dq_wheel": "wheels",
     "dq_core": "core",
     "dq_words": "words",
     "dq_parking": "parking",
@@ -25,7 +25,6 @@ MODULES = {
     "dq_stream": "stream",
     "dq_apps": "apps",
     "dq_lasting": "lasting",
-    "dq_pool": "pool",
     "dq_replay": "replay",
 }
 # What is told where a closure of `lend` put another shard's state in a shard's place.
@@ -226,6 +225,7 @@ def put_uses(tokens, found):
 def erased(hand, closed, said):
     """The erased text of each file, by its path in the crate."""
     found = sources(hand, said)
+    closed.learn({MODULES[source.crate]: source.text for source in found if source.module_path() == ()})
     for source in found:
         source.tokens = guarded(source, without_ghosts_but_clauses, source.tokens)
     names = laws.law_names([source.tokens for source in found])

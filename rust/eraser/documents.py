@@ -4,6 +4,7 @@ import re
 from hand import Hand
 
 LINK = re.compile(r"\[`((?:dq_\w+::)?)(\w+)((?:::\w+)?)`\](?![(\[:])")
+DEFINITION = re.compile(r"(\]: )crate::(\w+)")
 WIDTH = 120
 
 
@@ -26,41 +27,44 @@ def known_names(tokens, module, given):
                     names.add(tokens[at].text)
                 at += 1
         elif token.text in ("struct", "enum", "fn", "const", "trait", "type") and token.kind == "word":
-            if given.get(tokens[at + 1].text) == module:
+            if given.get(tokens[at + 1].text, [None])[0] == module:
                 names.add(tokens[at + 1].text)
         at += 1
     return names
 
 
-def with_links(tokens, module, exported):
+def with_links(tokens, module, given):
     """Each link of a doc leads to what the crate gives away, or is plain text."""
-    known = known_names(tokens, module, exported)
+    known = known_names(tokens, module, given)
     at = 0
     while at < len(tokens):
         token = tokens[at]
+        if token.kind == "doc":
+            token.text = DEFINITION.sub(lambda match: match[1] + "crate::" + given.get(match[2], ["", match[2]])[1], token.text)
         if token.kind == "doc" and LINK.search(token.text):
-            far = set()
-            token.text = LINK.sub(lambda match: link(match, known, exported, far, token), token.text)
+            far = {}
+            token.text = LINK.sub(lambda match: link(match, known, given, far, token), token.text)
             if far:
                 at = put_definitions(tokens, at, far)
         at += 1
     return tokens
 
 
-def link(match, known, exported, far, token):
+def link(match, known, given, far, token):
     crate, head, tail = match.groups()
     name = head + tail
     if head == "Self":
         return match.group()
-    if head not in exported:
+    if head not in given:
         return f"`{name}`"
     if head in known and not crate:
         return match.group()
-    inline = f"[`{name}`](crate::{name})"
+    path = f"crate::{given[head][1]}{tail}"
+    inline = f"[`{name}`]({path})"
     indent = len(token.before.rsplit("\n", 1)[-1])
     if indent + len(token.text) + len(inline) - len(match.group()) <= WIDTH:
         return inline
-    far.add(name)
+    far[name] = path
     return f"[`{name}`]"
 
 
@@ -71,7 +75,7 @@ def put_definitions(tokens, at, far):
     while tokens[end + 1].kind == "doc" and tokens[end + 1].text.startswith(prefix):
         end += 1
     indent = "\n" + tokens[at].before.rsplit("\n", 1)[-1]
-    lines = [prefix] + [f"{prefix} [`{name}`]: crate::{name}" for name in sorted(far)]
+    lines = [prefix] + [f"{prefix} [`{name}`]: {path}" for name, path in sorted(far.items())]
     present = {tokens[index].text for index in range(at, end + 1)}
     if any(line in present for line in lines[1:]):
         lines = [line for line in lines[1:] if line not in present]

@@ -1,5 +1,5 @@
 use crate::clock::Clock;
-use hontkhale::EntryId;
+use hontkhale::owner::EntryId;
 use std::fmt;
 use tokio::time::Instant;
 
@@ -51,8 +51,8 @@ impl Key {
 
     /// The key of a stamp under which callers of the segment's queue have the entry.
     #[inline]
-    pub(crate) fn stamped(&self, stamp: u32) -> hontkhale::Key {
-        hontkhale::Key::new(self.entry(), stamp)
+    pub(crate) fn stamped(&self, stamp: u32) -> hontkhale::owner::Key {
+        hontkhale::owner::Key::new(self.entry(), stamp)
     }
 }
 

@@ -6,7 +6,7 @@ use crate::key::{Expired, Key};
 use crate::shared::Shared;
 use crate::shared_state::SharedState;
 use crate::unique_ids::UniqueIds;
-use hontkhale::{CallError, Caller, CoreConfig, CoreError, DelayCore, Keeper, Look, Piece, Turn};
+use hontkhale::owner::{CallError, Caller, CoreConfig, CoreError, DelayCore, Keeper, Look, Piece, Turn};
 use std::sync::{Arc, Mutex, PoisonError};
 
 /// The slots of the first segment. Each later one has twice as many, up to hontkhale's limit.
@@ -48,7 +48,7 @@ impl<T> Segment<T> {
     pub fn new(slots: usize, last_stamp: u32, clock: Clock, tick: u64) -> Segment<T> {
         let number = SEGMENTS.draw();
         let config = CoreConfig { shard: 0, capacity: slots, last_stamp };
-        let mut queue = hontkhale::numbered_queue(config).expect("memory for more entries");
+        let mut queue = hontkhale::owner::numbered_queue(config).expect("memory for more entries");
         let reader = Mutex::new(queue.issue().expect("a queue's first caller"));
         let state = Arc::new(SharedState::new(number, slots));
         let (is_left, is_stale, is_shared) = (false, false, false);
@@ -190,7 +190,7 @@ impl<T> Segment<T> {
 
     /// The user's key of what came out.
     #[inline]
-    pub fn key(&self, key: hontkhale::Key) -> Key {
+    pub fn key(&self, key: hontkhale::owner::Key) -> Key {
         let entry = key.entry();
         Key::of(self.number, self.index, entry.index(), entry.born())
     }

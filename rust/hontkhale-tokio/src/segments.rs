@@ -10,7 +10,7 @@ use crate::key::{Expired, Key};
 use crate::relocations::Relocations;
 use crate::segment::Segment;
 use crate::shared::Shared;
-use hontkhale::{CoreError, LAST_TICK};
+use hontkhale::owner::{CoreError, LAST_TICK};
 use std::mem;
 use std::ops::Deref;
 use std::sync::atomic::AtomicU64;

@@ -100,7 +100,6 @@ mod with_std {
     use crate::apps::{CountedCache, IdleSessions, Name, Seen, TtlCache};
     use crate::lasting::{LastingHandle, LastingPacedStream, LastingQueue, LastingStream, LockedLasting};
     use crate::parking::{MillisecondTicks, Parked};
-    use crate::pool::{HandlePool, Lent};
     use crate::shards::{Handle, LockedShard, ShardState, SharedDelayQueue};
     use crate::stream::{ExpiredStream, PacedStream};
     use std::hash::{BuildHasher, Hash};
@@ -254,18 +253,6 @@ mod with_std {
     impl Debug for Name {
         fn fmt(&self, f: &mut Formatter<'_>) -> Result {
             f.debug_tuple("Name").field(&self.text()).finish()
-        }
-    }
-
-    impl<H> Debug for HandlePool<H> {
-        fn fmt(&self, f: &mut Formatter<'_>) -> Result {
-            f.debug_struct("HandlePool").finish_non_exhaustive()
-        }
-    }
-
-    impl<H: Debug> Debug for Lent<'_, H> {
-        fn fmt(&self, f: &mut Formatter<'_>) -> Result {
-            f.debug_tuple("Lent").field(&**self).finish()
         }
     }
 }

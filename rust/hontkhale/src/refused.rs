@@ -11,7 +11,9 @@ use core::fmt;
 ///
 #[cfg_attr(feature = "std", doc = "```")]
 #[cfg_attr(not(feature = "std"), doc = "```ignore")]
-/// use hontkhale::{Key, QueueConfig, QueueError, Refused, SharedDelayQueue};
+/// use hontkhale::Refused;
+/// use hontkhale::owner::Key;
+/// use hontkhale::shards::{QueueConfig, QueueError, SharedDelayQueue};
 ///
 /// type Jobs = SharedDelayQueue<String>;
 ///

@@ -4,7 +4,8 @@
 use std::sync::Arc;
 use std::task::{Context, Poll, Wake, Waker};
 
-use hontkhale::{CoreError, Key, LastingConfig, LastingError, LastingQueue, LastingTally, LAST_TICK};
+use hontkhale::lasting::{LastingConfig, LastingError, LastingQueue, LastingTally};
+use hontkhale::owner::{CoreError, Key, LAST_TICK};
 
 const PLACES: usize = 6;
 const CALLS: usize = 30_000;

@@ -3,10 +3,8 @@
 // The tests ask for a newer Rust than the crate, and an error is shown without the value that came back.
 #![allow(clippy::incompatible_msrv, clippy::ok_expect)]
 
-use hontkhale::{
-    CallError, CoreError, Handle, Key, Look, Piece, QueueConfig, QueueError, ReapError, SharedDelayQueue, Turn,
-    HANDLE_LIMIT, LAST_TICK,
-};
+use hontkhale::owner::{CallError, CoreError, Key, Look, Piece, ReapError, Turn, HANDLE_LIMIT, LAST_TICK};
+use hontkhale::shards::{Handle, QueueConfig, QueueError, SharedDelayQueue};
 use std::panic::{catch_unwind, AssertUnwindSafe};
 use std::sync::atomic::{AtomicUsize, Ordering::SeqCst};
 use std::sync::{mpsc, Arc};

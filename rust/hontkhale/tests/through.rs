@@ -8,8 +8,10 @@
 mod draw;
 
 use draw::{calls, Draw};
-use hontkhale::{CoreError, LastingConfig, LastingError, LastingQueue, QueueConfig, QueueError, SharedDelayQueue};
-use hontkhale::{EntryId, Turn, LAST_TICK};
+use hontkhale::lasting::{LastingConfig, LastingError, LastingQueue};
+use hontkhale::owner::CoreError;
+use hontkhale::owner::{EntryId, Turn, LAST_TICK};
+use hontkhale::shards::{QueueConfig, QueueError, SharedDelayQueue};
 use std::fmt::Debug;
 use std::num::NonZeroU32;
 use std::sync::atomic::{AtomicBool, Ordering::SeqCst};
@@ -101,7 +103,7 @@ queue!(
     Lasting,
     LastingConfig,
     LastingError,
-    |tally: hontkhale::LastingTally| tally.present
+    |tally: hontkhale::lasting::LastingTally| tally.present
 );
 
 fn steps(steps: u32) -> NonZeroU32 {

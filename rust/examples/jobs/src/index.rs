@@ -1,7 +1,8 @@
 //! The index of what is due soon: one shard of a delay queue for each partition, and the alarm of who takes out.
 
 use crate::clock::{Clock, Tick};
-use hontkhale::{Look, QueueConfig, QueueError, SharedDelayQueue, Turn};
+use hontkhale::owner::{Look, Turn};
+use hontkhale::shards::{QueueConfig, QueueError, SharedDelayQueue};
 use std::sync::atomic::{AtomicU64, Ordering::SeqCst};
 use std::sync::{Condvar, Mutex, PoisonError};
 
@@ -23,10 +24,10 @@ pub enum Due {
     Lease { id: i64, attempt: i32 },
 }
 
-/// Extends leases from any thread without a lock.
-pub use hontkhale::Handle;
 /// The name of an entry.
-pub use hontkhale::Key;
+pub use hontkhale::owner::Key;
+/// Extends leases from any thread without a lock.
+pub use hontkhale::shards::Handle;
 
 pub struct Index {
     queue: SharedDelayQueue<Due>,

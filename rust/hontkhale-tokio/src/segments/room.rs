@@ -3,7 +3,7 @@
 use super::{Segments, NEVER, SEGMENTS_LIMIT};
 use crate::key::Key;
 use crate::segment::{Segment, FIRST_SLOTS};
-use hontkhale::{CoreError, CAPACITY_LIMIT};
+use hontkhale::owner::{CoreError, CAPACITY_LIMIT};
 use std::mem;
 use std::sync::Arc;
 

@@ -88,7 +88,7 @@ impl<T, W: Words> DelayCore<T, W> {
     /// Where the words were in use before.
     ///
     /// ```
-    /// use hontkhale::{CoreConfig, CoreError, DelayCore, VecWords};
+    /// use hontkhale::owner::{CoreConfig, CoreError, DelayCore, VecWords};
     ///
     /// # fn main() -> Result<(), CoreError> {
     /// let config = CoreConfig { shard: 0, capacity: 1, last_stamp: 1 };

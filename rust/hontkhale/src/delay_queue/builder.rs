@@ -5,7 +5,7 @@ use crate::delay_queue::shared::{Limits, Shared};
 use crate::delay_queue::time::{ManualClock, Time};
 use crate::delay_queue::DelayQueue;
 use crate::shards::SHARD_LIMIT;
-use crate::LAST_STAMP;
+use crate::ticks::LAST_STAMP;
 use std::fmt;
 use std::marker::PhantomData;
 use std::sync::Arc;

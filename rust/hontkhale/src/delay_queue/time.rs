@@ -1,6 +1,6 @@
 //! From where a queue has the time.
 
-use crate::LAST_TICK;
+use crate::ticks::LAST_TICK;
 use std::fmt;
 use std::sync::atomic::{AtomicU64, Ordering::SeqCst};
 use std::sync::{Arc, Mutex, MutexGuard, PoisonError};

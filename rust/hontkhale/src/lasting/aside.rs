@@ -105,7 +105,9 @@ impl<T> LastingQueue<T> {
     /// queue.drop_aside(&rt, place, aside);
     /// ```
     ///
-    /// [`LockedLasting::aside`]: crate::LockedLasting::aside
+    /// [`LockedLasting::aside`]: crate::lasting::LockedLasting::aside
+    ///
+    /// [`LockedLasting::aside`]: crate::lasting::LockedLasting::aside
     #[inline(always)]
     pub fn drop_aside(&self, place: usize, most: usize) {
         if most > 0 {

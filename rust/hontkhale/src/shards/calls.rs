@@ -22,7 +22,7 @@ impl<T> SharedDelayQueue<T> {
     /// millisecond, as [`ShardState::insert`] does, and answers its key there. Constant time. Refused as TooFar
     /// beyond the last tick, and else as Full where that shard has no free slot; the value comes back then.
     ///
-    /// [`ShardState::insert`]: crate::ShardState::insert
+    /// [`ShardState::insert`]: crate::shards::ShardState::insert
     pub fn insert(&self, route: u64, value: T, when: u64) -> Result<Key, (QueueError, T)> {
         let shard = routed_shard(route, self.shards() as u64);
         let state = self.lock_with_room(shard as usize);
@@ -47,7 +47,7 @@ impl<T> SharedDelayQueue<T> {
     /// As [`ShardState::reset`], `when` a tick of one millisecond. Refused as Unknown for a shard out of range,
     /// before all else, and then as TooFar, as Missing, as WasCancelled and as Worn.
     ///
-    /// [`ShardState::reset`]: crate::ShardState::reset
+    /// [`ShardState::reset`]: crate::shards::ShardState::reset
     pub fn reset(&self, entry: &EntryId, when: u64) -> Result<Key, QueueError> {
         let shard = self.enter(entry.shard() as usize)?;
         let answer = shard.reset_and_unlock(entry, when);
@@ -57,7 +57,7 @@ impl<T> SharedDelayQueue<T> {
     /// As [`ShardState::remove`]. Refused as Unknown for a shard out of range, before all else, and then as Missing
     /// and as WasCancelled.
     ///
-    /// [`ShardState::remove`]: crate::ShardState::remove
+    /// [`ShardState::remove`]: crate::shards::ShardState::remove
     pub fn remove(&self, entry: &EntryId) -> Result<Removed<T>, QueueError> {
         let shard = self.enter(entry.shard() as usize)?;
         let answer = shard.remove_and_unlock(entry);
@@ -67,7 +67,7 @@ impl<T> SharedDelayQueue<T> {
     /// As [`ShardState::deadline`], a tick of one millisecond. Refused as Unknown for a shard out of range, before
     /// all else, and then as Missing and as WasCancelled.
     ///
-    /// [`ShardState::deadline`]: crate::ShardState::deadline
+    /// [`ShardState::deadline`]: crate::shards::ShardState::deadline
     pub fn deadline(&self, entry: &EntryId) -> Result<u64, QueueError> {
         let mut shard = self.read(entry.shard() as usize)?;
         let answer = shard.deadline(entry);
@@ -81,7 +81,8 @@ impl<T> SharedDelayQueue<T> {
     /// [`SharedDelayQueue::lend`]:
     ///
     /// ```
-    /// use hontkhale::{QueueConfig, SharedDelayQueue, Turn};
+    /// use hontkhale::owner::Turn;
+    /// use hontkhale::shards::{QueueConfig, SharedDelayQueue};
     ///
     /// let queue = SharedDelayQueue::new(QueueConfig::of(1, 100))?;
     /// for number in 0..10 {
@@ -95,10 +96,10 @@ impl<T> SharedDelayQueue<T> {
     ///     out
     /// })?;
     /// assert_eq!(out, 10);
-    /// # Ok::<(), hontkhale::QueueError>(())
+    /// # Ok::<(), hontkhale::shards::QueueError>(())
     /// ```
     ///
-    /// [`ShardState::poll`]: crate::ShardState::poll
+    /// [`ShardState::poll`]: crate::shards::ShardState::poll
     pub fn poll(&self, shard: usize, tick: u64) -> Result<Turn<T>, QueueError> {
         let locked = self.enter(shard)?;
         let (answer, aside) = locked.poll_and_unlock(tick);
@@ -112,7 +113,8 @@ impl<T> SharedDelayQueue<T> {
     /// The shard's lock is held for this piece alone: other threads may take it between two pieces.
     ///
     /// ```
-    /// use hontkhale::{Piece, QueueConfig, SharedDelayQueue, Turn};
+    /// use hontkhale::owner::{Piece, Turn};
+    /// use hontkhale::shards::{QueueConfig, SharedDelayQueue};
     ///
     /// let queue = SharedDelayQueue::new(QueueConfig::of(1, 100))?;
     /// queue.insert_or_drop(0, "value", 100_000)?;
@@ -123,10 +125,10 @@ impl<T> SharedDelayQueue<T> {
     ///     }
     /// };
     /// assert!(matches!(turn, Turn::Out(expired) if expired.value == "value"));
-    /// # Ok::<(), hontkhale::QueueError>(())
+    /// # Ok::<(), hontkhale::shards::QueueError>(())
     /// ```
     ///
-    /// [`ShardState::poll_some`]: crate::ShardState::poll_some
+    /// [`ShardState::poll_some`]: crate::shards::ShardState::poll_some
     pub fn poll_some(&self, shard: usize, tick: u64, most: u32) -> Result<Piece<T>, QueueError> {
         let locked = self.enter(shard)?;
         let (answer, aside) = locked.poll_some_and_unlock(tick, most);
@@ -134,13 +136,13 @@ impl<T> SharedDelayQueue<T> {
         Ok(answer?)
     }
 
-    /// As [`ShardState::next_wake`](crate::ShardState::next_wake). Refused as Unknown for a shard out of range.
+    /// As [`ShardState::next_wake`](crate::shards::ShardState::next_wake). Refused as Unknown for a shard out of range.
     pub fn next_wake(&self, shard: usize) -> Result<Option<u64>, QueueError> {
         let shard = self.read(shard)?;
         Ok(shard.next_wake())
     }
 
-    /// As [`ShardState::sweep`](crate::ShardState::sweep). Refused as Unknown for a shard out of range.
+    /// As [`ShardState::sweep`](crate::shards::ShardState::sweep). Refused as Unknown for a shard out of range.
     pub fn sweep(&self, shard: usize) -> Result<usize, QueueError> {
         let locked = self.enter(shard)?;
         let (reaped, aside) = locked.sweep_and_unlock();
@@ -148,20 +150,22 @@ impl<T> SharedDelayQueue<T> {
         Ok(reaped)
     }
 
-    /// As [`ShardState::sweep_some`](crate::ShardState::sweep_some). Refused as Unknown for a shard out of range.
+    /// As [`ShardState::sweep_some`]. Refused as Unknown for a shard out of range.
     ///
     /// A shard is swept in pieces, with its lock free between them:
     ///
     /// ```
-    /// use hontkhale::{QueueConfig, SharedDelayQueue};
+    /// use hontkhale::shards::{QueueConfig, SharedDelayQueue};
     ///
     /// let queue: SharedDelayQueue<u8> = SharedDelayQueue::new(QueueConfig::of(1, 100))?;
     /// let mut next = Some(0);
     /// while let Some(from) = next {
     ///     next = queue.sweep_some(0, from, 64)?.next;
     /// }
-    /// # Ok::<(), hontkhale::QueueError>(())
+    /// # Ok::<(), hontkhale::shards::QueueError>(())
     /// ```
+    ///
+    /// [`ShardState::sweep_some`]: crate::shards::ShardState::sweep_some
     pub fn sweep_some(&self, shard: usize, from: usize, count: usize) -> Result<Swept, QueueError> {
         let locked = self.enter(shard)?;
         let (swept, aside) = locked.sweep_some_and_unlock(from, count);
@@ -171,7 +175,7 @@ impl<T> SharedDelayQueue<T> {
 
     /// As [`ShardState::reap`], whose answer it gives. Refused as Unknown for a shard out of range.
     ///
-    /// [`ShardState::reap`]: crate::ShardState::reap
+    /// [`ShardState::reap`]: crate::shards::ShardState::reap
     pub fn reap(&self, entry: &EntryId) -> Result<Result<(), ReapError>, QueueError> {
         let shard = entry.shard() as usize;
         let locked = self.enter(shard)?;
@@ -180,7 +184,7 @@ impl<T> SharedDelayQueue<T> {
         Ok(answer)
     }
 
-    /// As [`ShardState::clear`](crate::ShardState::clear). Refused as Unknown for a shard out of range.
+    /// As [`ShardState::clear`](crate::shards::ShardState::clear). Refused as Unknown for a shard out of range.
     pub fn clear(&self, shard: usize) -> Result<usize, QueueError> {
         let locked = self.enter(shard)?;
         let (cleared, aside) = locked.clear_and_unlock();
@@ -188,7 +192,7 @@ impl<T> SharedDelayQueue<T> {
         Ok(cleared)
     }
 
-    /// As [`ShardState::tally`](crate::ShardState::tally). Refused as Unknown for a shard out of range.
+    /// As [`ShardState::tally`](crate::shards::ShardState::tally). Refused as Unknown for a shard out of range.
     pub fn tally(&self, shard: usize) -> Result<Tally, QueueError> {
         let shard = self.read(shard)?;
         Ok(shard.tally())

@@ -51,7 +51,8 @@ impl<T> SharedDelayQueue<T> {
     /// Unknown for a shard out of range, before all else, and then TickTooLarge beyond the last tick. Nothing changes then.
     ///
     /// ```
-    /// use hontkhale::{ManyTurn, QueueConfig, SharedDelayQueue};
+    /// use hontkhale::owner::ManyTurn;
+    /// use hontkhale::shards::{QueueConfig, SharedDelayQueue};
     ///
     /// let queue = SharedDelayQueue::new(QueueConfig::of(1, 1_000))?;
     /// for number in 0..100 {
@@ -62,7 +63,7 @@ impl<T> SharedDelayQueue<T> {
     /// assert_eq!(row.drain(..).count(), 64);
     /// assert_eq!(queue.poll_many(0, 5, &mut row), Ok(ManyTurn::Idle));
     /// assert_eq!(row.len(), 36);
-    /// # Ok::<(), hontkhale::QueueError>(())
+    /// # Ok::<(), hontkhale::shards::QueueError>(())
     /// ```
     pub fn poll_many(&self, shard: usize, tick: u64, row: &mut Vec<Expired<T>>) -> Result<ManyTurn, QueueError> {
         let before = row.len();

@@ -16,14 +16,15 @@ use alloc::vec::Vec;
 /// lock of one shard.
 ///
 /// ```
-/// use hontkhale::{QueueConfig, SharedDelayQueue, Turn};
+/// use hontkhale::owner::Turn;
+/// use hontkhale::shards::{QueueConfig, SharedDelayQueue};
 ///
 /// let queue = SharedDelayQueue::new(QueueConfig::of(8, 1_000))?;
 /// let key = queue.insert_or_drop(3, "value", 100)?;
 /// let later = queue.reset(&key.entry(), 200)?;
 /// assert_eq!(queue.deadline(&later.entry()), Ok(200));
 /// assert!(matches!(queue.poll(3, 200)?, Turn::Out(expired) if expired.value == "value"));
-/// # Ok::<(), hontkhale::QueueError>(())
+/// # Ok::<(), hontkhale::shards::QueueError>(())
 /// ```
 ///
 /// A call by name that wakes a parked poller lets the lock go first: whoever is woken may call the queue at once.

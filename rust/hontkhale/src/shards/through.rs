@@ -18,7 +18,8 @@ impl<T> SharedDelayQueue<T> {
     /// noted then.
     ///
     /// ```
-    /// use hontkhale::{QueueConfig, SharedDelayQueue, Turn};
+    /// use hontkhale::owner::Turn;
+    /// use hontkhale::shards::{QueueConfig, SharedDelayQueue};
     /// use std::num::NonZeroU32;
     ///
     /// let queue = SharedDelayQueue::new(QueueConfig::of(1, 1_000))?;
@@ -26,7 +27,7 @@ impl<T> SharedDelayQueue<T> {
     /// let steps = NonZeroU32::new(64).expect("some");
     /// let turn = queue.poll_through(0, 100_000, steps)?;
     /// assert!(matches!(turn, Turn::Out(expired) if expired.value == "value"));
-    /// # Ok::<(), hontkhale::QueueError>(())
+    /// # Ok::<(), hontkhale::shards::QueueError>(())
     /// ```
     pub fn poll_through(&self, shard: usize, tick: u64, most: NonZeroU32) -> Result<Turn<T>, QueueError> {
         loop {

@@ -19,7 +19,8 @@ pub(crate) type Polled<T> = Poll<Option<Result<Expired<T>, StreamFault>>>;
 /// After a tick that is refused it has ended for good: its polls take no lock, and its source is asked no more.
 ///
 /// ```
-/// use hontkhale::{ExpiredStream, MillisecondTicks, QueueConfig, SharedDelayQueue};
+/// use hontkhale::shards::{QueueConfig, SharedDelayQueue};
+/// use hontkhale::streams::{ExpiredStream, MillisecondTicks};
 /// use std::future::poll_fn;
 ///
 /// async fn first(queue: &SharedDelayQueue<String>) -> Option<String> {

@@ -40,7 +40,7 @@ impl fmt::Display for WordsError {
 impl std::error::Error for WordsError {}
 
 /// Begins and ends the entries of a row of words, and issues the callers that extend and cancel them. A queue that
-/// [`shared_queue`](crate::shared_queue) makes has one.
+/// [`shared_queue`](crate::owner::shared_queue) makes has one.
 ///
 /// Where it is dropped, what is live by its words is ended as removed, and its callers are refused from then on. That
 /// takes a load a slot, and two atomic steps or more for each live one.

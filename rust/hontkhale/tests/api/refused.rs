@@ -1,9 +1,11 @@
 //! Refusals that carry back what was handed in, by `?`.
 
-use hontkhale::{
-    shared_queue, CoreError, DelayCore, ExpiredStream, Keeper, Key, LastingConfig, LastingError, LastingQueue,
-    MillisecondTicks, QueueConfig, QueueError, Refused, RenewError, SharedDelayQueue, TtlCache, VecWords, LAST_TICK,
-};
+use hontkhale::cache::TtlCache;
+use hontkhale::lasting::{LastingConfig, LastingError, LastingQueue};
+use hontkhale::owner::{shared_queue, CoreError, DelayCore, Keeper, Key, RenewError, VecWords, LAST_TICK};
+use hontkhale::shards::{QueueConfig, QueueError, SharedDelayQueue};
+use hontkhale::streams::{ExpiredStream, MillisecondTicks};
+use hontkhale::Refused;
 use std::error::Error;
 
 /// It can't be shown, which no refusal asks of it.

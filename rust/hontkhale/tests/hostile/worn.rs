@@ -2,7 +2,8 @@
 
 use super::numbers::{insert, made, Numbers};
 use super::Fail;
-use hontkhale::{CallError, CoreError, Handle, Key, LockedShard, Look, QueueConfig, QueueError, Turn};
+use hontkhale::owner::{CallError, CoreError, Key, Look, Turn};
+use hontkhale::shards::{Handle, LockedShard, QueueConfig, QueueError};
 
 // What a new entry is refused with where the one slot is worn.
 const FULL: QueueError = QueueError::Core(CoreError::Full { linked: 0, worn: 1 });

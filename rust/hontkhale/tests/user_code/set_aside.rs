@@ -4,10 +4,9 @@ use super::kit::{
     adds_up, insert, insert_cancelled, insert_lasting_cancelled, is_whole, lasting, panics, queue, within_the_limit,
     Drops, Queue, Value,
 };
-use hontkhale::{
-    CoreConfig, CoreError, DelayCore, ExpiredStream, Piece, QueueConfig, SharedDelayQueue, Turn, VecWords,
-    CAPACITY_LIMIT,
-};
+use hontkhale::owner::{CoreConfig, CoreError, DelayCore, Piece, Turn, VecWords, CAPACITY_LIMIT};
+use hontkhale::shards::{QueueConfig, SharedDelayQueue};
+use hontkhale::streams::ExpiredStream;
 use std::sync::atomic::{AtomicUsize, Ordering};
 use std::sync::Arc;
 use std::task::{Context, Poll};
@@ -57,7 +56,7 @@ fn what_is_set_aside_shows_nowhere() {
             .lend(0, |shard| {
                 assert_eq!((shard.len(), shard.peek()), (0, None));
                 (0..8).for_each(|index| {
-                    let entry = hontkhale::EntryId::new(0, index, 1);
+                    let entry = hontkhale::owner::EntryId::new(0, index, 1);
                     assert!(shard.place(&entry).is_none() && shard.remove(&entry).is_err());
                 });
             })
@@ -182,7 +181,7 @@ fn a_stream_drops_behind_its_lock() {
 // Always tells tick 10.
 struct Late;
 
-impl hontkhale::TickSource for Late {
+impl hontkhale::streams::TickSource for Late {
     fn now(&mut self) -> u64 {
         10
     }

@@ -1,8 +1,8 @@
 //! How a list is opened: it is taken off its head, and each of its indexes goes to the list that the new tick names.
 
-use crate::wheel::homes::list_from;
-use crate::wheel::maps::{clear_bit, set_bit, Maps};
-use crate::wheel::row::{put_last, row_at, set_moves, take_off, Row};
+use crate::wheels::homes::list_from;
+use crate::wheels::maps::{clear_bit, set_bit, Maps};
+use crate::wheels::row::{put_last, row_at, set_moves, take_off, Row};
 
 /// Places each index of a list again by the new tick, and gives how many of them aren't due yet. Meanwhile the list's
 /// bit stays, and what waits in it is linked only forward.

@@ -2,10 +2,10 @@
 
 use crate::memory::AllocError;
 use crate::ticks::{digit, CAPACITY_LIMIT, LEVELS, SLOTS};
-use crate::wheel::beside::{Beside, Nothing};
-use crate::wheel::homes::{due_list, list_of, start_of};
-use crate::wheel::lists::Lists;
-use crate::wheel::row::NOT_FILED;
+use crate::wheels::beside::{Beside, Nothing};
+use crate::wheels::homes::{due_list, list_of, start_of};
+use crate::wheels::lists::Lists;
+use crate::wheels::row::NOT_FILED;
 use core::fmt;
 
 /// Where an index stands.
@@ -182,7 +182,7 @@ impl Wheel {
 
     /// Files a loose index at a tick from the wheel's own on, at most [`REACH`] ticks ahead. It has not moved then.
     ///
-    /// [`REACH`]: crate::REACH
+    /// [`REACH`]: crate::wheel::REACH
     pub fn link(&mut self, index: usize, filed: u64) {
         // requires index < length self.old.filing.filed
         // requires filed_at self.old.filing.filed index ≡ None

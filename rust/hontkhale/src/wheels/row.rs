@@ -6,7 +6,7 @@
 
 use crate::index::{nth, nth_mut};
 use crate::memory::{room_for, AllocError, TryPush};
-use crate::wheel::LISTS;
+use crate::wheels::LISTS;
 use alloc::vec::Vec;
 
 /// Stands for the tick of an index that is loose.

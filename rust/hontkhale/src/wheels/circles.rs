@@ -1,10 +1,10 @@
 //! Lists of indexes, linked both ways, in a fixed row, with what is kept of each index.
 
 use crate::memory::AllocError;
-use crate::wheel::beside::Beside;
-use crate::wheel::cascade::scatter;
-use crate::wheel::maps::Maps;
-use crate::wheel::row::{append, detach, detach_first, hang, lone_rows, once_near, row_at, Row};
+use crate::wheels::beside::Beside;
+use crate::wheels::cascade::scatter;
+use crate::wheels::maps::Maps;
+use crate::wheels::row::{append, detach, detach_first, hang, lone_rows, once_near, row_at, Row};
 use alloc::vec::Vec;
 
 /// Which of the lists each index stands in, if any.
