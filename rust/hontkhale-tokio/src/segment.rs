@@ -371,7 +371,7 @@ mod tests {
     use super::{Segment, Step};
     use crate::budget::Limit;
     use crate::clock::Clock;
-    use hontkhale::Caller;
+    use hontkhale::owner::Caller;
     use std::cell::Cell;
 
     /// A value that counts its drops, and panics where it is told to.
