@@ -18,7 +18,7 @@ mod through;
 mod totals;
 
 pub use crate::parking::Parked;
-pub use errors::{QueueConfig, QueueError, SHARD_LIMIT};
+pub use errors::{BadQueueNumber, QueueConfig, QueueError, SHARD_LIMIT};
 pub use handle::Handle;
 pub use locked::LockedShard;
 pub use queue::SharedDelayQueue;
