@@ -15,11 +15,20 @@ use std::alloc::{AllocError, Allocator, Global};
 use std::marker::Model;
 use std::sync::{Mutex, MutexGuard, Wait};
 
-/// A delay queue in shards, each behind a lock of its own, so that many threads may fill and poll it. To a contract
-/// it is the number of its shards.
+/// A delay queue in shards, each behind a lock of its own, so that many threads may fill and poll it. A call takes the
+/// lock of one shard.
 ///
-/// A call takes the lock of one shard, and says what it did as a relation between two states of that shard. The
-/// number of such a state is the shard's; from one lock to the next no contract says more.
+/// ```
+/// use hontkhale::owner::Turn;
+/// use hontkhale::shards::{QueueConfig, SharedDelayQueue};
+///
+/// let queue = SharedDelayQueue::new(QueueConfig::of(8, 1_000))?;
+/// let key = queue.insert_or_drop(3, "value", 100)?;
+/// let later = queue.reset(&key.entry(), 200)?;
+/// assert_eq!(queue.deadline(&later.entry()), Ok(200));
+/// assert!(matches!(queue.poll(3, 200)?, Turn::Out(expired) if expired.value == "value"));
+/// # Ok::<(), hontkhale::shards::QueueError>(())
+/// ```
 ///
 /// A call by name that wakes a parked poller lets the lock go first: whoever is woken may call the queue at once.
 /// Under the lock wake only the calls that are made on a shard in hand, of [`SharedDelayQueue::enter`] and
@@ -117,7 +126,7 @@ impl<T, A: Allocator> SharedDelayQueue<T, A> {
         let waiting = &self.waiting[shard];
         let locked = waiting.taken(rt, &self.shards[shard]);
         if locked.shard() as usize != shard {
-            // Who had the state in hand put another here. This thread holds the lock, so it sleeps here.
+            // Who had the state in hand put another here.
             for _ in rt.forever() {
                 let _again = self.shards[shard].lock(rt);
             }

@@ -289,12 +289,16 @@ impl<T> SharedDelayQueue<T> {
     /// [`SharedDelayQueue::enter`] asks [`ShardState::aside`] before it lets the shard go. Of a shard out of range there is
     /// nothing to drop.
     ///
-    /// ```ignore
-    /// let mut state = queue.enter(&rt, shard)?;
+    /// ```
+    /// use hontkhale::shards::{QueueConfig, SharedDelayQueue};
+    ///
+    /// let queue: SharedDelayQueue<String> = SharedDelayQueue::new(QueueConfig::of(1, 100))?;
+    /// let mut state = queue.enter(0)?;
     /// state.sweep();
     /// let aside = state.aside();
     /// drop(state);
-    /// queue.drop_aside(&rt, shard, aside);
+    /// queue.drop_aside(0, aside);
+    /// # Ok::<(), hontkhale::shards::QueueError>(())
     /// ```
     #[inline(always)]
     pub fn drop_aside(&self, shard: usize, most: usize) {
