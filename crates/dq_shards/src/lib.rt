@@ -16,7 +16,7 @@ mod state;
 mod totals;
 
 pub use dq_parking::Parked;
-pub use errors::{QueueConfig, QueueError, SHARD_LIMIT};
+pub use errors::{BadQueueNumber, QueueConfig, QueueError, SHARD_LIMIT};
 pub use handle::Handle;
 pub use queue::SharedDelayQueue;
 pub use state::ShardState;

@@ -2,7 +2,6 @@
 
 use crate::db::{Database, Error as DbError, Session};
 use crate::enqueue::connect;
-use crate::index::PARTITIONS;
 use std::error::Error;
 use tokio_postgres::Row;
 
@@ -58,7 +57,8 @@ pub fn counts(row: &Row) -> String {
 
 /// A line for each worker, with the partitions that it owns.
 async fn owners(session: &Session) -> Result<(), DbError> {
-    let mut free: Vec<i16> = (0..PARTITIONS as i16).collect();
+    let partitions = session.query("SELECT partition FROM jobs_partitions ORDER BY partition", &[]).await?;
+    let mut free: Vec<i16> = partitions.iter().map(|row| row.get(0)).collect();
     println!("{:<24} {:<22} partitions", "worker", "address");
     for row in session.query(OWNERS, &[]).await? {
         let (name, address, owned): (&str, &str, Vec<i16>) = (row.get(0), row.get(1), row.get(2));
