@@ -18,12 +18,11 @@ ghost use Rattle.dq_shards.specs.Many.{ShardPollsMany};
 ghost use Rattle.dq_shards.specs.Shard.{IsShard};
 ghost use Rattle.dq_shards.specs.Through.{AnswersThrough};
 
-use crate::aside::Dropper;
 use crate::errors::{QueueConfig, QueueError};
-use crate::queue::{SharedDelayQueue, is_config, unlock};
+use crate::queue::{SharedDelayQueue, is_config};
 use crate::state::ShardState;
 use dq_core::{CoreConfig, CoreError, Expired, Piece, ReapError, Swept, Turn};
-use dq_parking::waiting_row;
+use dq_parking::{Dropper, Row, unlock, waiting_row};
 use dq_ticks::{EntryId, Key};
 use dq_words::{ManyTurn, locked_shards};
 use std::alloc::Allocator;
@@ -64,7 +63,9 @@ impl<T: Drop, A: Allocator> SharedDelayQueue<T, A> {
             return Err(QueueError::Core(CoreError::NoMemory));
         };
         match locked_shards(alloc, config.shards as u32, core) {
-            Ok(shards) => Ok(SharedDelayQueue { shards, waiting }),
+            Ok(shards) => Ok(SharedDelayQueue {
+                row: Row::new(shards, waiting),
+            }),
             Err(error) => Err(QueueError::Core(error)),
         }
     }
@@ -78,12 +79,10 @@ impl<T: Drop, A: Allocator> SharedDelayQueue<T, A> {
         ensures number { (mutex_guard_value result).core.shard ≡ shard }
     {
         for _ in rt.forever() {
-            let mut locked = self.lock(rt, shard);
-            let Some(crowded) = locked.attended.core.take_crowded() else {
-                return locked;
-            };
-            drop(locked);
-            drop(crowded);
+            match self.row.lock_with_room(rt, shard) {
+                Ok(locked) => return locked,
+                Err(crowded) => drop(crowded),
+            }
         }
         unreachable!()
     }
@@ -149,18 +148,23 @@ impl<T: Drop, A: Allocator> SharedDelayQueue<T, A> {
     /// Each call takes the shard's lock. Whoever wants many entries out polls in a loop under one lock, by
     /// [`SharedDelayQueue::lend`]:
     ///
-    /// ```ignore
-    /// let out = queue.lend(&rt, shard, |state| {
+    /// ```
+    /// use hontkhale::owner::Turn;
+    /// use hontkhale::shards::{QueueConfig, SharedDelayQueue};
+    ///
+    /// let queue = SharedDelayQueue::new(QueueConfig::of(1, 100))?;
+    /// for number in 0..10 {
+    ///     queue.insert_or_drop(0, number, 5)?;
+    /// }
+    /// let out = queue.lend(0, |state| {
     ///     let mut out = 0;
-    ///     for _ in 0..state.len() {
-    ///         let Ok(Turn::Out(expired)) = state.poll(tick) else {
-    ///             break;
-    ///         };
-    ///         deliver(expired.value);
+    ///     while let Ok(Turn::Out(_)) = state.poll(5) {
     ///         out += 1;
     ///     }
     ///     out
     /// })?;
+    /// assert_eq!(out, 10);
+    /// # Ok::<(), hontkhale::shards::QueueError>(())
     /// ```
     pub fn poll<R: Wait>(&self, rt: &R, shard: usize, tick: u64) -> Result<Turn<T>, QueueError>
         // As unknown exactly out of range; else as too large exactly beyond the last tick.
@@ -187,13 +191,20 @@ impl<T: Drop, A: Allocator> SharedDelayQueue<T, A> {
     ///
     /// The shard's lock is held for this piece alone: other threads may take it between two pieces.
     ///
-    /// ```ignore
+    /// ```
+    /// use hontkhale::owner::{Piece, Turn};
+    /// use hontkhale::shards::{QueueConfig, SharedDelayQueue};
+    ///
+    /// let queue = SharedDelayQueue::new(QueueConfig::of(1, 100))?;
+    /// queue.insert_or_drop(0, "value", 100_000)?;
     /// let turn = loop {
-    ///     match queue.poll_some(&rt, shard, tick, 64)? {
+    ///     match queue.poll_some(0, 100_000, 2)? {
     ///         Piece::Answer(turn) => break turn,
     ///         Piece::Working => {}
     ///     }
     /// };
+    /// assert!(matches!(turn, Turn::Out(expired) if expired.value == "value"));
+    /// # Ok::<(), hontkhale::shards::QueueError>(())
     /// ```
     pub fn poll_some<R: Wait>(
         &self,
@@ -232,8 +243,17 @@ impl<T: Drop, A: Allocator> SharedDelayQueue<T, A> {
     /// Unknown for a shard out of range, before all else, and then TickTooLarge beyond the last tick, which is not
     /// noted then.
     ///
-    /// ```ignore
-    /// let turn = queue.poll_through(&rt, shard, tick, most)?;
+    /// ```
+    /// use hontkhale::owner::Turn;
+    /// use hontkhale::shards::{QueueConfig, SharedDelayQueue};
+    /// use std::num::NonZeroU32;
+    ///
+    /// let queue = SharedDelayQueue::new(QueueConfig::of(1, 1_000))?;
+    /// queue.insert_or_drop(0, "value", 100_000)?;
+    /// let steps = NonZeroU32::new(64).expect("some");
+    /// let turn = queue.poll_through(0, 100_000, steps)?;
+    /// assert!(matches!(turn, Turn::Out(expired) if expired.value == "value"));
+    /// # Ok::<(), hontkhale::shards::QueueError>(())
     /// ```
     pub fn poll_through<R: Wait>(
         &self,
@@ -271,12 +291,20 @@ impl<T: Drop, A: Allocator> SharedDelayQueue<T, A> {
     /// # Errors
     /// Unknown for a shard out of range, before all else, and then TickTooLarge beyond the last tick. Nothing changes then.
     ///
-    /// ```ignore
-    /// let mut row = Vec::with_capacity(&heap, 64)?;
-    /// let turn = queue.poll_many(&rt, shard, tick, &mut row)?;
-    /// for expired in row {
-    ///     deliver(expired.value);
+    /// ```
+    /// use hontkhale::owner::ManyTurn;
+    /// use hontkhale::shards::{QueueConfig, SharedDelayQueue};
+    ///
+    /// let queue = SharedDelayQueue::new(QueueConfig::of(1, 1_000))?;
+    /// for number in 0..100 {
+    ///     queue.insert_or_drop(0, number, 5)?;
     /// }
+    /// let mut row = Vec::with_capacity(64);
+    /// assert_eq!(queue.poll_many(0, 5, &mut row), Ok(ManyTurn::More));
+    /// assert_eq!(row.drain(..).count(), 64);
+    /// assert_eq!(queue.poll_many(0, 5, &mut row), Ok(ManyTurn::Idle));
+    /// assert_eq!(row.len(), 36);
+    /// # Ok::<(), hontkhale::shards::QueueError>(())
     /// ```
     pub fn poll_many<R: Wait>(
         &self,
@@ -328,11 +356,15 @@ impl<T: Drop, A: Allocator> SharedDelayQueue<T, A> {
     ///
     /// A shard is swept in pieces, with its lock free between them:
     ///
-    /// ```ignore
+    /// ```
+    /// use hontkhale::shards::{QueueConfig, SharedDelayQueue};
+    ///
+    /// let queue: SharedDelayQueue<u8> = SharedDelayQueue::new(QueueConfig::of(1, 100))?;
     /// let mut next = Some(0);
     /// while let Some(from) = next {
-    ///     next = queue.sweep_some(&rt, shard, from, 64)?.next;
+    ///     next = queue.sweep_some(0, from, 64)?.next;
     /// }
+    /// # Ok::<(), hontkhale::shards::QueueError>(())
     /// ```
     pub fn sweep_some<R: Wait>(
         &self,
@@ -394,12 +426,16 @@ impl<T: Drop, A: Allocator> SharedDelayQueue<T, A> {
     /// [`SharedDelayQueue::enter`] asks [`ShardState::aside`] before it lets the shard go. Of a shard out of range there is
     /// nothing to drop.
     ///
-    /// ```ignore
-    /// let mut state = queue.enter(&rt, shard)?;
+    /// ```
+    /// use hontkhale::shards::{QueueConfig, SharedDelayQueue};
+    ///
+    /// let queue: SharedDelayQueue<String> = SharedDelayQueue::new(QueueConfig::of(1, 100))?;
+    /// let mut state = queue.enter(0)?;
     /// state.sweep();
     /// let aside = state.aside();
     /// drop(state);
-    /// queue.drop_aside(&rt, shard, aside);
+    /// queue.drop_aside(0, aside);
+    /// # Ok::<(), hontkhale::shards::QueueError>(())
     /// ```
     #[inline(always)]
     pub fn drop_aside<R: Wait>(&self, rt: &R, shard: usize, most: usize) {
@@ -411,7 +447,7 @@ impl<T: Drop, A: Allocator> SharedDelayQueue<T, A> {
     // Drops what is set aside in a shard until nothing is left, where no thread does so already.
     #[inline(never)]
     fn drop_all_aside<R: Wait>(&self, rt: &R, shard: usize) {
-        let mut dropper = Dropper::of(self, rt, shard);
+        let mut dropper = Dropper::new(&self.row, rt, shard);
         for _ in rt.forever() {
             let Some(value) = dropper.take_one() else {
                 return;

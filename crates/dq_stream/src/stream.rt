@@ -30,6 +30,18 @@ pub(crate) type Polled<T> = Poll<Option<Result<Expired<T>, StreamFault>>>;
 /// again at any time. A stream that is dropped stays parked until then.
 ///
 /// After a tick that is refused it has ended for good: its polls take no lock, and its source is asked no more.
+///
+/// ```
+/// use hontkhale::shards::{QueueConfig, SharedDelayQueue};
+/// use hontkhale::streams::{ExpiredStream, MillisecondTicks};
+/// use std::future::poll_fn;
+///
+/// async fn first(queue: &SharedDelayQueue<String>) -> Option<String> {
+///     let mut stream = ExpiredStream::new(queue, 0, MillisecondTicks::new()).ok()?;
+///     let expired = poll_fn(|cx| stream.poll_next(cx)).await?;
+///     Some(expired.ok()?.value)
+/// }
+/// ```
 #[derive(Drop)]
 pub struct ExpiredStream<'q, T, S, R: Wait, A: Allocator = Global> {
     pub(crate) rt: &'q R,

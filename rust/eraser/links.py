@@ -1,18 +1,11 @@
-"""Docs: what they say otherwise in Rust than in the proved source, and where their links lead."""
+"""Docs: where their links lead. What no Rust has in a doc stops the eraser, as it does in code."""
 import re
 
-from hand import Hand
+from rattle import Refused
 
 LINK = re.compile(r"\[`((?:dq_\w+::)?)(\w+)((?:::\w+)?)`\](?![(\[:])")
 DEFINITION = re.compile(r"(\]: )crate::(\w+)")
 WIDTH = 120
-
-
-class Documents(Hand):
-    """The list `documents`, of the form of `by_hand`: lines of docs, and those that stand in their place."""
-
-    def __init__(self, text):
-        super().__init__(text, "rust/eraser/documents")
 
 
 def known_names(tokens, module, given):
@@ -39,6 +32,8 @@ def with_links(tokens, module, given):
     at = 0
     while at < len(tokens):
         token = tokens[at]
+        if token.kind == "doc" and "&rt" in token.text:
+            raise Refused(f"line {token.line}: a doc speaks of the runtime")
         if token.kind == "doc":
             token.text = DEFINITION.sub(lambda match: match[1] + "crate::" + given.get(match[2], ["", match[2]])[1], token.text)
         if token.kind == "doc" and LINK.search(token.text):
