@@ -18,12 +18,11 @@ ghost use Rattle.dq_shards.specs.Many.{ShardPollsMany};
 ghost use Rattle.dq_shards.specs.Shard.{IsShard};
 ghost use Rattle.dq_shards.specs.Through.{AnswersThrough};
 
-use crate::aside::Dropper;
 use crate::errors::{QueueConfig, QueueError};
-use crate::queue::{SharedDelayQueue, is_config, unlock};
+use crate::queue::{SharedDelayQueue, is_config};
 use crate::state::ShardState;
 use dq_core::{CoreConfig, CoreError, Expired, Piece, ReapError, Swept, Turn};
-use dq_parking::waiting_row;
+use dq_parking::{Dropper, Row, unlock, waiting_row};
 use dq_ticks::{EntryId, Key};
 use dq_words::{ManyTurn, locked_shards};
 use std::alloc::Allocator;
@@ -64,7 +63,9 @@ impl<T: Drop, A: Allocator> SharedDelayQueue<T, A> {
             return Err(QueueError::Core(CoreError::NoMemory));
         };
         match locked_shards(alloc, config.shards as u32, core) {
-            Ok(shards) => Ok(SharedDelayQueue { shards, waiting }),
+            Ok(shards) => Ok(SharedDelayQueue {
+                row: Row::new(shards, waiting),
+            }),
             Err(error) => Err(QueueError::Core(error)),
         }
     }
@@ -78,12 +79,10 @@ impl<T: Drop, A: Allocator> SharedDelayQueue<T, A> {
         ensures number { (mutex_guard_value result).core.shard ≡ shard }
     {
         for _ in rt.forever() {
-            let mut locked = self.lock(rt, shard);
-            let Some(crowded) = locked.attended.core.take_crowded() else {
-                return locked;
-            };
-            drop(locked);
-            drop(crowded);
+            match self.row.lock_with_room(rt, shard) {
+                Ok(locked) => return locked,
+                Err(crowded) => drop(crowded),
+            }
         }
         unreachable!()
     }
@@ -448,7 +447,7 @@ impl<T: Drop, A: Allocator> SharedDelayQueue<T, A> {
     // Drops what is set aside in a shard until nothing is left, where no thread does so already.
     #[inline(never)]
     fn drop_all_aside<R: Wait>(&self, rt: &R, shard: usize) {
-        let mut dropper = Dropper::of(self, rt, shard);
+        let mut dropper = Dropper::new(&self.row, rt, shard);
         for _ in rt.forever() {
             let Some(value) = dropper.take_one() else {
                 return;

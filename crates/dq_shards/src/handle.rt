@@ -12,7 +12,7 @@ use crate::queue::SharedDelayQueue;
 use dq_core::{CallError, CoreError, Look};
 use dq_ticks::{Key, LAST_TICK};
 use dq_words::{Caller, WordsError};
-use std::alloc::{AllocError, Allocator, Global};
+use std::alloc::{Allocator, Global};
 use std::marker::Model;
 use std::sync::Wait;
 
@@ -177,7 +177,7 @@ impl<T, A: Allocator + Clone + Drop> SharedDelayQueue<T, A> {
     pub fn handle<R: Wait>(&self, rt: &R) -> Result<Handle<A>, QueueError>
         ensures { QueueHandles T self.now result }
     {
-        let Ok(mut callers) = self.room_for_callers() else {
+        let Ok(mut callers) = self.row.room_for_each() else {
             return Err(QueueError::Core(CoreError::NoMemory));
         };
         for shard in 0..self.shards() {

@@ -1,7 +1,6 @@
 //! Delay queues behind locks, one a shard, whose entries are extended and cancelled without them.
 #![tactic(auto)]
 
-mod aside;
 mod audit;
 mod callers;
 mod calls;
@@ -12,6 +11,7 @@ mod handle;
 mod poller;
 mod queue;
 mod readers;
+mod shard;
 mod state;
 mod totals;
 

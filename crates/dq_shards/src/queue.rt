@@ -1,5 +1,5 @@
 //! Shards behind locks.
-ghost use Rattle.std.specs.Prelude.{◌≡◌, ◌↔◌, ◌<◌, ◌≤◌, IsTrue, IfOk, IfErr, vec_len, vec_capacity};
+ghost use Rattle.std.specs.Prelude.{◌≡◌, ◌↔◌, ◌<◌, ◌≤◌, IsTrue, IfOk, IfErr};
 ghost use Rattle.std.specs.Sync.Mutex.{mutex_guard_value};
 ghost use Rattle.dq_shards.specs.declared.errors.TheConstants.{SHARD_LIMIT};
 ghost use Rattle.dq_shards.specs.declared.errors.QueueError.TheVariants.{Unknown};
@@ -8,12 +8,11 @@ ghost use Rattle.dq_shards.specs.Answers.{IsQueueConfig};
 
 use crate::errors::{QueueConfig, QueueError, SHARD_LIMIT};
 use crate::state::ShardState;
-use dq_parking::{Leaver, Waiting};
+use dq_parking::Row;
 use dq_ticks::{CAPACITY_LIMIT, LAST_STAMP};
-use dq_words::Caller;
-use std::alloc::{AllocError, Allocator, Global};
+use std::alloc::{Allocator, Global};
 use std::marker::Model;
-use std::sync::{Mutex, MutexGuard, Wait};
+use std::sync::{MutexGuard, Wait};
 
 /// A delay queue in shards, each behind a lock of its own, so that many threads may fill and poll it. A call takes the
 /// lock of one shard.
@@ -45,21 +44,18 @@ use std::sync::{Mutex, MutexGuard, Wait};
 /// that gave an entry drops nothing, since a panic would lose the entry: that is left to a later call.
 #[derive(Drop)]
 pub struct SharedDelayQueue<T, A: Allocator = Global> {
-    pub(crate) shards: Vec<Mutex<ShardState<T, A>>, A>,
-    // Of each shard, who waits for its lock.
-    pub(crate) waiting: Vec<Waiting, A>,
+    pub(crate) row: Row<ShardState<T, A>, A>,
 }
 
 impl<T, A: Allocator> Model for SharedDelayQueue<T, A> {
-    ghost use Rattle.std.specs.Prelude.{ℕ, ◌≡◌, ◌<◌, ◌≤◌, vec_len};
+    ghost use Rattle.std.specs.Prelude.{ℕ, ◌<◌, ◌≤◌};
     ghost use Rattle.dq_shards.specs.declared.errors.TheConstants.{SHARD_LIMIT};
 
     ghost Value = { ℕ };
 
-    ghost view = { λ q. vec_len q.shards };
+    ghost view = { λ q. q.row };
 
-    ghost invariant = { λ q. (0 < vec_len q.shards) × (vec_len q.shards ≤ SHARD_LIMIT)
-        × (vec_len q.waiting ≡ vec_len q.shards) };
+    ghost invariant = { λ q. (0 < q.row) × (q.row ≤ SHARD_LIMIT) };
 }
 
 pub(crate) fn is_config(config: &QueueConfig) -> bool
@@ -79,7 +75,7 @@ impl<T, A: Allocator> SharedDelayQueue<T, A> {
         ensures value { result ≡ self.now }
         ensures range { (0 < result) × (result ≤ SHARD_LIMIT) }
     {
-        self.shards.len()
+        self.row.len()
     }
 
     /// Gives way to whoever waits for the shard's lock: it looks for a bounded while until nobody does, and returns
@@ -88,10 +84,7 @@ impl<T, A: Allocator> SharedDelayQueue<T, A> {
     /// For loops of one's own over [`SharedDelayQueue::poll_some`]: whoever lets a lock go and takes it again at once
     /// gets it before a thread that sleeps.
     pub fn give_way(&self, shard: usize) {
-        if shard < self.shards.len() {
-            let waiting = &self.waiting[shard];
-            waiting.give_way();
-        }
+        self.row.give_way(shard);
     }
 
     /// The shard, with its lock held until the answer is dropped. Refused as Unknown exactly out of range.
@@ -111,7 +104,7 @@ impl<T, A: Allocator> SharedDelayQueue<T, A> {
         ensures number { IfOk result (λ state. (mutex_guard_value state).core.shard ≡ shard) }
         ensures refused { IfErr result (λ e. (self.now ≤ shard) × (e ≡ Unknown)) }
     {
-        if shard >= self.shards.len() {
+        if shard >= self.row.len() {
             return Err(QueueError::Unknown);
         }
         Ok(self.lock(rt, shard))
@@ -123,40 +116,6 @@ impl<T, A: Allocator> SharedDelayQueue<T, A> {
         ensures law { IsShard (mutex_guard_value result) }
         ensures number { (mutex_guard_value result).core.shard ≡ shard }
     {
-        let waiting = &self.waiting[shard];
-        let locked = waiting.taken(rt, &self.shards[shard]);
-        if locked.shard() as usize != shard {
-            // Who had the state in hand put another here.
-            for _ in rt.forever() {
-                let _again = self.shards[shard].lock(rt);
-            }
-        }
-        locked.law();
-        locked
+        self.row.lock(rt, shard)
     }
-}
-
-impl<T, A: Allocator + Clone> SharedDelayQueue<T, A> {
-    // Room for a caller of each shard.
-    pub(crate) fn room_for_callers(&self) -> Result<Vec<Caller<A>, A>, AllocError>
-        ensures { IfOk result (λ room. (vec_len room ≡ 0) × (self.now ≤ vec_capacity room)) }
-    {
-        Vec::with_capacity(self.shards.allocator().clone()?, self.shards.len())
-    }
-}
-
-// Lets a shard's lock go, and then wakes who has left: whoever is woken may call the queue at once. Answers how many values
-// are set aside.
-#[inline(always)]
-pub(crate) fn unlock<T, A: Allocator>(
-    shard: MutexGuard<'_, ShardState<T, A>>,
-    leaver: Leaver,
-) -> usize
-    ensures { IsShard (mutex_guard_value shard.entry) }
-{
-    shard.law();
-    let aside = shard.aside();
-    drop(shard);
-    leaver.wake();
-    aside
 }

@@ -49,8 +49,11 @@ fn executed() -> Duration {
     Duration::from_nanos(stat.split(' ').next().expect("a time").parse().expect("nanoseconds"))
 }
 
+/// Whether an entry is taken out, by its number.
+type IsGone = fn(usize) -> bool;
+
 /// Which of a million entries are taken out before a `compact`.
-const PARTS: [(&str, fn(usize) -> bool); 4] = [
+const PARTS: [(&str, IsGone); 4] = [
     ("one of 50,000", |at| at % 50_000 == 17),
     ("half and one of a hundred", |at| at % 2 != 0 || at % 100 == 0),
     ("four of five", |at| at % 5 != 0),
@@ -69,7 +72,7 @@ struct Compacted {
 
 macro_rules! compacts {
     ($name:ident, $side:ident) => {
-        fn $name(make: fn() -> $side::DelayQueue<u64>, is_gone: fn(usize) -> bool) -> Compacted {
+        fn $name(make: fn() -> $side::DelayQueue<u64>, is_gone: IsGone) -> Compacted {
             let mut queue = make();
             let mut keys: Vec<$side::Key> = Vec::with_capacity(1_000_000);
             let before = resident("VmRSS:");

@@ -1,6 +1,5 @@
 //! Delay queues behind locks, one a shard, whose entries are extended and cancelled without them.
 
-mod aside;
 mod audit;
 mod callers;
 mod calls;
@@ -10,6 +9,7 @@ mod handle;
 mod poller;
 mod queue;
 mod readers;
+mod shard;
 mod state;
 mod totals;
 

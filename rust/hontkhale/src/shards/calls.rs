@@ -2,9 +2,9 @@
 //! leaves by it is woken once the lock is free.
 
 use crate::core::{Removed, Tally};
-use crate::parking::ring;
+use crate::parking::{ring, unlock};
 use crate::shards::errors::QueueError;
-use crate::shards::queue::{unlock, SharedDelayQueue};
+use crate::shards::queue::SharedDelayQueue;
 use crate::ticks::{EntryId, Key};
 
 impl<T> SharedDelayQueue<T> {

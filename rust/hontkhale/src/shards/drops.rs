@@ -8,10 +8,9 @@
 
 use crate::core::{CoreConfig, CoreError, Expired, Piece, ReapError, Swept, Turn};
 use crate::locks::MutexGuard;
-use crate::parking::waiting_row;
-use crate::shards::aside::Dropper;
+use crate::parking::{unlock, waiting_row, Dropper, Row};
 use crate::shards::errors::{QueueConfig, QueueError};
-use crate::shards::queue::{is_config, unlock, SharedDelayQueue};
+use crate::shards::queue::{is_config, SharedDelayQueue};
 use crate::shards::state::ShardState;
 use crate::ticks::{EntryId, Key};
 use crate::words::{locked_shards, ManyTurn};
@@ -46,7 +45,9 @@ impl<T> SharedDelayQueue<T> {
             return Err(QueueError::Core(CoreError::NoMemory));
         };
         match locked_shards(config.shards as u32, core) {
-            Ok(shards) => Ok(SharedDelayQueue { shards, waiting }),
+            Ok(shards) => Ok(SharedDelayQueue {
+                row: Row::new(shards, waiting),
+            }),
             Err(error) => Err(QueueError::Core(error)),
         }
     }
@@ -57,12 +58,10 @@ impl<T> SharedDelayQueue<T> {
     fn lock_with_room(&self, shard: usize) -> MutexGuard<'_, ShardState<T>> {
         // requires shard < self.now
         loop {
-            let mut locked = self.lock(shard);
-            let Some(crowded) = locked.attended.core.take_crowded() else {
-                return locked;
-            };
-            drop(locked);
-            drop(crowded);
+            match self.row.lock_with_room(shard) {
+                Ok(locked) => return locked,
+                Err(crowded) => drop(crowded),
+            }
         }
     }
 
@@ -310,7 +309,7 @@ impl<T> SharedDelayQueue<T> {
     // Drops what is set aside in a shard until nothing is left, where no thread does so already.
     #[inline(never)]
     fn drop_all_aside(&self, shard: usize) {
-        let mut dropper = Dropper::of(self, shard);
+        let mut dropper = Dropper::new(&self.row, shard);
         loop {
             let Some(value) = dropper.take_one() else {
                 return;

@@ -1,14 +1,10 @@
 //! Shards behind locks.
 
-use crate::index::nth;
-use crate::locks::{Mutex, MutexGuard};
-use crate::memory::{room_for, AllocError};
-use crate::parking::{Leaver, Waiting};
+use crate::locks::MutexGuard;
+use crate::parking::Row;
 use crate::shards::errors::{QueueConfig, QueueError, SHARD_LIMIT};
 use crate::shards::state::ShardState;
 use crate::ticks::{CAPACITY_LIMIT, LAST_STAMP};
-use crate::words::Caller;
-use alloc::vec::Vec;
 
 /// A delay queue in shards, each behind a lock of its own, so that many threads may fill and poll it. A call takes the
 /// lock of one shard.
@@ -39,9 +35,7 @@ use alloc::vec::Vec;
 /// out with it are dropped as the panic unwinds: where the drop of one of these panics too, Rust ends the process. A poll
 /// that gave an entry drops nothing, since a panic would lose the entry: that is left to a later call.
 pub struct SharedDelayQueue<T> {
-    pub(crate) shards: Vec<Mutex<ShardState<T>>>,
-    // Of each shard, who waits for its lock.
-    pub(crate) waiting: Vec<Waiting>,
+    pub(crate) row: Row<ShardState<T>>,
 }
 
 pub(crate) fn is_config(config: &QueueConfig) -> bool {
@@ -56,7 +50,7 @@ pub(crate) fn is_config(config: &QueueConfig) -> bool {
 impl<T> SharedDelayQueue<T> {
     /// The number of shards, from 1 to [`SHARD_LIMIT`].
     pub fn shards(&self) -> usize {
-        self.shards.len()
+        self.row.len()
     }
 
     /// Gives way to whoever waits for the shard's lock: it looks for a bounded while until nobody does, and returns
@@ -65,10 +59,7 @@ impl<T> SharedDelayQueue<T> {
     /// For loops of one's own over [`SharedDelayQueue::poll_some`]: whoever lets a lock go and takes it again at once
     /// gets it before a thread that sleeps.
     pub fn give_way(&self, shard: usize) {
-        if shard < self.shards.len() {
-            let waiting = nth(&self.waiting, shard);
-            waiting.give_way();
-        }
+        self.row.give_way(shard);
     }
 
     /// The shard, with its lock held until the answer is dropped. Refused as Unknown exactly out of range.
@@ -79,7 +70,7 @@ impl<T> SharedDelayQueue<T> {
     /// [`SharedDelayQueue::drop_aside`] drops them once it is let go.
     #[inline(always)]
     pub fn enter(&self, shard: usize) -> Result<MutexGuard<'_, ShardState<T>>, QueueError> {
-        if shard >= self.shards.len() {
+        if shard >= self.row.len() {
             return Err(QueueError::Unknown);
         }
         Ok(self.lock(shard))
@@ -88,29 +79,6 @@ impl<T> SharedDelayQueue<T> {
     #[inline(always)]
     pub(crate) fn lock(&self, shard: usize) -> MutexGuard<'_, ShardState<T>> {
         // requires shard < self.now
-        let waiting = nth(&self.waiting, shard);
-        let locked = waiting.taken(nth(&self.shards, shard));
-        if locked.shard() as usize != shard {
-            // Who had the state in hand put another here.
-            panic!("the state of another shard was put here");
-        }
-        locked
+        self.row.lock(shard)
     }
-}
-
-impl<T> SharedDelayQueue<T> {
-    // Room for a caller of each shard.
-    pub(crate) fn room_for_callers(&self) -> Result<Vec<Caller>, AllocError> {
-        room_for(self.shards.len())
-    }
-}
-
-// Lets a shard's lock go, and then wakes who has left: whoever is woken may call the queue at once. Answers how many values
-// are set aside.
-#[inline(always)]
-pub(crate) fn unlock<T>(shard: MutexGuard<'_, ShardState<T>>, leaver: Leaver) -> usize {
-    let aside = shard.aside();
-    drop(shard);
-    leaver.wake();
-    aside
 }
