@@ -262,8 +262,19 @@ impl<T: Drop, A: Allocator> LastingQueue<T, A> {
     /// Unknown for a place out of range, before all else, and then TickTooLarge beyond the last tick, which is not
     /// noted then.
     ///
-    /// ```ignore
-    /// let turn = queue.poll_through(&rt, place, tick, most)?;
+    /// ```
+    /// use hontkhale::lasting::{LastingConfig, LastingQueue};
+    /// use hontkhale::owner::Turn;
+    /// use std::num::NonZeroU32;
+    ///
+    /// # fn main() -> Result<(), Box<dyn std::error::Error>> {
+    /// let queue = LastingQueue::new(LastingConfig::of(2, 1_000))?;
+    /// queue.insert(0, "value", 100_000).map_err(|refused| refused.0)?;
+    /// let steps = NonZeroU32::new(64).expect("some");
+    /// let turn = queue.poll_through(0, 100_000, steps)?;
+    /// assert!(matches!(turn, Turn::Out(expired) if expired.value == "value"));
+    /// # Ok(())
+    /// # }
     /// ```
     pub fn poll_through<R: Wait>(
         &self,
@@ -300,12 +311,22 @@ impl<T: Drop, A: Allocator> LastingQueue<T, A> {
     /// # Errors
     /// Unknown out of range, before all else, and then TickTooLarge beyond the last tick. Nothing changes then.
     ///
-    /// ```ignore
-    /// let mut row = Vec::with_capacity(&heap, 64)?;
-    /// let turn = queue.poll_many(&rt, place, tick, &mut row)?;
-    /// for expired in row {
-    ///     deliver(expired.value);
+    /// ```
+    /// use hontkhale::lasting::{LastingConfig, LastingQueue};
+    /// use hontkhale::owner::ManyTurn;
+    ///
+    /// # fn main() -> Result<(), Box<dyn std::error::Error>> {
+    /// let queue = LastingQueue::new(LastingConfig::of(2, 1_000))?;
+    /// for number in 0..100 {
+    ///     queue.insert(1, number, 5).map_err(|refused| refused.0)?;
     /// }
+    /// let mut row = Vec::with_capacity(64);
+    /// assert_eq!(queue.poll_many(1, 5, &mut row), Ok(ManyTurn::More));
+    /// assert_eq!(row.drain(..).count(), 64);
+    /// assert_eq!(queue.poll_many(1, 5, &mut row), Ok(ManyTurn::Idle));
+    /// assert_eq!(row.len(), 36);
+    /// # Ok(())
+    /// # }
     /// ```
     pub fn poll_many<R: Wait>(
         &self,
@@ -462,11 +483,17 @@ impl<T: Drop, A: Allocator> LastingQueue<T, A> {
     /// Reaps what was cancelled at `count` slots from `from` on in the shard at a place, as `sweep` does at all of
     /// them, and tells the slot to go on from. The shard's lock is held for this piece alone:
     ///
-    /// ```ignore
+    /// ```
+    /// use hontkhale::lasting::{LastingConfig, LastingQueue};
+    ///
+    /// # fn main() -> Result<(), Box<dyn std::error::Error>> {
+    /// let queue: LastingQueue<u8> = LastingQueue::new(LastingConfig::of(2, 100))?;
     /// let mut next = Some(0);
     /// while let Some(from) = next {
-    ///     next = queue.sweep_some(&rt, place, from, 64)?.next;
+    ///     next = queue.sweep_some(1, from, 64)?.next;
     /// }
+    /// # Ok(())
+    /// # }
     /// ```
     ///
     /// # Errors

@@ -5,9 +5,9 @@
 
 use crate::core::{DelayCore, Slots, Words};
 use crate::ticks::Mark;
-use crate::wheel::homes::list_of;
-use crate::wheel::row::{Row, NOT_FILED};
-use crate::wheel::{Wheel, LISTS};
+use crate::wheels::homes::list_of;
+use crate::wheels::row::{Row, NOT_FILED};
+use crate::wheels::{Wheel, LISTS};
 use alloc::vec;
 use alloc::vec::Vec;
 use core::mem;
@@ -183,7 +183,7 @@ impl<T, W: Words> DelayCore<T, W> {
 }
 
 #[cfg(feature = "std")]
-impl<T> crate::ShardState<T> {
+impl<T> crate::shards::ShardState<T> {
     /// Goes through all that the shard keeps, for tests: its queue, and that a parked poller waits for no later tick
     /// than the next wake.
     ///
@@ -203,7 +203,7 @@ impl<T> crate::ShardState<T> {
 }
 
 #[cfg(feature = "std")]
-impl<T> crate::LastingQueue<T> {
+impl<T> crate::lasting::LastingQueue<T> {
     /// Goes through all that the shard at a place keeps, for tests: its queue, and that a parked poller waits for no
     /// later tick than the next wake, or for an insert where nothing is linked.
     ///

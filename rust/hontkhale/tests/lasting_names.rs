@@ -1,6 +1,7 @@
 //! A handle of a lasting queue is renewed by that queue alone, however alike another one is.
 
-use hontkhale::{CallError, HandleError, HandleRenewError, Kept, LastingConfig, LastingQueue, Look};
+use hontkhale::lasting::{HandleError, HandleRenewError, Kept, LastingConfig, LastingQueue};
+use hontkhale::owner::{CallError, Look};
 
 type Queue = LastingQueue<&'static str>;
 

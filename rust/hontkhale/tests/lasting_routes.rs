@@ -1,6 +1,7 @@
 //! Where the inserts of a lasting queue go while some of its shards take no entries.
 
-use hontkhale::{CoreError, Key, LastingConfig, LastingError, LastingQueue};
+use hontkhale::lasting::{LastingConfig, LastingError, LastingQueue};
+use hontkhale::owner::{CoreError, Key};
 
 const ROUTES: u64 = 10_000;
 

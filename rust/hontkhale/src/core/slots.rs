@@ -13,7 +13,7 @@ use crate::core::free_slots::FreeSlots;
 use crate::index::{nth, nth_mut};
 use crate::memory::{room_for, AllocError};
 use crate::ticks::LAST_STAMP;
-use crate::wheel::Beside;
+use crate::wheels::Beside;
 use alloc::vec::Vec;
 use core::mem;
 

@@ -135,7 +135,7 @@ impl<T> LastingQueue<T> {
     /// # Errors
     /// Unknown out of range, and TickTooLarge beyond the last tick.
     ///
-    /// [`DelayCore::poll`]: crate::DelayCore::poll
+    /// [`DelayCore::poll`]: crate::owner::DelayCore::poll
     pub fn poll(&self, place: usize, tick: u64) -> Result<Turn<T>, LastingError> {
         self.in_range(place)?;
         let (answer, aside) = self.poll_at(place, tick);
@@ -177,7 +177,8 @@ impl<T> LastingQueue<T> {
     /// noted then.
     ///
     /// ```
-    /// use hontkhale::{LastingConfig, LastingQueue, Turn};
+    /// use hontkhale::lasting::{LastingConfig, LastingQueue};
+    /// use hontkhale::owner::Turn;
     /// use std::num::NonZeroU32;
     ///
     /// # fn main() -> Result<(), Box<dyn std::error::Error>> {
@@ -209,7 +210,8 @@ impl<T> LastingQueue<T> {
     /// Unknown out of range, before all else, and then TickTooLarge beyond the last tick. Nothing changes then.
     ///
     /// ```
-    /// use hontkhale::{LastingConfig, LastingQueue, ManyTurn};
+    /// use hontkhale::lasting::{LastingConfig, LastingQueue};
+    /// use hontkhale::owner::ManyTurn;
     ///
     /// # fn main() -> Result<(), Box<dyn std::error::Error>> {
     /// let queue = LastingQueue::new(LastingConfig::of(2, 1_000))?;
@@ -326,7 +328,7 @@ impl<T> LastingQueue<T> {
     /// them, and tells the slot to go on from. The shard's lock is held for this piece alone:
     ///
     /// ```
-    /// use hontkhale::{LastingConfig, LastingQueue};
+    /// use hontkhale::lasting::{LastingConfig, LastingQueue};
     ///
     /// # fn main() -> Result<(), Box<dyn std::error::Error>> {
     /// let queue: LastingQueue<u8> = LastingQueue::new(LastingConfig::of(2, 100))?;

@@ -14,7 +14,8 @@ use alloc::vec::Vec;
 /// A delay queue in shards, each behind a lock of its own, which are renewed one by one while the others serve.
 ///
 /// ```
-/// use hontkhale::{Kept, LastingConfig, LastingQueue, Turn};
+/// use hontkhale::lasting::{Kept, LastingConfig, LastingQueue};
+/// use hontkhale::owner::Turn;
 ///
 /// # fn main() -> Result<(), Box<dyn std::error::Error>> {
 /// let queue = LastingQueue::new(LastingConfig::of(2, 100))?;
@@ -81,7 +82,7 @@ impl<T> LastingQueue<T> {
 }
 
 impl<T> LastingQueue<T> {
-    /// The number of shards, from 2 to [`SHARD_LIMIT`](crate::SHARD_LIMIT).
+    /// The number of shards, from 2 to [`SHARD_LIMIT`](crate::shards::SHARD_LIMIT).
     pub fn shards(&self) -> usize {
         self.shards.len()
     }
@@ -137,7 +138,7 @@ impl<T> LastingQueue<T> {
 #[inline]
 pub(crate) fn goes_on_if(is_so: bool) {
     if !is_so {
-        panic!("a closure of `lend` put the state of another shard here");
+        panic!("the state of another shard was put here");
     }
 }
 

@@ -1,9 +1,8 @@
 //! Ticks by std's clock: whole milliseconds since an instant, which never go back.
 
-use hontkhale::{
-    ExpiredStream, LastingConfig, LastingQueue, LastingStream, MillisecondTicks, QueueConfig, SharedDelayQueue,
-    TickSource,
-};
+use hontkhale::lasting::{LastingConfig, LastingQueue, LastingStream};
+use hontkhale::shards::{QueueConfig, SharedDelayQueue};
+use hontkhale::streams::{ExpiredStream, MillisecondTicks, TickSource};
 use std::task::{Context, Poll, Waker};
 use std::time::{Duration, Instant};
 

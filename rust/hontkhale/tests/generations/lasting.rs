@@ -2,7 +2,8 @@
 
 use super::work::{told, Done, Numbers, Worker};
 use super::Fail;
-use hontkhale::{CoreError, Kept, LastingConfig, LastingError, LastingQueue, LastingTotals, LAST_STAMP};
+use hontkhale::lasting::{Kept, LastingConfig, LastingError, LastingQueue, LastingTotals};
+use hontkhale::owner::{CoreError, LAST_STAMP};
 use std::thread;
 
 // The rounds of one owner, each of twelve inserts.

@@ -2,7 +2,8 @@
 
 use super::work::{Entries, Numbers};
 use super::Fail;
-use hontkhale::{Kept, LastingConfig, LastingQueue, Piece, Turn};
+use hontkhale::lasting::{Kept, LastingConfig, LastingQueue};
+use hontkhale::owner::{Piece, Turn};
 
 // The inserts of a queue.
 const TURNS: u64 = 50_000;

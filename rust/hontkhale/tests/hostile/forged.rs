@@ -2,10 +2,8 @@
 
 use super::numbers::{fill, insert, made, Numbers, ONE_AND_FOUR};
 use super::Fail;
-use hontkhale::{
-    CallError, CoreError, EntryId, Handle, Key, Look, QueueConfig, QueueError, SharedDelayQueue, Totals, Turn,
-    LAST_STAMP, LAST_TICK,
-};
+use hontkhale::owner::{CallError, CoreError, EntryId, Key, Look, Turn, LAST_STAMP, LAST_TICK};
+use hontkhale::shards::{Handle, QueueConfig, QueueError, SharedDelayQueue, Totals};
 
 const GREATEST: u32 = 4294967295;
 

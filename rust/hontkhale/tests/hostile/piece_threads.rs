@@ -3,7 +3,8 @@
 use super::join::join;
 use super::numbers::ROUNDS;
 use super::Fail;
-use hontkhale::{Handle, Key, Piece, QueueConfig, SharedDelayQueue, Turn};
+use hontkhale::owner::{Key, Piece, Turn};
+use hontkhale::shards::{Handle, QueueConfig, SharedDelayQueue};
 use std::hint;
 use std::sync::atomic::{AtomicBool, Ordering};
 

@@ -7,10 +7,10 @@ use super::shard::{Row, Shard};
 use super::ticks::{deadline, key, tick, ROUND};
 use super::value::{Living, Value};
 use super::wakes::Poller;
-use hontkhale::{
-    CoreError, Ended, EntryId, Expired, Kept, Key, LastingConfig, LastingError, LastingHandle, LastingQueue,
-    LastingTally, LastingTotals, Piece, PlaceState, Tally,
+use hontkhale::lasting::{
+    Ended, Kept, LastingConfig, LastingError, LastingHandle, LastingQueue, LastingTally, LastingTotals, PlaceState,
 };
+use hontkhale::owner::{CoreError, EntryId, Expired, Key, Piece, Tally};
 use std::collections::BTreeMap;
 use std::task::{Context, Poll};
 

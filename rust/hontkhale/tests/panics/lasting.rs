@@ -1,7 +1,8 @@
 //! The calls of a lasting queue by name and by its streams, with a task that is parked, and its renewal.
 
 use super::kit::{deadline_of, key, panics_in_turn, waker, At, Keys, Subject, Value, CAPACITY};
-use hontkhale::{Key, LastingConfig, LastingHandle, LastingQueue, LastingStream, LastingTally, Piece, Tally};
+use hontkhale::lasting::{LastingConfig, LastingHandle, LastingQueue, LastingStream, LastingTally};
+use hontkhale::owner::{Key, Piece, Tally};
 use std::num::NonZeroU32;
 use std::task::{Context, Poll};
 

@@ -2,7 +2,9 @@
 //! drop runs inside another, each value is dropped once, and no key is lost.
 
 use super::kit::{panics, within_the_limit};
-use hontkhale::{Expired, Key, LastingConfig, LastingQueue, ManyTurn, QueueConfig, SharedDelayQueue, Turn};
+use hontkhale::lasting::{LastingConfig, LastingQueue};
+use hontkhale::owner::{Expired, Key, ManyTurn, Turn};
+use hontkhale::shards::{QueueConfig, SharedDelayQueue};
 use std::panic::{catch_unwind, AssertUnwindSafe};
 use std::sync::atomic::{AtomicBool, AtomicU64, Ordering::SeqCst};
 use std::sync::mpsc::channel;

@@ -5,7 +5,8 @@ use super::kit::{
     insert, insert_cancelled, insert_lasting, insert_lasting_cancelled, is_whole, is_whole_lasting, lasting, panics,
     park, park_lasting, queue, waker_that, within_the_limit, Drops, Lasting, Queue, Task, Zero,
 };
-use hontkhale::{ExpiredStream, LastingStream, TickSource};
+use hontkhale::lasting::LastingStream;
+use hontkhale::streams::{ExpiredStream, TickSource};
 use std::num::NonZeroU32;
 use std::sync::atomic::{AtomicU64, Ordering::SeqCst};
 use std::sync::Arc;

@@ -4,7 +4,7 @@ use super::kit::{
     insert, insert_lasting, is_whole, is_whole_lasting, lasting, park, park_lasting, queue, within_the_limit, Drops,
     Lasting, Queue, Task,
 };
-use hontkhale::{EntryId, Key};
+use hontkhale::owner::{EntryId, Key};
 use std::sync::Arc;
 
 // Shard 0 has an entry that is due at 10, and a poller that polls where it is woken; a call wakes it.

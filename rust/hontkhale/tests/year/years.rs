@@ -2,7 +2,8 @@
 
 use super::lease::{Ended, Lease};
 use super::worker::{Done, Worker};
-use hontkhale::{Kept, LastingConfig, LastingQueue, LastingTotals, Turn, LAST_TICK};
+use hontkhale::lasting::{Kept, LastingConfig, LastingQueue, LastingTotals};
+use hontkhale::owner::{Turn, LAST_TICK};
 use std::sync::atomic::{AtomicU64, Ordering::SeqCst};
 use std::sync::Mutex;
 use std::thread;

@@ -8,7 +8,7 @@ use super::wheel_calls::Call::{
 };
 use super::wheel_calls::{advance, arrive, each_answers, link, plays, settle, stands};
 use crate::ticks::{CAPACITY_LIMIT, LAST_TICK, REACH};
-use crate::wheel::{Place, Wheel, WheelError};
+use crate::wheels::{Place, Wheel, WheelError};
 
 // promise: wheel.link-unlink
 #[test]

@@ -5,7 +5,6 @@ mod numbers;
 mod parking;
 mod pieces;
 mod play;
-mod pool;
 mod rounds;
 mod six_places;
 mod steps;

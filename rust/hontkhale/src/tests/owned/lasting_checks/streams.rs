@@ -7,7 +7,7 @@ use super::same;
 use crate::lasting::{Kept, LastingConfig, LastingError, LastingStream};
 use crate::tests::kit::{Fail, MockTask, StreamExt};
 use crate::ticks::LAST_TICK;
-use crate::{StreamFault, TickSource};
+use crate::streams::{StreamFault, TickSource};
 use std::cell::Cell;
 use std::task::Poll;
 
