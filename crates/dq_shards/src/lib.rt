@@ -3,6 +3,7 @@
 
 mod aside;
 mod audit;
+pub mod by;
 mod callers;
 mod calls;
 pub mod endings;
