@@ -1,6 +1,7 @@
 """The two charts of a run, as SVG: nanoseconds as dots on a logarithmic axis, each with a whisker from the best sample to the worst.
 
-A bar's length would tell nothing on a logarithmic axis. A row that we lose is drawn as any other.
+A bar's length would tell nothing on a logarithmic axis. A row that we lose is drawn as any other. `bench/run` draws them
+once it has stored a run; after a change of this file draw them by `python3 bench/chart.py`.
 """
 
 import math
@@ -126,8 +127,18 @@ def longest_chart(cases, about):
     return lines and drawn("The longest poll, in microseconds", legend, [("After sessions were touched by extends or resets, or all were cancelled", lines)], about)
 
 
-def charts(cases, about):
-    """The charts that a run has: the part that stands in the file's name, and the text."""
-    for part, drawing in (("", front_chart(cases, about)), ("longest", longest_chart(cases, about))):
-        if drawing:
-            yield part, drawing
+def charts():
+    """The charts of the stored run, by their files."""
+    cases, about = stored.read()
+    return {stored.RESULTS / "latest.svg": front_chart(cases, about), stored.RESULTS / "latest-longest.svg": longest_chart(cases, about)}
+
+
+def stale():
+    """The charts that aren't what the stored samples make."""
+    return [path for path, picture in charts().items() if not path.exists() or path.read_text() != picture]
+
+
+if __name__ == "__main__":
+    for path, picture in charts().items():
+        path.write_text(picture)
+        print(path.name)

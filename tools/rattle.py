@@ -183,11 +183,12 @@ def is_attribute(tokens, at):
 
 class Function:
     """A function: its name behind those of what it stands in, and the places in the text where what is above it begins,
-    its header, its body, and where it ends; and whether another may stand beside it, as none may that a trait names."""
+    its header, its body, and where it ends; and
+    whether another may stand beside it, as none may that a trait names, and whether it is public."""
 
-    def __init__(self, name, above, begin, body, end, is_free, attributes):
+    def __init__(self, name, above, begin, body, end, is_free, is_public):
         self.name, self.above, self.begin, self.body, self.end = name, above, begin, body, end
-        self.is_free, self.is_test, self.is_public = is_free, "test" in attributes, "pub" in attributes
+        self.is_free, self.is_public = is_free, is_public
 
 
 class File:
@@ -209,9 +210,9 @@ class File:
             head = start
             while self.tokens[head].kind == "doc" or self.tokens[head].text == "#":
                 head = head + 1 if self.tokens[head].kind == "doc" else close_of(self.tokens, head + 1) + 1
-            words = {it.text for it in self.tokens[start:at] if it.kind == "word"}
+            is_public = self.tokens[head].text == "pub" and self.tokens[head + 1].text != "("
             places = (self.tokens[it].place for it in (start, head, body))
-            yield Function(full, *places, self.tokens[closes].place + 1, all(it[3] for it in around), words)
+            yield Function(full, *places, self.tokens[closes].place + 1, all(it[3] for it in around), is_public)
 
     def homes(self):
         """The modules, traits and impls: where each opens and closes, its name, and whether its functions are its own."""

@@ -13,6 +13,7 @@ import functools
 import re
 
 import tree
+import source
 from tree import TOP, text_of
 
 TABLE = re.compile(r"(<!-- table ([^>]*?) -->\n).*?(<!-- end -->)", re.S)
@@ -98,7 +99,7 @@ def words_of_the_code():
     plain += [it for part in ("src", "tests") for it in tree.files(TOP / "rust" / "hontkhale" / part, ".rs")]
     paths = [*tree.files(tree.CRATES, *endings), *tree.files(TOP / "bench", *endings), *plain, TOP / "crates.txt"]
     own = {word for it in paths for word in re.findall(r"\w+", text_of(it))}
-    return own | {it.stem for it in paths} | {it.suffix[1:] for it in paths} | set(tree.names())
+    return own | {it.stem for it in paths} | {it.suffix[1:] for it in paths} | set(source.lines_of_crates())
 
 
 def unknown_names(text):

@@ -1,13 +1,13 @@
 """The product crates, erased file by file."""
 from pathlib import Path
 
-import documents
 import errors
 import ghosts
 import handed
 import indexes
 import kit
 import laws
+import links
 import paths
 from rattle import Refused, close_of, item_start, text_of, tokens_of, words_at
 
@@ -27,8 +27,8 @@ MODULES = {
     "dq_lasting": "lasting",
     "dq_replay": "replay",
 }
-# What is told where a closure of `lend` put another shard's state in a shard's place.
-SWAPPED = "a closure of `lend` put the state of another shard here"
+# What is told where another shard's state stands in a shard's place: a closure of `lend`, or who entered both, put it there.
+SWAPPED = "the state of another shard was put here"
 
 
 class Source:
@@ -60,15 +60,14 @@ def guarded(source, rule, *arguments):
         raise Refused(f"{source.path.relative_to(TOP)}: {refused}") from None
 
 
-def sources(hand, said):
+def sources(hand):
     found = []
     for crate in MODULES:
         for path in sorted((TOP / "crates" / crate / "src").rglob("*.rt")):
             if hand.leaves_out(path):
                 continue
-            found.append(Source(crate, path, hand.applied(path, said.applied(path, path.read_text(encoding="utf-8")))))
+            found.append(Source(crate, path, hand.applied(path, path.read_text(encoding="utf-8"))))
     hand.all_used()
-    said.all_used()
     return found
 
 
@@ -222,9 +221,9 @@ def put_uses(tokens, found):
     tokens[at:at] = new
 
 
-def erased(hand, closed, said):
+def erased(hand, closed):
     """The erased text of each file, by its path in the crate."""
-    found = sources(hand, said)
+    found = sources(hand)
     closed.learn({MODULES[source.crate]: source.text for source in found if source.module_path() == ()})
     for source in found:
         source.tokens = guarded(source, without_ghosts_but_clauses, source.tokens)
@@ -253,7 +252,7 @@ def erased(hand, closed, said):
         guarded(source, erase_modules, source, gone, names)
         guarded(source, paths.with_paths, source.tokens, MODULES[source.crate], MODULES)
         rebuilt_uses(source, gone, names)
-        documents.with_links(source.tokens, MODULES[source.crate], closed.given)
+        guarded(source, links.with_links, source.tokens, MODULES[source.crate], closed.given)
     return {
         source.out(): text_of(source.tokens)
         for source in found

@@ -180,14 +180,19 @@ def without_line(before, line):
 
 
 def forever(tokens, lent):
-    """`for _ in rt.forever() { .. }` waits for what never comes; a panic in words says so."""
+    """`for _ in rt.forever() { .. }` is a loop where it returns, and else waits for what never comes: a panic says so."""
     at = 0
     while at < len(tokens) - 8:
         if words_at(tokens, at, "for", "_", "in", "rt", ".", "forever", "(", ")", "{"):
-            end = close_of(tokens, at + 8) + 1
+            close = close_of(tokens, at + 8)
+            end = close + 1
             if words_at(tokens, end, "unreachable", "!", "(", ")"):
                 end += 4
-            tokens[at:end] = made(f'panic!("{lent}");', tokens[at])
+            if any(token.text == "return" for token in tokens[at + 9:close]):
+                del tokens[close + 1:end]
+                tokens[at:at + 8] = made("loop", tokens[at])
+            else:
+                tokens[at:end] = made(f'panic!("{lent}");', tokens[at])
         at += 1
     return tokens
 

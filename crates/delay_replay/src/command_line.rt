@@ -13,7 +13,7 @@ const DEFAULT_CAPACITY: usize = 1024;
 
 // What the help says of a script, after the options.
 const OF_A_SCRIPT: &str = "\
-A script begins with the line `delay 1`. Each later line is a command, answered once it is complete:
+A script begins with the line `delay 1`. Each later line is a command. Here each has its answers beside it:
 
   delay 1
   insert a 5          a at 5

@@ -66,7 +66,7 @@ Options:
       --capacity <N>  The most names that may be live, 1 to 65536 [default: 1024]
   -h, --help          Print help
 
-A script begins with the line `delay 1`. Each later line is a command, answered once it is complete:
+A script begins with the line `delay 1`. Each later line is a command. Here each has its answers beside it:
 
   delay 1
   insert a 5          a at 5

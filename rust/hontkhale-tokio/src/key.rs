@@ -21,6 +21,16 @@ impl Key {
         Key { segment, name: u64::from(born) << 32 | (index as u64) << 16 | u64::from(slot as u16) }
     }
 
+    /// A key of its two numbers.
+    pub(crate) fn named(segment: u64, name: u64) -> Key {
+        Key { segment, name }
+    }
+
+    /// The two numbers of the key, neither of which is 0.
+    pub(crate) fn parts(&self) -> (u64, u64) {
+        (self.segment, self.name)
+    }
+
     /// The segment's number.
     #[inline]
     pub(crate) fn segment(&self) -> u64 {

@@ -205,7 +205,7 @@ impl<T> Inner<T> {
         match error {
             LastingError::Core(error) => QueueError::Core(error),
             LastingError::Closed => QueueError::Core(CoreError::Full { linked: 0, worn: self.keeping.spent() }),
-            LastingError::Unknown => QueueError::Unknown,
+            _ => QueueError::Unknown,
         }
     }
 
@@ -220,8 +220,8 @@ impl<T> Inner<T> {
 fn of_handles(error: HandleError) -> QueueError {
     match error {
         HandleError::TooManyHandles { limit } => QueueError::TooManyHandles { limit },
-        HandleError::OtherQueue => QueueError::Unknown,
         HandleError::NoMemory => QueueError::Core(CoreError::NoMemory),
+        _ => QueueError::Unknown,
     }
 }
 

@@ -100,7 +100,7 @@ mod with_std {
     use crate::apps::{CountedCache, IdleSessions, Name, Seen, TtlCache};
     use crate::lasting::{LastingHandle, LastingPacedStream, LastingQueue, LastingStream, LockedLasting};
     use crate::parking::{MillisecondTicks, Parked};
-    use crate::shards::{Handle, LockedShard, ShardState, SharedDelayQueue};
+    use crate::shards::{Handle, ShardState, SharedDelayQueue};
     use crate::stream::{ExpiredStream, PacedStream};
     use std::hash::{BuildHasher, Hash};
 
@@ -122,12 +122,6 @@ mod with_std {
                 .field("next_wake", &self.next_wake())
                 .field("parked", &self.parked())
                 .finish_non_exhaustive()
-        }
-    }
-
-    impl<T> Debug for LockedShard<'_, T> {
-        fn fmt(&self, f: &mut Formatter<'_>) -> Result {
-            f.debug_tuple("LockedShard").field(&**self).finish()
         }
     }
 

@@ -16,6 +16,7 @@ use std::fmt::Debug;
 use std::num::NonZeroU32;
 use std::sync::atomic::{AtomicBool, Ordering::SeqCst};
 use std::thread;
+use std::time::{Duration, Instant};
 
 /// The tick at whose poll a slot opens, and a deadline in it: the slots there have 4,096 ticks.
 const OPENS: u64 = 4_096 * 16;
@@ -39,6 +40,9 @@ trait Queue: Sync {
     fn poll(&self, tick: u64) -> Turn<u64>;
     fn poll_through(&self, shard: usize, tick: u64, most: NonZeroU32) -> Result<Turn<u64>, Self::Refusal>;
     fn give_way(&self, shard: usize);
+
+    /// Makes a call while the shard's lock is held.
+    fn held<R>(&self, shard: usize, call: impl FnOnce() -> R) -> R;
 
     /// The noted tick and the next wake of the first shard, of one moment.
     fn noted_and_wake(&self) -> (u64, Option<u64>);
@@ -80,6 +84,11 @@ macro_rules! queue {
 
             fn give_way(&self, shard: usize) {
                 self.give_way(shard);
+            }
+
+            fn held<R>(&self, shard: usize, call: impl FnOnce() -> R) -> R {
+                let _shard = self.enter(shard).expect("a shard");
+                call()
             }
 
             fn noted_and_wake(&self) -> (u64, Option<u64>) {
@@ -243,4 +252,43 @@ fn many_threads_call_beside_polls_through() {
 #[test]
 fn many_threads_call_beside_polls_through_of_a_lasting_queue() {
     let_many_threads_call::<Lasting>();
+}
+
+/// The least time of 50 calls of `give_way`: far less than a microsecond where nobody waits for the shard's lock, and a
+/// thousand looks where someone does.
+fn gives_way<Q: Queue>(queue: &Q, shard: usize) -> bool {
+    let least = (0..50).map(|_| {
+        let start = Instant::now();
+        queue.give_way(shard);
+        start.elapsed()
+    });
+    least.min().is_some_and(|least| least > Duration::from_nanos(1_500))
+}
+
+fn give_way_to_who_waits_for_their_shard<Q: Queue>() {
+    let queue = Q::of(8);
+    assert!(!gives_way(&queue, 0) && !gives_way(&queue, 1), "nobody waits yet");
+    thread::scope(|scope| {
+        queue.held(1, || {
+            scope.spawn(|| queue.poll_through(1, 0, steps(1)).is_ok());
+            let start = Instant::now();
+            while !gives_way(&queue, 1) {
+                assert!(start.elapsed() < Duration::from_secs(20), "it gives way to nobody");
+            }
+            assert!(!gives_way(&queue, 0), "nobody waits for the other shard");
+        });
+    });
+    assert!(!gives_way(&queue, 0) && !gives_way(&queue, 1), "nobody waits any more");
+}
+
+// promise: shards.poll-through-makes
+#[test]
+fn polls_through_give_way_to_who_waits_for_their_shard() {
+    give_way_to_who_waits_for_their_shard::<Shared>();
+}
+
+// promise: lasting.poll-through
+#[test]
+fn lasting_polls_through_give_way_to_who_waits_for_their_shard() {
+    give_way_to_who_waits_for_their_shard::<Lasting>();
 }

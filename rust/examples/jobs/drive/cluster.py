@@ -120,7 +120,9 @@ class Cluster:
 
     def spawn(self, *words, env=None, log=None, url=None, within=()):
         out = open(self.room / (log or "workers"), "ab")
-        command = [*within, JOBS, *words, "--database", url or self.url]
+        # Without one it stands in the environment.
+        database = [] if url == "" else ["--database", url or self.url]
+        command = [*within, JOBS, *words, *database]
         process = subprocess.Popen(command, stdout=out, stderr=out, env=env)
         out.close()
         self.processes.append(process)
@@ -129,20 +131,16 @@ class Cluster:
     def logged(self, log="workers"):
         return (self.room / log).read_text()
 
-    def owned(self):
+    def owned(self, schema="public"):
         """How many partitions each worker has."""
-        return [
-            int(it[0])
-            for it in self.sql(
-                "SELECT count(*) FROM jobs_partitions WHERE until > now() GROUP BY owner"
-            )
-        ]
+        rows = self.sql(f"SELECT count(*) FROM {schema}.jobs_partitions WHERE until > now() GROUP BY owner")
+        return [int(it[0]) for it in rows]
 
-    def wait_for_owners(self, workers, seconds=60):
+    def wait_for_owners(self, workers, seconds=60, partitions=64, schema="public"):
         def all_owned():
             """each partition has an owner, by fair shares"""
-            owned = self.owned()
-            return len(owned) == workers and sum(owned) == 64 and max(owned) <= -(-64 // workers)
+            owned = self.owned(schema)
+            return len(owned) == workers and sum(owned) == partitions and max(owned) - min(owned) <= 1
 
         wait_for(all_owned, seconds)
 

@@ -314,6 +314,8 @@ def old_snapshot(it):
     with held(it, "SET TRANSACTION ISOLATION LEVEL REPEATABLE READ", "SELECT count(*) FROM jobs"):
         it.jobs("enqueue", "150000")
         wait_for(lambda: done(it) == 150000, 120, every=0.5)
+        # What was due within two seconds is read again, since it may have been enqueued late.
+        time.sleep(3)
         it.sql("SELECT pg_stat_reset()")
         buffers = (
             "SELECT sum(idx_blks_hit + idx_blks_read) FROM pg_statio_user_indexes WHERE indexrelname = 'jobs_waiting'"

@@ -27,12 +27,12 @@ macro_rules! free {
 }
 
 /// What waits in some partitions, is due since a time of each and within a horizon, with the clock, the number of
-/// workers, the partitions that nobody owns, the terms of this worker and the others that have jobs for holders, so
+/// workers and of those before this one, the partitions that nobody owns, the terms of this worker and the others that have jobs for holders, so
 /// that a worker with nothing to do asks for one thing alone.
 pub const READ: &str = concat!(
     "
 SELECT clock_timestamp() - pg_postmaster_start_time() < interval '3 seconds',
-    (SELECT count(*) FROM jobs_workers o WHERE NOT (",
+    (SELECT ARRAY[count(*), count(*) FILTER (WHERE o.worker < $1)] FROM jobs_workers o WHERE NOT (",
     free!("o.worker", "$5"),
     ")),
     (SELECT coalesce(array_agg(partition), '{}') FROM jobs_partitions

@@ -14,6 +14,7 @@ use core::{fmt, mem};
 
 /// Why a queue isn't renewed.
 #[derive(Clone, Copy, Debug, PartialEq, Eq)]
+#[non_exhaustive]
 pub enum RenewError {
     /// Entries are linked, live or cancelled and not yet reaped.
     StillLinked {

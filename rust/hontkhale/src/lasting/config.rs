@@ -19,6 +19,7 @@ pub struct LastingConfig {
 
 /// Which number of a configuration is out of its range.
 #[derive(Clone, Copy, Debug, PartialEq, Eq)]
+#[non_exhaustive]
 pub enum BadLastingNumber {
     /// The number of shards isn't 2 to [`SHARD_LIMIT`](crate::shards::SHARD_LIMIT).
     BadShards(usize),

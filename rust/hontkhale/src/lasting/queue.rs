@@ -112,7 +112,7 @@ impl<T> LastingQueue<T> {
         let waiting = nth(&self.waiting, place);
         let shard = waiting.taken(nth(&self.shards, place));
         if shard.number() as usize % self.shards.len() != place {
-            panic!("a closure of `lend` put the state of another shard here");
+            panic!("the state of another shard was put here");
         }
         shard
     }

@@ -26,6 +26,7 @@ pub enum Place {
 
 /// Why a wheel isn't made.
 #[derive(Clone, Copy, Debug, PartialEq, Eq)]
+#[non_exhaustive]
 pub enum WheelError {
     /// The capacity is 0 or above [`CAPACITY_LIMIT`].
     BadConfig,

@@ -14,6 +14,7 @@ pub const HANDLE_LIMIT: u64 = 1024;
 
 /// Why a keeper or a caller is not made.
 #[derive(Clone, Copy, Debug, PartialEq, Eq)]
+#[non_exhaustive]
 pub enum WordsError {
     /// The capacity is 0 or beyond [`CAPACITY_LIMIT`].
     BadConfig,
