@@ -59,10 +59,6 @@ def without_types(tokens, types):
             before, after = tokens[at - 1].text, tokens[at + 1].text
             if before in ("<", ",") and after == ":" or before == "where" and after == ":":
                 end = bounds_end(tokens, at + 2)
-                if tokens[end].text == "{" and before == ",":
-                    del tokens[at:end]
-                    at -= 1
-                    continue
                 if before == "where":
                     if tokens[end].text == ",":
                         end += 1

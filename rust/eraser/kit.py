@@ -1,6 +1,5 @@
 """Rules for what the kit has otherwise than std: memory that may be refused, locks, wakers, hashers, formatting."""
 from handed import where_list
-from lists import value_end
 from rattle import OPENS, Refused, close_of, functions, tokens_of, words_at
 
 # Paths of std, and where a crate without std has them.
@@ -31,7 +30,6 @@ IMPORTS = {
     "thiserror::Error": "core::fmt",
     "std::hash::FoldHasher": "",
     "std::hash::BuildHasherDefault": "std::collections::hash_map::RandomState",
-    "std::test::Fail": "crate::memory::AllocError",
     "atomic_table::Table": "crate::words::table::Table",
     "arrayvec::ArrayString": "crate::replay::text::ArrayString",
     "std::time::Clock": "",
@@ -73,8 +71,6 @@ def without_drop(tokens):
             elif before == "+":
                 del tokens[at - 1:at + 1]
                 at -= 1
-            elif before == ":" and after == "+":
-                del tokens[at:at + 2]
             elif before == ":" and after == "," and where_list(tokens, at - 2):
                 tokens[at + 2].before = tokens[at - 2].before
                 del tokens[at - 2:at + 2]
@@ -85,9 +81,6 @@ def without_drop(tokens):
             elif before == "," and after in (")", ","):
                 del tokens[at - 1:at + 1]
                 at -= 1
-            elif before == "(" and after == ",":
-                tokens[at + 2].before = ""
-                del tokens[at:at + 2]
             elif words_at(tokens, at - 4, "#", "[", "derive", "(", "Drop", ")", "]"):
                 # The line of the attribute goes with it.
                 tokens[at + 3].before = tokens[at - 4].before
@@ -203,18 +196,6 @@ def hashing(tokens):
     return tokens
 
 
-def asserting(tokens):
-    """`assert!(rt; ..)` has no runtime in Rust."""
-    at = 0
-    while at < len(tokens) - 4:
-        if tokens[at].text == "!" and tokens[at + 1].text == "(" and tokens[at + 3].text == ";":
-            if tokens[at + 2].text == "rt":
-                tokens[at + 4].before = ""
-                del tokens[at + 2:at + 4]
-        at += 1
-    return tokens
-
-
 def streams(tokens):
     """`impl Stream for ..` is a call `poll_next` of the type: the crate depends on none that has the trait."""
     at = 0
@@ -326,7 +307,6 @@ def sharing(tokens):
 
 def early(tokens, lent):
     """What has to be seen before the runtime is gone."""
-    asserting(tokens)
     forever(tokens, lent)
     waking(tokens)
     sharing(tokens)
@@ -362,7 +342,4 @@ def rewritten(tokens):
     streams(tokens)
     unused(tokens)
     tails(tokens)
-    for at, token in enumerate(tokens):
-        if token.text == "Fail" and tokens[at - 1].text != "::":
-            token.text = "AllocError"
     return wholes(questions(tokens))
