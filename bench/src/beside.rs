@@ -6,7 +6,8 @@ use std::sync::atomic::{AtomicBool, Ordering};
 use std::thread;
 use std::time::Instant;
 
-use hontkhale::{Piece, QueueConfig, SharedDelayQueue, Turn};
+use hontkhale::owner::{Piece, Turn};
+use hontkhale::shards::{QueueConfig, SharedDelayQueue};
 
 /// The steps of a piece, by the names of the ways to poll.
 const WAYS: [(&str, Option<u32>); 4] =

@@ -1,6 +1,6 @@
 //! Our queue as plain Rust has it: the cargo crate, which is the erased source.
 
-use hontkhale::{shared_queue, Caller, DelayCore, Expired, Keeper, Key, Turn};
+use hontkhale::owner::{shared_queue, Caller, DelayCore, Expired, Keeper, Key, Turn};
 
 use crate::queue::{Extends, Parts, Polls, Queue, Shared};
 

@@ -1,6 +1,7 @@
 //! Our shared queue as plain Rust has it: the crate's `SharedDelayQueue`, whose locks are std's and whose extends and cancels take none.
 
-use hontkhale::{Handle, Key, QueueConfig, SharedDelayQueue, Turn};
+use hontkhale::owner::{Key, Turn};
+use hontkhale::shards::{Handle, QueueConfig, SharedDelayQueue};
 
 use crate::plan::BURST;
 use crate::queue::Sharded;

@@ -5,7 +5,8 @@
 
 use std::time::Instant;
 
-use hontkhale::{Kept, LastingConfig, LastingQueue, Piece, Turn};
+use hontkhale::lasting::{Kept, LastingConfig, LastingQueue};
+use hontkhale::owner::{Piece, Turn};
 
 /// The ticks of all deadlines, and those from one poll to the next.
 const TICKS: u64 = 3_600_000;

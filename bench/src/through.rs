@@ -8,7 +8,9 @@ use std::sync::atomic::{AtomicBool, Ordering};
 use std::thread;
 use std::time::{Duration, Instant};
 
-use hontkhale::{EntryId, LastingConfig, LastingQueue, Piece, QueueConfig, SharedDelayQueue, Turn};
+use hontkhale::lasting::{LastingConfig, LastingQueue};
+use hontkhale::owner::{EntryId, Piece, Turn};
+use hontkhale::shards::{QueueConfig, SharedDelayQueue};
 
 use crate::beside::{DEADLINE, LATER, OPENS};
 use crate::fair::{print_told, Pace, Told, ALONE, CALM, FREE, PACES, STEPS};

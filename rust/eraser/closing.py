@@ -1,22 +1,21 @@
 """What has a `requires` and is reached from safe Rust, and how the list `rust/closed` says that it is closed."""
 import re
 
-from ghosts import clause
 from kit import made
-from laws import functions
-from tokens import Refused, angle_close_of, close_of
+from rattle import Refused, angle_close_of, clause, close_of, functions
 
 WAYS = {"inside", "checked", "user code"}
 
 
 class Closed:
-    """The list: for each name how it is closed, and the lines that check it."""
+    """The list: for each name how it is closed, and the lines that check it; and what the crate gives away."""
 
     def __init__(self, text, lib):
         self.ways = {}
         self.checks = {}
-        self.exported = exported_names(lib, "core|ticks|wheel|words|shards|stream|apps|lasting|pool|replay")
-        self.given = exported_names(lib, r"\w+")
+        self.lib = lib
+        self.given = {}
+        self.exported = set()
         self.found = set()
         name = None
         for number, line in enumerate(text.splitlines(), 1):
@@ -28,6 +27,11 @@ class Closed:
                     raise Refused(f"rust/closed: line {number}: `{line}` says nothing")
                 self.ways[name] = way
                 self.checks[name] = []
+
+    def learn(self, roots):
+        """Learns what the crate gives away, from the text of the root of each module of the sources."""
+        self.given = given(self.lib, roots)
+        self.exported = {name for name, (module, _) in self.given.items() if module in roots}
 
     def close(self, source):
         """Looks at each function of a file that has a `requires`, and puts the checks in."""
@@ -54,12 +58,24 @@ class Closed:
                 raise Refused(f"rust/closed: `{name}` isn't there, or requires nothing")
 
 
-def exported_names(lib, modules):
-    """What src/lib.rs gives away of some modules: each name with its module."""
-    names = {}
-    for module, path in re.findall(rf"pub use crate::({modules})::([^;]*);", lib):
-        names.update((name, module) for name in re.findall(r"\w+", path))
-    return names
+GIVES = re.compile(r"^pub mod (\w+)(;| \{)|^(\})|pub use crate::(\w+)::([^;]*);", re.M)
+OF_A_ROOT = re.compile(r"^pub use [\w:]*?(\w+|\{[^}]*\});", re.M)
+
+
+def given(lib, roots):
+    """What src/lib.rs gives away: each name with the module that has it, and with its path in the crate."""
+    found = {}
+    outer = ""
+    for within, form, end, module, names in GIVES.findall(lib):
+        if module:
+            found.update((name, (module, f"{outer}{name}")) for name in re.findall(r"\w+", names))
+        elif form == ";":
+            # a module of the sources that is given away whole
+            names = " ".join(OF_A_ROOT.findall(roots.get(within, "")))
+            found.update((name, (within, f"{within}::{name}")) for name in re.findall(r"\w+", names))
+        else:
+            outer = "" if end else f"{within}::"
+    return found
 
 
 def bodies(tokens):

@@ -1,8 +1,9 @@
-"""`derive(Error)` with its texts, as `Display` and `std::error::Error` written out."""
+"""`derive(Error)` with its texts, as `Display` and `std::error::Error` written out. An enum of errors may have more variants
+one day, so each is `#[non_exhaustive]`. An error that is said by another's text has that one as its source."""
 import re
 
-from ghosts import words_at
-from tokens import Refused, close_of, tokens_of
+import kit
+from rattle import Refused, close_of, tokens_of, words_at
 
 
 def fields_of(tokens, brace):
@@ -66,11 +67,24 @@ def arm(name, variant):
     return f"            {pattern} => {write},\n"
 
 
-def impls(name, arms, fmt):
+def source_of(name, variants):
+    """What stands in the impl of `std::error::Error`: the source, where a variant's text is that of an error in it."""
+    inner = [variant for variant, _, _, text in variants if text == '"{0}"']
+    if not inner:
+        return ""
+    arms = " | ".join(f"{name}::{variant}(it)" for variant in inner)
+    rest = "            _ => None,\n" if len(inner) < len(variants) else ""
+    return (
+        "\n    fn source(&self) -> Option<&(dyn std::error::Error + 'static)> {\n        match self {\n"
+        f"            {arms} => Some(it),\n{rest}        }}\n    }}\n"
+    )
+
+
+def impls(name, arms, source):
     return (
         f"\n\nimpl fmt::Display for {name} {{\n"
         f"    fn fmt(&self, f: &mut fmt::Formatter<'_>) -> fmt::Result {{\n{arms}    }}\n}}\n\n"
-        f'#[cfg(feature = "std")]\nimpl std::error::Error for {name} {{}}'
+        f'#[cfg(feature = "std")]\nimpl std::error::Error for {name} {{{source}}}'
     )
 
 
@@ -105,13 +119,20 @@ def one_error(tokens, at):
     body = index + 2
     if tokens[body].text != "{":
         raise Refused(f"line {tokens[index].line}: an error of another form")
+    source, variants = "", None
     if tokens[index].text == "enum":
-        arms = "        match self {\n" + "".join(arm(name, one) for one in variants_of(tokens, body)) + "        }\n"
+        variants = variants_of(tokens, body)
+        arms = "        match self {\n" + "".join(arm(name, one) for one in variants) + "        }\n"
+        source = source_of(name, variants)
     else:
         used = re.findall(r"\{(\w+)\}", text)
         names = ", ".join(used if len(used) == len(fields_of(tokens, body)) else [*used, ".."])
         arms = f"        let {name} {{ {names} }} = self;\n        write!(f, {text})\n"
     end = close_of(tokens, body) + 1
-    new = tokens_of(impls(name, arms, "fmt"))[:-1]
+    new = tokens_of(impls(name, arms, source))[:-1]
     tokens[end:end] = new
+    if variants:
+        # Behind the derive, before what is public.
+        start = index - (tokens[index - 1].text == "pub")
+        tokens[start:start] = kit.made("#[non_exhaustive]", tokens[start], "\n")
     return end + len(new)

@@ -1,7 +1,5 @@
 """Rules for what is there for proofs alone: ghosts, clauses, models, tactics."""
-from tokens import OPENS, Refused, close_of
-
-CLAUSES = {"requires", "ensures", "invariant", "decreases"}
+from rattle import OPENS, Refused, clause, close_of, words_at
 
 
 def end_of_statement(tokens, at):
@@ -16,11 +14,6 @@ def end_of_statement(tokens, at):
     return index + 1
 
 
-def words_at(tokens, at, *texts):
-    """Whether these texts stand at an index, one after the other."""
-    return all(tokens[at + step].text == text for step, text in enumerate(texts) if at + step < len(tokens))
-
-
 def ghost(tokens, at):
     """A ghost item ends at its semicolon, a ghost field of a struct at its comma."""
     start = at + (tokens[at].text == "pub")
@@ -33,18 +26,6 @@ def ghost(tokens, at):
         if tokens[behind].text == "}":
             return behind
     return end_of_statement(tokens, at)
-
-
-def clause(tokens, at):
-    """A clause: its word, a name where it has one, and braces; never as a name of Rust."""
-    if tokens[at].text not in CLAUSES or tokens[at].kind != "word":
-        return None
-    after = at + 1
-    if tokens[after].kind == "word":
-        after += 1
-    if tokens[after].text != "{":
-        return None
-    return close_of(tokens, after) + 1
 
 
 def model(tokens, at):

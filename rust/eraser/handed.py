@@ -1,7 +1,6 @@
 """Rules for what each call is handed and std needs not: the runtime, the allocator, the name of a source of wakes."""
-from laws import functions
 from lists import begins_element, element_end, value_end, without
-from tokens import OPENS, Refused, close_of
+from rattle import OPENS, Refused, close_of, functions
 
 # Bounds that say no more than that a type is a runtime or an allocator.
 RUNTIME = {"Wait"}
@@ -60,10 +59,6 @@ def without_types(tokens, types):
             before, after = tokens[at - 1].text, tokens[at + 1].text
             if before in ("<", ",") and after == ":" or before == "where" and after == ":":
                 end = bounds_end(tokens, at + 2)
-                if tokens[end].text == "{" and before == ",":
-                    del tokens[at:end]
-                    at -= 1
-                    continue
                 if before == "where":
                     if tokens[end].text == ",":
                         end += 1

@@ -1,7 +1,6 @@
 """Each index of a row goes through the module `index`, whose bounds check may be turned off since it is proved."""
-from laws import functions, opening_of
 from kit import made
-from tokens import Refused, close_of
+from rattle import Refused, close_of, functions
 
 ASSIGNS = {"=", "+=", "-=", "|=", "&=", "^="}
 # The methods that are called on what an index gives: whether they change it.

@@ -1,68 +1,9 @@
 """Laws: functions that do nothing and are there for what they promise. They go, with the statements that call them."""
-from ghosts import clause
-from tokens import OPENS, Refused, angle_close_of, close_of
+from rattle import Refused, close_of, functions
 
 STARTS = {"{", "}", ";"}
 # What a statement that only calls something doesn't begin with.
 OTHER_STATEMENTS = {"let", "return", "if", "match", "while", "for", "use", "pub", "fn"}
-
-
-def functions(tokens):
-    """Each function: where its item begins and `fn` stands, its name, its parameters' bracket, its body or its end."""
-    found = []
-    for at, token in enumerate(tokens):
-        if token.text != "fn" or token.kind != "word" or tokens[at + 1].kind != "word":
-            continue
-        index = at + 2
-        if tokens[index].text == "<":
-            index = angle_close_of(tokens, index) + 1
-        behind = close_of(tokens, index) + 1
-        body = behind
-        while tokens[body].text not in ("{", ";"):
-            over = clause(tokens, body)
-            if over is not None:
-                body = over
-            elif tokens[body].text in OPENS:
-                body = close_of(tokens, body) + 1
-            else:
-                body += 1
-        found.append((item_start(tokens, at), at, tokens[at + 1].text, index, body))
-    return found
-
-
-def item_start(tokens, at):
-    """Where the item of a `fn` begins: its visibility, its attributes and its docs."""
-    start = at
-    while start > 0:
-        before = tokens[start - 1]
-        if before.kind == "doc" and before.text.startswith("///"):
-            start -= 1
-        elif before.text in ("pub", "const") and before.kind == "word":
-            start -= 1
-        elif before.text == ")" and tokens[start - 4].text == "pub":
-            start -= 4
-        elif before.text == "]" and is_attribute(tokens, start - 1):
-            start = opening_of(tokens, start - 1) - 1
-        else:
-            return start
-    return start
-
-
-def opening_of(tokens, at):
-    depth = 0
-    for index in range(at, -1, -1):
-        if tokens[index].kind == "other" and tokens[index].text in ("]", ")", "}"):
-            depth += 1
-        elif tokens[index].kind == "other" and tokens[index].text in OPENS:
-            depth -= 1
-            if depth == 0:
-                return index
-    raise Refused(f"line {tokens[at].line}: a bracket isn't opened")
-
-
-def is_attribute(tokens, at):
-    opening = opening_of(tokens, at)
-    return opening > 0 and tokens[opening - 1].text == "#"
 
 
 def is_law(tokens, name, head, body, laws):

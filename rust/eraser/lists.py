@@ -1,5 +1,5 @@
 """Lists between brackets or angles: where their elements begin and end, and how one is taken out."""
-from tokens import CLOSES, OPENS, angle_close_of, close_of
+from rattle import CLOSES, OPENS, angle_close_of, close_of
 
 ENDS = {",", ")", "]", "}", ">", ";"}
 

@@ -65,6 +65,19 @@ Usage: delay-replay [OPTIONS]
 Options:
       --capacity <N>  The most names that may be live, 1 to 65536 [default: 1024]
   -h, --help          Print help
+
+A script begins with the line `delay 1`. Each later line is a command. Here each has its answers beside it:
+
+  delay 1
+  insert a 5          a at 5
+  insert b 3          b at 3
+  extend a 7          a at 7
+  tick 4              b expired 3
+                      tick 4
+
+Without that first line the script ends with `line 1: bad header`. A line ends with a line feed alone:
+a carriage return before it counts as part of the last word, so `delay 1` is then a bad header too.
+docs/SCRIPT.md has every command. Ctrl-D ends a script that is typed in a terminal.
 ";
 
 const CAPACITY_OF_0: &str = "\
@@ -97,16 +110,19 @@ fn refuses<R: Abort + AllocGlobal>(rt: &R, word: &str, is_closed: bool, wanted: 
     assert_eq!(rt; terminal.errors.into_inner().as_str(), wanted.1);
 }
 
+// promise: replay.program-main
 #[test]
 fn help_goes_to_standard_output(rt: HostRuntime) {
     refuses(&rt, "--help", false, (HELP, "", 0));
 }
 
+// promise: replay.program-main
 #[test]
 fn help_that_nobody_can_read_is_a_write_fault(rt: HostRuntime) {
     refuses(&rt, "--help", true, ("", "", 3));
 }
 
+// promise: replay.program-main
 #[test]
 fn refused_words_are_told_on_standard_error(rt: HostRuntime) {
     for (word, text) in [("--capacity=0", CAPACITY_OF_0), ("script", A_FILE)] {
@@ -114,6 +130,7 @@ fn refused_words_are_told_on_standard_error(rt: HostRuntime) {
     }
 }
 
+// promise: replay.program-main
 #[test]
 fn refusals_have_their_status(rt: HostRuntime) {
     for (refusal, text, status) in [

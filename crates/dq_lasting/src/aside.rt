@@ -121,12 +121,18 @@ impl<T: Drop, A: Allocator> LastingQueue<T, A> {
     /// The calls by name do it by themselves; whoever holds a shard by [`LastingQueue::enter`] asks
     /// [`LockedLasting::aside`] before it lets the shard go. Of a place out of range there is nothing to drop.
     ///
-    /// ```ignore
-    /// let mut shard = queue.enter(&rt, place)?;
+    /// ```
+    /// use hontkhale::lasting::{LastingConfig, LastingQueue};
+    ///
+    /// # fn main() -> Result<(), Box<dyn std::error::Error>> {
+    /// let queue: LastingQueue<String> = LastingQueue::new(LastingConfig::of(2, 100))?;
+    /// let mut shard = queue.enter(0)?;
     /// shard.sweep();
     /// let aside = shard.aside();
     /// drop(shard);
-    /// queue.drop_aside(&rt, place, aside);
+    /// queue.drop_aside(0, aside);
+    /// # Ok(())
+    /// # }
     /// ```
     ///
     /// [`LockedLasting::aside`]: crate::LockedLasting::aside

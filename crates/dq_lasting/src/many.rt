@@ -25,12 +25,22 @@ impl<T: Drop, A: Allocator> LastingQueue<T, A> {
     /// # Errors
     /// Unknown out of range, before all else, and then TickTooLarge beyond the last tick. Nothing changes then.
     ///
-    /// ```ignore
-    /// let mut row = Vec::with_capacity(&heap, 64)?;
-    /// let turn = queue.poll_many(&rt, place, tick, &mut row)?;
-    /// for expired in row {
-    ///     deliver(expired.value);
+    /// ```
+    /// use hontkhale::lasting::{LastingConfig, LastingQueue};
+    /// use hontkhale::owner::ManyTurn;
+    ///
+    /// # fn main() -> Result<(), Box<dyn std::error::Error>> {
+    /// let queue = LastingQueue::new(LastingConfig::of(2, 1_000))?;
+    /// for number in 0..100 {
+    ///     queue.insert(1, number, 5).map_err(|refused| refused.0)?;
     /// }
+    /// let mut row = Vec::with_capacity(64);
+    /// assert_eq!(queue.poll_many(1, 5, &mut row), Ok(ManyTurn::More));
+    /// assert_eq!(row.drain(..).count(), 64);
+    /// assert_eq!(queue.poll_many(1, 5, &mut row), Ok(ManyTurn::Idle));
+    /// assert_eq!(row.len(), 36);
+    /// # Ok(())
+    /// # }
     /// ```
     pub fn poll_many<R: Wait>(
         &self,

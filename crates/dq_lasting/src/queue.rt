@@ -13,8 +13,23 @@ use std::alloc::{Allocator, Global};
 use std::marker::Model;
 use std::sync::{Mutex, MutexGuard, Wait};
 
-/// A delay queue in shards, each behind a lock of its own, which are renewed one by one while the others serve. To a
-/// contract it is the number of its shards, and its name.
+/// A delay queue in shards, each behind a lock of its own, which are renewed one by one while the others serve.
+///
+/// ```
+/// use hontkhale::lasting::{Kept, LastingConfig, LastingQueue};
+/// use hontkhale::owner::Turn;
+///
+/// # fn main() -> Result<(), Box<dyn std::error::Error>> {
+/// let queue = LastingQueue::new(LastingConfig::of(2, 100))?;
+/// let key = queue.insert(0, "value", 100).map_err(|refused| refused.0)?;
+/// queue.handle()?.extend(&key, 200)?;
+/// assert!(matches!(queue.poll(0, 200)?, Turn::Out(expired) if expired.value == "value"));
+///
+/// // Whoever polls calls this in a quiet moment.
+/// assert_eq!(queue.keep_going()?, Kept::Fine);
+/// # Ok(())
+/// # }
+/// ```
 ///
 /// It hands out no `&mut` of a shard, so no two shards change places.
 ///
@@ -61,7 +76,7 @@ impl<T: Drop, A: Allocator + Clone + Drop> LastingQueue<T, A> {
     }
 
     /// As `new`, with a name that the queue keeps and that its handles have. A handle is renewed by a queue of that
-    /// name alone, so queues whose handles may meet need names of their own. `new` gives the name 0.
+    /// name alone.
     ///
     /// # Errors
     /// As `new`.
@@ -103,7 +118,7 @@ impl<T, A: Allocator> LastingQueue<T, A> {
         self.shards.len()
     }
 
-    /// The name that it was given.
+    /// The name that it was given where it was made. No other queue of the process has it.
     pub fn name(&self) -> u64
         ensures { result ≡ self.now.name }
     {

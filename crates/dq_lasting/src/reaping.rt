@@ -64,11 +64,17 @@ impl<T: Drop, A: Allocator> LastingQueue<T, A> {
     /// Reaps what was cancelled at `count` slots from `from` on in the shard at a place, as `sweep` does at all of
     /// them, and tells the slot to go on from. The shard's lock is held for this piece alone:
     ///
-    /// ```ignore
+    /// ```
+    /// use hontkhale::lasting::{LastingConfig, LastingQueue};
+    ///
+    /// # fn main() -> Result<(), Box<dyn std::error::Error>> {
+    /// let queue: LastingQueue<u8> = LastingQueue::new(LastingConfig::of(2, 100))?;
     /// let mut next = Some(0);
     /// while let Some(from) = next {
-    ///     next = queue.sweep_some(&rt, place, from, 64)?.next;
+    ///     next = queue.sweep_some(1, from, 64)?.next;
     /// }
+    /// # Ok(())
+    /// # }
     /// ```
     ///
     /// # Errors

@@ -25,8 +25,19 @@ impl<T: Drop, A: Allocator> LastingQueue<T, A> {
     /// Unknown for a place out of range, before all else, and then TickTooLarge beyond the last tick, which is not
     /// noted then.
     ///
-    /// ```ignore
-    /// let turn = queue.poll_through(&rt, place, tick, most)?;
+    /// ```
+    /// use hontkhale::lasting::{LastingConfig, LastingQueue};
+    /// use hontkhale::owner::Turn;
+    /// use std::num::NonZeroU32;
+    ///
+    /// # fn main() -> Result<(), Box<dyn std::error::Error>> {
+    /// let queue = LastingQueue::new(LastingConfig::of(2, 1_000))?;
+    /// queue.insert(0, "value", 100_000).map_err(|refused| refused.0)?;
+    /// let steps = NonZeroU32::new(64).expect("some");
+    /// let turn = queue.poll_through(0, 100_000, steps)?;
+    /// assert!(matches!(turn, Turn::Out(expired) if expired.value == "value"));
+    /// # Ok(())
+    /// # }
     /// ```
     pub fn poll_through<R: Wait>(
         &self,

@@ -1,5 +1,6 @@
 pub mod Auditing
 pub mod Headline
+pub mod Locked
 pub mod Numbering
 pub mod Parking
 pub mod Refusing

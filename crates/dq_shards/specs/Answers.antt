@@ -5,7 +5,12 @@ use Rattle.dq_ticks.specs.declared.TheConstants.{CAPACITY_LIMIT, LAST_STAMP}
 use Rattle.dq_ticks.specs.declared.keys.Key.{Key}
 use Rattle.dq_core.specs.declared.errors.CoreError.{CoreError}
 use Rattle.dq_core.specs.declared.errors.CoreError.TheVariants.{BadConfig, NoMemory}
+use Rattle.dq_core.specs.Ranges.{IsLastStamp}
+use Rattle.dq_core.specs.WordRows.{IsCapacity}
 use Rattle.dq_shards.specs.declared.errors.TheConstants.{SHARD_LIMIT}
+use Rattle.dq_shards.specs.declared.errors.BadQueueNumber.{BadQueueNumber}
+use Rattle.dq_shards.specs.declared.errors.BadQueueNumber.TheVariants.{BadShards, BadCapacity}
+use Rattle.dq_shards.specs.declared.errors.BadQueueNumber.TheVariants.{BadLastStamp}
 use Rattle.dq_shards.specs.declared.errors.QueueConfig.{QueueConfig}
 use Rattle.dq_shards.specs.declared.errors.QueueError.{QueueError}
 use Rattle.dq_shards.specs.declared.errors.QueueError.TheVariants.{Core, Unknown, TooManyHandles}
@@ -18,6 +23,18 @@ IsQueueConfig c =
     (0 < c.shards) × (c.shards ≤ SHARD_LIMIT)
     × (0 < c.capacity) × (c.capacity ≤ CAPACITY_LIMIT)
     × (0 < c.last_stamp) × (c.last_stamp ≤ LAST_STAMP)
+
+-- so many shards may a queue have
+abbrev pub IsShardCount : ℕ → Type 0
+IsShardCount n = (0 < n) × (n ≤ SHARD_LIMIT)
+
+-- the number is the first of a configuration's that is out of its range
+abbrev pub IsBadQueueNumber : QueueConfig → BadQueueNumber → Type 0
+IsBadQueueNumber c (BadShards n) = (n ≡ c.shards) × (¬ IsShardCount n)
+IsBadQueueNumber c (BadCapacity n) =
+    (n ≡ c.capacity) × IsShardCount c.shards × (¬ IsCapacity n)
+IsBadQueueNumber c (BadLastStamp n) =
+    (n ≡ c.last_stamp) × IsShardCount c.shards × IsCapacity c.capacity × (¬ IsLastStamp n)
 
 -- a queue is made exactly where they are, but where memory is refused
 abbrev pub QueueIsMade : QueueConfig → Result ℕ QueueError → Type 0

@@ -1,9 +1,10 @@
 //! Why a call of a queue of shards is refused, and what a queue is made by.
-ghost use Rattle.std.specs.Prelude.{◌≡◌};
+ghost use Rattle.std.specs.Prelude.{◌≡◌, MatchResult};
 ghost use Rattle.dq_ticks.specs.declared.TheConstants.{LAST_STAMP};
+ghost use Rattle.dq_shards.specs.Answers.{IsQueueConfig, IsBadQueueNumber};
 
 use dq_core::CoreError;
-use dq_ticks::LAST_STAMP;
+use dq_ticks::{CAPACITY_LIMIT, LAST_STAMP};
 use thiserror::Error;
 
 /// The most shards of a queue.
@@ -32,6 +33,41 @@ impl QueueConfig {
             last_stamp: LAST_STAMP,
         }
     }
+
+    /// Whether a queue can be made by these numbers. A `BadConfig` tells no number, so ask here first where the
+    /// numbers come from outside.
+    ///
+    /// # Errors
+    /// The first number that is out of its range: the shards, the capacity, and then the last stamp.
+    pub fn check(&self) -> Result<(), BadQueueNumber>
+        ensures { MatchResult result
+            (λ _. IsQueueConfig self.now) (λ number. IsBadQueueNumber self.now number) }
+    {
+        if self.shards == 0 || self.shards > SHARD_LIMIT {
+            return Err(BadQueueNumber::BadShards(self.shards));
+        }
+        if self.capacity == 0 || self.capacity > CAPACITY_LIMIT {
+            return Err(BadQueueNumber::BadCapacity(self.capacity));
+        }
+        if self.last_stamp == 0 || self.last_stamp > LAST_STAMP {
+            return Err(BadQueueNumber::BadLastStamp(self.last_stamp));
+        }
+        Ok(())
+    }
+}
+
+/// Which number of a configuration is out of its range.
+#[derive(Clone, Copy, Debug, PartialEq, Eq, Error)]
+pub enum BadQueueNumber {
+    /// The number of shards isn't 1 to [`SHARD_LIMIT`].
+    #[error("the number of shards is {0}, and not 1 to {SHARD_LIMIT}")]
+    BadShards(usize),
+    /// The capacity isn't 1 to [`CAPACITY_LIMIT`].
+    #[error("the capacity is {0}, and not 1 to {CAPACITY_LIMIT}")]
+    BadCapacity(usize),
+    /// The last stamp isn't 1 to [`LAST_STAMP`].
+    #[error("the last stamp is {0}, and not 1 to {LAST_STAMP}")]
+    BadLastStamp(u32),
 }
 
 /// Why a call of a queue of shards is refused.

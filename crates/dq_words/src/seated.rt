@@ -1,9 +1,7 @@
 //! A seat at a table of words.
 //!
-//! This module alone can name the table, and it has one function for each kind of step, which makes that step's
-//! atomic operation once. So the keeper and its callers reach the words by these steps and by nothing else, and the
-//! steps that a seat records are all that were made through it, but for the loads of `once_read`. It alone calls the
-//! table's `peek`, a load that no seat records: what it finds decides nothing, as its contract says.
+//! This module alone can name the table, and it has one function for each kind of step, which makes that step's atomic
+//! operation once. So the keeper and its callers reach the words by these steps and by nothing else.
 ghost use Rattle.std.specs.Prelude.{◌≡◌, ◌+◌, ◌*◌, ◌<◌, ◌≤◌, length, true, false, slice_index};
 ghost use Rattle.std.specs.Prelude.{IfOk, IfErr};
 ghost use Rattle.dq_ticks.specs.declared.TheConstants.{CAPACITY_LIMIT};

@@ -5,7 +5,9 @@
 //!
 //! ```
 //! use futures_util::StreamExt;
-//! use hontkhale::{Clock, ExpiredStream, QueueConfig, SharedDelayQueue};
+//! use hontkhale::Clock;
+//! use hontkhale::shards::{QueueConfig, SharedDelayQueue};
+//! use hontkhale::streams::ExpiredStream;
 //! use hontkhale_streams::IntoStream;
 //!
 //! # fn block_on<F: std::future::Future>(future: F) -> F::Output {
@@ -35,7 +37,9 @@
 #![warn(missing_docs, missing_debug_implementations)]
 
 use futures_core::Stream;
-use hontkhale::{Expired, ExpiredStream, LastingPacedStream, LastingStream, PacedStream, StreamFault, TickSource};
+use hontkhale::lasting::{LastingPacedStream, LastingStream};
+use hontkhale::owner::Expired;
+use hontkhale::streams::{ExpiredStream, PacedStream, StreamFault, TickSource};
 use std::pin::Pin;
 use std::task::{Context, Poll};
 

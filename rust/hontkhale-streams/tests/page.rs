@@ -1,7 +1,9 @@
 //! The program of the page: it prints what is due, and ends where nothing is linked.
 
 use futures_util::StreamExt;
-use hontkhale::{Clock, ExpiredStream, QueueError, SharedDelayQueue};
+use hontkhale::shards::{QueueError, SharedDelayQueue};
+use hontkhale::streams::ExpiredStream;
+use hontkhale::Clock;
 use hontkhale_streams::IntoStream;
 
 async fn print_what_expires(queue: &SharedDelayQueue<String>, clock: Clock) -> Result<(), QueueError> {
@@ -15,7 +17,7 @@ async fn print_what_expires(queue: &SharedDelayQueue<String>, clock: Clock) -> R
 
 #[test]
 fn what_is_due_is_taken_out() {
-    let queue = SharedDelayQueue::new(hontkhale::QueueConfig::of(1, 16)).unwrap();
+    let queue = SharedDelayQueue::new(hontkhale::shards::QueueConfig::of(1, 16)).unwrap();
     queue.insert_or_drop(0, "mail".to_string(), 0).unwrap();
     let mut printing = std::pin::pin!(print_what_expires(&queue, Clock::start()));
     let mut cx = std::task::Context::from_waker(futures_util::task::noop_waker_ref());

@@ -2,10 +2,10 @@
 
 use futures_core::Stream;
 use futures_util::StreamExt;
-use hontkhale::{
-    Expired, ExpiredStream, LastingConfig, LastingQueue, LastingStream, QueueConfig, SharedDelayQueue, StreamFault,
-    TickSource, LAST_TICK,
-};
+use hontkhale::lasting::{LastingConfig, LastingQueue, LastingStream};
+use hontkhale::owner::{Expired, LAST_TICK};
+use hontkhale::shards::{QueueConfig, SharedDelayQueue};
+use hontkhale::streams::{ExpiredStream, StreamFault, TickSource};
 use hontkhale_streams::IntoStream;
 use std::cell::Cell;
 use std::marker::PhantomPinned;

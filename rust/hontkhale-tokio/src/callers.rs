@@ -4,7 +4,8 @@
 //! A thread takes its callers at its first call out of the queue's spare ones, and gives them back when it ends or needs the
 //! place for another queue. After a shard was renewed they don't know its entries: then the thread exchanges them.
 
-use hontkhale::{CallError, HandleError, LastingHandle, LastingQueue};
+use hontkhale::lasting::{HandleError, LastingHandle, LastingQueue};
+use hontkhale::owner::CallError;
 use std::cell::RefCell;
 use std::mem;
 use std::sync::atomic::{AtomicBool, AtomicU64, AtomicUsize, Ordering::SeqCst};

@@ -1,6 +1,6 @@
 //! Moments of tokio's clock as ticks of one millisecond.
 
-use hontkhale::LAST_TICK;
+use hontkhale::owner::LAST_TICK;
 use std::time::Duration;
 use tokio::time::Instant;
 

@@ -5,7 +5,7 @@
 //! so, which costs more than another call does: as slots are given their last stamps, where an insert is refused, and once a
 //! second by a stream while a shard drains.
 
-use hontkhale::{Kept, LastingQueue};
+use hontkhale::lasting::{Kept, LastingQueue};
 use std::sync::atomic::{AtomicBool, AtomicU32, AtomicU64, AtomicUsize, Ordering::SeqCst};
 use std::sync::{Mutex, MutexGuard, PoisonError};
 

@@ -1,5 +1,5 @@
 use crate::clock::Clock;
-use hontkhale::EntryId;
+use hontkhale::owner::EntryId;
 use std::fmt;
 use tokio::time::Instant;
 
@@ -19,6 +19,16 @@ impl Key {
     #[inline]
     pub(crate) fn of(segment: u64, index: usize, slot: u32, born: u32) -> Key {
         Key { segment, name: u64::from(born) << 32 | (index as u64) << 16 | u64::from(slot as u16) }
+    }
+
+    /// A key of its two numbers.
+    pub(crate) fn named(segment: u64, name: u64) -> Key {
+        Key { segment, name }
+    }
+
+    /// The two numbers of the key, neither of which is 0.
+    pub(crate) fn parts(&self) -> (u64, u64) {
+        (self.segment, self.name)
     }
 
     /// The segment's number.
@@ -51,8 +61,8 @@ impl Key {
 
     /// The key of a stamp under which callers of the segment's queue have the entry.
     #[inline]
-    pub(crate) fn stamped(&self, stamp: u32) -> hontkhale::Key {
-        hontkhale::Key::new(self.entry(), stamp)
+    pub(crate) fn stamped(&self, stamp: u32) -> hontkhale::owner::Key {
+        hontkhale::owner::Key::new(self.entry(), stamp)
     }
 }
 

@@ -43,7 +43,8 @@ pub mod shared_queue {
     pub use crate::sharded::{SharedDelayQueue, SharedHandle};
     pub use crate::shared_key::{InsertError, Key};
     pub use crate::stream::ExpiredStream;
-    pub use hontkhale::{CallError, CoreError, QueueConfig, QueueError};
+    pub use hontkhale::owner::{CallError, CoreError};
+    pub use hontkhale::shards::{QueueConfig, QueueError};
 
     /// An entry that came out of a [`SharedDelayQueue`], or was removed from it.
     pub type Expired<T> = crate::key::Expired<T, Key>;

@@ -8,10 +8,9 @@ use crate::shared_queue::Expired;
 use crate::stream::ExpiredStream;
 use crate::unique_ids::UniqueIds;
 use crate::waiters::Waiter;
-use hontkhale::{
-    CallError, CoreError, HandleError, LastingConfig, LastingError, LastingHandle, LastingQueue, QueueConfig,
-    QueueError,
-};
+use hontkhale::lasting::{HandleError, LastingConfig, LastingError, LastingHandle, LastingQueue};
+use hontkhale::owner::{CallError, CoreError};
+use hontkhale::shards::{QueueConfig, QueueError};
 use std::fmt;
 use std::sync::atomic::{AtomicUsize, Ordering::SeqCst};
 use std::sync::Arc;
@@ -21,7 +20,7 @@ use tokio::time::Instant;
 /// The numbers of the program's queues.
 static QUEUES: UniqueIds = UniqueIds::from_one();
 
-/// A delay queue that many tasks and threads fill, and whose entries come out of a stream: [`hontkhale::SharedDelayQueue`]
+/// A delay queue that many tasks and threads fill, and whose entries come out of a stream: [`hontkhale::shards::SharedDelayQueue`]
 /// under tokio's clock. The values stand in it.
 ///
 /// It is in shards, each behind a lock of its own, which a call takes for its own length. The route of an insert names the
@@ -95,12 +94,12 @@ impl<T> Inner<T> {
     }
 
     /// The shard of an entry.
-    fn shard_of(&self, key: &hontkhale::Key) -> usize {
+    fn shard_of(&self, key: &hontkhale::owner::Key) -> usize {
         key.entry().shard() as usize % self.waiters.len()
     }
 
     /// The entry under tokio's clock and the queue's number.
-    pub fn expired(&self, key: hontkhale::Key, tick: u64, data: T) -> Expired<T> {
+    pub fn expired(&self, key: hontkhale::owner::Key, tick: u64, data: T) -> Expired<T> {
         Expired { key: Key::of(self.number, self.shard_of(&key), key), tick, data, clock: self.clock }
     }
 
@@ -131,7 +130,7 @@ impl<T> Inner<T> {
     }
 
     /// An entry came, or has another deadline: its key, after the shard's stream was woken where it waits for a later tick.
-    fn came(&self, shard: usize, key: hontkhale::Key, tick: u64) -> Key {
+    fn came(&self, shard: usize, key: hontkhale::owner::Key, tick: u64) -> Key {
         self.waiters[shard].notify_before(tick);
         if self.keeping.is_last(key.stamp()) && self.keeping.note_last(shard) {
             self.keep();
@@ -141,7 +140,7 @@ impl<T> Inner<T> {
 
     /// An insert that the first shard refused, into any other that has room, after those that can be were renewed.
     #[cold]
-    fn insert_anywhere(&self, route: u64, refused: Refused<T>, tick: u64) -> Result<hontkhale::Key, Refused<T>> {
+    fn insert_anywhere(&self, route: u64, refused: Refused<T>, tick: u64) -> Result<hontkhale::owner::Key, Refused<T>> {
         match refused.0 {
             LastingError::Closed => self.keeping.note_worn(),
             // Another shard may be worn than the one that tells this.
@@ -168,7 +167,7 @@ impl<T> Inner<T> {
 
     /// Gives the callers of handles the number of a shard that was opened again, before anybody has a key of that number.
     #[cold]
-    fn tell_callers(&self, shard: usize, key: &hontkhale::Key) -> Result<(), InsertError<T>> {
+    fn tell_callers(&self, shard: usize, key: &hontkhale::owner::Key) -> Result<(), InsertError<T>> {
         match self.callers.renew(&self.queue) {
             Ok(()) => {
                 self.keeping.note_number(shard, key.entry().shard());
@@ -206,7 +205,7 @@ impl<T> Inner<T> {
         match error {
             LastingError::Core(error) => QueueError::Core(error),
             LastingError::Closed => QueueError::Core(CoreError::Full { linked: 0, worn: self.keeping.spent() }),
-            LastingError::Unknown => QueueError::Unknown,
+            _ => QueueError::Unknown,
         }
     }
 
@@ -221,8 +220,8 @@ impl<T> Inner<T> {
 fn of_handles(error: HandleError) -> QueueError {
     match error {
         HandleError::TooManyHandles { limit } => QueueError::TooManyHandles { limit },
-        HandleError::OtherQueue => QueueError::Unknown,
         HandleError::NoMemory => QueueError::Core(CoreError::NoMemory),
+        _ => QueueError::Unknown,
     }
 }
 

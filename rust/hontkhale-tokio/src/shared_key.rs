@@ -1,4 +1,5 @@
-use hontkhale::{EntryId, QueueError};
+use hontkhale::owner::EntryId;
+use hontkhale::shards::QueueError;
 use std::error::Error;
 use std::fmt;
 
@@ -8,13 +9,13 @@ use std::fmt;
 pub struct Key {
     /// The number of the queue, which no other queue of the program has.
     queue: u64,
-    inner: hontkhale::Key,
+    inner: hontkhale::owner::Key,
     /// The place of its shard, which has another number each time that it is renewed.
     shard: u8,
 }
 
 impl Key {
-    pub(crate) fn of(queue: u64, shard: usize, inner: hontkhale::Key) -> Key {
+    pub(crate) fn of(queue: u64, shard: usize, inner: hontkhale::owner::Key) -> Key {
         Key { queue, inner, shard: shard as u8 }
     }
 
@@ -22,7 +23,7 @@ impl Key {
         self.queue
     }
 
-    pub(crate) fn inner(&self) -> &hontkhale::Key {
+    pub(crate) fn inner(&self) -> &hontkhale::owner::Key {
         &self.inner
     }
 

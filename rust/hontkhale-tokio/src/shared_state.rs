@@ -1,7 +1,7 @@
 //! What handles need of one segment of a queue: the stamps of its entries, callers, and where they note what they cancelled.
 
 use crate::key::Key;
-use hontkhale::{CallError, Caller};
+use hontkhale::owner::{CallError, Caller};
 use std::sync::atomic::{AtomicBool, AtomicU64, AtomicUsize, Ordering};
 use std::sync::{Mutex, MutexGuard, PoisonError};
 
@@ -233,7 +233,7 @@ impl Drop for Again<'_> {
 
 impl Step {
     #[inline]
-    fn make(self, caller: &mut Caller, key: &hontkhale::Key) -> Result<u64, CallError> {
+    fn make(self, caller: &mut Caller, key: &hontkhale::owner::Key) -> Result<u64, CallError> {
         match self {
             Step::Extend(tick) => caller.extend(key, tick),
             Step::Cancel => caller.cancel(key),

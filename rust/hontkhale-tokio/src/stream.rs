@@ -4,7 +4,7 @@ use crate::shared_queue::Expired;
 use crate::timer::Timer;
 use crate::waiters::{Notifier, NEVER};
 use futures_core::{ready, Stream};
-use hontkhale::{Piece, Turn, LAST_TICK};
+use hontkhale::owner::{Piece, Turn, LAST_TICK};
 use std::fmt;
 use std::future::Future;
 use std::ops::Range;

@@ -4,7 +4,8 @@
 mod common;
 
 use common::{ends, ms, paused, Dice};
-use hontkhale::{Piece, QueueConfig};
+use hontkhale::owner::Piece;
+use hontkhale::shards::QueueConfig;
 use hontkhale_tokio::{DelayQueue, SharedDelayQueue};
 use std::future::poll_fn;
 use std::rc::Rc;
@@ -44,7 +45,7 @@ fn a_streams_poll_makes_so_many_steps() {
             for budget in BUDGETS {
                 let (queue, twin) = (
                     SharedDelayQueue::new(2, 2_000).unwrap(),
-                    hontkhale::SharedDelayQueue::new(QueueConfig::of(1, 2_000)),
+                    hontkhale::shards::SharedDelayQueue::new(QueueConfig::of(1, 2_000)),
                 );
                 let (mut stream, twin) = (queue.stream(), twin.unwrap());
                 stream.set_budget(budget);

@@ -1,7 +1,7 @@
 //! The wheel for who files indexes of their own: each call checks what the proofs require of the queue's own calls.
 
 use crate::ticks::{LAST_TICK, LEVELS, REACH};
-use crate::wheel::{Place, WheelError};
+use crate::wheels::{Place, WheelError};
 use core::fmt;
 
 /// A hierarchical timing wheel over the indexes below its capacity. Its ticks are milliseconds.
@@ -9,7 +9,7 @@ use core::fmt;
 /// A queue has one inside. Who keeps values by indexes of their own may use a wheel alone:
 ///
 /// ```
-/// use hontkhale::Wheel;
+/// use hontkhale::wheel::Wheel;
 ///
 /// let mut wheel = Wheel::new(16)?;
 /// wheel.link(3, 250);
@@ -19,19 +19,19 @@ use core::fmt;
 ///     }
 ///     wheel.advance(300);
 /// }
-/// # Ok::<(), hontkhale::WheelError>(())
+/// # Ok::<(), hontkhale::wheel::WheelError>(())
 /// ```
 pub struct Wheel {
-    wheel: crate::wheel::Wheel,
+    wheel: crate::wheels::Wheel,
 }
 
 impl Wheel {
     /// A wheel at tick 0 with nothing linked, over so many indexes. No other call takes memory.
     ///
     /// # Errors
-    /// BadConfig where the capacity isn't 1 to [`CAPACITY_LIMIT`](crate::CAPACITY_LIMIT), and else NoMemory.
+    /// BadConfig where the capacity isn't 1 to [`CAPACITY_LIMIT`](crate::owner::CAPACITY_LIMIT), and else NoMemory.
     pub fn new(capacity: usize) -> Result<Wheel, WheelError> {
-        let wheel = crate::wheel::Wheel::new(capacity)?;
+        let wheel = crate::wheels::Wheel::new(capacity)?;
         Ok(Wheel { wheel })
     }
 

@@ -1,7 +1,7 @@
 //! Instants and durations as ticks.
 
 use crate::parking::TickSource;
-use crate::LAST_TICK;
+use crate::ticks::LAST_TICK;
 use std::time::{Duration, Instant};
 
 /// Gives ticks for instants: a tick is one millisecond since the clock was started.
@@ -12,7 +12,8 @@ use std::time::{Duration, Instant};
 /// `CLOCK_BOOTTIME`): what is due meanwhile comes out that much later. A step of the wall clock doesn't move it.
 ///
 /// ```
-/// use hontkhale::{Clock, DelayCore, Turn};
+/// use hontkhale::Clock;
+/// use hontkhale::owner::{DelayCore, Turn};
 /// use std::time::Duration;
 ///
 /// let clock = Clock::start();
@@ -20,7 +21,7 @@ use std::time::{Duration, Instant};
 /// queue.insert_or_drop("beep", clock.after(Duration::from_millis(5)))?;
 /// std::thread::sleep(Duration::from_millis(6));
 /// assert!(matches!(queue.poll(clock.tick())?, Turn::Out(expired) if expired.value == "beep"));
-/// # Ok::<(), hontkhale::CoreError>(())
+/// # Ok::<(), hontkhale::owner::CoreError>(())
 /// ```
 #[derive(Clone, Copy, Debug, PartialEq, Eq)]
 pub struct Clock {
@@ -87,7 +88,7 @@ impl TickSource for Clock {
 
 #[cfg(test)]
 mod tests {
-    use super::Clock;
+    use super::{Clock, LAST_TICK};
     use std::time::{Duration, Instant};
 
     const SECOND: Duration = Duration::from_secs(1);
@@ -110,6 +111,6 @@ mod tests {
         assert!((12_000..13_000).contains(&after), "{after}");
         assert!((SECOND..=2 * SECOND).contains(&until), "{until:?}");
         assert_eq!(clock.until(3_000), Duration::ZERO);
-        assert_eq!(clock.after(Duration::MAX), crate::LAST_TICK);
+        assert_eq!(clock.after(Duration::MAX), LAST_TICK);
     }
 }

@@ -100,8 +100,7 @@ mod with_std {
     use crate::apps::{CountedCache, IdleSessions, Name, Seen, TtlCache};
     use crate::lasting::{LastingHandle, LastingPacedStream, LastingQueue, LastingStream, LockedLasting};
     use crate::parking::{MillisecondTicks, Parked};
-    use crate::pool::{HandlePool, Lent};
-    use crate::shards::{Handle, LockedShard, ShardState, SharedDelayQueue};
+    use crate::shards::{Handle, ShardState, SharedDelayQueue};
     use crate::stream::{ExpiredStream, PacedStream};
     use std::hash::{BuildHasher, Hash};
 
@@ -123,12 +122,6 @@ mod with_std {
                 .field("next_wake", &self.next_wake())
                 .field("parked", &self.parked())
                 .finish_non_exhaustive()
-        }
-    }
-
-    impl<T> Debug for LockedShard<'_, T> {
-        fn fmt(&self, f: &mut Formatter<'_>) -> Result {
-            f.debug_tuple("LockedShard").field(&**self).finish()
         }
     }
 
@@ -254,18 +247,6 @@ mod with_std {
     impl Debug for Name {
         fn fmt(&self, f: &mut Formatter<'_>) -> Result {
             f.debug_tuple("Name").field(&self.text()).finish()
-        }
-    }
-
-    impl<H> Debug for HandlePool<H> {
-        fn fmt(&self, f: &mut Formatter<'_>) -> Result {
-            f.debug_struct("HandlePool").finish_non_exhaustive()
-        }
-    }
-
-    impl<H: Debug> Debug for Lent<'_, H> {
-        fn fmt(&self, f: &mut Formatter<'_>) -> Result {
-            f.debug_tuple("Lent").field(&**self).finish()
         }
     }
 }

@@ -41,6 +41,6 @@ pub use keeping::Kept;
 pub use paced::LastingPacedStream;
 pub use queue::LastingQueue;
 #[cfg(test)]
-pub use shard::LastingShard;
+pub(crate) use shard::LastingShard;
 pub use state::PlaceState;
 pub use stream::LastingStream;

@@ -27,17 +27,17 @@
 //!
 //! # Which queue
 //!
-//! | Who has it | Type |
-//! |---|---|
-//! | any number of threads, in most servers | [`DelayQueue`] |
-//! | one owner | [`DelayCore`] over [`VecWords`], made by [`DelayCore::with_capacity`] |
-//! | one owner, whose entries any thread extends and cancels | [`shared_queue`], with a [`Caller`] for each thread |
-//! | many threads, shards behind locks | [`SharedDelayQueue`], with a [`Handle`] for each thread |
-//! | the same, for years | [`LastingQueue`], whose shards are renewed one by one |
+//! | Who has it | Type | Module |
+//! |---|---|---|
+//! | any number of threads, in most servers | [`DelayQueue`] | [`delay_queue`] |
+//! | one owner | [`DelayCore`](owner::DelayCore), made by [`with_capacity`](owner::DelayCore::with_capacity) | [`owner`] |
+//! | one owner, whose entries any thread extends and cancels | [`shared_queue`](owner::shared_queue), with a [`Caller`](owner::Caller) for each thread | [`owner`] |
+//! | many threads, shards behind locks | [`SharedDelayQueue`](shards::SharedDelayQueue), with a [`Handle`](shards::Handle) for each thread | [`shards`] |
+//! | the same, for years | [`LastingQueue`](lasting::LastingQueue), whose shards are renewed one by one | [`lasting`] |
+//! | whoever keeps values by indexes | [`Wheel`](wheel::Wheel), the timing wheel alone | [`wheel`] |
 //!
-//! [`ExpiredStream`] and [`LastingStream`] give what expires to a task; [`TtlCache`] keeps values until their deadlines,
-//! [`IdleSessions`] ends what nobody touched, [`HandlePool`] lends handles, [`Wheel`] is the timing wheel
-//! alone. A stream has a call `poll_next` of its own, since the crate depends on no other; the crate hontkhale-streams
+//! [`streams`] give what expires to a task, a [`cache`] keeps values until their deadlines, and [`sessions`] end once nobody
+//! touches them. A stream has a call `poll_next` of its own, since the crate depends on no other; the crate hontkhale-streams
 //! makes a `Stream` of each, as `futures::stream::poll_fn(|cx| stream.poll_next(cx))` does.
 //!
 //! A call that takes a value answers a refusal as a pair, with the value that comes back; of it `?` makes a [`Refused`].
@@ -83,71 +83,85 @@ mod clock;
 mod debug;
 #[cfg(feature = "std")]
 pub mod delay_queue;
-mod due;
+mod entries;
 mod fresh;
 mod index;
+mod law;
 #[cfg(feature = "std")]
 mod locks;
 mod memory;
 mod refused;
 
-mod core;
-mod ticks;
-mod wheel;
-mod words;
-
 #[cfg(feature = "std")]
 mod apps;
+mod core;
 #[cfg(feature = "std")]
-mod lasting;
+pub mod lasting;
 #[cfg(feature = "std")]
 mod parking;
 #[cfg(feature = "std")]
-mod pool;
-#[cfg(feature = "std")]
 pub mod replay;
 #[cfg(feature = "std")]
-mod shards;
+pub mod shards;
 #[cfg(feature = "std")]
 mod stream;
+mod ticks;
+mod wheels;
+mod words;
 
-pub use crate::checked_wheel::Wheel;
-pub use crate::due::Due;
-pub use crate::memory::AllocError;
-pub use crate::refused::Refused;
-
-pub use crate::core::{
-    BadNumber, CallError, CoreConfig, CoreError, DelayCore, Entries, Expired, LiveEntry, Look, Pending, Piece,
-    PlainQueue, PlainTurn, ReapError, Removed, RenewError, Swept, Tally, Turn, VecWords,
-};
-pub use crate::ticks::{is_same_entry, is_same_key, EntryId, Key, CAPACITY_LIMIT, LAST_STAMP, LAST_TICK, REACH};
-pub use crate::wheel::{Place, WheelError};
-pub use crate::words::{numbered_queue, shared_queue, Caller, Keeper, WordsError, HANDLE_LIMIT};
-
-#[cfg(feature = "std")]
-pub use crate::apps::{CountedCache, IdleSessions, MemoAnswer, Name, PutAnswer, Seen, TtlCache};
 #[cfg(feature = "std")]
 pub use crate::clock::Clock;
 #[cfg(feature = "std")]
 pub use crate::delay_queue::DelayQueue;
-#[cfg(feature = "std")]
-pub use crate::lasting::{
-    BadLastingNumber, Ended, HandleError, HandleRenewError, Kept, LastingConfig, LastingError, LastingHandle,
-    LastingPacedStream, LastingQueue, LastingStream, LastingTally, LastingTotals, LockedLasting, PlaceState, ReopenError,
-};
-#[cfg(feature = "std")]
-pub use crate::pool::{HandlePool, Lent};
-#[cfg(feature = "std")]
-pub use crate::shards::{
-    Handle, HandlesOut, LockedShard, Parked, QueueConfig, QueueError, ShardState, SharedDelayQueue, Totals, SHARD_LIMIT,
-};
-#[cfg(feature = "std")]
-pub use crate::stream::{ExpiredStream, MillisecondTicks, PacedStream, StreamFault, TickSource};
-#[cfg(feature = "std")]
-pub use crate::words::ManyTurn;
+pub use crate::memory::AllocError;
+pub use crate::refused::Refused;
 
-// The project's own tests, erased: each line stands where it stands in its source. Those of tests/owned were erased
-// once, and are written by hand since.
+pub mod wheel {
+    //! The timing wheel alone, for whoever keeps values by indexes.
+
+    pub use crate::checked_wheel::Wheel;
+    pub use crate::ticks::REACH;
+    pub use crate::wheels::{Place, WheelError};
+}
+
+pub mod owner {
+    //! The queue of one owner, alone or with callers that extend and cancel its entries from other threads.
+    //!
+    //! Its keys, entries and errors are those of [`shards`](crate::shards) and [`lasting`](crate::lasting) too.
+
+    pub use crate::core::{
+        BadNumber, CallError, CoreConfig, CoreError, DelayCore, Entries, Expired, LiveEntry, Look, Pending, Piece,
+        PlainQueue, PlainTurn, ReapError, Removed, RenewError, Swept, Tally, Turn, VecWords,
+    };
+    pub use crate::ticks::{is_same_entry, is_same_key, EntryId, Key, CAPACITY_LIMIT, LAST_STAMP, LAST_TICK};
+    #[cfg(feature = "std")]
+    pub use crate::words::ManyTurn;
+    pub use crate::words::{numbered_queue, shared_queue, Caller, Keeper, WordsError, HANDLE_LIMIT};
+}
+
+#[cfg(feature = "std")]
+pub mod streams {
+    //! What expires in a shard, given to a task. A lasting queue has [streams](crate::lasting::LastingStream) too.
+
+    pub use crate::stream::{ExpiredStream, MillisecondTicks, PacedStream, StreamFault, TickSource};
+}
+
+#[cfg(feature = "std")]
+pub mod cache {
+    //! Values that are kept under a key until their deadline.
+
+    pub use crate::apps::{CountedCache, MemoAnswer, PutAnswer, Seen, TtlCache};
+}
+
+#[cfg(feature = "std")]
+pub mod sessions {
+    //! Sessions that end once nobody has touched them for a time.
+
+    pub use crate::apps::{IdleSessions, Name};
+}
+
+// Tests of the proved parts, which keep the shape of the tests in Rattle from which they were erased once
+// and which are written by hand since.
 #[cfg(all(test, feature = "std"))]
 #[rustfmt::skip]
 // The tests keep the shape of their source, and ask for a newer Rust than the crate.

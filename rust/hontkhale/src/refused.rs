@@ -6,12 +6,15 @@ use core::fmt;
 /// Why a call was refused, with the value that it handed back.
 ///
 /// A call that takes a value answers a refusal as a pair, `Err((error, value))`. Of such a pair `?` makes a `Refused`,
-/// which is an error of its own: it is shown as its error is, and the value doesn't have to be shown. Who doesn't want
-/// the value takes `insert_or_drop`.
+/// which is an error of its own: it is shown as its error is, and the value doesn't have to be shown. A function that answers
+/// a `Box<dyn Error>` writes `.map_err(Refused::from)?`, since a pair is no error. Whoever doesn't want the value takes
+/// `insert_or_drop`.
 ///
 #[cfg_attr(feature = "std", doc = "```")]
 #[cfg_attr(not(feature = "std"), doc = "```ignore")]
-/// use hontkhale::{Key, QueueConfig, QueueError, Refused, SharedDelayQueue};
+/// use hontkhale::Refused;
+/// use hontkhale::owner::Key;
+/// use hontkhale::shards::{QueueConfig, QueueError, SharedDelayQueue};
 ///
 /// type Jobs = SharedDelayQueue<String>;
 ///
@@ -21,7 +24,7 @@ use core::fmt;
 ///
 /// fn main() -> Result<(), Box<dyn std::error::Error>> {
 ///     let jobs = Jobs::new(QueueConfig::of(1, 1))?;
-///     retry(&jobs, "mail".to_string())?;
+///     jobs.insert(0, "mail".to_string(), 30_000).map_err(Refused::from)?;
 ///     let refused = retry(&jobs, "backup".to_string()).unwrap_err();
 ///     assert_eq!(refused.to_string(), "the queue is full: 1 entries are linked and 0 slots are worn");
 ///     assert_eq!(refused.value, "backup");

@@ -10,5 +10,7 @@ mod checked;
 mod clock;
 #[path = "api/refused.rs"]
 mod refused;
+#[path = "api/top.rs"]
+mod top;
 #[path = "api/traits.rs"]
 mod traits;

@@ -28,16 +28,16 @@ const NO_SUCH_METHOD: &str = "E0599";
 const NOT_SENT: &str = "E0277";
 
 const CORE: &str =
-    "use hontkhale::*; fn f(mut queue: DelayCore<char, VecWords>, mut words: VecWords, mut keeper: Keeper) {";
+    "use hontkhale::owner::*; fn f(mut queue: DelayCore<char, VecWords>, mut words: VecWords, mut keeper: Keeper) {";
 const SHARED: &str =
-    "use hontkhale::*; fn f(queue: &'static SharedDelayQueue<u64>) { let shard = queue.enter(0).unwrap();";
+    "use hontkhale::shards::*; fn f(queue: &'static SharedDelayQueue<u64>) { let shard = queue.enter(0).unwrap();";
 
 const PROGRAMS: &[Program] = &[
     // Two that once read memory of others: the value of a slot, and a word, far behind the last.
     Program {
         name: "slots",
         front: "",
-        last: "use hontkhale::Slots;",
+        last: "use hontkhale::owner::Slots;",
         reason: NO_SUCH_ITEM,
     },
     Program {
@@ -79,13 +79,13 @@ const PROGRAMS: &[Program] = &[
     Program {
         name: "words",
         front: "",
-        last: "use hontkhale::Words;",
+        last: "use hontkhale::owner::Words;",
         reason: NO_SUCH_ITEM,
     },
     Program {
         name: "shared_words",
         front: "",
-        last: "use hontkhale::SharedWords;",
+        last: "use hontkhale::owner::SharedWords;",
         reason: NO_SUCH_ITEM,
     },
     Program {
@@ -103,7 +103,7 @@ const PROGRAMS: &[Program] = &[
     Program {
         name: "the_wheel_inside",
         front: "",
-        last: "use hontkhale::wheel::Wheel;",
+        last: "use hontkhale::wheels::Wheel;",
         reason: PRIVATE,
     },
     Program {
@@ -121,19 +121,19 @@ const PROGRAMS: &[Program] = &[
     Program {
         name: "locked_shards",
         front: "",
-        last: "use hontkhale::locked_shards;",
+        last: "use hontkhale::owner::locked_shards;",
         reason: NO_SUCH_ITEM,
     },
     Program {
         name: "lasting_shard",
         front: "",
-        last: "use hontkhale::LastingShard;",
+        last: "use hontkhale::lasting::LastingShard;",
         reason: NO_SUCH_ITEM,
     },
     Program {
         name: "lasting_module",
         front: "",
-        last: "use hontkhale::lasting::LastingQueue;",
+        last: "use hontkhale::lasting::queue::LastingQueue;",
         reason: PRIVATE,
     },
     Program {
@@ -169,13 +169,13 @@ const PROGRAMS: &[Program] = &[
     },
     Program {
         name: "a_counted_value",
-        front: "use hontkhale::*; fn f(queue: &'static SharedDelayQueue<std::rc::Rc<u64>>) {",
+        front: "use hontkhale::shards::*; fn f(queue: &'static SharedDelayQueue<std::rc::Rc<u64>>) {",
         last: "std::thread::spawn(move || queue.shards());",
         reason: NOT_SENT,
     },
     Program {
         name: "a_source_that_stays",
-        front: "use hontkhale::*; struct At(std::rc::Rc<u64>);
+        front: "use hontkhale::streams::*; struct At(std::rc::Rc<u64>);
             impl TickSource for At { fn now(&mut self) -> u64 { *self.0 } }
             fn sent<T: Send>(_: T) {} fn f(stream: ExpiredStream<'static, u64, At>) {",
         last: "sent(stream);",

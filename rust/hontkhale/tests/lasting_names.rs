@@ -1,6 +1,7 @@
 //! A handle of a lasting queue is renewed by that queue alone, however alike another one is.
 
-use hontkhale::{CallError, HandleError, HandleRenewError, Kept, LastingConfig, LastingQueue, Look};
+use hontkhale::lasting::{HandleError, HandleRenewError, Kept, LastingConfig, LastingQueue};
+use hontkhale::owner::{CallError, Look};
 
 type Queue = LastingQueue<&'static str>;
 
@@ -27,6 +28,7 @@ fn renew(queue: &Queue) {
 }
 
 // Both queues have an entry of the same place, slot and stamp. The key of the first extends nothing in the second.
+// promise: lasting.two-queues
 #[test]
 fn another_queue_of_as_many_shards_renews_no_handle() {
     let (first, second) = (queue(), queue());
@@ -42,6 +44,7 @@ fn another_queue_of_as_many_shards_renews_no_handle() {
 }
 
 // The second queue has renewed a shard, so it has a caller to give that the handle hasn't.
+// promise: lasting.two-queues
 #[test]
 fn a_renewed_shard_of_another_queue_gives_no_caller() {
     let (first, second) = (queue(), queue());
@@ -62,6 +65,7 @@ fn a_renewed_shard_of_another_queue_gives_no_caller() {
 }
 
 // A queue that stands where a dropped one stood isn't taken for it.
+// promise: lasting.two-queues
 #[test]
 fn no_two_queues_have_one_name() {
     let mut names: Vec<u64> = (0..1_000).map(|_| queue().name()).collect();
@@ -71,6 +75,7 @@ fn no_two_queues_have_one_name() {
 }
 
 // What a handle gives back is what its callers cancelled since they were taken on.
+// promise: lasting.two-queues
 #[test]
 fn a_handle_tells_its_cancels() {
     let queue: LastingQueue<u8> = LastingQueue::new(LastingConfig::of(3, 4)).expect("a queue");

@@ -1,6 +1,7 @@
 //! Where the inserts of a lasting queue go while some of its shards take no entries.
 
-use hontkhale::{CoreError, Key, LastingConfig, LastingError, LastingQueue};
+use hontkhale::lasting::{LastingConfig, LastingError, LastingQueue};
+use hontkhale::owner::{CoreError, Key};
 
 const ROUTES: u64 = 10_000;
 
@@ -38,6 +39,7 @@ fn is_spread(shards: usize, closed: impl Fn(usize) -> bool) {
 }
 
 // No place gets more than twice the mean of those that take entries, whichever of eight are closed.
+// promise: lasting.set-closed
 #[test]
 fn the_routes_of_closed_shards_are_spread() {
     for closed in 0..255_u32 {
@@ -46,6 +48,7 @@ fn the_routes_of_closed_shards_are_spread() {
 }
 
 // Also where many that stand beside each other are closed.
+// promise: lasting.set-closed
 #[test]
 fn the_routes_of_a_row_of_closed_shards_are_spread() {
     for count in [1, 9, 16, 32, 48, 60, 62, 63] {
@@ -54,6 +57,7 @@ fn the_routes_of_a_row_of_closed_shards_are_spread() {
 }
 
 // An insert meets Full only where each shard that takes entries is full.
+// promise: lasting.set-closed
 #[test]
 fn an_insert_goes_on_until_it_finds_room() {
     for closed in 0..255_u32 {

@@ -4,7 +4,8 @@
 use std::sync::Arc;
 use std::task::{Context, Poll, Wake, Waker};
 
-use hontkhale::{CoreError, Key, LastingConfig, LastingError, LastingQueue, LastingTally, LAST_TICK};
+use hontkhale::lasting::{LastingConfig, LastingError, LastingQueue, LastingTally};
+use hontkhale::owner::{CoreError, Key, LAST_TICK};
 
 const PLACES: usize = 6;
 const CALLS: usize = 30_000;
@@ -182,6 +183,7 @@ fn call(
     (place, answers.0, answers.1)
 }
 
+// promise: lasting.name-entered
 #[test]
 fn calls_by_name_are_those_of_entered_shards() {
     let config = LastingConfig {
@@ -223,6 +225,7 @@ fn calls_by_name_are_those_of_entered_shards() {
     assert!((0..PLACES).any(|place| state(&named, place).number > PLACES as u32));
 }
 
+// promise: lasting.name-entered
 #[test]
 fn a_refused_insert_changes_nothing() {
     let queue = LastingQueue::new(LastingConfig::of(PLACES, 4)).unwrap();
@@ -247,6 +250,7 @@ fn a_refused_insert_changes_nothing() {
     refused(LastingError::Closed);
 }
 
+// promise: lasting.name-entered
 #[test]
 fn places_that_are_not_there_are_unknown() {
     let queue: LastingQueue<u64> = LastingQueue::new(LastingConfig::of(PLACES, 4)).unwrap();

@@ -3,12 +3,14 @@
 // The tests ask for a newer Rust than the crate, and an error is shown without the value that came back.
 #![allow(clippy::incompatible_msrv, clippy::ok_expect)]
 
-use hontkhale::{
-    numbered_queue, shared_queue, CallError, Caller, CoreConfig, CoreError, DelayCore, HandlePool, Keeper, Key, Look,
-    QueueConfig, RenewError, SharedDelayQueue, Turn, WordsError, HANDLE_LIMIT, LAST_STAMP,
+use hontkhale::owner::{
+    numbered_queue, shared_queue, CallError, Caller, CoreConfig, CoreError, DelayCore, Keeper, Key, Look, RenewError,
+    Turn, WordsError, HANDLE_LIMIT, LAST_STAMP,
 };
+use hontkhale::DelayQueue;
 use std::sync::{Arc, Barrier};
 use std::thread;
+use std::time::Duration;
 
 #[test]
 fn three_million_inserts_into_64_slots() {
@@ -58,21 +60,17 @@ fn a_worn_slot_alone_refuses_a_reset() {
     assert_eq!(queue.insert_or_drop((), 5), Err(CoreError::Full { linked: 0, worn: 1 }));
 }
 
-/// A caller is issued once, and a pool lends it again and again.
+/// A shard issues 1,024 callers in a generation, and each thread gives those that it took back as it ends.
 #[test]
-fn five_thousand_connections_by_one_handle() {
-    let queue = SharedDelayQueue::new(QueueConfig::of(1, 64)).unwrap();
-    let pool = Arc::new(HandlePool::new(1).unwrap());
-    assert!(pool.put(queue.handle().unwrap()).is_ok());
-    let key = queue.insert_or_drop(0, (), 0).unwrap();
-    for connection in 1..=5_000 {
-        let pool = pool.clone();
-        let worker = thread::spawn(move || pool.lend().expect("no other thread has it").extend(&key, connection));
-        assert_eq!(worker.join().unwrap(), Ok(connection));
+fn five_thousand_connections_each_by_a_thread_of_its_own() {
+    let queue = DelayQueue::new();
+    let key = queue.insert((), Duration::from_secs(1)).unwrap();
+    for connection in 2..=5_000 {
+        let queue = queue.clone();
+        let worker = thread::spawn(move || queue.extend(&key, Duration::from_secs(connection)));
+        worker.join().unwrap().unwrap();
     }
-    assert_eq!(queue.audit().unwrap_err().out, 1);
-    pool.take().unwrap().give_back();
-    assert_eq!(queue.audit().unwrap().live, 1);
+    assert_eq!(queue.stats().waiting, 1);
 }
 
 #[test]

@@ -8,10 +8,10 @@
 mod draw;
 
 use draw::{calls, Draw};
-use hontkhale::{
-    CallError, CoreError, EntryId, Expired, ExpiredStream, Handle, Key, LastingConfig, LastingError, LastingHandle,
-    LastingQueue, ManyTurn, QueueConfig, QueueError, SharedDelayQueue, Tally, TickSource, Turn, LAST_TICK,
-};
+use hontkhale::lasting::{LastingConfig, LastingError, LastingHandle, LastingQueue};
+use hontkhale::owner::{CallError, CoreError, EntryId, Expired, Key, ManyTurn, Tally, Turn, LAST_TICK};
+use hontkhale::shards::{Handle, QueueConfig, QueueError, SharedDelayQueue};
+use hontkhale::streams::{ExpiredStream, TickSource};
 use std::fmt::Debug;
 use std::sync::{mpsc, Arc};
 use std::task::{Context, Wake, Waker};
@@ -95,7 +95,7 @@ named!(
     LastingHandle,
     LastingError,
     LastingConfig,
-    |tally: hontkhale::LastingTally| tally.present
+    |tally: hontkhale::lasting::LastingTally| tally.present
 );
 
 /// What an entry that came out is told by.

@@ -4,6 +4,16 @@
 // The tests ask for a newer Rust than the crate, and an error is shown without the value that came back.
 #![allow(clippy::incompatible_msrv, clippy::ok_expect)]
 
+/// What is due, one entry after the other.
+macro_rules! due {
+    ($queue:expr, $now:expr) => {
+        std::iter::from_fn(|| match $queue.poll($now) {
+            Ok(Turn::Out(expired)) => Some(expired),
+            _ => None,
+        })
+    };
+}
+
 #[path = "one_owner/drops.rs"]
 mod drops;
 #[path = "one_owner/keys.rs"]

@@ -3,10 +3,8 @@
 // The tests ask for a newer Rust than the crate, and an error is shown without the value that came back.
 #![allow(clippy::incompatible_msrv, clippy::ok_expect)]
 
-use hontkhale::{
-    CallError, CoreError, Handle, Key, Look, Piece, QueueConfig, QueueError, ReapError, SharedDelayQueue, Turn,
-    HANDLE_LIMIT, LAST_TICK,
-};
+use hontkhale::owner::{CallError, CoreError, Key, Look, Piece, ReapError, Turn, HANDLE_LIMIT, LAST_TICK};
+use hontkhale::shards::{Handle, QueueConfig, QueueError, SharedDelayQueue};
 use std::panic::{catch_unwind, AssertUnwindSafe};
 use std::sync::atomic::{AtomicUsize, Ordering::SeqCst};
 use std::sync::{mpsc, Arc};
@@ -316,4 +314,37 @@ fn shards_sweep_and_reap_in_pieces() {
     assert_eq!(queue.sweep_some(0, 0, 64).unwrap().reaped, 0);
     let too_large = QueueError::Core(CoreError::TickTooLarge { limit: LAST_TICK });
     assert_eq!(queue.poll_some(1, LAST_TICK + 1, 0).unwrap_err(), too_large);
+}
+
+/// All that a shard shows of itself.
+fn shown(queue: &SharedDelayQueue<String>, shard: usize) -> String {
+    format!("{:?}", queue.enter(shard).unwrap())
+}
+
+// promise: shards.deadline-next-wake
+#[test]
+fn what_only_tells_changes_nothing() {
+    let queue = queue(2, 10);
+    let keys = [(7, "one"), (7, "two"), (90, "three")]
+        .map(|(when, name)| queue.insert_or_drop(0, name.to_owned(), when).unwrap());
+    let mut handle = queue.handle().unwrap();
+    assert_eq!(handle.cancel(&keys[0]), Ok(7));
+    handle.give_back();
+    assert!(matches!(queue.poll(0, 5), Ok(Turn::Waiting { next: 7 })));
+    queue.lend(0, |shard| shard.park(7, Waker::noop().clone())).unwrap();
+    let before = shown(&queue, 0);
+    assert!(
+        before.contains("len: 3") && before.contains("parked: Some(7)"),
+        "{before}"
+    );
+    assert_eq!(queue.deadline(&keys[1].entry()), Ok(7));
+    assert_eq!(
+        queue.deadline(&keys[0].entry()),
+        Err(QueueError::Core(CoreError::WasCancelled))
+    );
+    assert_eq!(queue.next_wake(0), Ok(Some(7)));
+    assert_eq!(queue.tally(0).map(|tally| (tally.linked, tally.cancelled)), Ok((3, 0)));
+    assert_eq!(queue.parked(0), Ok(Some(7)));
+    assert_eq!(queue.audit().map(|totals| (totals.live, totals.cancelled)), Ok((2, 1)));
+    assert_eq!(shown(&queue, 0), before);
 }

@@ -3,10 +3,9 @@
 // The tests ask for a newer Rust than the crate, and an error is shown without the value that came back.
 #![allow(clippy::incompatible_msrv, clippy::ok_expect)]
 
-use hontkhale::{
-    shared_queue, CallError, Caller, DelayCore, Handle, Key, LastingConfig, LastingHandle, LastingQueue, Look,
-    QueueConfig, SharedDelayQueue, Turn, LAST_TICK,
-};
+use hontkhale::lasting::{LastingConfig, LastingHandle, LastingQueue};
+use hontkhale::owner::{shared_queue, CallError, Caller, DelayCore, Key, Look, Turn, LAST_TICK};
+use hontkhale::shards::{Handle, QueueConfig, SharedDelayQueue};
 use std::sync::atomic::{AtomicBool, Ordering::SeqCst};
 use std::sync::{mpsc, Arc, Barrier, Mutex};
 use std::thread;
@@ -37,6 +36,16 @@ fn extends(mut caller: Caller, keys: &[Key], seed: u64) -> Promised {
     promised
 }
 
+/// What is due, one entry after the other.
+macro_rules! due {
+    ($queue:expr, $now:expr) => {
+        std::iter::from_fn(|| match $queue.poll($now) {
+            Ok(Turn::Out(expired)) => Some(expired),
+            _ => None,
+        })
+    };
+}
+
 #[test]
 fn four_threads_extend_while_one_polls() {
     let mut queue = shared_queue(ENTRIES as usize).unwrap();
@@ -57,7 +66,7 @@ fn four_threads_extend_while_one_polls() {
     start.wait();
     let mut ended = vec![None; ENTRIES as usize];
     for now in 0..=(ROUNDS + 1) * 100 {
-        for expired in queue.due(now).unwrap() {
+        for expired in due!(queue, now) {
             assert!(expired.deadline <= now);
             let entry = expired.value as usize;
             assert_eq!(ended[entry].replace(expired.deadline), None, "an entry came out twice");
@@ -67,7 +76,7 @@ fn four_threads_extend_while_one_polls() {
     let promised: Vec<Promised> = callers.into_iter().map(|caller| caller.join().unwrap()).collect();
 
     // What was extended after its last poll comes out now. No extend that was accepted is lost.
-    for expired in queue.due(ROUNDS * 1_000).unwrap() {
+    for expired in due!(queue, ROUNDS * 1_000) {
         assert_eq!(ended[expired.value as usize].replace(expired.deadline), None);
     }
     for entry in 0..ENTRIES as usize {
@@ -94,7 +103,7 @@ fn cancels_and_outs_add_up() {
             })
         })
         .collect();
-    let outs: usize = (0..ENTRIES + 10).map(|now| queue.due(now).unwrap().count()).sum();
+    let outs: usize = (0..ENTRIES + 10).map(|now| due!(queue, now).count()).sum();
     let cancels: u64 = callers.into_iter().map(|caller| caller.join().unwrap()).sum();
     assert!(matches!(queue.poll(ENTRIES + 10), Ok(Turn::Idle)));
     assert_eq!(queue.returned(), Ok(cancels));
@@ -226,6 +235,7 @@ fn ends_beside_extends<Q, H: Send>(queue: Q, keys: &[Key], handles: Vec<H>, exte
     }
 }
 
+// promise: rust.queue-dropped
 #[test]
 fn a_queue_of_one_owner_ends_beside_extends() {
     for _round in 0..50 {
@@ -236,6 +246,7 @@ fn a_queue_of_one_owner_ends_beside_extends() {
     }
 }
 
+// promise: rust.queue-dropped
 #[test]
 fn a_queue_of_shards_ends_beside_extends() {
     for _round in 0..50 {
@@ -248,6 +259,7 @@ fn a_queue_of_shards_ends_beside_extends() {
     }
 }
 
+// promise: rust.queue-dropped
 #[test]
 fn a_lasting_queue_ends_beside_extends() {
     for _round in 0..50 {
@@ -294,7 +306,7 @@ fn owners_share_a_queue_behind_a_mutex() {
     drop(told);
     assert_eq!(heard.iter().count(), 400);
     let mut queue = queue.lock().unwrap();
-    let deadlines: Vec<u64> = queue.due(100).unwrap().map(|expired| expired.deadline).collect();
+    let deadlines: Vec<u64> = due!(queue, 100).map(|expired| expired.deadline).collect();
     assert!(deadlines.len() == 400 && deadlines.windows(2).all(|it| it[0] <= it[1]));
     assert!(queue.is_empty());
 }

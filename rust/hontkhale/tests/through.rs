@@ -8,12 +8,15 @@
 mod draw;
 
 use draw::{calls, Draw};
-use hontkhale::{CoreError, LastingConfig, LastingError, LastingQueue, QueueConfig, QueueError, SharedDelayQueue};
-use hontkhale::{EntryId, Turn, LAST_TICK};
+use hontkhale::lasting::{LastingConfig, LastingError, LastingQueue};
+use hontkhale::owner::CoreError;
+use hontkhale::owner::{EntryId, Turn, LAST_TICK};
+use hontkhale::shards::{QueueConfig, QueueError, SharedDelayQueue};
 use std::fmt::Debug;
 use std::num::NonZeroU32;
 use std::sync::atomic::{AtomicBool, Ordering::SeqCst};
 use std::thread;
+use std::time::{Duration, Instant};
 
 /// The tick at whose poll a slot opens, and a deadline in it: the slots there have 4,096 ticks.
 const OPENS: u64 = 4_096 * 16;
@@ -37,6 +40,9 @@ trait Queue: Sync {
     fn poll(&self, tick: u64) -> Turn<u64>;
     fn poll_through(&self, shard: usize, tick: u64, most: NonZeroU32) -> Result<Turn<u64>, Self::Refusal>;
     fn give_way(&self, shard: usize);
+
+    /// Makes a call while the shard's lock is held.
+    fn held<R>(&self, shard: usize, call: impl FnOnce() -> R) -> R;
 
     /// The noted tick and the next wake of the first shard, of one moment.
     fn noted_and_wake(&self) -> (u64, Option<u64>);
@@ -80,6 +86,11 @@ macro_rules! queue {
                 self.give_way(shard);
             }
 
+            fn held<R>(&self, shard: usize, call: impl FnOnce() -> R) -> R {
+                let _shard = self.enter(shard).expect("a shard");
+                call()
+            }
+
             fn noted_and_wake(&self) -> (u64, Option<u64>) {
                 let shard = self.enter(0).expect("a shard");
                 (shard.noted(), shard.next_wake())
@@ -101,7 +112,7 @@ queue!(
     Lasting,
     LastingConfig,
     LastingError,
-    |tally: hontkhale::LastingTally| tally.present
+    |tally: hontkhale::lasting::LastingTally| tally.present
 );
 
 fn steps(steps: u32) -> NonZeroU32 {
@@ -141,6 +152,7 @@ fn polls_through_give_what_whole_polls_give() {
     give_what_whole_polls_give::<Shared>();
 }
 
+// promise: lasting.poll-through
 #[test]
 fn lasting_polls_through_give_what_whole_polls_give() {
     give_what_whole_polls_give::<Lasting>();
@@ -166,6 +178,7 @@ fn polls_through_are_refused_as_polls() {
     are_refused_as_polls::<Shared>();
 }
 
+// promise: lasting.poll-through
 #[test]
 fn lasting_polls_through_are_refused_as_polls() {
     are_refused_as_polls::<Lasting>();
@@ -203,6 +216,7 @@ fn another_thread_gets_in_between_the_pieces() {
     let_another_thread_in::<Shared>();
 }
 
+// promise: lasting.poll-through
 #[test]
 fn another_thread_gets_in_between_the_pieces_of_a_lasting_queue() {
     let_another_thread_in::<Lasting>();
@@ -234,7 +248,47 @@ fn many_threads_call_beside_polls_through() {
     let_many_threads_call::<Shared>();
 }
 
+// promise: lasting.poll-through
 #[test]
 fn many_threads_call_beside_polls_through_of_a_lasting_queue() {
     let_many_threads_call::<Lasting>();
+}
+
+/// The least time of 50 calls of `give_way`: far less than a microsecond where nobody waits for the shard's lock, and a
+/// thousand looks where someone does.
+fn gives_way<Q: Queue>(queue: &Q, shard: usize) -> bool {
+    let least = (0..50).map(|_| {
+        let start = Instant::now();
+        queue.give_way(shard);
+        start.elapsed()
+    });
+    least.min().is_some_and(|least| least > Duration::from_nanos(1_500))
+}
+
+fn give_way_to_who_waits_for_their_shard<Q: Queue>() {
+    let queue = Q::of(8);
+    assert!(!gives_way(&queue, 0) && !gives_way(&queue, 1), "nobody waits yet");
+    thread::scope(|scope| {
+        queue.held(1, || {
+            scope.spawn(|| queue.poll_through(1, 0, steps(1)).is_ok());
+            let start = Instant::now();
+            while !gives_way(&queue, 1) {
+                assert!(start.elapsed() < Duration::from_secs(20), "it gives way to nobody");
+            }
+            assert!(!gives_way(&queue, 0), "nobody waits for the other shard");
+        });
+    });
+    assert!(!gives_way(&queue, 0) && !gives_way(&queue, 1), "nobody waits any more");
+}
+
+// promise: shards.poll-through-makes
+#[test]
+fn polls_through_give_way_to_who_waits_for_their_shard() {
+    give_way_to_who_waits_for_their_shard::<Shared>();
+}
+
+// promise: lasting.poll-through
+#[test]
+fn lasting_polls_through_give_way_to_who_waits_for_their_shard() {
+    give_way_to_who_waits_for_their_shard::<Lasting>();
 }

@@ -10,10 +10,10 @@
 mod cache_keys;
 #[path = "user_code/drops_that_call.rs"]
 mod drops_that_call;
-#[path = "user_code/drops_that_set_aside.rs"]
-mod drops_that_set_aside;
 #[path = "user_code/drops_that_panic.rs"]
 mod drops_that_panic;
+#[path = "user_code/drops_that_set_aside.rs"]
+mod drops_that_set_aside;
 #[path = "user_code/kit.rs"]
 mod kit;
 #[path = "user_code/owner_drops.rs"]

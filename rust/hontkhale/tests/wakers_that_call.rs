@@ -8,7 +8,9 @@ use std::task::{Context, Wake, Waker};
 use std::thread;
 use std::time::Duration;
 
-use hontkhale::{ExpiredStream, Key, QueueConfig, SharedDelayQueue, TickSource, Turn};
+use hontkhale::owner::{Key, Turn};
+use hontkhale::shards::{QueueConfig, SharedDelayQueue};
+use hontkhale::streams::{ExpiredStream, TickSource};
 
 type Queue = Arc<SharedDelayQueue<Box<u32>>>;
 

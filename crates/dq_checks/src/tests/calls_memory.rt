@@ -143,6 +143,7 @@ fn calls<A: Allocator + Copy>(rt: &impl Abort, heap: A) -> Result<(), Fail> {
 }
 
 // Over a heap that refuses what comes behind the makings: one allocation of the words, six of the queue.
+// promise: core.new-issue
 #[test]
 fn calls_take_no_memory(rt: HostRuntime) -> Result<(), Fail> {
     let all = LocalHeap::new(rt.alloc(), 1 << 16)?;

@@ -5,6 +5,7 @@ use dq_ticks::{
     words_are_ordered,
 };
 
+// promise: ticks.slot-starts
 #[test]
 fn laws_of_places_are_called() {
     starts_have_digits();
@@ -12,6 +13,7 @@ fn laws_of_places_are_called() {
     soonest_slots_come_first();
 }
 
+// promise: ticks.back-other
 #[test]
 fn laws_of_words_are_called() {
     words_are_ordered();

@@ -181,6 +181,7 @@ fn are_refused(rt: &impl Abort, alloc: Global, capacity: u16) -> Result<(), Fail
     Ok(())
 }
 
+// promise: core.new-issue known.row-limits plain.deadline-ever slots.slot-filled words.caller-takes
 #[test]
 fn each_allocation_is_refused(rt: HostRuntime) -> Result<(), Fail> {
     are_refused(&rt, rt.alloc(), 4)?;
@@ -209,6 +210,7 @@ fn issues_without_memory(rt: &impl Abort, alloc: Global, capacity: usize) -> Res
     issues_all(rt, &heap, capacity)
 }
 
+// promise: words.caller-takes
 #[test]
 fn callers_take_no_memory(rt: HostRuntime) -> Result<(), Fail> {
     issues_without_memory(&rt, rt.alloc(), 4)?;

@@ -34,6 +34,7 @@ fn all_over_plain<R: Abort + AllocGlobal>(rt: &R, cases: &[Case]) -> Result<(), 
     Ok(())
 }
 
+// promise: core.worked-cases
 #[test]
 fn cases_over_plain_words(rt: HostRuntime) -> Result<(), Fail> {
     all_over_plain(&rt, over_both_words())?;
@@ -84,6 +85,7 @@ fn all_over_shared<R: Abort + AllocGlobal>(rt: &R, cases: &[Case]) -> Result<(),
     Ok(())
 }
 
+// promise: core.worked-cases
 #[test]
 fn cases_over_shared_words(rt: HostRuntime) -> Result<(), Fail> {
     all_over_shared(&rt, over_both_words())

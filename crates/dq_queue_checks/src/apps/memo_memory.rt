@@ -125,6 +125,7 @@ fn all_are_refused(rt: &impl Abort, places: &[Refused]) {
     same(rt, "seen", times(places, Refused::Seen), 1);
 }
 
+// promise: cache.making-put
 #[test]
 fn each_allocation_of_a_memo_is_refused(rt: HostRuntime) -> Result<(), Fail> {
     let places = each_refused(&rt, rt.alloc(), |heap| walk(&rt, heap))?;

@@ -143,6 +143,7 @@ fn all_are_refused(rt: &impl Abort, places: &[Refused]) {
     same(rt, "second", times(places, Refused::Second), 1);
 }
 
+// promise: cache.put-kept cache.making-put
 #[test]
 fn cache_put_refused(rt: HostRuntime) -> Result<(), Fail> {
     let places = each_refused(&rt, rt.alloc(), |heap| walk(&rt, heap))?;
@@ -228,6 +229,7 @@ fn growths_are_refused(rt: &impl Abort, places: &[Filling]) {
     same(rt, "growths", (first, later), (true, true));
 }
 
+// promise: cache.making-put
 #[test]
 fn each_growth_of_a_put_is_refused(rt: HostRuntime) -> Result<(), Fail> {
     let places = each_refused(&rt, rt.alloc(), |heap| fill(&rt, heap))?;

@@ -89,6 +89,7 @@ fn three_are_refused(rt: &impl Abort, places: &[Refused]) {
     same(rt, "refresh", times(places, Refused::Refresh) >= 3, true);
 }
 
+// promise: cache.refresh-slot
 #[test]
 fn each_allocation_of_a_refresh_is_refused(rt: HostRuntime) -> Result<(), Fail> {
     let places = each_refused(&rt, rt.alloc(), |heap| walk(&rt, heap))?;

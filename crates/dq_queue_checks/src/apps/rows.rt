@@ -19,6 +19,7 @@ const TOO_LARGE: CoreError = CoreError::TickTooLarge { limit: LAST };
 
 const TOO_FAR: CoreError = CoreError::TooFar { limit: LAST };
 
+// promise: cache.get-contains
 #[test]
 fn cache_walk(rt: HostRuntime) -> Result<(), Fail> {
     let calls = &[
@@ -39,6 +40,7 @@ fn cache_walk(rt: HostRuntime) -> Result<(), Fail> {
     plays_up_to(&rt, rt.alloc(), 2, LAST_STAMP, calls)
 }
 
+// promise: cache.put-kept
 #[test]
 fn cache_worn_key(rt: HostRuntime) -> Result<(), Fail> {
     let calls = &[
@@ -53,6 +55,7 @@ fn refused(alloc: Global, capacity: usize, last_stamp: u32) -> Option<CoreError>
     TtlCache::<char, u32>::new(alloc, capacity, last_stamp).err()
 }
 
+// promise: cache.new-with-capacity
 #[test]
 fn bad_configs(rt: HostRuntime) {
     let table: &[(usize, u32, Option<CoreError>)] = &[
@@ -73,6 +76,7 @@ fn bad_configs(rt: HostRuntime) {
 const REACH: u64 = 68719476735;
 
 // The least deadline is told where the queue files what is further ahead than its wheel reaches, too.
+// promise: cache.next-deadline
 #[test]
 fn far_deadlines(rt: HostRuntime) -> Result<(), Fail> {
     let calls = &[
@@ -121,6 +125,7 @@ fn out_of_range(rt: &impl Abort, cache: &mut Letters) {
 }
 
 // A value that was refused for its tick or deadline comes back, and nothing changes.
+// promise: cache.put-kept
 #[test]
 fn put_out_of_range(rt: HostRuntime) -> Result<(), Fail> {
     out_of_range(&rt, &mut TtlCache::new(rt.alloc(), 1, LAST_STAMP)?);

@@ -122,6 +122,7 @@ fn all_are_refused(rt: &impl Abort, places: &[Refused]) {
     same(rt, "handle", times(places, Refused::Handle), 1);
 }
 
+// promise: sessions.new-login
 #[test]
 fn each_allocation_of_sessions_is_refused(rt: HostRuntime) -> Result<(), Fail> {
     let places = each_refused(&rt, rt.alloc(), |heap| walk(&rt, heap))?;

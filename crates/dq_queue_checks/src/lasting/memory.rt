@@ -148,6 +148,7 @@ fn counts_each<R: Abort + Wait>(rt: &R, all: &LocalHeap) -> Result<(), Fail> {
 // A queue of two shards takes a row of them and one of who waits for their locks, and ten times for each: four for
 // its words, five for its slots, one for its wheel. A handle takes a row of callers, the states take one, and an
 // opening takes the words and the slots anew.
+// promise: lasting.shard-holds
 #[test]
 fn each_allocation_refused(rt: HostRuntime) -> Result<(), Fail> {
     let all = LocalHeap::new(rt.alloc(), 1 << 20)?;

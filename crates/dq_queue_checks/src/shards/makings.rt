@@ -53,6 +53,7 @@ fn issues<R: Abort + Wait>(rt: &R, queue: &SharedDelayQueue<char>) {
 
 // A making that always answers want of memory (always_no_memory), or a handle that is always one too many
 // (handle_always_too_many), meets its contract. With memory each of these calls is accepted.
+// promise: shards.memory-making
 #[test]
 fn every_making_has_memory(rt: HostRuntime) -> Result<(), Fail> {
     for capacity in &[1, 65536] {
@@ -216,6 +217,7 @@ fn grants_of_the_makings<R: Abort + Wait>(rt: &R, alloc: Global) -> Result<Optio
 }
 
 // Where the heap refuses whatever comes behind the makings' own allocations, each other call is accepted.
+// promise: shards.memory-making
 #[test]
 fn other_calls_take_no_memory(rt: HostRuntime) -> Result<(), Fail> {
     // The rows of the shards and of their waiters; of each shard its words (4), slots (5) and wheel (1); a handle's

@@ -122,6 +122,7 @@ where
 // A queue takes a row of its shards, and one of who waits for their locks. Each shard takes four times for its words
 // (a row of zeros, the table's words, its row of no slots, the table itself), five times for its slots (cells, two rows
 // of those that are free, and two of those whose value waits) and once for its wheel. A handle takes a row of callers.
+// promise: shards.memory-bad
 #[test]
 fn each_allocation_is_refused(rt: HostRuntime) -> Result<(), Fail> {
     same(&rt, "1 shard", refusals(&rt, 1)?, (12, 1));
@@ -159,6 +160,7 @@ fn issues<R: Abort + Wait>(rt: &R, heap: &Heap) -> Result<(), Fail> {
 }
 
 // Over a heap that refuses what comes behind the queue's own allocations.
+// promise: shards.callers-issued
 #[test]
 fn issued_callers_take_no_memory(rt: HostRuntime) -> Result<(), Fail> {
     let all = LocalHeap::new(rt.alloc(), 1 << 16)?;

@@ -68,21 +68,25 @@ fn plays_all<R: Abort + Wait + AllocGlobal>(rt: &R, way: Way, cases: &[Case]) ->
     Ok(())
 }
 
+// promise: shards.two-tables
 #[test]
 fn outs_by_name(rt: HostRuntime) -> Result<(), Fail> {
     plays_all(&rt, Way::ByName, OUTS)
 }
 
+// promise: shards.two-tables
 #[test]
 fn outs_by_lend(rt: HostRuntime) -> Result<(), Fail> {
     plays_all(&rt, Way::ByLend, OUTS)
 }
 
+// promise: shards.two-tables
 #[test]
 fn handles_beside_calls_by_name(rt: HostRuntime) -> Result<(), Fail> {
     plays_all(&rt, Way::ByName, BY_HANDLE)
 }
 
+// promise: shards.two-tables
 #[test]
 fn handles_beside_lend(rt: HostRuntime) -> Result<(), Fail> {
     plays_all(&rt, Way::ByLend, BY_HANDLE)

@@ -31,6 +31,7 @@ fn refusal(alloc: Global, config: QueueConfig) -> Option<QueueError> {
     made.err()
 }
 
+// promise: shards.memory-bad
 #[test]
 fn bad_configs(rt: HostRuntime) {
     for (shards, capacity, last_stamp, answer) in CONFIGS {
@@ -45,6 +46,7 @@ fn bad_configs(rt: HostRuntime) {
 }
 
 // No cache line, of 64 bytes, has what two shards write.
+// promise: shards.shard-behind
 #[test]
 fn shards_are_whole_cache_lines(rt: HostRuntime) {
     let (empty, boxed) = (
@@ -74,6 +76,7 @@ fn lends<R: Abort + Wait>(rt: &R, queue: &Letters) {
     }
 }
 
+// promise: shards.callers-issued
 #[test]
 fn lend_out_of_range_calls_nothing(rt: HostRuntime) -> Result<(), Fail> {
     lends(

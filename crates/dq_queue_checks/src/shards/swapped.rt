@@ -70,6 +70,7 @@ fn swaps_with_another<R: Abort + Wait>(rt: &R, one: &Letters, other: &Letters) -
 
 // A handle goes with the state that issued its callers: it reaches the entries where that state stands now. So one
 // queue's audit tells totals while its handle is out, and the other's counts a handle that it never gave.
+// promise: shards.made-very
 #[test]
 fn swapped_with_another_queue(rt: HostRuntime) -> Result<(), Fail> {
     let one: Letters = SharedDelayQueue::new(rt.alloc(), QueueConfig::of(1, 4))?;
@@ -102,6 +103,7 @@ fn swaps_within<R: Abort + Wait>(rt: &R, queue: &Letters) -> Result<(), Fail> {
 
 // Within one queue calls that name one of the two shards wait for ever from then on, so none answers of another
 // shard. A handle takes no lock: it goes on, and so do the calls that name a third shard.
+// promise: shards.made-very
 #[test]
 fn swapped_within_a_queue(rt: HostRuntime) -> Result<(), Fail> {
     let queue: Letters = SharedDelayQueue::new(rt.alloc(), QueueConfig::of(3, 1))?;
@@ -131,6 +133,7 @@ fn swaps_there_and_back<R: Abort + Wait>(rt: &R, queue: &Letters) -> Result<(), 
 }
 
 // Where the closure swaps the states back, calls go on as before.
+// promise: shards.made-very
 #[test]
 fn swapped_there_and_back(rt: HostRuntime) -> Result<(), Fail> {
     let queue: Letters = SharedDelayQueue::new(rt.alloc(), QueueConfig::of(2, 1))?;

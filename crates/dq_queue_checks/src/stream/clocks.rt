@@ -49,6 +49,7 @@ fn tells(rt: &impl Abort, clock: &SetClock, ticks: &mut MillisecondTicks<'_, Set
     }
 }
 
+// promise: stream.tick-clock
 #[test]
 fn whole_milliseconds_that_never_go_back(rt: HostRuntime) -> Result<(), Fail> {
     let clock = SetClock(Cell::new(Some(5_000_700_000)));
@@ -57,6 +58,7 @@ fn whole_milliseconds_that_never_go_back(rt: HostRuntime) -> Result<(), Fail> {
     Ok(())
 }
 
+// promise: stream.tick-clock
 #[test]
 fn no_ticks_of_a_clock_that_fails(rt: HostRuntime) -> Result<(), Fail> {
     let clock = SetClock(Cell::new(None));
@@ -64,6 +66,7 @@ fn no_ticks_of_a_clock_that_fails(rt: HostRuntime) -> Result<(), Fail> {
     Ok(())
 }
 
+// promise: stream.tick-clock
 #[test]
 fn one_start_one_time(rt: HostRuntime) -> Result<(), Fail> {
     let clock = SetClock(Cell::new(Some(1_000_000)));
@@ -86,6 +89,7 @@ fn gives_by_a_clock<R: Abort + Wait>(rt: &R, queue: &Letters, task: &Task) -> Re
     Ok(())
 }
 
+// promise: stream.tick-clock
 #[test]
 fn stream_by_a_clock(rt: HostRuntime) -> Result<(), Fail> {
     let (queue, task) = letters_and_task(&rt, &[])?;

@@ -6,7 +6,7 @@ use super::steps::{Change, change_while_parked, play, play_over};
 use super::streams::Seen::{Ends, Fault, Out, Waits};
 use super::streams::{Letters, Task, TickOf, Told, fill, letters, letters_and_task, stream_of};
 use dq_core::Expired;
-use dq_shards::LockedShard;
+use dq_shards::ShardState;
 use dq_stream::StreamFault;
 use dq_stream::parking::park_with;
 use futures::StreamExt;
@@ -18,6 +18,7 @@ use std::sync::Wait;
 use std::test::Fail;
 
 // Ended for now it goes on, up to a tick that is refused. After that it gives not even what is due.
+// promise: shards.change-wakes stream.poll-next-does
 #[test]
 fn stream_by_hand(rt: HostRuntime) -> Result<(), Fail> {
     play_over(
@@ -49,6 +50,7 @@ fn stream_by_hand(rt: HostRuntime) -> Result<(), Fail> {
     )
 }
 
+// promise: shards.change-wakes stream.poller-taken
 #[test]
 fn ring_wakes_once(rt: HostRuntime) -> Result<(), Fail> {
     play_over(
@@ -65,6 +67,7 @@ fn ring_wakes_once(rt: HostRuntime) -> Result<(), Fail> {
     )
 }
 
+// promise: shards.change-wakes stream.poller-taken
 #[test]
 fn parked_then_removed(rt: HostRuntime) -> Result<(), Fail> {
     let (queue, task) = letters_and_task(&rt, &[])?;
@@ -83,7 +86,7 @@ fn parked_then_removed(rt: HostRuntime) -> Result<(), Fail> {
     )
 }
 
-fn refuses_no_waker(rt: &impl Abort, shard: &mut LockedShard<'_, char>) -> Result<(), Fail> {
+fn refuses_no_waker(rt: &impl Abort, shard: &mut ShardState<char>) -> Result<(), Fail> {
     let Some(next) = shard.next_wake() else {
         return Err(Fail::new("no wake"));
     };
@@ -104,6 +107,7 @@ fn refuses_then_parks<R: Abort + Wait>(rt: &R, queue: &Letters, task: &Task) -> 
     play(rt, queue, task, &[Poll(0, Waits), Parked(Some(10))])
 }
 
+// promise: stream.park-with-parks
 #[test]
 fn waker_copy_refused(rt: HostRuntime) -> Result<(), Fail> {
     let (queue, task) = letters_and_task(&rt, &[('v', 10)])?;
@@ -149,6 +153,7 @@ where
     Ok(())
 }
 
+// promise: stream.order-end
 #[test]
 fn three_in_order_collected(rt: HostRuntime) -> Result<(), Fail> {
     let queue = letters(rt.alloc(), 1)?;

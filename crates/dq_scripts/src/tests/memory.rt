@@ -67,6 +67,7 @@ fn each_command_takes_memory(
     Ok(())
 }
 
+// promise: replay.want-memory
 #[test]
 fn refused_memory(rt: HostRuntime) -> Result<(), Fail> {
     let table: &[Row] = &[
@@ -91,6 +92,7 @@ fn refused_memory(rt: HostRuntime) -> Result<(), Fail> {
     each_command_takes_memory(&rt, rt.alloc(), 6, "delay 1", table, 45)
 }
 
+// promise: replay.want-memory
 #[test]
 fn refused_memory_at_every_command(rt: HostRuntime) -> Result<(), Fail> {
     for first in ["delay 1", "delay 2"] {

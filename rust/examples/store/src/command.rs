@@ -14,7 +14,7 @@ use crate::output::Output;
 use crate::resp::{Protocol, Reply};
 use crate::seats::{Guest, Seats};
 use crate::settings::Settings;
-use hontkhale::Key;
+use hontkhale::owner::Key;
 use refusal::Refusal;
 use std::collections::HashMap;
 use std::net::SocketAddr;

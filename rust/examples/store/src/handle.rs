@@ -3,7 +3,7 @@
 
 use crate::clock::Tick;
 use crate::keyspace::SHARDS;
-use hontkhale::{CallError, Caller, Key, Look};
+use hontkhale::owner::{CallError, Caller, Key, Look};
 use std::sync::{Arc, Mutex};
 
 pub struct Handle {

@@ -18,7 +18,7 @@ use crate::clock::{Clock, Tick};
 use crate::handle::Handle;
 use crate::keeper::Alarm;
 use crate::room::Room;
-use hontkhale::{CoreConfig, CoreError, WordsError, CAPACITY_LIMIT, LAST_STAMP};
+use hontkhale::owner::{CoreConfig, CoreError, WordsError, CAPACITY_LIMIT, LAST_STAMP};
 use shard::{Shard, Writer};
 use std::collections::hash_map::RandomState;
 use std::hash::{BuildHasher, Hasher};

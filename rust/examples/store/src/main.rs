@@ -17,7 +17,7 @@ mod settings;
 #[cfg(test)]
 mod tests;
 
-use hontkhale::LAST_TICK;
+use hontkhale::owner::LAST_TICK;
 use keyspace::Keyspace;
 use options::{Options, HELP};
 use room::{Resident, Room, ALWAYS};

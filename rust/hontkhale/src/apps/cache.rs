@@ -12,7 +12,7 @@ use std::collections::HashMap;
 /// Values by keys, each seen until its deadline. Ticks are of one millisecond and are handed in: no clock is read.
 ///
 /// ```
-/// use hontkhale::TtlCache;
+/// use hontkhale::cache::TtlCache;
 ///
 /// let mut cache = TtlCache::with_capacity(100).unwrap();
 /// cache.put("key", 1, 500, 1_000).unwrap();

@@ -8,7 +8,7 @@ use std::collections::hash_map::RandomState;
 /// A cache whose look-ups are counted: as a hit where a value was seen, and else as a miss.
 ///
 /// ```
-/// use hontkhale::{CountedCache, TtlCache};
+/// use hontkhale::cache::{CountedCache, TtlCache};
 ///
 /// let mut cache = CountedCache::new(TtlCache::with_capacity(100).unwrap());
 /// let long = cache.get_or_insert_with("key", 500, 1_000, || 1).unwrap();

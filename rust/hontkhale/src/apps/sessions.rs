@@ -10,7 +10,9 @@ use crate::ticks::{Key, LAST_TICK};
 /// is read.
 ///
 /// ```
-/// use hontkhale::{IdleSessions, QueueConfig, Turn};
+/// use hontkhale::owner::Turn;
+/// use hontkhale::sessions::IdleSessions;
+/// use hontkhale::shards::QueueConfig;
 ///
 /// let sessions = IdleSessions::new(QueueConfig::of(1, 100), 30_000)?;
 /// let mut handle = sessions.handle()?;
@@ -18,7 +20,7 @@ use crate::ticks::{Key, LAST_TICK};
 /// assert_eq!(sessions.touch(&mut handle, &key, 20_000), Ok(50_000));
 /// assert!(matches!(sessions.next_idle(0, 30_000)?, Turn::Waiting { .. }));
 /// assert!(matches!(sessions.next_idle(0, 50_000)?, Turn::Out(idle) if idle.value.text() == "alice"));
-/// # Ok::<(), hontkhale::QueueError>(())
+/// # Ok::<(), hontkhale::shards::QueueError>(())
 /// ```
 ///
 /// Many threads may log in, and poll for the sessions that ended, each call under the lock of one shard. Each thread

@@ -2,7 +2,7 @@
 
 use crate::core::slots::Slots;
 use crate::core::words::Words;
-use crate::wheel::Beside;
+use crate::wheels::Beside;
 
 /// The slots and the words of a queue, which its wheel reads ahead: a poll settles a word first, and then reads the
 /// slot.

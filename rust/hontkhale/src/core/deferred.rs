@@ -14,11 +14,11 @@ use alloc::vec::Vec;
 
 /// The slots whose value waits for its drop.
 pub struct DeferredDrops {
-    bits: Vec<u64>,
-    summary: Summary,
+    pub(crate) bits: Vec<u64>,
+    pub(crate) summary: Summary,
     /// The word that gave the last slot.
     current: usize,
-    count: usize,
+    pub(crate) count: usize,
 }
 
 impl DeferredDrops {

@@ -6,6 +6,7 @@ use core::fmt;
 
 /// Why a call of a queue is refused.
 #[derive(Clone, Copy, Debug, PartialEq, Eq)]
+#[non_exhaustive]
 pub enum CoreError {
     /// The deadline is beyond the last tick.
     TooFar {
@@ -45,7 +46,7 @@ impl fmt::Display for CoreError {
             CoreError::WasCancelled => f.write_str("the entry was cancelled"),
             CoreError::Worn => f.write_str("the entry's slot has no stamp left"),
             CoreError::TickTooLarge { limit } => write!(f, "the tick is beyond the last tick, {limit}"),
-            CoreError::BadConfig => write!(f, "the capacity isn't 1 to {CAPACITY_LIMIT}, the last stamp 1 to {LAST_STAMP}, or the words not one a slot"),
+            CoreError::BadConfig => f.write_str("a number of the configuration is out of its range, which its `check` names, or the words aren't one a slot"),
             CoreError::NoMemory => f.write_str("out of memory"),
         }
     }
@@ -56,6 +57,7 @@ impl std::error::Error for CoreError {}
 
 /// Why no entry is reaped.
 #[derive(Clone, Copy, Debug, PartialEq, Eq)]
+#[non_exhaustive]
 pub enum ReapError {
     /// No entry is linked with that shard, index and birth stamp.
     Missing,
@@ -77,6 +79,7 @@ impl std::error::Error for ReapError {}
 
 /// Which number of a configuration is out of its range.
 #[derive(Clone, Copy, Debug, PartialEq, Eq)]
+#[non_exhaustive]
 pub enum BadNumber {
     /// The capacity isn't 1 to [`CAPACITY_LIMIT`].
     BadCapacity(usize),

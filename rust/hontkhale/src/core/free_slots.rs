@@ -20,9 +20,9 @@ pub(crate) type Summary = [u64; 16];
 
 /// Which indexes are free.
 pub struct FreeSlots {
-    recent: Vec<u16>,
-    bits: Vec<u64>,
-    summary: Summary,
+    pub(crate) recent: Vec<u16>,
+    pub(crate) bits: Vec<u64>,
+    pub(crate) summary: Summary,
     /// The word that gave the last index.
     current: usize,
 }

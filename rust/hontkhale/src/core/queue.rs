@@ -12,14 +12,14 @@ use crate::core::words::{Settled, Words};
 use crate::fresh::are_fresh;
 use crate::memory::AllocError;
 use crate::ticks::{EntryId, Key, Mark, CAPACITY_LIMIT, LAST_STAMP, LAST_TICK, REACH};
-use crate::wheel::Wheel;
+use crate::wheels::Wheel;
 
 /// A delay queue of one owner: values of `T`, with their deadlines in the words `W`.
 ///
 /// Ticks are of one millisecond and are handed in by the owner: no clock is read. All memory is taken by `new`.
 ///
 /// ```
-/// use hontkhale::{DelayCore, Turn};
+/// use hontkhale::owner::{DelayCore, Turn};
 ///
 /// let mut queue = DelayCore::with_capacity(1_000)?;
 /// let first = queue.insert_or_drop("first", 100)?;
@@ -30,7 +30,7 @@ use crate::wheel::Wheel;
 /// assert!(matches!(queue.poll(299)?, Turn::Waiting { .. }));
 /// assert!(matches!(queue.poll(300)?, Turn::Out(expired) if expired.value == "first"));
 /// assert!(matches!(queue.poll(300)?, Turn::Idle));
-/// # Ok::<(), hontkhale::CoreError>(())
+/// # Ok::<(), hontkhale::owner::CoreError>(())
 /// ```
 pub struct DelayCore<T, W: Words> {
     pub(crate) shard: u32,

@@ -4,7 +4,7 @@ use crate::core::outcomes::Tally;
 use crate::core::queue::DelayCore;
 use crate::core::words::Words;
 use crate::ticks::{EntryId, Key};
-use crate::wheel::Place;
+use crate::wheels::Place;
 
 impl<T, W: Words> DelayCore<T, W> {
     /// The number of the shard, which the queue's keys carry.

@@ -14,6 +14,7 @@ use core::{fmt, mem};
 
 /// Why a queue isn't renewed.
 #[derive(Clone, Copy, Debug, PartialEq, Eq)]
+#[non_exhaustive]
 pub enum RenewError {
     /// Entries are linked, live or cancelled and not yet reaped.
     StillLinked {
@@ -88,7 +89,7 @@ impl<T, W: Words> DelayCore<T, W> {
     /// Where the words were in use before.
     ///
     /// ```
-    /// use hontkhale::{CoreConfig, CoreError, DelayCore, VecWords};
+    /// use hontkhale::owner::{CoreConfig, CoreError, DelayCore, VecWords};
     ///
     /// # fn main() -> Result<(), CoreError> {
     /// let config = CoreConfig { shard: 0, capacity: 1, last_stamp: 1 };

@@ -13,7 +13,7 @@ use crate::core::free_slots::FreeSlots;
 use crate::index::{nth, nth_mut};
 use crate::memory::{room_for, AllocError};
 use crate::ticks::LAST_STAMP;
-use crate::wheel::Beside;
+use crate::wheels::Beside;
 use alloc::vec::Vec;
 use core::mem;
 
@@ -26,12 +26,12 @@ pub struct Held<T> {
 }
 
 // A slot as it lies in memory: one row, so that an insert and a removal touch one line.
-struct Cell<T> {
-    stamp: u32,
+pub(crate) struct Cell<T> {
+    pub(crate) stamp: u32,
     // The birth stamp of what it holds, and 0 where it holds nothing.
-    born: u32,
+    pub(crate) born: u32,
     // What it holds, or a value that was let go and is set aside here.
-    value: Option<T>,
+    pub(crate) value: Option<T>,
 }
 
 impl<T> Cell<T> {
@@ -128,15 +128,15 @@ impl<T> Cell<T> {
 /// The fixed row of slots.
 pub struct Slots<T> {
     last: u32,
-    held_count: usize,
+    pub(crate) held_count: usize,
     /// How many slots a fill may take: the free ones, and those of `deferred`.
-    free_count: usize,
-    cells: Vec<Cell<T>>,
-    free: FreeSlots,
+    pub(crate) free_count: usize,
+    pub(crate) cells: Vec<Cell<T>>,
+    pub(crate) free: FreeSlots,
     /// The slots whose value waits for its drop, and which have a stamp left.
-    deferred: DeferredDrops,
+    pub(crate) deferred: DeferredDrops,
     /// The worn slots whose value waits for its drop.
-    deferred_worn: DeferredDrops,
+    pub(crate) deferred_worn: DeferredDrops,
 }
 
 impl<T> Slots<T> {

@@ -53,6 +53,7 @@ impl fmt::Display for Look {
 
 /// Why a call by key is refused.
 #[derive(Clone, Copy, Debug, PartialEq, Eq)]
+#[non_exhaustive]
 pub enum CallError {
     /// The deadline is beyond the last tick, which is `limit`.
     TooFar {

@@ -16,6 +16,15 @@ const STEPS: u32 = 256;
 /// How many entries are taken out under one lock.
 const TAKEN_AT_ONCE: usize = 64;
 
+/// What the steps under one lock came to.
+pub(crate) enum Step<T> {
+    Took(Expired<T>),
+    /// More may be due.
+    Works,
+    /// Nothing is due.
+    Rests,
+}
+
 /// A place in the line of those that wait.
 struct Seat<'q, T> {
     shared: &'q Shared<T>,
@@ -108,6 +117,20 @@ impl<T> Shared<T> {
             }
         }
         least.1
+    }
+
+    /// Takes an entry out that is due, by as many steps as are made under one lock.
+    pub fn take_step(&self) -> Step<T> {
+        let now = self.front.time.tick();
+        let Some((at, place)) = self.most_due(now) else {
+            return Step::Rests;
+        };
+        let mut out = None;
+        self.poll(at, place, now, |expired| {
+            out = Some(expired);
+            false
+        });
+        out.map_or(Step::Works, |out| Step::Took(self.expired(at, out, now)))
     }
 
     /// An entry that is due.

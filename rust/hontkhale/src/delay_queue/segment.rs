@@ -1,9 +1,10 @@
 //! A queue's rows of shards, which are made one after the other as entries come.
 
+use crate::core::CoreError;
 use crate::delay_queue::dropping::{Dropping, LetGo};
 use crate::delay_queue::waking::NEVER;
 use crate::lasting::{LastingConfig, LastingQueue, LockedLasting};
-use crate::{CoreError, EntryId};
+use crate::ticks::EntryId;
 use std::ops::{Deref, DerefMut};
 use std::sync::atomic::{AtomicBool, AtomicU64, AtomicUsize, Ordering::SeqCst};
 use std::sync::Arc;

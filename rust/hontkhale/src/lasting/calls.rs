@@ -128,7 +128,7 @@ impl<T> LastingQueue<T> {
     /// # Errors
     /// TooFar, Missing, also for an entry of an earlier generation, WasCancelled and Worn.
     ///
-    /// [`DelayCore::reset`]: crate::DelayCore::reset
+    /// [`DelayCore::reset`]: crate::owner::DelayCore::reset
     pub fn reset(&self, entry: &EntryId, when: u64) -> Result<Key, CoreError> {
         let mut shard = self.lock(self.place_of(entry.shard()));
         let (answer, leaver) = shard.attended.reset(entry, when);
@@ -136,7 +136,7 @@ impl<T> LastingQueue<T> {
         answer
     }
 
-    /// As [`DelayCore::remove`](crate::DelayCore::remove) of the shard of the entry's number.
+    /// As [`DelayCore::remove`](crate::owner::DelayCore::remove) of the shard of the entry's number.
     ///
     /// # Errors
     /// Missing, also for an entry of an earlier generation, and WasCancelled.
@@ -152,7 +152,7 @@ impl<T> LastingQueue<T> {
     /// # Errors
     /// As `remove`.
     ///
-    /// [`DelayCore::deadline`]: crate::DelayCore::deadline
+    /// [`DelayCore::deadline`]: crate::owner::DelayCore::deadline
     pub fn deadline(&self, entry: &EntryId) -> Result<u64, CoreError> {
         let mut shard = self.lock(self.place_of(entry.shard()));
         let (answer, leaver) = shard.deadline_quietly(entry);
@@ -166,7 +166,7 @@ impl<T> LastingQueue<T> {
     /// # Errors
     /// Unknown out of range, and TickTooLarge beyond the last tick.
     ///
-    /// [`DelayCore::poll`]: crate::DelayCore::poll
+    /// [`DelayCore::poll`]: crate::owner::DelayCore::poll
     pub fn poll(&self, place: usize, tick: u64) -> Result<Turn<T>, LastingError> {
         if place >= self.shards() {
             return Err(LastingError::Unknown);

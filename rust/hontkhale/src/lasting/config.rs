@@ -9,9 +9,9 @@ pub const SHARD_LIMIT: usize = 64;
 /// What a lasting queue is made by.
 #[derive(Clone, Copy, Debug, PartialEq, Eq)]
 pub struct LastingConfig {
-    /// The number of shards, from 2 to [`SHARD_LIMIT`](crate::SHARD_LIMIT).
+    /// The number of shards, from 2 to [`SHARD_LIMIT`](crate::shards::SHARD_LIMIT).
     pub shards: usize,
-    /// The number of slots of each shard, from 1 to [`CAPACITY_LIMIT`](crate::CAPACITY_LIMIT).
+    /// The number of slots of each shard, from 1 to [`CAPACITY_LIMIT`](crate::owner::CAPACITY_LIMIT).
     pub capacity: usize,
     /// The stamp after which a slot is worn, from 1 to [`LAST_STAMP`].
     pub last_stamp: u32,
@@ -19,8 +19,9 @@ pub struct LastingConfig {
 
 /// Which number of a configuration is out of its range.
 #[derive(Clone, Copy, Debug, PartialEq, Eq)]
+#[non_exhaustive]
 pub enum BadLastingNumber {
-    /// The number of shards isn't 2 to [`SHARD_LIMIT`](crate::SHARD_LIMIT).
+    /// The number of shards isn't 2 to [`SHARD_LIMIT`](crate::shards::SHARD_LIMIT).
     BadShards(usize),
     /// The capacity isn't 1 to [`CAPACITY_LIMIT`].
     BadCapacity(usize),

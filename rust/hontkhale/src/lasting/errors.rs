@@ -5,6 +5,7 @@ use core::fmt;
 
 /// Why a call of a lasting queue is refused.
 #[derive(Clone, Copy, Debug, PartialEq, Eq)]
+#[non_exhaustive]
 pub enum LastingError {
     /// The shard's queue refused it.
     Core(CoreError),
@@ -25,10 +26,18 @@ impl fmt::Display for LastingError {
 }
 
 #[cfg(feature = "std")]
-impl std::error::Error for LastingError {}
+impl std::error::Error for LastingError {
+    fn source(&self) -> Option<&(dyn std::error::Error + 'static)> {
+        match self {
+            LastingError::Core(it) => Some(it),
+            _ => None,
+        }
+    }
+}
 
 /// Why a shard isn't opened again.
 #[derive(Clone, Copy, Debug, PartialEq, Eq)]
+#[non_exhaustive]
 pub enum ReopenError {
     /// No higher number is left, or more entries were inserted than a tally counts.
     NumbersSpent,
@@ -50,6 +59,7 @@ impl std::error::Error for ReopenError {}
 
 /// Why no handle is made, or why one takes no new caller on.
 #[derive(Clone, Copy, Debug, PartialEq, Eq)]
+#[non_exhaustive]
 pub enum HandleError {
     /// A shard has issued as many callers of this generation as it may, given back or not.
     TooManyHandles {

@@ -19,7 +19,8 @@ impl<T> LastingQueue<T> {
     /// Unknown out of range, before all else, and then TickTooLarge beyond the last tick. Nothing changes then.
     ///
     /// ```
-    /// use hontkhale::{LastingConfig, LastingQueue, ManyTurn};
+    /// use hontkhale::lasting::{LastingConfig, LastingQueue};
+    /// use hontkhale::owner::ManyTurn;
     ///
     /// # fn main() -> Result<(), Box<dyn std::error::Error>> {
     /// let queue = LastingQueue::new(LastingConfig::of(2, 1_000))?;

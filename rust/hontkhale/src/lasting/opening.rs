@@ -156,7 +156,7 @@ impl<T> LastingQueue<T> {
         let shard = self.lock(place);
         let found = shard.size();
         if found.capacity != size.capacity || found.last_stamp != size.last_stamp {
-            panic!("a closure of `lend` put the state of another shard here");
+            panic!("the state of another shard was put here");
         }
         shard
     }

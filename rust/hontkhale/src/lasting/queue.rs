@@ -13,7 +13,8 @@ use alloc::vec::Vec;
 /// A delay queue in shards, each behind a lock of its own, which are renewed one by one while the others serve.
 ///
 /// ```
-/// use hontkhale::{Kept, LastingConfig, LastingQueue, Turn};
+/// use hontkhale::lasting::{Kept, LastingConfig, LastingQueue};
+/// use hontkhale::owner::Turn;
 ///
 /// # fn main() -> Result<(), Box<dyn std::error::Error>> {
 /// let queue = LastingQueue::new(LastingConfig::of(2, 100))?;
@@ -80,7 +81,7 @@ impl<T> LastingQueue<T> {
 }
 
 impl<T> LastingQueue<T> {
-    /// The number of shards, from 2 to [`SHARD_LIMIT`](crate::SHARD_LIMIT).
+    /// The number of shards, from 2 to [`SHARD_LIMIT`](crate::shards::SHARD_LIMIT).
     pub fn shards(&self) -> usize {
         self.shards.len()
     }
@@ -111,7 +112,7 @@ impl<T> LastingQueue<T> {
         let waiting = nth(&self.waiting, place);
         let shard = waiting.taken(nth(&self.shards, place));
         if shard.number() as usize % self.shards.len() != place {
-            panic!("a closure of `lend` put the state of another shard here");
+            panic!("the state of another shard was put here");
         }
         shard
     }

@@ -8,14 +8,14 @@ use crate::lasting::shard::LastingShard;
 use crate::ticks::EntryId;
 
 impl<T> LastingShard<T> {
-    /// As [`DelayCore::sweep_some`](crate::DelayCore::sweep_some).
+    /// As [`DelayCore::sweep_some`](crate::owner::DelayCore::sweep_some).
     pub fn sweep_some(&mut self, from: usize, count: usize) -> Swept {
         let (swept, leaver) = self.attended.sweep_some(from, count);
         leaver.wake();
         swept
     }
 
-    /// As [`DelayCore::reap`](crate::DelayCore::reap).
+    /// As [`DelayCore::reap`](crate::owner::DelayCore::reap).
     ///
     /// # Errors
     /// Missing where no entry is linked with that number, index and birth stamp, and Live where it is found live.
@@ -46,7 +46,7 @@ impl<T> LastingQueue<T> {
     /// them, and tells the slot to go on from. The shard's lock is held for this piece alone:
     ///
     /// ```
-    /// use hontkhale::{LastingConfig, LastingQueue};
+    /// use hontkhale::lasting::{LastingConfig, LastingQueue};
     ///
     /// # fn main() -> Result<(), Box<dyn std::error::Error>> {
     /// let queue: LastingQueue<u8> = LastingQueue::new(LastingConfig::of(2, 100))?;

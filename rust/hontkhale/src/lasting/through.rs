@@ -18,7 +18,8 @@ impl<T> LastingQueue<T> {
     /// noted then.
     ///
     /// ```
-    /// use hontkhale::{LastingConfig, LastingQueue, Turn};
+    /// use hontkhale::lasting::{LastingConfig, LastingQueue};
+    /// use hontkhale::owner::Turn;
     /// use std::num::NonZeroU32;
     ///
     /// # fn main() -> Result<(), Box<dyn std::error::Error>> {

@@ -4,6 +4,7 @@ use core::fmt;
 
 /// Why a stream gives no entry.
 #[derive(Clone, Copy, Debug, PartialEq, Eq)]
+#[non_exhaustive]
 pub enum StreamFault {
     /// The tick of its source is beyond the last tick. A stream of a `SharedDelayQueue` has ended for good, and one of a
     /// `LastingQueue` goes on.

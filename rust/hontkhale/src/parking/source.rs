@@ -5,7 +5,7 @@ use std::time::{Duration, Instant};
 /// Says which tick it is.
 ///
 /// ```
-/// use hontkhale::TickSource;
+/// use hontkhale::streams::TickSource;
 ///
 /// struct At(u64);
 ///
@@ -24,7 +24,7 @@ pub trait TickSource {
 /// The whole milliseconds since an instant. It never goes back. Sources that share one start tell one time.
 ///
 /// ```
-/// use hontkhale::{MillisecondTicks, TickSource};
+/// use hontkhale::streams::{MillisecondTicks, TickSource};
 ///
 /// let mut ticks = MillisecondTicks::new();
 /// let first = ticks.now();

@@ -14,7 +14,8 @@ use alloc::vec::Vec;
 /// A handle that is dropped counts as out for good: see [`Handle::give_back`].
 ///
 /// ```
-/// use hontkhale::{CallError, Look, QueueConfig, SharedDelayQueue};
+/// use hontkhale::owner::{CallError, Look};
+/// use hontkhale::shards::{QueueConfig, SharedDelayQueue};
 ///
 /// let queue = SharedDelayQueue::new(QueueConfig::of(1, 100))?;
 /// let mut handle = queue.handle()?;
@@ -23,7 +24,7 @@ use alloc::vec::Vec;
 /// assert_eq!(handle.cancel(&key), Ok(150));
 /// assert_eq!(handle.extend(&key, 200), Err(CallError::Ended { how: Look::LookCancelled }));
 /// assert_eq!(handle.give_back(), 1);
-/// # Ok::<(), hontkhale::QueueError>(())
+/// # Ok::<(), hontkhale::shards::QueueError>(())
 /// ```
 pub struct Handle {
     callers: Vec<Caller>,
@@ -121,7 +122,7 @@ impl<T> SharedDelayQueue<T> {
     /// is no room for the callers, and then, shard by shard, as TooManyHandles where 1,024 callers were issued, given
     /// back or not, and as NoMemory. The callers that were issued before are given back then, but stay counted.
     pub fn handle(&self) -> Result<Handle, QueueError> {
-        let Ok(mut callers) = self.room_for_callers() else {
+        let Ok(mut callers) = self.row.room_for_each() else {
             return Err(QueueError::Core(CoreError::NoMemory));
         };
         for shard in 0..self.shards() {

@@ -3,7 +3,7 @@
 use crate::core::Tally;
 use crate::shards::state::ShardState;
 use crate::ticks::{EntryId, Key};
-use crate::wheel::Place;
+use crate::wheels::Place;
 
 impl<T> ShardState<T> {
     /// The number of the shard, which its keys carry.

@@ -2,7 +2,9 @@
 //! joined, values whose memory is counted, and numbers from a fixed generator.
 
 pub use crate::AllocError;
-use crate::{Expired, ExpiredStream, LastingStream, PacedStream, StreamFault, TickSource};
+use crate::core::Expired;
+use crate::lasting::LastingStream;
+use crate::streams::{ExpiredStream, PacedStream, StreamFault, TickSource};
 use std::cell::Cell;
 use std::error::Error;
 use std::fmt;

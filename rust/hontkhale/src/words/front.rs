@@ -7,7 +7,7 @@ use crate::words::keeper::Keeper;
 /// from any thread: [`DelayCore::issue`] gives a caller. All of its memory is taken here, but for each caller's own.
 ///
 /// # Errors
-/// BadConfig where the capacity isn't 1 to [`CAPACITY_LIMIT`](crate::CAPACITY_LIMIT), and else NoMemory.
+/// BadConfig where the capacity isn't 1 to [`CAPACITY_LIMIT`](crate::owner::CAPACITY_LIMIT), and else NoMemory.
 pub fn shared_queue<T>(capacity: usize) -> Result<DelayCore<T, Keeper>, CoreError> {
     numbered_queue(CoreConfig::of(capacity))
 }
@@ -19,8 +19,8 @@ pub fn shared_queue<T>(capacity: usize) -> Result<DelayCore<T, Keeper>, CoreErro
 /// BadConfig where the capacity isn't 1 to [`CAPACITY_LIMIT`] or the last stamp isn't 1 to [`LAST_STAMP`], and else
 /// NoMemory.
 ///
-/// [`CAPACITY_LIMIT`]: crate::CAPACITY_LIMIT
-/// [`LAST_STAMP`]: crate::LAST_STAMP
+/// [`CAPACITY_LIMIT`]: crate::owner::CAPACITY_LIMIT
+/// [`LAST_STAMP`]: crate::owner::LAST_STAMP
 pub fn numbered_queue<T>(config: CoreConfig) -> Result<DelayCore<T, Keeper>, CoreError> {
     if config.check().is_err() {
         return Err(CoreError::BadConfig);

@@ -14,6 +14,7 @@ pub const HANDLE_LIMIT: u64 = 1024;
 
 /// Why a keeper or a caller is not made.
 #[derive(Clone, Copy, Debug, PartialEq, Eq)]
+#[non_exhaustive]
 pub enum WordsError {
     /// The capacity is 0 or beyond [`CAPACITY_LIMIT`].
     BadConfig,
@@ -40,7 +41,7 @@ impl fmt::Display for WordsError {
 impl std::error::Error for WordsError {}
 
 /// Begins and ends the entries of a row of words, and issues the callers that extend and cancel them. A queue that
-/// [`shared_queue`](crate::shared_queue) makes has one.
+/// [`shared_queue`](crate::owner::shared_queue) makes has one.
 ///
 /// Where it is dropped, what is live by its words is ended as removed, and its callers are refused from then on. That
 /// takes a load a slot, and two atomic steps or more for each live one.

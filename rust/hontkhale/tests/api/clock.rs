@@ -1,9 +1,8 @@
 //! Ticks by std's clock: whole milliseconds since an instant, which never go back.
 
-use hontkhale::{
-    ExpiredStream, LastingConfig, LastingQueue, LastingStream, MillisecondTicks, QueueConfig, SharedDelayQueue,
-    TickSource,
-};
+use hontkhale::lasting::{LastingConfig, LastingQueue, LastingStream};
+use hontkhale::shards::{QueueConfig, SharedDelayQueue};
+use hontkhale::streams::{ExpiredStream, MillisecondTicks, TickSource};
 use std::task::{Context, Poll, Waker};
 use std::time::{Duration, Instant};
 
@@ -14,6 +13,7 @@ fn ago(length: Duration) -> Instant {
         .expect("a machine that has run for a while")
 }
 
+// promise: stream.tick-clock
 #[test]
 fn whole_milliseconds_that_never_go_back() {
     let mut ticks = MillisecondTicks::since(ago(Duration::from_micros(7_999)));
@@ -27,6 +27,7 @@ fn whole_milliseconds_that_never_go_back() {
 }
 
 // Who asks later is told no earlier tick.
+// promise: stream.tick-clock
 #[test]
 fn one_start_one_time() {
     let start = ago(Duration::from_millis(3));
@@ -42,6 +43,7 @@ fn a_start_in_the_future() {
     assert_eq!(ticks.now(), 0);
 }
 
+// promise: stream.tick-clock
 #[test]
 fn stream_by_a_clock() {
     let queue = SharedDelayQueue::new(QueueConfig::of(1, 8)).expect("a queue");
@@ -55,6 +57,7 @@ fn stream_by_a_clock() {
 }
 
 // The same source serves the stream of a lasting queue.
+// promise: parking.source-serves
 #[test]
 fn a_lasting_stream_by_a_clock() {
     let queue = LastingQueue::new(LastingConfig::of(2, 8)).expect("a queue");

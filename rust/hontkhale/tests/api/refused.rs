@@ -1,10 +1,13 @@
 //! Refusals that carry back what was handed in, by `?`.
 
-use hontkhale::{
-    shared_queue, CoreError, DelayCore, ExpiredStream, Keeper, Key, LastingConfig, LastingError, LastingQueue,
-    MillisecondTicks, QueueConfig, QueueError, Refused, RenewError, SharedDelayQueue, TtlCache, VecWords, LAST_TICK,
-};
+use hontkhale::cache::TtlCache;
+use hontkhale::lasting::{LastingConfig, LastingError, LastingQueue};
+use hontkhale::owner::{shared_queue, CoreError, DelayCore, Keeper, Key, RenewError, VecWords, LAST_TICK};
+use hontkhale::shards::{QueueConfig, QueueError, SharedDelayQueue};
+use hontkhale::streams::{ExpiredStream, MillisecondTicks};
+use hontkhale::{DelayQueue, Refused};
 use std::error::Error;
+use std::time::Duration;
 
 /// It can't be shown, which no refusal asks of it.
 #[derive(PartialEq)]
@@ -79,4 +82,61 @@ fn a_refusal_is_shown_as_its_error_is() {
     assert_eq!(format!("{refused:?}"), format!("Refused {{ error: {TOO_FAR:?}, .. }}"));
     let boxed: Box<dyn Error> = Box::new(refused);
     assert!(boxed.source().is_none());
+}
+
+/// The first number that is out of its range is named.
+#[test]
+fn a_bad_configuration_names_its_number() {
+    let says = |shards, capacity, last_stamp| {
+        let config = QueueConfig {
+            shards,
+            capacity,
+            last_stamp,
+        };
+        let made = SharedDelayQueue::<u8>::new(config);
+        assert_eq!(made.is_ok(), config.check().is_ok());
+        config.check().map_err(|number| number.to_string())
+    };
+    assert_eq!(says(1, 1, 1), Ok(()));
+    for (shards, capacity, last_stamp, said) in [
+        (0, 0, 0, "the number of shards is 0, and not 1 to 64"),
+        (65, 10, 10, "the number of shards is 65, and not 1 to 64"),
+        (64, 65_537, 0, "the capacity is 65537, and not 1 to 65536"),
+        (1, 65_536, 1_048_576, "the last stamp is 1048576, and not 1 to 1048575"),
+    ] {
+        assert_eq!(says(shards, capacity, last_stamp), Err(said.to_string()));
+    }
+    let refused = SharedDelayQueue::<u8>::new(QueueConfig::of(0, 1)).unwrap_err();
+    assert!(refused.to_string().contains("its `check`"), "{refused}");
+}
+
+/// The error of a shard's queue is had from that of the whole.
+#[test]
+fn a_source_is_the_error_within() {
+    let refused = QueueError::Core(TOO_FAR);
+    let source = refused.source().and_then(|source| source.downcast_ref::<CoreError>());
+    assert_eq!(source, Some(&TOO_FAR));
+    assert!(QueueError::Unknown.source().is_none());
+    assert_eq!(
+        LastingError::Core(TOO_FAR).source().map(|it| it.to_string()),
+        Some(TOO_FAR.to_string())
+    );
+    // Of a refusal it is the same.
+    assert!(Refused::from((refused, Mute(1))).source().is_some());
+}
+
+/// A value that is neither shown nor lasting is refused into a `Box<dyn Error>` by the question mark alone.
+#[test]
+fn a_refused_insert_of_the_one_queue_is_an_error() {
+    fn inserted<'v>(queue: &DelayQueue<&'v Mute>, value: &'v Mute, after: Duration) -> Result<(), Box<dyn Error + 'v>> {
+        queue.insert(value, after)?;
+        Ok(())
+    }
+    let value = Mute(6);
+    let queue = DelayQueue::new();
+    assert!(inserted(&queue, &value, Duration::ZERO).is_ok());
+    let refused = inserted(&queue, &value, Duration::MAX).unwrap_err();
+    assert_eq!(refused.to_string(), "the deadline is too far");
+    let refused = queue.insert(&value, Duration::MAX).unwrap_err();
+    assert!(refused.into_inner() == &Mute(6) && queue.len() == 1);
 }

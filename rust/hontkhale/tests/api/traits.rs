@@ -1,6 +1,15 @@
 //! Which types go to another thread, and which of them threads may share: both where their values do.
 
-use hontkhale::*;
+use hontkhale::cache::{CountedCache, Seen, TtlCache};
+use hontkhale::lasting::{LastingError, LastingHandle, LastingPacedStream, LastingQueue, LastingStream};
+use hontkhale::owner::{
+    CallError, Caller, CoreError, DelayCore, Entries, EntryId, Expired, Keeper, Key, LiveEntry, Piece, PlainQueue,
+    PlainTurn, Removed, Turn, VecWords, WordsError,
+};
+use hontkhale::sessions::IdleSessions;
+use hontkhale::shards::{Handle, QueueConfig, QueueError, SharedDelayQueue};
+use hontkhale::streams::{ExpiredStream, MillisecondTicks, PacedStream, TickSource};
+use hontkhale::DelayQueue;
 
 // A value that may be sent and not shared.
 type Sent = std::cell::Cell<u64>;
@@ -42,7 +51,7 @@ fn what_is_sent() {
 fn what_is_shared() {
     shares::<SharedDelayQueue<Sent>>();
     shares::<LastingQueue<Sent>>();
-    shares::<HandlePool<Sent>>();
+    shares::<DelayQueue<Sent>>();
     shares::<IdleSessions>();
     shares::<ExpiredStream<'_, Sent, At>>();
     shares::<PacedStream<'_, Sent, At>>();

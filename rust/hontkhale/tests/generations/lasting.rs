@@ -2,7 +2,8 @@
 
 use super::work::{told, Done, Numbers, Worker};
 use super::Fail;
-use hontkhale::{CoreError, Kept, LastingConfig, LastingError, LastingQueue, LastingTotals, LAST_STAMP};
+use hontkhale::lasting::{Kept, LastingConfig, LastingError, LastingQueue, LastingTotals};
+use hontkhale::owner::{CoreError, LAST_STAMP};
 use std::thread;
 
 // The rounds of one owner, each of twelve inserts.
@@ -59,6 +60,7 @@ fn by_one(queue: &Numbers) -> Result<Done, Fail> {
     Ok(worker.finish())
 }
 
+// promise: lasting.generations-last
 #[test]
 fn one_owner() -> Result<(), Fail> {
     for last_stamp in 2..4 {
@@ -87,6 +89,7 @@ fn by_four(queue: &Numbers) -> Result<Done, Fail> {
     Ok(inserted.fold(poller.finish(), Done::with))
 }
 
+// promise: lasting.generations-last
 #[test]
 fn four_threads_over_four_shards() -> Result<(), Fail> {
     for last_stamp in 2..4 {
@@ -127,6 +130,7 @@ fn goes_on(queue: &Numbers) -> Result<(u64, u64, u64), Fail> {
 
 // Each shard has one slot with all of its stamps. Where those of the first are spent the second takes a few entries,
 // until the first is opened again. None is refused.
+// promise: lasting.shard-holds
 #[test]
 fn one_slot_goes_on() -> Result<(), Fail> {
     let queue = LastingQueue::new(LastingConfig::of(2, 1))?;

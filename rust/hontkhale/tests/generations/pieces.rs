@@ -2,7 +2,8 @@
 
 use super::work::{Entries, Numbers};
 use super::Fail;
-use hontkhale::{Kept, LastingConfig, LastingQueue, Piece, Turn};
+use hontkhale::lasting::{Kept, LastingConfig, LastingQueue};
+use hontkhale::owner::{Piece, Turn};
 
 // The inserts of a queue.
 const TURNS: u64 = 50_000;
@@ -50,6 +51,7 @@ fn pieces_of(queue: &Numbers, most: u32) -> Result<(), Fail> {
 
 // Each slot is worn after its second entry, so shards are opened again time and again. A piece of one step leaves most
 // of a full slot for later.
+// promise: lasting.pieces-go
 #[test]
 fn pieces_over_renewals() -> Result<(), Fail> {
     let config = LastingConfig {

@@ -1,7 +1,7 @@
 //! A queue that goes on for years: it is renewed over fresh words each time that its slots are worn.
 
 use super::Fail;
-use hontkhale::{CoreConfig, CoreError, DelayCore, Keeper, Key, RenewError, VecWords};
+use hontkhale::owner::{CoreConfig, CoreError, DelayCore, Keeper, Key, RenewError, VecWords};
 
 // The slots of a queue.
 const CAPACITY: usize = 2;
@@ -115,6 +115,7 @@ macro_rules! renewed {
 renewed!(VecWords, plain);
 renewed!(Keeper, shared);
 
+// promise: renew.keys-callers
 #[test]
 fn plain_words_last() -> Result<(), Fail> {
     plain::so_often(1, 100_000)?;
@@ -122,6 +123,7 @@ fn plain_words_last() -> Result<(), Fail> {
     plain::so_often(3, 50_000)
 }
 
+// promise: renew.keys-callers
 #[test]
 fn shared_words_last() -> Result<(), Fail> {
     shared::so_often(1, 40_000)?;
@@ -130,6 +132,7 @@ fn shared_words_last() -> Result<(), Fail> {
 }
 
 // A loop of one slot's worth goes on past the last stamp there is.
+// promise: renew.slot-takes
 #[test]
 fn three_million_inserts_go_on() -> Result<(), Fail> {
     let mut queue: DelayCore<u64, VecWords> = DelayCore::with_capacity(1)?;

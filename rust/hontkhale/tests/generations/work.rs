@@ -1,7 +1,8 @@
 //! What a thread does on a lasting queue, and what it counts of it.
 
 use super::Fail;
-use hontkhale::{CallError, Kept, Key, LastingError, LastingHandle, LastingQueue, Turn};
+use hontkhale::lasting::{Kept, LastingError, LastingHandle, LastingQueue};
+use hontkhale::owner::{CallError, Key, Turn};
 
 /// A queue of numbers in boxes.
 pub type Numbers = LastingQueue<Box<u64>>;

@@ -3,7 +3,8 @@
 use super::join::join;
 use super::numbers::{insert, pause, Gate, Numbers, ONE_AND_FOUR, TURNS};
 use super::Fail;
-use hontkhale::{Handle, Key, Look, QueueError, SharedDelayQueue};
+use hontkhale::owner::{Key, Look};
+use hontkhale::shards::{Handle, QueueError, SharedDelayQueue};
 
 // The extends of each of the two threads at an entry.
 const LINKS: u64 = 200;
@@ -70,6 +71,7 @@ fn chains(queue: &Numbers, links: u64) -> Result<(), Fail> {
 }
 
 // A body that runs the two threads one after the other gives up.
+// promise: shards.two-handles
 #[test]
 fn chain_of_extends() -> Result<(), Fail> {
     for config in ONE_AND_FOUR {
@@ -121,6 +123,7 @@ fn in_each_shard(queue: &Numbers) -> Result<(), Fail> {
 
 // An extend that takes the shard's lock (extend_takes_lock) gets no answer here: `calls` has no `Wait` to give it, and
 // one that found a lock elsewhere would wait for the holder, which waits for the answer and gives up.
+// promise: shards.two-handles
 #[test]
 fn handle_calls_while_the_shard_is_held() -> Result<(), Fail> {
     for config in ONE_AND_FOUR {

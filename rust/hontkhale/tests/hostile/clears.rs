@@ -3,7 +3,8 @@
 use super::join::join;
 use super::numbers::{fill, Gate, Numbers, ONE_AND_FOUR, ROUNDS, TURNS};
 use super::Fail;
-use hontkhale::{Handle, Key, QueueConfig, QueueError, SharedDelayQueue, Totals};
+use hontkhale::owner::Key;
+use hontkhale::shards::{Handle, QueueConfig, QueueError, SharedDelayQueue, Totals};
 
 // How many cancels of those keys are accepted. None where no other thread comes.
 fn cancel_all(handle: &mut Handle, keys: &[Key], gate: &Gate) -> Option<u64> {
@@ -147,11 +148,13 @@ fn rounds(other: Other) -> Result<(), Fail> {
     Ok(())
 }
 
+// promise: shards.entry-ends
 #[test]
 fn cancels_against_clear() -> Result<(), Fail> {
     rounds(Other::Clears)
 }
 
+// promise: shards.entry-ends
 #[test]
 fn cancels_against_sweep() -> Result<(), Fail> {
     rounds(Other::Sweeps)
@@ -159,6 +162,7 @@ fn cancels_against_sweep() -> Result<(), Fail> {
 
 // Of an entry's reset and the cancel by its first key one is accepted: a cancelled entry isn't reset, and the key of a
 // reset one is stale.
+// promise: shards.entry-ends
 #[test]
 fn cancels_against_resets() -> Result<(), Fail> {
     rounds(Other::Resets)

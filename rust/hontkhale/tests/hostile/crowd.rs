@@ -5,7 +5,8 @@ use super::numbers::{Gate, Numbers};
 use super::owners::Owner;
 use super::strangers::Stranger;
 use super::Fail;
-use hontkhale::{Handle, SharedDelayQueue, Totals, Turn, LAST_TICK};
+use hontkhale::owner::{Turn, LAST_TICK};
+use hontkhale::shards::{Handle, SharedDelayQueue, Totals};
 use std::sync::atomic::AtomicU64;
 use std::thread;
 
@@ -127,6 +128,7 @@ fn adds_up(queue: &Numbers, counts: &Counts) -> Result<(), Fail> {
     Ok(())
 }
 
+// promise: shards.entry-ends
 #[test]
 fn four_handles_and_four_pollers() -> Result<(), Fail> {
     // On a busy machine the threads may run one after the other, and no handle meets a live entry: such a run is made

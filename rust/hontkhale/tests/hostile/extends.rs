@@ -3,7 +3,8 @@
 use super::join::join;
 use super::numbers::{fill, Gate, Numbers, ENTRIES, ONE_AND_FOUR, ROUNDS};
 use super::Fail;
-use hontkhale::{Handle, Key, QueueConfig, SharedDelayQueue, Totals, Turn};
+use hontkhale::owner::{Key, Turn};
+use hontkhale::shards::{Handle, QueueConfig, SharedDelayQueue, Totals};
 
 // The tick at which each entry is due, extended or not.
 const LATE: u64 = 2000;
@@ -156,6 +157,7 @@ fn races_afresh(config: QueueConfig) -> Result<(), Fail> {
     races(&queue, &keys)
 }
 
+// promise: shards.200-entries
 #[test]
 fn extends_cancels_and_polls() -> Result<(), Fail> {
     for config in ONE_AND_FOUR {

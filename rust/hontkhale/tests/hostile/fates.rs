@@ -1,6 +1,7 @@
 //! What a crowd's threads are told of the stamps of a queue's slots, and what they count.
 
-use hontkhale::{EntryId, Key, QueueConfig};
+use hontkhale::owner::{EntryId, Key};
+use hontkhale::shards::QueueConfig;
 
 const SHARDS: usize = 4;
 

@@ -2,10 +2,8 @@
 
 use super::numbers::{fill, insert, made, Numbers, ONE_AND_FOUR};
 use super::Fail;
-use hontkhale::{
-    CallError, CoreError, EntryId, Handle, Key, Look, QueueConfig, QueueError, SharedDelayQueue, Totals, Turn,
-    LAST_STAMP, LAST_TICK,
-};
+use hontkhale::owner::{CallError, CoreError, EntryId, Key, Look, Turn, LAST_STAMP, LAST_TICK};
+use hontkhale::shards::{Handle, QueueConfig, QueueError, SharedDelayQueue, Totals};
 
 const GREATEST: u32 = 4294967295;
 
@@ -71,6 +69,7 @@ fn tries_keys(queue: &Numbers, handle: &mut Handle) -> Result<(), Fail> {
 
 // Each key that isn't the entry's own is refused, and the entry stays as it was. Calls without a lock don't look at the
 // birth stamp.
+// promise: shards.keys-entries
 #[test]
 fn forged_keys_through_a_handle() -> Result<(), Fail> {
     let (queue, mut handle) = made(QueueConfig::of(4, 4))?;
@@ -100,6 +99,7 @@ fn tries_entries(queue: &Numbers) -> Result<(), Fail> {
     Ok(())
 }
 
+// promise: shards.keys-entries
 #[test]
 fn forged_entries_of_the_queue() -> Result<(), Fail> {
     tries_entries(&SharedDelayQueue::new(QueueConfig::of(4, 4))?)
@@ -137,6 +137,7 @@ fn made_alike(config: QueueConfig) -> Result<(), Fail> {
 }
 
 // The keys of a full queue are unknown to a fresh one that was made alike.
+// promise: shards.keys-entries
 #[test]
 fn keys_of_another_queue() -> Result<(), Fail> {
     for config in ONE_AND_FOUR {
@@ -162,6 +163,7 @@ fn inserts_and_cancels(queue: &Numbers, handle: &mut Handle, shard: usize) -> Re
 }
 
 // An entry that is due when it is put in, and cancelled before the next poll, leaves nothing linked.
+// promise: shards.keys-entries
 #[test]
 fn poll_insert_cancel_poll() -> Result<(), Fail> {
     for config in ONE_AND_FOUR {

@@ -1,7 +1,8 @@
 //! Queues of numbers, and how the threads of a race wait for one another.
 
 use super::Fail;
-use hontkhale::{Handle, Key, QueueConfig, QueueError, SharedDelayQueue, LAST_STAMP};
+use hontkhale::owner::{Key, LAST_STAMP};
+use hontkhale::shards::{Handle, QueueConfig, QueueError, SharedDelayQueue};
 use std::hint::spin_loop;
 use std::sync::atomic::AtomicU64;
 use std::sync::atomic::Ordering::SeqCst;

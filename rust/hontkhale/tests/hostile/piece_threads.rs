@@ -3,7 +3,8 @@
 use super::join::join;
 use super::numbers::ROUNDS;
 use super::Fail;
-use hontkhale::{Handle, Key, Piece, QueueConfig, SharedDelayQueue, Turn};
+use hontkhale::owner::{Key, Piece, Turn};
+use hontkhale::shards::{Handle, QueueConfig, SharedDelayQueue};
 use std::hint;
 use std::sync::atomic::{AtomicBool, Ordering};
 
@@ -75,6 +76,7 @@ fn all_come(queue: &Boxes) -> Result<(), Fail> {
 }
 
 // Each entry ends once: so many came, their values add up, and the shard counted each once.
+// promise: shards.pieces-give
 #[test]
 fn a_thread_inserts_between_pieces() -> Result<(), Fail> {
     for _ in 0..ROUNDS {
@@ -141,6 +143,7 @@ fn all_end_once(steps: u32) -> Result<(), Fail> {
     Ok(())
 }
 
+// promise: shards.pieces-give
 #[test]
 fn a_thread_extends_and_cancels_between_pieces() -> Result<(), Fail> {
     for _ in 0..ROUNDS {

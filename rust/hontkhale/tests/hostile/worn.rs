@@ -2,7 +2,8 @@
 
 use super::numbers::{insert, made, Numbers};
 use super::Fail;
-use hontkhale::{CallError, CoreError, Handle, Key, LockedShard, Look, QueueConfig, QueueError, Turn};
+use hontkhale::owner::{CallError, CoreError, Key, Look, Turn};
+use hontkhale::shards::{Handle, QueueConfig, QueueError, ShardState};
 
 // What a new entry is refused with where the one slot is worn.
 const FULL: QueueError = QueueError::Core(CoreError::Full { linked: 0, worn: 1 });
@@ -44,13 +45,14 @@ fn wears_out(queue: &Numbers, handle: &mut Handle) -> Result<(), Fail> {
     Ok(())
 }
 
+// promise: shards.keys-entries
 #[test]
 fn keys_of_a_worn_slot() -> Result<(), Fail> {
     let (queue, mut handle) = made(config(2))?;
     wears_out(&queue, &mut handle)
 }
 
-fn resets(shard: &mut LockedShard<usize>, key: Key, times: u32) -> Result<Key, CoreError> {
+fn resets(shard: &mut ShardState<usize>, key: Key, times: u32) -> Result<Key, CoreError> {
     let entry = key.entry();
     let mut last = key;
     for _ in 0..times {
@@ -61,7 +63,8 @@ fn resets(shard: &mut LockedShard<usize>, key: Key, times: u32) -> Result<Key, C
 
 // Resets an entry to tick 10 again and again, under one lock. The last key.
 fn reset_often(queue: &Numbers, key: Key, times: u32) -> Result<Key, QueueError> {
-    Ok(resets(&mut queue.enter(0)?, key, times)?)
+    let mut shard = queue.enter(0)?;
+    Ok(resets(&mut shard, key, times)?)
 }
 
 // The key of the same entry at another stamp.
@@ -109,6 +112,7 @@ fn is_worn(queue: &Numbers, handle: &mut Handle, key: &Key) {
 
 // 1,047,575 resets of one entry come to the first of its slot's last 1,000 stamps. At the last one it can't be reset
 // any more, and when it is out its slot is never used again.
+// promise: shards.slot-last
 #[test]
 fn last_thousand_stamps() -> Result<(), Fail> {
     let (queue, mut handle) = made(QueueConfig::of(1, 1))?;
@@ -163,6 +167,7 @@ fn ends_worn(queue: &Numbers, handle: &mut Handle, row: &(&str, Ending, Look)) -
     Ok(())
 }
 
+// promise: shards.slot-last
 #[test]
 fn worn_however_it_ended() -> Result<(), Fail> {
     for row in ENDINGS {

@@ -1,11 +1,13 @@
 //! The calls that take no memory: each is made where every allocation would be seen.
 
 use super::refusing::without_memory;
-use hontkhale::{
-    numbered_queue, CoreConfig, CoreError, DelayCore, ExpiredStream, Handle, HandlePool, Key, LastingConfig,
-    LastingHandle, LastingQueue, Look, PlainQueue, PlainTurn, QueueConfig, SharedDelayQueue, TickSource, TtlCache,
-    Turn, HANDLE_LIMIT,
+use hontkhale::cache::TtlCache;
+use hontkhale::lasting::{LastingConfig, LastingHandle, LastingQueue};
+use hontkhale::owner::{
+    numbered_queue, CoreConfig, CoreError, DelayCore, Key, Look, PlainQueue, PlainTurn, Turn, HANDLE_LIMIT,
 };
+use hontkhale::shards::{Handle, QueueConfig, SharedDelayQueue};
+use hontkhale::streams::{ExpiredStream, TickSource};
 use std::task::{Context, Waker};
 
 type Boxes = SharedDelayQueue<Box<u64>>;
@@ -27,7 +29,7 @@ macro_rules! calls_of_an_owner {
         assert!(matches!(queue.poll(600), Ok(Turn::Waiting { .. })));
         while queue
             .poll_some(800, 1)
-            .is_ok_and(|piece| matches!(piece, hontkhale::Piece::Working))
+            .is_ok_and(|piece| matches!(piece, hontkhale::owner::Piece::Working))
         {}
         assert!(queue.peek().is_some() && queue.next_wake().is_some());
         assert_eq!((queue.sweep(), queue.sweep_some(0, 9).reaped), (0, 0));
@@ -40,6 +42,7 @@ fn boxes() -> [Box<u64>; 5] {
     [1, 2, 3, 4, 5].map(Box::new)
 }
 
+// promise: core.new-issue
 #[test]
 fn calls_take_no_memory() {
     let mut plain = DelayCore::with_capacity(4).expect("a queue");
@@ -53,6 +56,7 @@ fn calls_take_no_memory() {
 }
 
 // Callers are issued, up to the limit, without memory, and make their calls so.
+// promise: words.caller-takes
 #[test]
 fn callers_take_no_memory() {
     for capacity in [4, 4_096] {
@@ -114,6 +118,7 @@ fn calls_by_shard(queue: &Boxes, shard: usize, value: Box<u64>) {
     );
 }
 
+// promise: shards.memory-making
 #[test]
 fn other_calls_take_no_memory() {
     let queue = Boxes::new(QueueConfig::of(3, 4)).expect("a queue");
@@ -130,6 +135,7 @@ fn other_calls_take_no_memory() {
 }
 
 // A handle is refused behind the limit, and takes memory before that is known.
+// promise: shards.callers-issued
 #[test]
 fn issued_callers_take_no_memory() {
     let queue = Boxes::new(QueueConfig::of(3, 4)).expect("a queue");
@@ -179,17 +185,12 @@ fn the_plain_twin_takes_no_memory() {
 }
 
 #[test]
-fn reads_of_a_cache_and_a_pool_take_no_memory() {
+fn reads_of_a_cache_take_no_memory() {
     let mut cache: TtlCache<char, Box<u64>> = TtlCache::with_capacity(4).expect("a cache");
-    let pool = HandlePool::new(2).expect("a pool");
     assert!(cache.put('a', Box::new(1), 10, 0).is_ok());
-    let handle = Box::new(7);
     without_memory(|| {
         assert_eq!(cache.get(&'a', 5).map(|value| **value), Some(1));
         assert_eq!(cache.renew(&'a', 20, 5), Ok(25));
         assert_eq!(cache.purge(25), Ok(1));
-        assert!(pool.put(handle).is_ok());
-        assert_eq!(pool.lend().map(|lent| **lent), Some(7));
-        assert_eq!(pool.idle(), 1);
     });
 }

@@ -1,12 +1,16 @@
 //! The calls that take memory, a row for each: how many allocations it has, and which of them can't be refused.
 
 use super::refusing::{refusing, used};
-use hontkhale::replay::{run, ReplayFault};
-use hontkhale::{
-    numbered_queue, AllocError, CoreConfig, CoreError, DelayCore, HandleError, HandlePool, IdleSessions, Keeper, Kept,
-    LastingConfig, LastingQueue, PlainQueue, QueueConfig, QueueError, ReopenError, SharedDelayQueue, TtlCache, Turn,
-    WheelError, WordsError, LAST_STAMP,
+use hontkhale::cache::TtlCache;
+use hontkhale::lasting::{HandleError, Kept, LastingConfig, LastingQueue, ReopenError};
+use hontkhale::owner::{
+    numbered_queue, CoreConfig, CoreError, DelayCore, Keeper, PlainQueue, Turn, WordsError, LAST_STAMP,
 };
+use hontkhale::replay::{run, ReplayFault};
+use hontkhale::sessions::IdleSessions;
+use hontkhale::shards::{QueueConfig, QueueError, SharedDelayQueue};
+use hontkhale::wheel::WheelError;
+use hontkhale::AllocError;
 
 #[derive(Clone, Copy, Debug, PartialEq)]
 struct NoMemory;
@@ -262,12 +266,6 @@ const ROWS: &[Row] = &[
         allocations: 1,
         aborting: &[],
         makes: login,
-    },
-    Row {
-        name: "a pool",
-        allocations: 1,
-        aborting: &[],
-        makes: |grants| asks(grants, || HandlePool::<Box<u64>>::new(4)),
     },
     Row {
         name: "a script",

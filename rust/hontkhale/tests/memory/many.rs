@@ -1,7 +1,9 @@
 //! A poll that takes out many entries takes no memory: they go to the caller's own row.
 
 use super::refusing::without_memory;
-use hontkhale::{LastingConfig, LastingQueue, ManyTurn, QueueConfig, SharedDelayQueue};
+use hontkhale::lasting::{LastingConfig, LastingQueue};
+use hontkhale::owner::ManyTurn;
+use hontkhale::shards::{QueueConfig, SharedDelayQueue};
 
 #[test]
 fn polls_for_many_take_no_memory() {

@@ -7,10 +7,10 @@ use super::shard::{Row, Shard};
 use super::ticks::{deadline, key, tick, ROUND};
 use super::value::{Living, Value};
 use super::wakes::Poller;
-use hontkhale::{
-    CoreError, Ended, EntryId, Expired, Kept, Key, LastingConfig, LastingError, LastingHandle, LastingQueue,
-    LastingTally, LastingTotals, Piece, PlaceState, Tally,
+use hontkhale::lasting::{
+    Ended, Kept, LastingConfig, LastingError, LastingHandle, LastingQueue, LastingTally, LastingTotals, PlaceState,
 };
+use hontkhale::owner::{CoreError, EntryId, Expired, Key, Piece, Tally};
 use std::collections::BTreeMap;
 use std::task::{Context, Poll};
 
@@ -534,18 +534,21 @@ fn over_generations(seed: u64, calls: u64, places: &[usize], first: u64) {
     assert!(reopened * 200 > calls, "only {reopened} generations ended");
 }
 
+// promise: lasting.place-agrees
 #[test]
 fn the_lasting_queue_answers_as_maps_do_over_generations() {
     over_generations(4, calls(), &[2, 3, 5], 0);
 }
 
 // After each call every place is as its model is, not only the one that was called.
+// promise: core.removed-cleared lasting.place-agrees
 #[test]
 fn six_places_answer_as_maps_do() {
     ends(|| over_generations(5, calls() / 2, &[6], 0));
 }
 
 // The same beyond a tick that has more bits than the lower levels of a wheel can tell apart.
+// promise: lasting.place-agrees
 #[test]
 fn six_places_answer_as_maps_do_late() {
     ends(|| over_generations(6, calls() / 4, &[6], 1 << 40));

@@ -4,10 +4,11 @@ use super::draw::{calls, Draw};
 use super::shard::Shard;
 use super::ticks::{deadline, key, tick, Round, ROUND};
 use super::value::{Living, Value};
-use hontkhale::{
-    numbered_queue, CallError, Caller, CoreConfig, CoreError, DelayCore, EntryId, Keeper, Key, Look, Piece, Place,
-    ReapError, Removed, Swept, Tally, Turn, VecWords, LAST_STAMP,
+use hontkhale::owner::{
+    numbered_queue, CallError, Caller, CoreConfig, CoreError, DelayCore, EntryId, Keeper, Key, Look, Piece, ReapError,
+    Removed, Swept, Tally, Turn, VecWords, LAST_STAMP,
 };
+use hontkhale::wheel::Place;
 
 type Over<W> = DelayCore<Value, W>;
 
@@ -57,6 +58,7 @@ queues! {
     sweep() -> usize,
     sweep_some(from: usize, count: usize) -> Swept,
     clear() -> usize,
+    check_law() -> Result<(), &'static str>,
 }
 
 // Who makes the calls by key.
@@ -236,7 +238,10 @@ impl<Q: Queue, C: ByKey<Q>> Play<Q, C> {
         match draw.below(8) {
             0 => assert_eq!(self.queue.sweep(), self.model.sweep(), "sweep"),
             1 if draw.one_in(4) => assert_eq!(self.queue.clear(), self.model.clear(), "clear"),
-            2 => self.compares_wheel(),
+            2 => {
+                self.compares_wheel();
+                assert_eq!(self.queue.check_law(), Ok(()), "the law");
+            }
             _ => {
                 let (from, count) = (draw.below(80) as usize, draw.below(80) as usize);
                 assert_eq!(
@@ -327,6 +332,7 @@ fn plays<Q: Queue, C: ByKey<Q>>(seed: u64, new: impl Fn(Round) -> Play<Q, C>) {
     }
 }
 
+// promise: core.removed-cleared
 #[test]
 fn the_queue_of_one_owner_answers_as_a_map_does() {
     plays(1, |round| {

@@ -1,7 +1,7 @@
 //! What one shard's queue answers, by a map of its slots. It is given each call and each answer, and compares.
 
 use super::value::Value;
-use hontkhale::{CallError, CoreError, EntryId, Expired, Key, Look, ReapError, Swept, Tally, Turn, LAST_TICK};
+use hontkhale::owner::{CallError, CoreError, EntryId, Expired, Key, Look, ReapError, Swept, Tally, Turn, LAST_TICK};
 use std::collections::BTreeMap;
 
 /// An entry that is linked: its birth stamp and its value.

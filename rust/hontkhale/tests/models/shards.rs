@@ -5,10 +5,9 @@ use super::shard::Shard;
 use super::ticks::{deadline, key, tick, Round, ROUND};
 use super::value::{Living, Value};
 use super::wakes::Poller;
-use hontkhale::{
-    CallError, CoreError, EntryId, Expired, ExpiredStream, Handle, HandlesOut, Key, Piece, QueueConfig, QueueError,
-    Removed, SharedDelayQueue, StreamFault, Tally, TickSource, Totals, LAST_TICK,
-};
+use hontkhale::owner::{CallError, CoreError, EntryId, Expired, Key, Piece, Removed, Tally, LAST_TICK};
+use hontkhale::shards::{Handle, HandlesOut, QueueConfig, QueueError, SharedDelayQueue, Totals};
+use hontkhale::streams::{ExpiredStream, StreamFault, TickSource};
 use std::num::NonZeroU32;
 use std::task::{Context, Poll};
 

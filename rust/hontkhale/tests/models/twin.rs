@@ -3,10 +3,9 @@
 use super::ticks::Round;
 use super::value::{Living, Value};
 use super::wakes::Poller;
-use hontkhale::{
-    CallError, Expired, ExpiredStream, Handle, HandlesOut, Key, Look, Piece, QueueConfig, QueueError, Removed,
-    ShardState, SharedDelayQueue, Tally, TickSource, Totals, Turn,
-};
+use hontkhale::owner::{CallError, Expired, Key, Look, Piece, Removed, Tally, Turn};
+use hontkhale::shards::{Handle, HandlesOut, QueueConfig, QueueError, ShardState, SharedDelayQueue, Totals};
+use hontkhale::streams::{ExpiredStream, TickSource};
 use std::fmt::Debug;
 use std::num::NonZeroU32;
 use std::task::{Context, Poll};

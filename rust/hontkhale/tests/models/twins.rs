@@ -6,7 +6,7 @@ use super::draw::{calls, Draw};
 use super::ends::ends;
 use super::ticks::{deadline, key, tick, Round, ROUND};
 use super::twin::{Call, Twin};
-use hontkhale::LAST_TICK;
+use hontkhale::owner::LAST_TICK;
 
 const SHARDS: usize = 6;
 
@@ -121,11 +121,13 @@ fn by_name_and_by_lend(seed: u64, first: u64) {
     }
 }
 
+// promise: shards.six-shards stream.paced-polls
 #[test]
 fn six_shards_by_name_and_by_lend_agree() {
     ends(|| by_name_and_by_lend(7, 0));
 }
 
+// promise: shards.six-shards
 #[test]
 fn six_shards_by_name_and_by_lend_agree_late() {
     ends(|| by_name_and_by_lend(8, LATE));

@@ -1,6 +1,6 @@
 //! Values whose drop panics or calls their own queue: what safe Rust allows leaves the queue whole.
 
-use hontkhale::{shared_queue, Caller, DelayCore, Expired, Keeper, Key, Look, Piece, Turn, VecWords};
+use hontkhale::owner::{shared_queue, Caller, DelayCore, Expired, Keeper, Key, Look, Piece, Turn, VecWords};
 use std::panic::{catch_unwind, AssertUnwindSafe};
 use std::sync::atomic::{AtomicBool, AtomicUsize, Ordering::SeqCst};
 use std::sync::{Arc, Mutex, Weak};
@@ -69,7 +69,7 @@ fn still_whole(bombs: &Bombs, mut queue: Queue) {
         queue.insert_or_drop(bombs.bomb(), 1_000 + when).unwrap();
     }
     assert_eq!((queue.len(), queue.worn()), (4, 0));
-    assert_eq!((queue.due(1_001).unwrap().count(), queue.len()), (2, 2));
+    assert_eq!((due!(queue, 1_001).count(), queue.len()), (2, 2));
     let tally = queue.tally();
     assert_eq!(
         tally.inserted,
@@ -137,9 +137,9 @@ fn what_comes_out_panics_when_it_is_dropped() {
     let (mut queue, keys, _) = full(&bombs);
     bombs.panics(|| queue.remove(&keys[0].entry()));
     bombs.panics(|| queue.poll(11));
-    let mut outs: Vec<Expired<Bomb>> = queue.due(12).unwrap().collect();
+    let mut outs: Vec<Expired<Bomb>> = due!(queue, 12).collect();
     bombs.panics(|| outs.clear());
-    bombs.panics(|| queue.due(13).unwrap().for_each(drop));
+    bombs.panics(|| due!(queue, 13).for_each(drop));
     assert_eq!((bombs.dropped(), queue.len()), (4, 0));
     still_whole(&bombs, queue);
 }

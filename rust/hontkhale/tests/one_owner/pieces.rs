@@ -1,6 +1,8 @@
 //! A poll in pieces beside a whole one, a sweep of some slots, and a reap of one entry, with values that are counted.
 
-use hontkhale::{shared_queue, Caller, CoreError, DelayCore, Expired, Keeper, Key, Piece, ReapError, Turn, LAST_TICK};
+use hontkhale::owner::{
+    shared_queue, Caller, CoreError, DelayCore, Expired, Keeper, Key, Piece, ReapError, Turn, LAST_TICK,
+};
 use std::collections::BTreeSet;
 use std::rc::Rc;
 
@@ -101,7 +103,7 @@ fn pieces_are_the_whole_poll() {
         let (mut one, mut other) = (Side::new(0x9e37_79b9), Side::new(0x9e37_79b9));
         let (mut now, mut workings) = (0, 0);
         while now < 200_000 {
-            let outs: Vec<_> = one.queue.due(now).unwrap().collect();
+            let outs: Vec<_> = due!(one.queue, now).collect();
             let (pieces, rest, count) = in_pieces(&mut other.queue, now, most);
             assert_eq!(one.queue.next_wake().is_some(), rest.is_some());
             assert!(rest.map_or(true, |tick| tick > now));
@@ -129,6 +131,7 @@ fn calls_of(most: u32) -> usize {
     workings + 1
 }
 
+// promise: core.piece-looks
 #[test]
 fn a_piece_makes_so_many_steps() {
     let steps = calls_of(1);
@@ -318,17 +321,14 @@ fn many_at_once_are_one_by_one() {
             at_once.insert_or_drop(entry, when).unwrap();
         }
         at_once.insert_or_drop(entries, 500).unwrap();
-        for many in at_once.due(200).unwrap() {
+        for many in due!(at_once, 200) {
             match one_by_one.poll(200) {
                 Ok(Turn::Out(one)) => assert_eq!((one.value, one.deadline), (many.value, many.deadline)),
                 turn => panic!("{turn:?}"),
             }
         }
         assert!(matches!(one_by_one.poll(200), Ok(Turn::Idle)));
-        assert_eq!(
-            (at_once.next_wake().is_some(), at_once.due(500).unwrap().count()),
-            (true, 1)
-        );
-        assert!(at_once.due(LAST_TICK + 1).is_err() && at_once.is_empty());
+        assert_eq!((at_once.next_wake().is_some(), due!(at_once, 500).count()), (true, 1));
+        assert!(at_once.poll(LAST_TICK + 1).is_err() && at_once.is_empty());
     }
 }

@@ -1,6 +1,6 @@
 //! Each value is dropped once, whatever became of its entry.
 
-use hontkhale::{shared_queue, DelayCore, Key, Turn};
+use hontkhale::owner::{shared_queue, DelayCore, Key, Turn};
 use std::any::Any;
 use std::cell::Cell;
 use std::fmt::Debug;
@@ -32,11 +32,12 @@ fn a_queue_with_entries_drops_every_value() {
     }
     assert!(queue.insert_or_drop(value(), 0).is_err());
     assert_eq!(dropped.get(), 1);
-    assert_eq!((queue.due(39).unwrap().count(), dropped.get()), (40, 41));
+    assert_eq!((due!(queue, 39).count(), dropped.get()), (40, 41));
     drop(queue);
     assert_eq!(dropped.get(), 101);
 }
 
+// promise: core.removed-cleared
 #[test]
 fn removed_and_cleared_values_are_dropped() {
     let (dropped, value) = counted();
@@ -83,7 +84,7 @@ fn values_come_out_as_they_went_in() {
     for entry in 0..64u64 {
         queue.insert_or_drop(format!("entry {entry}"), 1_000 - entry).unwrap();
     }
-    let outs: Vec<String> = queue.due(5_000).unwrap().map(|expired| expired.value).collect();
+    let outs: Vec<String> = due!(queue, 5_000).map(|expired| expired.value).collect();
     assert!(outs.into_iter().eq((0..64).rev().map(|entry| format!("entry {entry}"))));
 }
 
@@ -95,11 +96,7 @@ fn goes_through<T: Clone + PartialEq + Debug>(value: T) {
         let is_aligned = |it: &T| it as *const T as usize % mem::align_of::<T>() == 0;
         assert!(queue.entries().all(|it| *it.value == value && is_aligned(it.value)));
         assert_eq!(queue.remove(&keys[50].entry()).unwrap().value, value);
-        let outs: Vec<T> = queue
-            .due(round * 100 + 70)
-            .unwrap()
-            .map(|expired| expired.value)
-            .collect();
+        let outs: Vec<T> = due!(queue, round * 100 + 70).map(|expired| expired.value).collect();
         assert!(outs.len() == 70 && outs.iter().all(|out| *out == value));
         assert_eq!((queue.entries().count(), queue.clear()), (29, 29));
     }

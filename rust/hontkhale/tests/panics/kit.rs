@@ -1,6 +1,7 @@
 //! Code of a program that counts, and panics where it is told to; and the runs of a call over it.
 
-use hontkhale::{Key, Tally, TickSource, Turn};
+use hontkhale::owner::{Key, Tally, Turn};
+use hontkhale::streams::TickSource;
 use std::cell::{Cell, RefCell};
 use std::panic::{catch_unwind, AssertUnwindSafe};
 use std::sync::Arc;
@@ -106,6 +107,8 @@ pub trait Subject: Sized {
     fn sweep(&mut self);
     fn clear(&mut self);
     fn tally(&mut self) -> Tally;
+    /// Goes through all that the queue keeps.
+    fn check_law(&mut self) -> Result<(), &'static str>;
 }
 
 /// The states from which each call is made.
@@ -138,9 +141,17 @@ fn prepared<Q: Subject>(state: State) -> (Q, Keys) {
 
 // What has to hold of a queue whatever panicked in it.
 fn is_whole<Q: Subject>(mut queue: Q, what: &str) {
+    assert_eq!(queue.check_law(), Ok(()), "{what}");
     let tally = queue.tally();
-    assert_eq!(tally.inserted, tally.expired + tally.removed + tally.cancelled + tally.linked, "{what}");
-    assert!(!BY_A_DROP.get() || tally.inserted == KEYS.get(), "{what}: a key is lost, or an entry");
+    assert_eq!(
+        tally.inserted,
+        tally.expired + tally.removed + tally.cancelled + tally.linked,
+        "{what}"
+    );
+    assert!(
+        !BY_A_DROP.get() || tally.inserted == KEYS.get(),
+        "{what}: a key is lost, or an entry"
+    );
     queue.sweep();
     let live = queue.tally().linked;
     let mut outs = Vec::new();
@@ -160,7 +171,10 @@ fn is_whole<Q: Subject>(mut queue: Q, what: &str) {
     assert_eq!(queue.tally().linked, 0, "{what}");
     drop(queue);
     DROPPED.with_borrow(|dropped| {
-        assert!(dropped.iter().all(|times| *times == 1), "{what}: a value is dropped {dropped:?} times");
+        assert!(
+            dropped.iter().all(|times| *times == 1),
+            "{what}: a value is dropped {dropped:?} times"
+        );
     });
 }
 

@@ -1,7 +1,8 @@
 //! The calls of a lasting queue by name and by its streams, with a task that is parked, and its renewal.
 
 use super::kit::{deadline_of, key, panics_in_turn, waker, At, Keys, Subject, Value, CAPACITY};
-use hontkhale::{Key, LastingConfig, LastingHandle, LastingQueue, LastingStream, LastingTally, Piece, Tally};
+use hontkhale::lasting::{LastingConfig, LastingHandle, LastingQueue, LastingStream, LastingTally};
+use hontkhale::owner::{Key, Piece, Tally};
 use std::num::NonZeroU32;
 use std::task::{Context, Poll};
 
@@ -51,6 +52,10 @@ impl Subject for Queue {
             moves: 0,
         }
     }
+
+    fn check_law(&mut self) -> Result<(), &'static str> {
+        (0..2).try_for_each(|place| self.queue.check_law(place))
+    }
 }
 
 // The program's code in a call panics at least so often, over all states, with a task parked in the shard and without.
@@ -80,8 +85,12 @@ fn an_insert_panics_in_turn() {
 #[test]
 fn a_poll_panics_in_turn() {
     at_least(4, "poll", |queue, _| drop(queue.poll(0, 10)));
-    at_least(4, "poll until it rests", |queue, _| while deadline_of(queue.poll(0, 50).expect("a place")).is_some() {});
-    at_least(4, "poll_some", |queue, _| while matches!(queue.poll_some(0, 50, 1), Ok(Piece::Working)) {});
+    at_least(4, "poll until it rests", |queue, _| {
+        while deadline_of(queue.poll(0, 50).expect("a place")).is_some() {}
+    });
+    at_least(4, "poll_some", |queue, _| {
+        while matches!(queue.poll_some(0, 50, 1), Ok(Piece::Working)) {}
+    });
     let most = NonZeroU32::MIN;
     at_least(4, "poll_through", |queue, _| drop(queue.poll_through(0, 50, most)));
     at_least(4, "poll_many", |queue, _| {

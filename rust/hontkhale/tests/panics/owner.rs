@@ -1,7 +1,7 @@
 //! The calls of one owner's queue.
 
 use super::kit::{deadline_of, key, panics_in_turn, Keys, Subject, Value, CAPACITY};
-use hontkhale::{DelayCore, Key, Piece, Tally, VecWords};
+use hontkhale::owner::{DelayCore, Key, Piece, Tally, VecWords};
 
 type Queue = DelayCore<Value, VecWords>;
 
@@ -33,6 +33,10 @@ impl Subject for Queue {
     fn tally(&mut self) -> Tally {
         DelayCore::tally(self)
     }
+
+    fn check_law(&mut self) -> Result<(), &'static str> {
+        DelayCore::check_law(self)
+    }
 }
 
 // The program's code in a call panics at least so often, over all states.
@@ -52,7 +56,9 @@ fn an_insert_panics_in_turn() {
 #[test]
 fn a_poll_panics_in_turn() {
     at_least(4, "poll", |queue, _| drop(queue.poll(10)));
-    at_least(4, "poll until it rests", |queue, _| while deadline_of(queue.poll(50).expect("a tick")).is_some() {});
+    at_least(4, "poll until it rests", |queue, _| {
+        while deadline_of(queue.poll(50).expect("a tick")).is_some() {}
+    });
     at_least(4, "poll_some", |queue, _| {
         while matches!(queue.poll_some(50, 1), Ok(Piece::Working)) {}
     });
@@ -73,6 +79,8 @@ fn a_clear_panics_in_turn() {
 #[test]
 fn calls_of_one_entry_panic_in_turn() {
     panics_in_turn("remove", |queue: &mut Queue, keys| drop(queue.remove(&keys[3].entry())));
-    panics_in_turn("reset", |queue: &mut Queue, keys| drop(queue.reset(&keys[3].entry(), 30)));
+    panics_in_turn("reset", |queue: &mut Queue, keys| {
+        drop(queue.reset(&keys[3].entry(), 30))
+    });
     panics_in_turn("extend", |queue: &mut Queue, keys| drop(queue.extend(&keys[3], 300)));
 }

@@ -1,7 +1,9 @@
 //! The calls of a shared queue by name, by a shard in hand and by a stream, with a task that is parked.
 
 use super::kit::{deadline_of, key, panics_in_turn, user_code, waker, At, Keys, Subject, Value, CAPACITY};
-use hontkhale::{ExpiredStream, Handle, Key, Piece, QueueConfig, SharedDelayQueue, Tally};
+use hontkhale::owner::{Key, Piece, Tally};
+use hontkhale::shards::{Handle, QueueConfig, SharedDelayQueue};
+use hontkhale::streams::ExpiredStream;
 use std::num::NonZeroU32;
 use std::task::{Context, Poll};
 
@@ -40,6 +42,10 @@ impl Subject for Queue {
     fn tally(&mut self) -> Tally {
         self.queue.tally(0).expect("a shard")
     }
+
+    fn check_law(&mut self) -> Result<(), &'static str> {
+        self.queue.lend(0, |state| state.check_law()).expect("a shard")
+    }
 }
 
 // The program's code in a call panics at least so often, over all states, with a task parked in the shard and without.
@@ -60,7 +66,9 @@ fn at_least(places: u64, name: &str, call: impl Fn(&SharedDelayQueue<Value>, &Ke
 #[test]
 fn an_insert_panics_in_turn() {
     at_least(2, "insert", |queue, _| drop(key(queue.insert(0, Value::new(), 3))));
-    at_least(2, "insert_or_drop", |queue, _| drop(key(queue.insert_or_drop(0, Value::new(), 3))));
+    at_least(2, "insert_or_drop", |queue, _| {
+        drop(key(queue.insert_or_drop(0, Value::new(), 3)))
+    });
     at_least(2, "three inserts", |queue, _| {
         (0..3).for_each(|at| drop(key(queue.insert(0, Value::new(), 3 + at))));
     });
@@ -69,8 +77,12 @@ fn an_insert_panics_in_turn() {
 #[test]
 fn a_poll_panics_in_turn() {
     at_least(4, "poll", |queue, _| drop(queue.poll(0, 10)));
-    at_least(4, "poll until it rests", |queue, _| while deadline_of(queue.poll(0, 50).expect("a shard")).is_some() {});
-    at_least(4, "poll_some", |queue, _| while matches!(queue.poll_some(0, 50, 1), Ok(Piece::Working)) {});
+    at_least(4, "poll until it rests", |queue, _| {
+        while deadline_of(queue.poll(0, 50).expect("a shard")).is_some() {}
+    });
+    at_least(4, "poll_some", |queue, _| {
+        while matches!(queue.poll_some(0, 50, 1), Ok(Piece::Working)) {}
+    });
     let most = NonZeroU32::MIN;
     at_least(4, "poll_through", |queue, _| drop(queue.poll_through(0, 50, most)));
     at_least(4, "poll_many", |queue, _| {

@@ -3,7 +3,7 @@
 use super::cache::{SlowCache, LAST};
 use super::draw::{calls, Draw};
 use super::Fail;
-use hontkhale::TtlCache;
+use hontkhale::cache::TtlCache;
 use std::ops::Range;
 
 // A cache and its model, and how many keys they are asked for.
@@ -147,6 +147,7 @@ fn agree_at(capacity: usize, last_stamp: u32, turns: Range<u64>, draw: &mut Draw
 
 // So many calls for each capacity and last stamp, each of which asks for every key. Where slots are worn soon, a fresh
 // cache is taken after some calls, else after 2,000.
+// promise: cache.cache-answers
 #[test]
 fn the_cache_agrees_with_its_model() -> Result<(), Fail> {
     for (capacity, last_stamp, turns) in [

@@ -3,7 +3,7 @@
 use super::draw::{calls, Draw};
 use super::queue::{Expected, SlowQueue};
 use super::Fail;
-use hontkhale::{PlainQueue, PlainTurn};
+use hontkhale::owner::{PlainQueue, PlainTurn};
 
 // The model and the plain queue answer a poll alike.
 fn poll_both(slow: &mut SlowQueue, plain: &mut PlainQueue<u64>, tick: u64) -> bool {
@@ -39,6 +39,7 @@ fn insert_both(slow: &mut SlowQueue, plain: &mut PlainQueue<u64>, value: u64, wh
     answer == Ok(when.max(slow.tick)) && slow.insert(free, value, when).is_some()
 }
 
+// promise: plain.comes-out
 #[test]
 fn the_model_agrees_with_the_plain_queue() -> Result<(), Fail> {
     // 300 calls of a fresh queue and a fresh model.

@@ -4,7 +4,8 @@
 use super::draw::{calls, Draw};
 use super::value::{Living, Value};
 use super::Fail;
-use hontkhale::{Handle, Key, Piece, QueueConfig, QueueError, SharedDelayQueue, Turn};
+use hontkhale::owner::{Key, Piece, Turn};
+use hontkhale::shards::{Handle, QueueConfig, QueueError, SharedDelayQueue};
 
 // The calls of a round, which is over fresh queues. A deadline is told from the others by its call.
 const TURNS: u64 = 400;
@@ -99,11 +100,12 @@ fn give_the_same(one: &mut Side, other: &mut Side, draw: &mut Draw) -> Result<()
     Ok(())
 }
 
-fn end(side: Side) -> Result<(u64, hontkhale::Totals), Fail> {
+fn end(side: Side) -> Result<(u64, hontkhale::shards::Totals), Fail> {
     let cancels = side.handle.give_back();
     Ok((cancels, side.queue.audit()?))
 }
 
+// promise: shards.pieces-give
 #[test]
 fn pieces_give_what_whole_polls_give() -> Result<(), Fail> {
     for round in 0..calls() / TURNS {

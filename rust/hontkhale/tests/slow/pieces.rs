@@ -4,7 +4,7 @@ use super::draw::{calls, Draw};
 use super::queue::LAST;
 use super::same_calls::Both;
 use super::Fail;
-use hontkhale::{Piece, Turn};
+use hontkhale::owner::{Piece, Turn};
 
 impl Both {
     // The model is told which entries were reaped, and where the others are filed.
@@ -135,6 +135,7 @@ fn agree_at(capacity: usize, last_stamp: u32, round: u64) -> Result<(), Fail> {
     Ok(())
 }
 
+// promise: core.answer-reader
 #[test]
 fn pieces_agree_with_the_model() -> Result<(), Fail> {
     let sizes: &[(usize, u32)] = &[(1, 3), (3, 1048575), (64, 3), (64, 1048575)];

@@ -3,7 +3,7 @@
 use super::draw::{calls, Draw};
 use super::queue::{Expected, SlowQueue, LAST};
 use super::Fail;
-use hontkhale::{CoreConfig, DelayCore, EntryId, Key, PlainQueue, PlainTurn, Turn, VecWords};
+use hontkhale::owner::{CoreConfig, DelayCore, EntryId, Key, PlainQueue, PlainTurn, Turn, VecWords};
 
 /// A queue, its model, and the keys that were given out, the eldest of them forgotten.
 pub struct Both {
@@ -216,6 +216,7 @@ fn agree_at(capacity: usize, last_stamp: u32, round: u64) -> Result<(), Fail> {
     Ok(())
 }
 
+// promise: core.answer-reader
 #[test]
 fn the_queue_agrees_with_its_model() -> Result<(), Fail> {
     let sizes: &[(usize, u32)] = &[(1, 3), (3, 3), (64, 3), (1, 1048575), (3, 1048575), (64, 1048575)];
@@ -267,6 +268,7 @@ fn call_twice(core: &mut DelayCore<u64, VecWords>, plain: &mut PlainQueue<u64>, 
     }
 }
 
+// promise: core.answer-reader
 #[test]
 fn the_queue_agrees_with_its_plain_twin() -> Result<(), Fail> {
     // 300 calls on a fresh queue and on its plain twin.

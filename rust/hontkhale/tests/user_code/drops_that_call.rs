@@ -4,7 +4,8 @@ use super::kit::{
     insert, insert_cancelled, insert_lasting, insert_lasting_cancelled, is_whole, is_whole_lasting, lasting, queue,
     within_the_limit, Drops, Lasting, Queue,
 };
-use hontkhale::{Kept, LastingError, QueueError};
+use hontkhale::lasting::{Kept, LastingError};
+use hontkhale::shards::QueueError;
 use std::sync::atomic::{AtomicBool, Ordering};
 use std::sync::Arc;
 
@@ -46,7 +47,7 @@ fn a_drop_removes_another_in_sweep_some() {
 #[test]
 fn a_drop_removes_another_in_reap() {
     removes_another(true, |queue| {
-        let cancelled = hontkhale::EntryId::new(0, 1, 1);
+        let cancelled = hontkhale::owner::EntryId::new(0, 1, 1);
         assert_eq!(queue.reap(&cancelled), Ok(Ok(())));
     });
 }

@@ -2,7 +2,9 @@
 //! drop runs inside another, each value is dropped once, and no key is lost.
 
 use super::kit::{panics, within_the_limit};
-use hontkhale::{Expired, Key, LastingConfig, LastingQueue, ManyTurn, QueueConfig, SharedDelayQueue, Turn};
+use hontkhale::lasting::{LastingConfig, LastingQueue};
+use hontkhale::owner::{Expired, Key, ManyTurn, Turn};
+use hontkhale::shards::{QueueConfig, SharedDelayQueue};
 use std::panic::{catch_unwind, AssertUnwindSafe};
 use std::sync::atomic::{AtomicBool, AtomicU64, Ordering::SeqCst};
 use std::sync::mpsc::channel;
@@ -70,7 +72,10 @@ macro_rules! calls {
     };
 }
 
-calls!(SharedDelayQueue<Node>, |_: &Self| (), |queue: &Self| queue.tally(0).expect("a shard").linked);
+calls!(SharedDelayQueue<Node>, |_: &Self| (), |queue: &Self| queue
+    .tally(0)
+    .expect("a shard")
+    .linked);
 calls!(
     LastingQueue<Node>,
     |queue: &Self| queue.close(0).expect("a shard"),
@@ -154,8 +159,12 @@ const MANY: usize = 50_000;
 
 /// Runs a test on a thread whose stack has no room for drops that nest by thousands.
 fn on_a_small_stack(test: impl FnOnce() + Send + 'static) {
-    let runs = thread::Builder::new().stack_size(256 * 1024).spawn(test).expect("a thread");
-    runs.join().unwrap_or_else(|panicked| std::panic::resume_unwind(panicked));
+    let runs = thread::Builder::new()
+        .stack_size(256 * 1024)
+        .spawn(test)
+        .expect("a thread");
+    runs.join()
+        .unwrap_or_else(|panicked| std::panic::resume_unwind(panicked));
 }
 
 // Cancelled entries, of which each one's drop makes this call with its number, and one call that lets them go.
@@ -204,7 +213,9 @@ fn drops_that_sweep_in_a_reap() {
 
 #[test]
 fn drops_that_sweep_in_a_poll() {
-    each_drop_calls(sweeps_the_next, |queue, _| assert!(queue.poll(10 + MANY as u64).is_none()));
+    each_drop_calls(sweeps_the_next, |queue, _| {
+        assert!(queue.poll(10 + MANY as u64).is_none())
+    });
 }
 
 #[test]

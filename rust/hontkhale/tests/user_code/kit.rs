@@ -1,6 +1,9 @@
 //! A time limit, values and wakers that run code of a test, and queues of such values.
 
-use hontkhale::{ExpiredStream, Key, LastingConfig, LastingQueue, QueueConfig, SharedDelayQueue, Tally, TickSource};
+use hontkhale::lasting::{LastingConfig, LastingQueue};
+use hontkhale::owner::{Key, Tally};
+use hontkhale::shards::{QueueConfig, SharedDelayQueue};
+use hontkhale::streams::{ExpiredStream, TickSource};
 use std::any::Any;
 use std::mem::ManuallyDrop;
 use std::panic::{catch_unwind, AssertUnwindSafe};

@@ -5,7 +5,8 @@ use super::kit::{
     insert, insert_cancelled, insert_lasting, insert_lasting_cancelled, is_whole, is_whole_lasting, lasting, panics,
     park, park_lasting, queue, waker_that, within_the_limit, Drops, Lasting, Queue, Task, Zero,
 };
-use hontkhale::{ExpiredStream, LastingStream, TickSource};
+use hontkhale::lasting::LastingStream;
+use hontkhale::streams::{ExpiredStream, TickSource};
 use std::num::NonZeroU32;
 use std::sync::atomic::{AtomicU64, Ordering::SeqCst};
 use std::sync::Arc;
@@ -177,7 +178,10 @@ fn a_dropped_waker_calls_where_a_clone_panics() {
             );
             let waker = panics_at_its_clone();
             assert_eq!(panics(|| poll(&queue, &mut Context::from_waker(&waker))), "a clone");
-            assert!(queue.parked(0).is_ok_and(|parked| parked.is_some()), "who was parked stays");
+            assert!(
+                queue.parked(0).is_ok_and(|parked| parked.is_some()),
+                "who was parked stays"
+            );
             park(&queue, &Task::that_counts().waker());
             assert_eq!(drops.count(), 1);
             is_whole(&queue, &drops);
@@ -198,7 +202,10 @@ fn a_dropped_waker_calls_where_a_clone_panics_in_a_poll_of_a_place() {
             );
             let waker = panics_at_its_clone();
             assert_eq!(panics(|| poll(&queue, &mut Context::from_waker(&waker))), "a clone");
-            assert!(queue.parked(0).is_ok_and(|parked| parked.is_some()), "who was parked stays");
+            assert!(
+                queue.parked(0).is_ok_and(|parked| parked.is_some()),
+                "who was parked stays"
+            );
             assert_eq!(queue.unpark(0), Ok(true));
             assert_eq!(drops.count(), 1);
             is_whole_lasting(&queue, &drops);

@@ -4,7 +4,7 @@ use super::kit::{
     insert, insert_lasting, is_whole, is_whole_lasting, lasting, park, park_lasting, queue, within_the_limit, Drops,
     Lasting, Queue, Task,
 };
-use hontkhale::{EntryId, Key};
+use hontkhale::owner::{EntryId, Key};
 use std::sync::Arc;
 
 // Shard 0 has an entry that is due at 10, and a poller that polls where it is woken; a call wakes it.
@@ -88,16 +88,19 @@ fn polls_where_reaped<T>(call: impl FnOnce(&Lasting, &EntryId) -> T + Send + 'st
     });
 }
 
+// promise: lasting.leaves-name
 #[test]
 fn a_wake_polls_in_a_reap_of_a_lasting_queue() {
     polls_where_reaped(|queue, entry| assert_eq!(queue.reap(entry), Ok(())));
 }
 
+// promise: lasting.leaves-name
 #[test]
 fn a_wake_polls_in_a_sweep_of_some_of_a_lasting_queue() {
     polls_where_reaped(|queue, _| assert_eq!(queue.sweep_some(0, 0, 1).map(|swept| swept.reaped), Ok(1)));
 }
 
+// promise: lasting.leaves-name
 #[test]
 fn a_dropped_waker_calls_where_it_is_taken_out_of_a_lasting_queue() {
     within_the_limit(|| {

@@ -4,7 +4,7 @@ use super::kit::{
     insert, insert_lasting, is_whole, is_whole_lasting, lasting, panics, park, park_lasting, queue, within_the_limit,
     Drops, Lasting, Queue, Task,
 };
-use hontkhale::Tally;
+use hontkhale::owner::Tally;
 
 // Shard 0 has an entry that is due at 10, and a poller whose wake panics inside a call. What the shard tells then.
 fn is_done<T>(call: impl FnOnce(&Queue, &Drops) -> T + Send + 'static, tells: impl FnOnce(Tally) + Send + 'static) {
@@ -36,7 +36,7 @@ fn a_wake_panics_in_insert() {
 
 #[test]
 fn a_wake_panics_in_remove() {
-    let first = hontkhale::EntryId::new(0, 0, 1);
+    let first = hontkhale::owner::EntryId::new(0, 0, 1);
     is_done(
         move |queue, _| queue.remove(&first),
         |tally| assert_eq!((tally.linked, tally.removed), (0, 1)),
@@ -45,7 +45,7 @@ fn a_wake_panics_in_remove() {
 
 #[test]
 fn a_wake_panics_in_reset() {
-    let first = hontkhale::EntryId::new(0, 0, 1);
+    let first = hontkhale::owner::EntryId::new(0, 0, 1);
     is_done(
         move |queue, _| queue.reset(&first, 3),
         |tally| assert_eq!(tally.linked, 1),

@@ -4,7 +4,8 @@
 //! that take entries are full where an insert is refused. So at most a quarter of the slots waits for shards to drain.
 
 use super::draw::Draw;
-use hontkhale::{EntryId, Kept, Key, LastingConfig, LastingQueue, Turn, LAST_TICK};
+use hontkhale::lasting::{Kept, LastingConfig, LastingQueue};
+use hontkhale::owner::{EntryId, Key, Turn, LAST_TICK};
 
 // The inserts that are tried with each queue.
 const TURNS: u64 = 30_000;
@@ -107,6 +108,7 @@ impl Load {
     }
 }
 
+// promise: lasting.insert-up
 #[test]
 fn none_is_refused_while_more_than_a_quarter_is_free() {
     let mut draw = Draw::new(9);

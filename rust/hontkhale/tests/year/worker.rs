@@ -3,7 +3,8 @@
 use super::draw::Draw;
 use super::lease::Lease;
 use super::years::Year;
-use hontkhale::{CallError, Key, LastingHandle, Turn};
+use hontkhale::lasting::LastingHandle;
+use hontkhale::owner::{CallError, Key, Turn};
 use std::sync::atomic::{AtomicU64, Ordering::SeqCst};
 use std::sync::Arc;
 

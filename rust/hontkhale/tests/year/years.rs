@@ -2,7 +2,8 @@
 
 use super::lease::{Ended, Lease};
 use super::worker::{Done, Worker};
-use hontkhale::{Kept, LastingConfig, LastingQueue, LastingTotals, Turn, LAST_TICK};
+use hontkhale::lasting::{Kept, LastingConfig, LastingQueue, LastingTotals};
+use hontkhale::owner::{Turn, LAST_TICK};
 use std::sync::atomic::{AtomicU64, Ordering::SeqCst};
 use std::sync::Mutex;
 use std::thread;
@@ -146,12 +147,14 @@ fn passes(inserts: u64, last_stamp: u32, refused: u64) {
 
 // Each slot has a tenth of the year's stamps, so shards are opened again as often as in the days of ten times as many
 // inserts. Where the one thread that keeps the queue going gets no turn for long, a few inserts may be refused.
+// promise: lasting.simulated-year
 #[test]
 fn the_first_days_of_a_year() {
     let inserts = if cfg!(debug_assertions) { 200_000 } else { 1_000_000 };
     passes(inserts, 100, inserts / 100);
 }
 
+// promise: lasting.simulated-year
 #[test]
 #[ignore = "it takes some minutes"]
 fn a_year() {

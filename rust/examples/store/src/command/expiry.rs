@@ -4,7 +4,7 @@ use super::{count, repeated, Answer, Client, Desk, Refusal, Words};
 use crate::clock::Tick;
 use crate::keyspace::Life;
 use crate::resp::{integer, Reply};
-use hontkhale::{Key, Look, LAST_TICK};
+use hontkhale::owner::{Key, Look, LAST_TICK};
 
 #[derive(Clone, Copy, PartialEq, Eq)]
 pub enum Unit {

@@ -5,7 +5,7 @@ use super::{count, Answer, Client, Refusal, Words};
 use crate::clock::Tick;
 use crate::keyspace::{Life, Place};
 use crate::resp::integer;
-use hontkhale::LAST_TICK;
+use hontkhale::owner::LAST_TICK;
 
 /// A script that clients call by its digest, and what it does with a key: the other words are its arguments.
 struct Script(&'static str, fn(&mut Place<'_>, &[&[u8]]) -> Result<bool, Refusal>);

@@ -4,7 +4,7 @@ use super::shard::{size, Names, Record};
 use super::{Keyspace, Life, Lifetime, Name, NoRoom, Value, KEEPERS};
 use crate::clock::Tick;
 use crate::handle::Handle;
-use hontkhale::{CoreError, Key};
+use hontkhale::owner::{CoreError, Key};
 
 /// A name in its shard, which is held: a live key, or a place for one.
 pub struct Place<'a> {

@@ -4,7 +4,7 @@ use super::{Life, Name, Value, SHARDS};
 use crate::clock::Tick;
 use crate::handle::Handle;
 use crate::room::Room;
-use hontkhale::{
+use hontkhale::owner::{
     numbered_queue, Caller, CoreConfig, CoreError, DelayCore, Expired, Keeper, Key, Look, Piece, Turn, WordsError,
 };
 use indexmap::IndexMap;

@@ -17,6 +17,7 @@ const TOO_LARGE: CoreError = CoreError::TickTooLarge { limit: LAST };
 
 const TOO_FAR: CoreError = CoreError::TooFar { limit: LAST };
 
+// promise: cache.get-contains
 #[test]
 fn cache_walk() -> Result<(), Fail> {
     let calls = &[
@@ -37,6 +38,7 @@ fn cache_walk() -> Result<(), Fail> {
     plays_up_to(2, LAST_STAMP, calls)
 }
 
+// promise: cache.put-kept
 #[test]
 fn cache_worn_key() -> Result<(), Fail> {
     let calls = &[
@@ -51,6 +53,7 @@ fn refused(capacity: usize, last_stamp: u32) -> Option<CoreError> {
     TtlCache::<char, u32>::new(capacity, last_stamp).err()
 }
 
+// promise: cache.new-with-capacity
 #[test]
 fn bad_configs() {
     let table: &[(usize, u32, Option<CoreError>)] = &[
@@ -71,6 +74,7 @@ fn bad_configs() {
 const REACH: u64 = 68719476735;
 
 // The least deadline is told where the queue files what is further ahead than its wheel reaches, too.
+// promise: cache.next-deadline
 #[test]
 fn far_deadlines() -> Result<(), Fail> {
     let calls = &[
@@ -119,6 +123,7 @@ fn out_of_range(cache: &mut Letters) {
 }
 
 // A value that was refused for its tick or deadline comes back, and nothing changes.
+// promise: cache.put-kept
 #[test]
 fn put_out_of_range() -> Result<(), Fail> {
     out_of_range(&mut TtlCache::new(1, LAST_STAMP)?);

@@ -96,6 +96,7 @@ fn walk(
     Ok(())
 }
 
+// promise: sessions.login-queue sessions.into-queue-queue
 #[test]
 fn sessions_walk() -> Result<(), Fail> {
     let sessions = sessions(IDLE)?;
@@ -148,6 +149,7 @@ fn idles_for(
 }
 
 // A session's deadline may be the last tick and no later one; a sum that has no `u64` is later too.
+// promise: sessions.login-queue
 #[test]
 fn idle_beyond_the_last_tick() -> Result<(), Fail> {
     let rows = [

@@ -34,6 +34,7 @@ pub fn seen_from(tick: u64, filed: u64) -> Option<(usize, u64, u64)> {
     }
 }
 
+// promise: ticks.digit-seven
 #[test]
 fn place_table() {
     for (row, (tick, filed, level, slot, start)) in PLACES.iter().enumerate() {
@@ -42,12 +43,14 @@ fn place_table() {
     }
 }
 
+// promise: ticks.level-of-highest
 #[test]
 fn equal_ticks_have_no_level() {
     same("first", level_of(0, 0), None);
     same("last", level_of(LAST_TICK, LAST_TICK), None);
 }
 
+// promise: ticks.level-of-highest
 #[test]
 fn top_level_is_the_highest() {
     same("level", level_of(0, LAST_TICK), Some(5));
@@ -60,6 +63,7 @@ fn top_level_is_the_highest() {
     );
 }
 
+// promise: ticks.span
 #[test]
 fn spans_grow_by_64() {
     let spans = [span(0), span(1), span(2), span(3), span(4), span(5)];

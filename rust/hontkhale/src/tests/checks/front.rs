@@ -9,6 +9,7 @@ pub fn plain_queue(capacity: usize) -> Result<DelayCore<char, VecWords>, CoreErr
     DelayCore::with_capacity(capacity)
 }
 
+// promise: core.numbers-out
 #[test]
 fn capacities_out_of_range() -> Result<(), Fail> {
     let bad = Some(CoreError::BadConfig);
@@ -21,6 +22,7 @@ fn capacities_out_of_range() -> Result<(), Fail> {
     Ok(())
 }
 
+// promise: core.numbers-out
 #[test]
 fn numbers_out_of_range_are_named() -> Result<(), Fail> {
     let table: &[(usize, u32, Option<BadNumber>)] = &[

@@ -12,6 +12,7 @@ const PARTS: &[(u32, u32, u32, u32)] = &[
     (0, u32::MAX, 0, u32::MAX),
 ];
 
+// promise: ticks.readers-keys
 #[test]
 fn readers_give_what_was_given() {
     for (row, (shard, index, born, stamp)) in PARTS.iter().enumerate() {
@@ -45,6 +46,7 @@ fn sameness(one: Key, other: Key) -> [bool; 4] {
     ]
 }
 
+// promise: ticks.readers-keys
 #[test]
 fn keys_differ_by_each_part() {
     let key = Key::new(EntryId::new(1, 2, 3), 4);
@@ -58,6 +60,7 @@ fn keys_differ_by_each_part() {
     }
 }
 
+// promise: ticks.prints-key
 #[test]
 fn keys_print_their_readers() -> Result<(), Fail> {
     let key = Key::new(EntryId::new(1, 2, 3), 4);

@@ -28,6 +28,7 @@ fn refuses(
     same(capacity, refusal(config, rows), answer);
 }
 
+// promise: core.numbers-out
 #[test]
 fn bad_configs() {
     let bad = CoreError::BadConfig;
@@ -65,6 +66,7 @@ fn inserts(queue: &mut DelayCore<char, VecWords>) {
     same("insert", queue.insert('v', 0).is_ok(), true);
 }
 
+// promise: core.numbers-out
 #[test]
 fn queue_and_words_are_send() -> Result<(), Fail> {
     inserts(&mut moved(queue_of_one()?));

@@ -20,6 +20,7 @@ const WORDS: [(u32, Mark, u64, u64); 8] = [
     (1048575, Mark::LiveMark, 0, 0xffff_f000_0000_0000),
 ];
 
+// promise: ticks.pack-makes
 #[test]
 fn packed_vector() {
     let parts = Parts {
@@ -31,6 +32,7 @@ fn packed_vector() {
     same("unpack", unpack(17592186044426), parts);
 }
 
+// promise: ticks.pack-makes
 #[test]
 fn word_table_both_ways() {
     for (stamp, mark, field, word) in WORDS {
@@ -49,6 +51,7 @@ fn is_live_at_its_stamp(word: u64, of: u32, deadline: Option<u64>) {
     }
 }
 
+// promise: ticks.stamp-field
 #[test]
 fn parts_one_by_one() {
     for (of, mark, when, word) in WORDS {

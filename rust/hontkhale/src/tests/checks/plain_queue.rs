@@ -51,6 +51,7 @@ fn stands(queue: &Queue, len: usize, tick: u64, noted: u64) {
     same("is_empty", queue.is_empty(), len == 0);
 }
 
+// promise: plain.comes-out
 #[test]
 fn plain_queue_walk() -> Result<(), Fail> {
     walk(&mut PlainQueue::new(2)?);
@@ -72,6 +73,7 @@ fn walk(queue: &mut Queue) {
     stands(queue, 0, 100, 100);
 }
 
+// promise: plain.comes-out
 #[test]
 fn plain_insert_before_the_tick_is_due_at_it() -> Result<(), Fail> {
     inserts_before_the_tick(&mut PlainQueue::new(1)?);
@@ -106,6 +108,7 @@ fn last_tick_and_beyond(queue: &mut Queue) {
     gives(queue, 4398046511103, (4398046511103, 'a'));
 }
 
+// promise: plain.deadline-ever
 #[test]
 fn plain_limits() -> Result<(), Fail> {
     for capacity in &[0, 65537] {

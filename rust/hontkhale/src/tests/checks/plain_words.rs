@@ -67,6 +67,7 @@ fn limits(words: &mut VecWords) {
     extends_to_the_last_tick(words);
 }
 
+// promise: known.row-limits
 #[test]
 fn plain_words_limits() -> Result<(), Fail> {
     limits(&mut one_word()?);
@@ -74,6 +75,7 @@ fn plain_words_limits() -> Result<(), Fail> {
 }
 
 // A settle wants the word as it stands. So what an answer tells of it is matched in this body.
+// promise: known.word-changes
 #[test]
 fn plain_words_end_once() -> Result<(), Fail> {
     let mut words = VecWords::new(1)?;

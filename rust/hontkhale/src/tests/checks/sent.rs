@@ -17,6 +17,7 @@ fn audit(mut keeper: Keeper) -> (u64, Result<u64, u64>) {
     (keeper.out(), keeper.returned())
 }
 
+// promise: words.caller-takes
 #[test]
 fn a_keeper_and_a_caller_are_sent() -> Result<(), Fail> {
     let mut keeper = Keeper::new(1)?;

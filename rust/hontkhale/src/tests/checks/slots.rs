@@ -26,6 +26,7 @@ fn vacates(slots: &mut Slots<char>, stamp: u32, value: char) {
     same("vacate", (held.born, held.value), (stamp, value));
 }
 
+// promise: slots.slot-filled
 #[test]
 fn a_slot_wears_out_at_its_last_stamp() -> Result<(), Fail> {
     wears_out(&mut Slots::new(1, 2)?);
@@ -53,6 +54,7 @@ fn raises(slots: &mut Slots<char>) {
     same("raise", (slots.stamp(1), slots.born(1)), (2, Some(1)));
 }
 
+// promise: slots.slot-filled
 #[test]
 fn a_raise_keeps_the_birth_stamp() -> Result<(), Fail> {
     fills_and_raises(&mut Slots::new(3, 5)?);

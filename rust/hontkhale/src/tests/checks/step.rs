@@ -4,7 +4,7 @@ use crate::tests::kit::Pushed;
 use super::queues::{Calls, Queue};
 use crate::core::{CallError, CoreError, Look, Tally, Turn, Words};
 use crate::ticks::{EntryId, Key};
-use crate::wheel::Place;
+use crate::wheels::Place;
 
 /// The key that a call is given.
 #[derive(Clone, Copy)]

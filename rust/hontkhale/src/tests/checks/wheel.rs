@@ -8,8 +8,9 @@ use super::wheel_calls::Call::{
 };
 use super::wheel_calls::{advance, arrive, each_answers, link, plays, settle, stands};
 use crate::ticks::{CAPACITY_LIMIT, LAST_TICK, REACH};
-use crate::wheel::{Place, Wheel, WheelError};
+use crate::wheels::{Place, Wheel, WheelError};
 
+// promise: wheel.link-unlink
 #[test]
 fn wheel_cascade() -> Result<(), Fail> {
     let calls = &[
@@ -57,6 +58,7 @@ fn waits(
     Ok(())
 }
 
+// promise: wheel.advance-goes
 #[test]
 fn beyond_one_lap() -> Result<(), Fail> {
     let slot = (Place::InSlot { level: 5, slot: 0 }, 68719476736);
@@ -80,6 +82,7 @@ fn slot_of(tick: u64, filed: u64) -> (Place, u64) {
     }
 }
 
+// promise: wheel.place-filed
 #[test]
 fn places_by_tick() -> Result<(), Fail> {
     let rows: &[(u64, u64)] = &[
@@ -107,6 +110,7 @@ fn places_by_tick() -> Result<(), Fail> {
     plays(1, at_once)
 }
 
+// promise: wheel.link-unlink
 #[test]
 fn unlinks_from_a_shared_slot() -> Result<(), Fail> {
     // The first, the last and the one between leave in turn: the slot's bit stays until the last one left.
@@ -133,6 +137,7 @@ fn unlinks_from_a_shared_slot() -> Result<(), Fail> {
     plays(3, calls)
 }
 
+// promise: wheel.new-tick
 #[test]
 fn bad_configs() {
     for capacity in [0, 65537] {
@@ -178,6 +183,7 @@ fn fills_and_empties(wheel: &mut Wheel) {
     each_answers(wheel, end);
 }
 
+// promise: wheel.pop-due-nothing
 #[test]
 fn full_wheel_to_the_last_tick() -> Result<(), Fail> {
     let mut wheel = Wheel::new(CAPACITY_LIMIT)?;
@@ -220,6 +226,7 @@ fn arrives(wheel: &mut Wheel) {
     same("moved", wheel.moved(), 0);
 }
 
+// promise: wheel.arrive-does
 #[test]
 fn arrives_at_each_slot() -> Result<(), Fail> {
     let mut wheel = Wheel::new(4)?;
@@ -227,6 +234,7 @@ fn arrives_at_each_slot() -> Result<(), Fail> {
     Ok(())
 }
 
+// promise: wheel.arrive-does
 #[test]
 fn due_while_a_slot_is_open() -> Result<(), Fail> {
     let calls = &[
@@ -255,6 +263,7 @@ fn due_while_a_slot_is_open() -> Result<(), Fail> {
     plays(5, calls)
 }
 
+// promise: wheel.arrive-does
 #[test]
 fn arrives_a_lap_ahead() -> Result<(), Fail> {
     let calls = &[

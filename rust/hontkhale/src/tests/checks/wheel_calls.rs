@@ -3,7 +3,7 @@
 use crate::tests::kit::Fail;
 use super::same;
 use crate::ticks::{LAST_TICK, LEVELS, REACH};
-use crate::wheel::{Place, Wheel};
+use crate::wheels::{Place, Wheel};
 
 /// A call and its answer, or what a reader has to tell.
 #[derive(Clone, Copy)]

@@ -48,6 +48,7 @@ fn issues_to_the_limit(keeper: &mut Keeper) -> Result<(), Fail> {
 }
 
 // A live word is ended as its keeper is dropped, at the deadline in force, and its caller is told.
+// promise: words.keeper-drop
 #[test]
 fn a_dropped_keeper_ends_its_live_words() -> Result<(), Fail> {
     let mut keeper = Keeper::new(1)?;
@@ -67,6 +68,7 @@ fn a_dropped_keeper_ends_its_live_words() -> Result<(), Fail> {
     Ok(())
 }
 
+// promise: words.first-second
 #[test]
 fn words_first_pass() -> Result<(), Fail> {
     let mut keeper = Keeper::new(1)?;
@@ -111,6 +113,7 @@ fn gives_back(caller: Caller, cancels: u64) {
     );
 }
 
+// promise: words.first-second
 #[test]
 fn words_second_pass() -> Result<(), Fail> {
     let mut keeper = Keeper::new(1)?;
@@ -142,6 +145,7 @@ fn words_second_pass() -> Result<(), Fail> {
     Ok(())
 }
 
+// promise: known.row-limits words.caller-takes
 #[test]
 fn bad_configs() -> Result<(), Fail> {
     let capacities: &[usize] = &[0, 65537];

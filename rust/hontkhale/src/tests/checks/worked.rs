@@ -32,6 +32,7 @@ fn all_over_plain(cases: &[Case]) -> Result<(), Fail> {
     Ok(())
 }
 
+// promise: core.worked-cases
 #[test]
 fn cases_over_plain_words() -> Result<(), Fail> {
     all_over_plain(over_both_words())?;
@@ -81,6 +82,7 @@ fn all_over_shared(cases: &[Case]) -> Result<(), Fail> {
     Ok(())
 }
 
+// promise: core.worked-cases
 #[test]
 fn cases_over_shared_words() -> Result<(), Fail> {
     all_over_shared(over_both_words())

@@ -10,6 +10,7 @@ use crate::lasting::Kept;
 
 // The shard at place 0, of which one entry was removed and one is left, is closed, drains and is opened again. The
 // handle reaches a new entry once it is renewed, and then no longer one of the generation before.
+// promise: lasting.keep-going-does
 #[test]
 fn keep_going_does_what_is_due() -> Result<(), Fail> {
     let calls = &[

@@ -6,6 +6,7 @@ use super::writers::Full;
 use crate::replay::{FaultKind, ReplayFault, report, run};
 use crate::ticks::CAPACITY_LIMIT;
 
+// promise: replay.written-function
 #[test]
 fn unfinished_and_bad_header() {
     for (script, line, kind) in [
@@ -23,12 +24,14 @@ fn unfinished_and_bad_header() {
 /// A script whose third line has a fault, and what is answered before it.
 pub const FAULTY: (&str, &str) = ("delay 1\ninsert a 5\ninsert b\n", "a at 5\n");
 
+// promise: replay.written-function
 #[test]
 fn stops_at_fault() {
     let fault = fault_at(3, FaultKind::BadShape);
     runs(4, FAULTY.0.as_bytes(), FAULTY.1, fault);
 }
 
+// promise: replay.written-function
 #[test]
 fn one_fault_each() -> Result<(), Fail> {
     for (line, kind) in [
@@ -54,6 +57,7 @@ fn one_fault_each() -> Result<(), Fail> {
     Ok(())
 }
 
+// promise: replay.written-function
 #[test]
 fn lines_of_128_bytes_and_more() -> Result<(), Fail> {
     for (line, kind) in [
@@ -68,6 +72,7 @@ fn lines_of_128_bytes_and_more() -> Result<(), Fail> {
     Ok(())
 }
 
+// promise: replay.capacity-refused
 #[test]
 fn bad_capacities() {
     let script = b"delay 1\ninsert a 5\n".as_slice();
@@ -81,6 +86,7 @@ fn bad_capacities() {
     }
 }
 
+// promise: replay.capacity-refused
 #[test]
 fn greatest_capacity() {
     runs(65536, b"delay 1\ninsert a 5\n", "a at 5\n", Ok(()));
@@ -95,6 +101,7 @@ fn tells(fault: ReplayFault, text: &str, status: u8) {
     assert_eq!(report(&fault, &mut Full(&mut 0)), status);
 }
 
+// promise: replay.status-fault replay.faults-reader
 #[test]
 fn reports() {
     let kind = FaultKind::TooManyLines;
@@ -114,6 +121,7 @@ fn reports() {
     }
 }
 
+// promise: replay.status-fault
 #[test]
 fn reports_each_kind() {
     for (kind, text) in [

@@ -47,6 +47,7 @@ fn fails_behind(bytes: &[u8], answers: &str) {
     assert_eq!(errors, 1);
 }
 
+// promise: replay.read-fault replay.faults-reader
 #[test]
 fn read_error_mid_line() {
     for (bytes, answers) in [
@@ -59,6 +60,7 @@ fn read_error_mid_line() {
 }
 
 // Behind each byte of a script; the last such read is the one that would find the input's end.
+// promise: replay.write-fault
 #[test]
 fn fault_at_each_read() -> Result<(), Fail> {
     let (script, _) = joined("delay 1", &THREE_NAMES)?;
@@ -98,6 +100,7 @@ impl Read for Again {
     }
 }
 
+// promise: replay.run-returns
 #[test]
 fn endless_lines() {
     let mut count = 0;
@@ -112,6 +115,7 @@ fn endless_lines() {
 }
 
 // A script may end behind its last possible line.
+// promise: replay.run-returns
 #[test]
 fn greatest_number_of_lines() {
     let mut count = 0;
@@ -124,6 +128,7 @@ fn greatest_number_of_lines() {
     assert_eq!(count, 999_999 * 7);
 }
 
+// promise: replay.run-returns
 #[test]
 fn endless_line() {
     let mut written = Vec::new();

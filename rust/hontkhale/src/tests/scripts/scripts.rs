@@ -10,11 +10,13 @@ pub const TWO_NAMES: [Row<'static>; 4] = [
     ("tick 9", "a expired 5\ntick 9"),
 ];
 
+// promise: replay.written-function
 #[test]
 fn five_lines() {
     answers(1024, "delay 1", &TWO_NAMES);
 }
 
+// promise: replay.written-function
 #[test]
 fn header_alone() {
     for first in ["delay 1", "delay 2"] {
@@ -22,6 +24,7 @@ fn header_alone() {
     }
 }
 
+// promise: replay.written-function replay.nine-commands replay.queue-below
 #[test]
 fn insert_and_tick() {
     let table: &[Row] = &[
@@ -38,6 +41,7 @@ fn insert_and_tick() {
     answers(1, "delay 1", table);
 }
 
+// promise: replay.written-function replay.nine-commands replay.queue-below
 #[test]
 fn script_edition_2() {
     let table: &[Row] = &[
@@ -54,6 +58,7 @@ fn script_edition_2() {
 }
 
 // Names of one deadline expire by their bytes.
+// promise: replay.live-names
 #[test]
 fn names_in_order() {
     let table: &[Row] = &[
@@ -72,6 +77,7 @@ fn names_in_order() {
     answers(8, "delay 1", table);
 }
 
+// promise: replay.written-function
 #[test]
 fn greatest_number_and_longest_name() {
     let table: &[Row] = &[
@@ -84,6 +90,7 @@ fn greatest_number_and_longest_name() {
     answers(4, "delay 1", table);
 }
 
+// promise: replay.nine-commands replay.queue-below replay.insert-full
 #[test]
 fn script_capacity_one() {
     let table: &[Row] = &[
@@ -106,6 +113,7 @@ fn script_capacity_one() {
 }
 
 // A cancelled name's place is given anew: by a sweep of the full queue, and at once where most places are taken.
+// promise: replay.insert-full
 #[test]
 fn cancelled_places_come_back() {
     let table: &[Row] = &[
@@ -141,6 +149,7 @@ pub const THREE_NAMES: [Row<'static>; 10] = [
     ("clear", "cleared 1"),
 ];
 
+// promise: replay.live-names replay.nine-commands replay.queue-below
 #[test]
 fn script_capacity_three() {
     answers(3, "delay 1", &THREE_NAMES);
@@ -175,6 +184,7 @@ pub const EVERY_COMMAND: [Row<'static>; 25] = [
     ("clear", "cleared 0"),
 ];
 
+// promise: replay.nine-commands replay.queue-below replay.session-limit
 #[test]
 fn every_command_in_both_editions() {
     for first in ["delay 1", "delay 2"] {
@@ -183,6 +193,7 @@ fn every_command_in_both_editions() {
 }
 
 // Between the editions' limits the first refuses.
+// promise: replay.session-limit
 #[test]
 fn the_first_edition_refuses_beyond_its_limit() {
     let table: &[Row] = &[
@@ -197,6 +208,7 @@ fn the_first_edition_refuses_beyond_its_limit() {
 }
 
 // There the second accepts.
+// promise: replay.session-limit
 #[test]
 fn the_second_edition_goes_on_beyond_the_first() {
     let table: &[Row] = &[

@@ -36,6 +36,7 @@ impl Write for Full<'_> {
     }
 }
 
+// promise: replay.write-fault replay.faults-reader
 #[test]
 fn zero_byte_write() -> Result<(), Fail> {
     let (script, _) = joined("delay 1", &TWO_NAMES)?;
@@ -97,6 +98,7 @@ fn fails_behind(script: &[u8], written: &[u8]) {
     assert_eq!(errors, 1);
 }
 
+// promise: replay.write-fault
 #[test]
 fn short_writes_then_error() -> Result<(), Fail> {
     let (script, _) = joined("delay 1", &TWO_NAMES)?;
@@ -104,6 +106,7 @@ fn short_writes_then_error() -> Result<(), Fail> {
     Ok(())
 }
 
+// promise: replay.write-fault
 #[test]
 fn fault_at_each_write() -> Result<(), Fail> {
     let (script, answers) = joined("delay 1", &THREE_NAMES)?;
@@ -159,6 +162,7 @@ fn flushes_once(
     assert_eq!(flushes, 1);
 }
 
+// promise: replay.write-fault replay.faults-reader
 #[test]
 fn flush_error() -> Result<(), Fail> {
     let (script, answers) = joined("delay 1", &TWO_NAMES)?;

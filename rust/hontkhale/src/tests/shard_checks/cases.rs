@@ -13,7 +13,7 @@ use super::keys::{Answer, Call, Part};
 use crate::core::Look::{LookCancelled, LookExpired, StillLive};
 use crate::core::{CallError, CoreError, Tally};
 use crate::shards::QueueError;
-use crate::wheel::Place;
+use crate::wheels::Place;
 
 /// A case: its name, the shards and the capacity of its fresh queue, and its calls.
 pub type Case = (&'static str, usize, usize, &'static [(Call, Answer)]);

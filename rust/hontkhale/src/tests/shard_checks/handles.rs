@@ -56,6 +56,7 @@ fn audits(queue: &Letters) -> Result<(), Fail> {
 
 // Fails where the queue's audit tells the totals of fresh shards (audit_of_fresh_shards), and where a handle's
 // give_back drops its callers (give_back_drops_its_callers).
+// promise: shards.callers-issued
 #[test]
 fn audit_after_give_back() -> Result<(), Fail> {
     let queue = SharedDelayQueue::new(QueueConfig::of(1, 4))?;
@@ -74,6 +75,7 @@ fn extends_inside_lend(queue: &Letters) -> Result<(), Fail> {
 }
 
 // A handle's call takes no lock, so it goes on while the same thread holds the shard's.
+// promise: shards.callers-issued
 #[test]
 fn extend_inside_lend() -> Result<(), Fail> {
     let queue = SharedDelayQueue::new(QueueConfig::of(1, 4))?;
@@ -105,6 +107,7 @@ fn limits(queue: &Letters) -> Result<(), Fail> {
 }
 
 // Fails where a queue always refuses a handle as too many (handle_always_too_many).
+// promise: shards.callers-issued
 #[test]
 fn handle_limit() -> Result<(), Fail> {
     let queue: Letters = SharedDelayQueue::new(QueueConfig::of(1, 4))?;
@@ -146,6 +149,7 @@ fn reaches_the_limit(queue: &Letters) -> Result<(), Fail> {
     Ok(())
 }
 
+// promise: shards.callers-issued
 #[test]
 fn issue_by_lend() -> Result<(), Fail> {
     let queue: Letters = SharedDelayQueue::new(QueueConfig::of(2, 4))?;
@@ -187,6 +191,7 @@ fn refuses_handles(queue: &Letters) -> Result<(), Fail> {
 
 // Fails where a refused `handle` keeps what it issued (handle_keeps_what_it_issued): what it issued in the shards
 // before stays counted as issued, but isn't out.
+// promise: shards.callers-issued
 #[test]
 fn refused_handle_gives_back() -> Result<(), Fail> {
     let queue: Letters = SharedDelayQueue::new(QueueConfig::of(3, 1))?;

@@ -4,7 +4,7 @@ use crate::tests::kit::Pushed;
 use crate::core::{CallError, Look, Removed, Tally, Turn};
 use crate::shards::QueueError;
 use crate::ticks::{EntryId, Key};
-use crate::wheel::Place;
+use crate::wheels::Place;
 
 /// What a key has in place of what it was given with.
 #[derive(Clone, Copy)]

@@ -110,12 +110,14 @@ fn comes_in_pieces(
     fill_and_poll(&queue, heap, way)
 }
 
+// promise: shards.pieces-give
 #[test]
 fn pieces_by_name() -> Result<(), Fail> {
     let heap = LocalHeap::new();
     comes_in_pieces(&heap, Way::ByName)
 }
 
+// promise: shards.pieces-give
 #[test]
 fn pieces_by_lend() -> Result<(), Fail> {
     let heap = LocalHeap::new();

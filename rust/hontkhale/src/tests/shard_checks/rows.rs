@@ -65,21 +65,25 @@ fn plays_all(way: Way, cases: &[Case]) -> Result<(), Fail> {
     Ok(())
 }
 
+// promise: shards.two-tables
 #[test]
 fn outs_by_name() -> Result<(), Fail> {
     plays_all(Way::ByName, OUTS)
 }
 
+// promise: shards.two-tables
 #[test]
 fn outs_by_lend() -> Result<(), Fail> {
     plays_all(Way::ByLend, OUTS)
 }
 
+// promise: shards.two-tables
 #[test]
 fn handles_beside_calls_by_name() -> Result<(), Fail> {
     plays_all(Way::ByName, BY_HANDLE)
 }
 
+// promise: shards.two-tables
 #[test]
 fn handles_beside_lend() -> Result<(), Fail> {
     plays_all(Way::ByLend, BY_HANDLE)

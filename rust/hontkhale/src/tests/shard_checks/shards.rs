@@ -29,6 +29,7 @@ fn refusal(config: QueueConfig) -> Option<QueueError> {
     made.err()
 }
 
+// promise: shards.memory-bad
 #[test]
 fn bad_configs() {
     for (shards, capacity, last_stamp, answer) in CONFIGS {
@@ -43,6 +44,7 @@ fn bad_configs() {
 }
 
 // No cache line, of 64 bytes, has what two shards write.
+// promise: shards.shard-behind
 #[test]
 fn shards_are_whole_cache_lines() {
     let (empty, boxed) = (
@@ -71,6 +73,7 @@ fn lends(queue: &Letters) {
     }
 }
 
+// promise: shards.callers-issued
 #[test]
 fn lend_out_of_range_calls_nothing() -> Result<(), Fail> {
     lends(

@@ -220,6 +220,7 @@ fn are_many(totals: Totals) {
 
 // Fails where a call by name answers and leaves the shard as it was (call_by_name_leaves_shard), or makes its call
 // and then clears the shard (call_by_name_then_clears).
+// promise: shards.name-lend
 #[test]
 fn by_name_and_by_lend_agree() -> Result<(), Fail> {
     agree_to_the_end()

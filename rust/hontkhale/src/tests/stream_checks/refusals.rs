@@ -43,12 +43,14 @@ fn ends_for_good(queue: &Letters, task: &Task) -> Result<(), Fail> {
     gives_to_another(queue, task, &mut stream)
 }
 
+// promise: stream.tick-beyond
 #[test]
 fn refused_tick_ends_for_good() -> Result<(), Fail> {
     let (queue, task) = letters_and_task(&[('v', 10)])?;
     ends_for_good(&queue, &task)
 }
 
+// promise: stream.tick-beyond
 #[test]
 fn last_tick_is_taken() -> Result<(), Fail> {
     play_over(

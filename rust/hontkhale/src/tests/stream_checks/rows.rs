@@ -7,11 +7,12 @@ use super::steps::{Change, change_while_parked, play, play_over};
 use super::streams::Seen::{Ends, Fault, Out, Waits};
 use super::streams::{Letters, Task, TickOf, Told, fill, letters, letters_and_task, stream_of};
 use crate::core::Expired;
-use crate::shards::LockedShard;
+use crate::shards::ShardState;
 use crate::stream::StreamFault;
 use crate::stream::parking::park_with;
 
 // Ended for now it goes on, up to a tick that is refused. After that it gives not even what is due.
+// promise: shards.change-wakes stream.poll-next-does
 #[test]
 fn stream_by_hand() -> Result<(), Fail> {
     play_over(
@@ -42,6 +43,7 @@ fn stream_by_hand() -> Result<(), Fail> {
     )
 }
 
+// promise: shards.change-wakes stream.poller-taken
 #[test]
 fn ring_wakes_once() -> Result<(), Fail> {
     play_over(
@@ -57,6 +59,7 @@ fn ring_wakes_once() -> Result<(), Fail> {
     )
 }
 
+// promise: shards.change-wakes stream.poller-taken
 #[test]
 fn parked_then_removed() -> Result<(), Fail> {
     let (queue, task) = letters_and_task(&[])?;
@@ -74,7 +77,7 @@ fn parked_then_removed() -> Result<(), Fail> {
     )
 }
 
-fn refuses_no_waker(shard: &mut LockedShard<'_, char>) -> Result<(), Fail> {
+fn refuses_no_waker(shard: &mut ShardState<char>) -> Result<(), Fail> {
     let Some(next) = shard.next_wake() else {
         return Err(Fail::from("no wake"));
     };
@@ -95,6 +98,7 @@ fn refuses_then_parks(queue: &Letters, task: &Task) -> Result<(), Fail> {
     play(queue, task, &[Poll(0, Waits), Parked(Some(10))])
 }
 
+// promise: stream.park-with-parks
 #[test]
 fn waker_copy_refused() -> Result<(), Fail> {
     let (queue, task) = letters_and_task(&[('v', 10)])?;
@@ -133,6 +137,7 @@ fn gives_three(queue: &Letters) -> Result<(), Fail> {
     Ok(())
 }
 
+// promise: stream.order-end
 #[test]
 fn three_in_order_collected() -> Result<(), Fail> {
     let queue = letters(1)?;

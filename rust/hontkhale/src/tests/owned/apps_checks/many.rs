@@ -31,6 +31,7 @@ fn is_full(cache: &mut Widest) {
 }
 
 // No put is refused for want of memory where there is some, however many keys there are.
+// promise: cache.new-with-capacity
 #[test]
 fn the_greatest_number_of_keys() -> Result<(), Fail> {
     let hasher = RandomState::new();
@@ -44,6 +45,7 @@ fn the_greatest_number_of_keys() -> Result<(), Fail> {
 const LAST: u64 = 4398046511103;
 
 // What is due comes out with its key, in the order of its deadlines, until nothing is.
+// promise: cache.purge-take-expired
 #[test]
 fn expired_pairs_come_out() -> Result<(), Fail> {
     let calls = &[
@@ -74,6 +76,7 @@ fn puts_often(cache: &mut Letters) {
 }
 
 // A slot without a key and without a stamp left is told.
+// promise: cache.len-is-empty
 #[test]
 fn worn_slots_are_told() -> Result<(), Fail> {
     let calls = &[

@@ -26,6 +26,7 @@ fn answers(cache: &mut Letters, key: char, ttl: u64, now: u64, made: u32, answer
 }
 
 // A value is made where none is seen, and else a copy of the one that is comes, and none is made.
+// promise: cache.get-or-insert-with cache.leaves-dropped
 #[test]
 fn made_where_none_is_seen() -> Result<(), Fail> {
     let mut cache: Letters = TtlCache::with_capacity(2)?;
@@ -38,6 +39,7 @@ fn made_where_none_is_seen() -> Result<(), Fail> {
 }
 
 // What was made comes back where it can't be set.
+// promise: cache.get-or-insert-with
 #[test]
 fn what_was_made_comes_back() -> Result<(), Fail> {
     let mut cache: Letters = TtlCache::new(1, 2)?;
@@ -80,6 +82,7 @@ fn counts_what_is_seen(counted: &mut Counted) {
 }
 
 // A look-up is a hit where a value was seen, and else a miss, also where it is refused.
+// promise: cache.countedcache-counts
 #[test]
 fn hits_and_misses() -> Result<(), Fail> {
     let mut counted: Counted = CountedCache::new(TtlCache::with_capacity(1)?);

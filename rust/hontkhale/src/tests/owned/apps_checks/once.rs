@@ -6,6 +6,7 @@ use crate::shards::{QueueConfig, QueueError};
 use crate::tests::kit::Fail;
 
 // Where one session has room, one login fills it, and the audit counts one.
+// promise: sessions.into-queue-queue
 #[test]
 fn a_login_enters_once() -> Result<(), Fail> {
     let sessions = IdleSessions::new(QueueConfig::of(1, 1), 100)?;
@@ -18,6 +19,7 @@ fn a_login_enters_once() -> Result<(), Fail> {
 }
 
 // There are 1024 handles, so each call takes one and no more.
+// promise: sessions.handle-takes
 #[test]
 fn a_handle_takes_one() -> Result<(), Fail> {
     let sessions = IdleSessions::new(QueueConfig::of(1, 1), 100)?;

@@ -6,6 +6,7 @@ use crate::tests::kit::Fail;
 use crate::ticks::LAST_STAMP;
 
 // What the readers tell from a put to the purge that drops it.
+// promise: cache.seen-seen
 #[test]
 fn cache_readers() -> Result<(), Fail> {
     let calls = &[

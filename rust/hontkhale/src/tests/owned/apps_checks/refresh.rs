@@ -28,6 +28,7 @@ fn plays_worn(calls: &[Call]) -> Result<(), Fail> {
 }
 
 // A refresh leaves what is seen, and each key can be renewed again.
+// promise: cache.refresh-slot
 #[test]
 fn a_refresh_keeps_what_is_seen() -> Result<(), Fail> {
     let calls = &[
@@ -51,6 +52,7 @@ const ALL_WORN: CoreError = CoreError::Full { linked: 1, worn: 1 };
 const ALL_KEPT: CoreError = CoreError::Full { linked: 2, worn: 0 };
 
 // A key in a worn slot gets its deadline and its value, and one that isn't kept the place of a worn slot.
+// promise: cache.touch-set
 #[test]
 fn touch_and_set_refresh() -> Result<(), Fail> {
     let touch_refreshes = &[Touch('a', 15, 1, Ok(16)), Touch('c', 15, 1, Err(CoreError::Missing))];
@@ -93,6 +95,7 @@ fn one_stamp_is_not_enough(cache: &mut Numbers) {
 }
 
 // Two stamps a slot are enough for as many calls as one likes; one stamp is not.
+// promise: cache.touch-set
 #[test]
 fn two_stamps_are_enough() -> Result<(), Fail> {
     goes_on(&mut TtlCache::new(2, 2)?);
@@ -158,6 +161,7 @@ fn let_go(heap: &LocalHeap) -> Result<(), Fail> {
     Ok(())
 }
 
+// promise: cache.leaves-dropped
 #[test]
 fn what_leaves_is_dropped() -> Result<(), Fail> {
     let heap = LocalHeap::new();

@@ -7,6 +7,7 @@ use crate::tests::apps_checks::sessions::{begins, ends, logs_out, sessions, touc
 use crate::tests::kit::{join, Fail};
 use crate::ticks::Key;
 
+// promise: sessions.touch-logout
 #[test]
 fn touched_from_another_thread() -> Result<(), Fail> {
     let sessions = sessions(IDLE)?;
@@ -53,6 +54,7 @@ fn three_begin(sessions: &IdleSessions) -> Result<Key, Fail> {
 }
 
 // Who logged out never comes out, and is counted by the audit of the queue itself.
+// promise: sessions.touch-logout sessions.into-queue-queue
 #[test]
 fn logged_out_sessions_never_come_out() -> Result<(), Fail> {
     let sessions = sessions(IDLE)?;
@@ -85,6 +87,7 @@ fn two_shards_refuse(sessions: &IdleSessions) -> Result<(), Fail> {
 }
 
 // The refusals that a queue has too: a bad configuration, no free slot, no such shard, and a tick beyond the last.
+// promise: sessions.new-queue
 #[test]
 fn sessions_refuse_as_their_queue() -> Result<(), Fail> {
     let bad = QueueError::Core(CoreError::BadConfig);
@@ -141,6 +144,7 @@ fn moves_to_new(config: QueueConfig, old: &IdleSessions, held: &mut Handle) -> R
 
 // Where slots are worn, new sessions take over: who is active moves by a logout and a login, and who is idle ends in
 // the old.
+// promise: sessions.handle-takes
 #[test]
 fn sessions_move_to_new_ones() -> Result<(), Fail> {
     let config = QueueConfig {

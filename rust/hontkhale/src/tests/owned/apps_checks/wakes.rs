@@ -17,6 +17,7 @@ fn wakes(ttl: u64, wake: u64) -> Result<(), Fail> {
 }
 
 // At tick 0 a wake is the deadline with all its digits of base 64 but the first set to 0.
+// promise: cache.next-wake-isn
 #[test]
 fn wakes_by_the_first_digit() -> Result<(), Fail> {
     let table: &[(u64, u64)] = &[
@@ -41,6 +42,7 @@ fn wakes_by_the_first_digit() -> Result<(), Fail> {
 }
 
 // The first of several deadlines is the one that wakes, and a take or a purge leaves the next one.
+// promise: cache.next-wake-isn
 #[test]
 fn wakes_for_the_first() -> Result<(), Fail> {
     let calls = &[
@@ -86,6 +88,7 @@ fn takes_purges(cache: &mut Letters, ttl: u64, count: usize) {
 
 // A deadline that stands in the highest level of the wheel takes a purge for each level, and one a tick ahead takes
 // one.
+// promise: cache.next-wake-isn
 #[test]
 fn six_purges_for_a_deadline() -> Result<(), Fail> {
     let table: &[(u64, usize)] = &[
@@ -104,6 +107,7 @@ fn six_purges_for_a_deadline() -> Result<(), Fail> {
 
 // A renewal and a refresh leave the wheel where it was: the wake may lie before the moment then, and a purge brings
 // it up.
+// promise: cache.next-wake-isn
 #[test]
 fn a_purge_brings_the_wake_up() -> Result<(), Fail> {
     let calls = &[

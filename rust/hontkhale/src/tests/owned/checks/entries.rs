@@ -95,6 +95,7 @@ fn lists_all_along(queue: &mut Queue) -> Result<(), Fail> {
 
 // A worn slot, one whose entry was reset, one whose entry is cancelled and still linked, one whose entry was
 // extended, and one that was never used.
+// promise: entries.plain-words
 #[test]
 fn live_entries_are_listed_once() -> Result<(), Fail> {
     let mut queue = queue_of_five()?;

@@ -8,6 +8,7 @@ use crate::tests::kit::Fail;
 use crate::ticks::{LAST_STAMP, LAST_TICK};
 use crate::words::{shared_queue, Caller, Keeper};
 
+// promise: core.numbers-out
 #[test]
 fn a_config_of_a_capacity() -> Result<(), Fail> {
     let config = CoreConfig {
@@ -40,6 +41,7 @@ fn takes_two(queue: &mut DelayCore<char, VecWords>) -> Result<(), Fail> {
     Ok(())
 }
 
+// promise: core.numbers-out
 #[test]
 fn a_queue_by_its_capacity() -> Result<(), Fail> {
     let mut queue = plain_queue(2)?;
@@ -57,6 +59,7 @@ fn waits_longer(queue: &mut DelayCore<char, Keeper>, caller: &mut Caller) -> Res
     Ok(())
 }
 
+// promise: core.numbers-out
 #[test]
 fn a_queue_that_callers_extend() -> Result<(), Fail> {
     let mut queue = shared_queue(2)?;

@@ -90,6 +90,7 @@ fn goes_its_way(core: &mut Core, first: usize, most: u32) -> Result<(), Fail> {
     Ok(())
 }
 
+// promise: core.poll-some-comes
 #[test]
 fn what_hangs_open_ends_as_by_a_whole_poll() -> Result<(), Fail> {
     for most in 0..=3 {

@@ -56,6 +56,7 @@ fn opens_a_slot(core: &mut Core) -> Result<(), Fail> {
     Ok(())
 }
 
+// promise: core.live-entry
 #[test]
 fn peek_within_an_open_slot() -> Result<(), Fail> {
     let mut queue = plain(2, LAST_STAMP)?;
@@ -85,6 +86,7 @@ fn goes_by_pieces(core: &mut Core, keys: &mut Vec<Key>) {
     same("all came out", keys.len(), 0);
 }
 
+// promise: core.live-entry
 #[test]
 fn what_comes_next_is_known_before_each_piece() -> Result<(), Fail> {
     let mut queue = plain(9, LAST_STAMP)?;

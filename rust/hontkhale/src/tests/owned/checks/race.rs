@@ -124,6 +124,7 @@ fn contest(core: &mut Core, extender: &mut Caller, canceller: &mut Caller) -> Re
     Ok(meet(core, extender, canceller, &keys))
 }
 
+// promise: words.extends-cancels
 #[test]
 fn extends_and_cancels_race_with_polls() -> Result<(), Fail> {
     let mut core: Core = over_shared(256, LAST_STAMP)?;

@@ -117,6 +117,7 @@ fn old_key_is_unknown(queue: &mut DelayCore<String, VecWords>) -> Result<(), Fai
 }
 
 // Calls by key of the owner.
+// promise: renew.keys-callers
 #[test]
 fn old_keys_never_reach_a_new_entry() -> Result<(), Fail> {
     let mut queue: DelayCore<String, VecWords> = queue(1, LAST_STAMP)?;
@@ -133,6 +134,7 @@ fn old_caller_stays(queue: &mut DelayCore<String, Keeper>, caller: &mut Caller) 
     Ok(())
 }
 
+// promise: renew.keys-callers
 #[test]
 fn old_callers_stay_at_the_old_words() -> Result<(), Fail> {
     let mut queue: DelayCore<String, Keeper> = queue(1, LAST_STAMP)?;

@@ -43,6 +43,7 @@ fn takes_each_generations_handles(queue: &Texts) -> Result<(), Fail> {
 }
 
 // The callers of a generation are counted, given back or not.
+// promise: lasting.generations-last
 #[test]
 fn each_generation_has_so_many_handles() -> Result<(), Fail> {
     let queue = LastingQueue::new(short_lived(1))?;
@@ -137,6 +138,7 @@ fn stops_at(queue: &Texts, player: &mut Player, place: usize, again: &[usize]) -
 }
 
 // A renewal that is refused at a place took on the new callers of those below, told how many, and left the others.
+// promise: lasting.handle-renewal
 #[test]
 fn a_refused_renewal_tells_what_it_took_on() -> Result<(), Fail> {
     for (place, again) in STOPS {

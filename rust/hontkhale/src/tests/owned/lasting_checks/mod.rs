@@ -5,7 +5,6 @@ mod numbers;
 mod parking;
 mod pieces;
 mod play;
-mod pool;
 mod six_places;
 mod steps;
 mod streams;

@@ -39,6 +39,7 @@ fn reopens(number: u32, by: u32, answer: Result<u32, ReopenError>) -> Result<(),
 }
 
 // By two and by three the numbers end beyond those where four is too many.
+// promise: lasting.shard-opened-again
 #[test]
 fn a_shard_goes_on_to_its_last_number() -> Result<(), Fail> {
     let spent = Err(ReopenError::NumbersSpent);

@@ -15,6 +15,7 @@ const OUT: Seen = Out { deadline: 5, noted: 6 };
 const LATE: LastingError = LastingError::Core(CoreError::TickTooLarge { limit: LAST_TICK });
 
 // The entry that the task waits for becomes due later than at first. Where its next wake is later it waits on.
+// promise: lasting.waker-taken
 #[test]
 fn woken_by_what_comes_sooner() -> Result<(), Fail> {
     let calls = &[
@@ -38,6 +39,7 @@ fn woken_by_what_comes_sooner() -> Result<(), Fail> {
     plays(LastingConfig::of(2, 4), calls)
 }
 
+// promise: lasting.waker-taken
 #[test]
 fn rung_at_its_tick() -> Result<(), Fail> {
     let calls = &[
@@ -56,6 +58,7 @@ fn rung_at_its_tick() -> Result<(), Fail> {
 }
 
 // Nothing is linked at first. At the end the task is refused out of range, by the place and by the tick.
+// promise: lasting.waker-taken
 #[test]
 fn waits_for_an_insert() -> Result<(), Fail> {
     let calls = &[
@@ -75,6 +78,7 @@ fn waits_for_an_insert() -> Result<(), Fail> {
 
 // A task waits in a shard that is closed, drains and is opened again. What is inserted while it is closed goes to the
 // other one.
+// promise: lasting.waker-taken
 #[test]
 fn woken_where_its_shard_goes_on() -> Result<(), Fail> {
     let calls = &[
@@ -100,6 +104,7 @@ fn woken_where_its_shard_goes_on() -> Result<(), Fail> {
 // At first one of two slots is worn, and the task waits for the entry in the other. Then both are worn, and it waits
 // for an insert, which goes to the other shard. The step that closes the worn shard wakes the task, and no more than
 // once. That the shard is opened again it doesn't learn: it hasn't asked since it was woken.
+// promise: lasting.waker-taken
 #[test]
 fn woken_where_its_worn_shard_is_closed() -> Result<(), Fail> {
     let calls = &[
@@ -128,6 +133,7 @@ fn woken_where_its_worn_shard_is_closed() -> Result<(), Fail> {
 
 // The task waits for the one entry, and then, where it was removed, for an insert. No call that tells of it wakes the
 // task, nor takes it from its place.
+// promise: lasting.waker-taken
 #[test]
 fn what_only_tells_leaves_the_task() -> Result<(), Fail> {
     let calls = &[
@@ -160,6 +166,7 @@ fn what_only_tells_leaves_the_task() -> Result<(), Fail> {
 }
 
 // The first task waits no more where a second one does.
+// promise: lasting.waker-taken
 #[test]
 fn another_task_takes_its_place() -> Result<(), Fail> {
     let calls = &[

@@ -25,6 +25,7 @@ fn refuses(queue: &Numbers) {
     same("idle", is_idle, true);
 }
 
+// promise: lasting.pieces-go
 #[test]
 fn pieces_are_refused_as_polls() -> Result<(), Fail> {
     let queue = LastingQueue::new(LastingConfig::of(2, 4))?;

@@ -31,6 +31,7 @@ fn six() -> Result<(Texts, Player), Fail> {
 }
 
 // An entry of each route goes to its own place, once more after an insert and after a step that found nothing due.
+// promise: lasting.six-places
 #[test]
 fn each_of_six_places_takes_entries_again() -> Result<(), Fail> {
     let (queue, mut player) = six()?;
@@ -41,6 +42,7 @@ fn each_of_six_places_takes_entries_again() -> Result<(), Fail> {
 }
 
 // Of three shards that are worn by half one is closed by a step, and the others still take entries.
+// promise: lasting.six-places
 #[test]
 fn one_of_three_worn_shards_is_closed() -> Result<(), Fail> {
     let (queue, mut player) = six()?;
@@ -71,6 +73,7 @@ fn one_of_three_worn_shards_is_closed() -> Result<(), Fail> {
 }
 
 // A sweep of a place, and a step of one that is closed, reap what was cancelled there and leave it at the others.
+// promise: lasting.six-places
 #[test]
 fn the_place_alone_is_swept() -> Result<(), Fail> {
     for place in 0..SHARDS {

@@ -14,6 +14,7 @@ const FULL: LastingError = LastingError::Core(CoreError::Full { linked: 3, worn:
 const WORN: LastingError = LastingError::Core(CoreError::Full { linked: 0, worn: 3 });
 
 // What finds the shard at place 1 full goes to the other one. At the end what was cleared from it has worn its slots.
+// promise: lasting.shard-holds
 #[test]
 fn a_shard_holds_as_many_as_it_has_slots() -> Result<(), Fail> {
     let calls = &[
@@ -36,6 +37,7 @@ fn a_shard_holds_as_many_as_it_has_slots() -> Result<(), Fail> {
 
 // Two of the four slots of each shard are worn, so both are to be closed, and one of them takes what is inserted at
 // every moment.
+// promise: lasting.keep-going-does
 #[test]
 fn one_shard_is_closed_at_a_time() -> Result<(), Fail> {
     let calls = &[
@@ -62,6 +64,7 @@ fn one_shard_is_closed_at_a_time() -> Result<(), Fail> {
 
 // An entry with a far deadline holds the shard at place 0 closed. The other one is worn out and empty, so it is
 // opened again at once.
+// promise: lasting.keep-going-does
 #[test]
 fn an_empty_shard_is_opened_while_another_drains() -> Result<(), Fail> {
     let calls = &[
@@ -82,6 +85,7 @@ fn an_empty_shard_is_opened_while_another_drains() -> Result<(), Fail> {
 
 // While the shard at place 0 drains for long, the next is closed once three of its four slots are worn. The last one
 // takes entries though it is as worn.
+// promise: lasting.keep-going-does
 #[test]
 fn another_shard_is_closed_once_it_is_far_worn() -> Result<(), Fail> {
     let drains = Kept::Drains { place: 0, linked: 1 };
@@ -125,6 +129,7 @@ fn another_shard_is_closed_once_it_is_far_worn() -> Result<(), Fail> {
 
 // A shard of 600 slots, all of which are linked, and all but the first cancelled, is swept by 256 slots a step, from
 // where the step before ended, and then from the first one again.
+// promise: lasting.keep-going-does
 #[test]
 fn a_closed_shard_is_swept_in_pieces() -> Result<(), Fail> {
     let (queue, mut player) = queue_and_player(short_lived(600))?;
@@ -150,6 +155,7 @@ fn a_closed_shard_is_swept_in_pieces() -> Result<(), Fail> {
 }
 
 // The shard at place 0 is opened again after its entry was removed. What was cancelled is linked until it is reaped.
+// promise: lasting.generations-last
 #[test]
 fn the_audit_goes_over_generations() -> Result<(), Fail> {
     let calls = &[

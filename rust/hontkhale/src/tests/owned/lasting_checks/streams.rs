@@ -7,7 +7,7 @@ use super::same;
 use crate::lasting::{Kept, LastingConfig, LastingError, LastingStream};
 use crate::tests::kit::{Fail, MockTask, StreamExt};
 use crate::ticks::LAST_TICK;
-use crate::{StreamFault, TickSource};
+use crate::streams::{StreamFault, TickSource};
 use std::cell::Cell;
 use std::task::Poll;
 
@@ -114,6 +114,7 @@ fn gives_what_is_due(queue: &Texts, player: &mut Player) {
     same("two streams", two_at_once(queue, player), Ok(()));
 }
 
+// promise: lasting.pieces-go
 #[test]
 fn lasting_stream_gives_what_is_due() -> Result<(), Fail> {
     let (queue, mut player) = queue_and_player(LastingConfig::of(2, 4))?;
@@ -149,6 +150,7 @@ fn waits_and_is_woken(queue: &Texts, player: &mut Player) {
 }
 
 // A stream waits while nothing is linked, until its tick, and while its shard is closed and opened again.
+// promise: lasting.pieces-go
 #[test]
 fn lasting_stream_waits_and_is_woken() -> Result<(), Fail> {
     let (queue, mut player) = queue_and_player(LastingConfig::of(2, 4))?;
@@ -170,6 +172,7 @@ fn tells_its_faults(queue: &Texts, player: &mut Player) {
     same("stream", streams(queue, player, 0, steps), Ok(()));
 }
 
+// promise: lasting.pieces-go
 #[test]
 fn lasting_stream_tells_its_faults() -> Result<(), Fail> {
     let (queue, mut player) = queue_and_player(LastingConfig::of(2, 4))?;

@@ -46,6 +46,7 @@ fn come_out(queue: &Numbers) {
 
 // Fails where `lend` lends the state of another shard (lend_of_another_shard), since the entries are inserted by
 // name.
+// promise: shards.name-lend
 #[test]
 fn many_outs_under_one_lock() -> Result<(), Fail> {
     come_out(&SharedDelayQueue::new(QueueConfig::of(2, 128))?);

@@ -78,6 +78,7 @@ fn are_their_own(queue: &Numbers, keys: &mut Vec<Key>) -> Result<(), Fail> {
 }
 
 // Fails where a call goes to another shard than the one that it names, at whatever number.
+// promise: words.shard-type shards.made-very
 #[test]
 fn each_of_64_shards_is_its_own() -> Result<(), Fail> {
     let queue: Numbers = SharedDelayQueue::new(QueueConfig::of(SHARDS, 2))?;

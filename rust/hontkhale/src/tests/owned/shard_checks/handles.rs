@@ -30,6 +30,7 @@ fn cancels_in_each_shard(queue: &Letters) -> Result<(), Fail> {
 }
 
 // Fails where all callers of a handle are of one shard (handle_from_one_shard).
+// promise: shards.callers-issued
 #[test]
 fn handle_has_a_caller_of_each_shard() -> Result<(), Fail> {
     let queue: Letters = SharedDelayQueue::new(QueueConfig::of(3, 1))?;

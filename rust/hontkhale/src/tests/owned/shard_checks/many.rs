@@ -29,6 +29,7 @@ fn polls(
 }
 
 // Fails where a call takes out one more than it has room for, or loses one.
+// promise: shards.name-lend
 #[test]
 fn many_outs_by_name() -> Result<(), Fail> {
     let queue = Numbers::new(QueueConfig::of(2, 128))?;

@@ -54,6 +54,7 @@ fn leaves_nothing<'heap>(queue: &Boxes<'heap>, heap: &'heap LocalHeap, task: &Mo
 
 // The last entry was cancelled, and a piece that is told as Working reaps it. Whoever waits then has nothing to wait
 // for.
+// promise: shards.change-wakes
 #[test]
 fn a_piece_that_leaves_nothing_wakes() -> Result<(), Fail> {
     let heap = LocalHeap::new();

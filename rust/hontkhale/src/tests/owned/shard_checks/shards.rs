@@ -49,6 +49,7 @@ fn are_as_configured(queue: &Numbers, config: QueueConfig) {
 
 // Fails where the shards have another capacity, or another last stamp, than was asked for
 // (shards_of_another_capacity).
+// promise: shards.memory-bad
 #[test]
 fn shards_are_as_configured() -> Result<(), Fail> {
     for (shards, capacity) in &[(1, 1), (3, 5)] {
@@ -93,6 +94,7 @@ fn adds_up(queue: &Letters) -> Result<(), Fail> {
 
 // Fails where the totals are those of one shard, or that many times those of one (audit_of_one_shard): each shard has
 // its own.
+// promise: shards.callers-issued
 #[test]
 fn audit_adds_up_all_shards() -> Result<(), Fail> {
     let queue = SharedDelayQueue::new(QueueConfig::of(3, 8))?;

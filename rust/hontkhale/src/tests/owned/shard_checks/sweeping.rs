@@ -97,6 +97,7 @@ fn sweeps(heap: &LocalHeap) -> Result<(), Fail> {
 }
 
 // A cancelled entry keeps its slot and its value until it is reaped.
+// promise: shards.pieces-give
 #[test]
 fn a_shard_is_swept_in_pieces() -> Result<(), Fail> {
     let heap = LocalHeap::new();
@@ -165,6 +166,7 @@ fn reaps_by_name(heap: &LocalHeap) -> Result<(), Fail> {
     reaps_beside_a_handle(&queue, heap)
 }
 
+// promise: shards.pieces-give
 #[test]
 fn an_entry_is_reaped_by_its_name() -> Result<(), Fail> {
     let heap = LocalHeap::new();

@@ -32,6 +32,7 @@ fn tallies(queue: &SharedDelayQueue<u64>) -> Result<(u64, u64), QueueError> {
     Ok((inserted, linked))
 }
 
+// promise: shards.name-lend
 #[test]
 fn two_threads_two_shards() -> Result<(), Fail> {
     let queue = SharedDelayQueue::new(QueueConfig::of(2, 256))?;

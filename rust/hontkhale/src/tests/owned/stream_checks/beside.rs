@@ -62,6 +62,7 @@ fn fill_three_shards(queue: &Letters) -> Result<(), QueueError> {
 
 // Fails where a poll of a stream does something in another shard: gives, loses or reaps an entry, notes a tick, or
 // wakes a poller there.
+// promise: stream.order-end
 #[test]
 fn a_stream_leaves_the_other_shards() -> Result<(), Fail> {
     let own = Task::new()?;
@@ -80,6 +81,7 @@ fn stays_parked(queue: &Letters, task: &Task) -> Result<(), Fail> {
 }
 
 // Fails where the making of a stream takes the parked poller out, woken or not.
+// promise: stream.order-end
 #[test]
 fn a_new_stream_leaves_the_parked_poller() -> Result<(), Fail> {
     let (queue, task) = letters_and_task(&[('v', 10)])?;
@@ -118,6 +120,7 @@ fn sweeps_nothing(queue: &Letters, task: &Task, handle: &mut Handle) -> Result<(
 }
 
 // Fails where a poll of a stream sweeps its shard, before or behind its own poll: it reaps what comes due alone.
+// promise: stream.order-end
 #[test]
 fn a_poll_sweeps_nothing() -> Result<(), Fail> {
     let (queue, task) = letters_and_task(&[])?;

@@ -135,6 +135,7 @@ fn gives_each_digit(queue: &SharedDelayQueue<u64>) -> Result<(), Fail> {
     Ok(())
 }
 
+// promise: stream.poll-next-lock
 #[test]
 fn two_streams_in_turn() -> Result<(), Fail> {
     let queue = SharedDelayQueue::new(QueueConfig::of(2, 8))?;

@@ -6,6 +6,7 @@ use super::streams::letters_and_task;
 use super::streams::Seen::{Ends, Out, Waits};
 use crate::tests::kit::Fail;
 
+// promise: stream.ended-expired
 #[test]
 fn extended_while_parked() -> Result<(), Fail> {
     let (queue, task) = letters_and_task(&[])?;
@@ -26,6 +27,7 @@ fn extended_while_parked() -> Result<(), Fail> {
     )
 }
 
+// promise: stream.ended-expired
 #[test]
 fn cancelled_while_parked() -> Result<(), Fail> {
     let (queue, task) = letters_and_task(&[])?;

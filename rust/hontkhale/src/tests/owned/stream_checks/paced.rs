@@ -90,6 +90,7 @@ fn gives_in_order(steps: u32) -> Result<(), Fail> {
 }
 
 // Fails where a paced stream gives another letter than its stream, or none for ever, by whatever steps.
+// promise: stream.paced-polls
 #[test]
 fn paced_gives_what_the_stream_gives() -> Result<(), Fail> {
     gives_in_order(1)?;
@@ -118,6 +119,7 @@ fn waits_at_work(queue: &Letters, task: &MockTask) -> Result<(), Fail> {
 }
 
 // Fails where a poll that stops at its work parks its task, or doesn't wake it.
+// promise: stream.paced-polls
 #[test]
 fn paced_waits_at_work_and_is_woken() -> Result<(), Fail> {
     let (queue, task) = queue_and_task(FULL_SLOT)?;
@@ -138,6 +140,7 @@ fn works_of_a_new_queue(steps: NonZeroU32) -> Result<usize, Fail> {
 }
 
 // Fails where a poll makes more steps than its own: a full slot then needs no more polls by one step than by many.
+// promise: stream.paced-polls
 #[test]
 fn paced_makes_at_most_its_steps() -> Result<(), Fail> {
     let few = works_of_a_new_queue(NonZeroU32::MIN)?;
@@ -155,6 +158,7 @@ fn loses_nothing(queue: &Letters, task: &MockTask) -> Result<(), Fail> {
 }
 
 // Fails where a stream that is dropped, or turned back, in the midst of its work takes a letter with it.
+// promise: stream.paced-polls
 #[test]
 fn paced_dropped_loses_nothing() -> Result<(), Fail> {
     let (queue, task) = queue_and_task(FULL_SLOT)?;

@@ -51,6 +51,7 @@ fn stays_parked(queue: &Letters, task: &Task) -> Result<(), Fail> {
 
 // Fails where a call that only tells takes the poller out or reaps: `deadline`, `next_wake`, `tally`, `parked` or
 // `audit`.
+// promise: shards.change-wakes
 #[test]
 fn what_only_tells_changes_nothing() -> Result<(), Fail> {
     let (queue, task) = letters_and_task(&[])?;
@@ -154,6 +155,7 @@ fn wakes_its_own_in_a_new_queue(row: usize, case: Case) -> Result<(), Fail> {
 }
 
 // Fails where a change loses a poller, wakes one that may wait, or wakes one of another shard.
+// promise: shards.change-wakes
 #[test]
 fn each_change_wakes_its_own_poller() -> Result<(), Fail> {
     for (row, case) in CASES.iter().enumerate() {

@@ -3,7 +3,7 @@
 use super::same;
 use super::streams::{fill, letters, Letters};
 use crate::core::Turn;
-use crate::shards::{LockedShard, Parked};
+use crate::shards::{Parked, ShardState};
 use crate::stream::parking::park_with;
 use crate::tests::kit::{Fail, MockTask};
 use std::task::{Context, Waker};
@@ -14,7 +14,7 @@ fn registered(cx: &mut Context<'_>) -> Option<Waker> {
 }
 
 // Parks a poller in the place of the one before.
-fn park_at_its_wake(shard: &mut LockedShard<'_, char>, slot: Option<Waker>) -> Result<(), Fail> {
+fn park_at_its_wake(shard: &mut ShardState<char>, slot: Option<Waker>) -> Result<(), Fail> {
     if let Turn::Waiting { next } = shard.poll(0)? {
         park_with(shard, next, slot)?;
     }
@@ -40,6 +40,7 @@ fn wakes_the_second(queue: &Letters, first: &MockTask, second: &MockTask) -> Res
 }
 
 // The one before is not woken, then or later.
+// promise: shards.shard-behind
 #[test]
 fn parked_in_the_place_of_another() -> Result<(), Fail> {
     let queue = letters(1)?;
@@ -71,6 +72,7 @@ fn wakes_what_is_taken(queue: &Letters, task: &MockTask, wakes: bool) -> Result<
     Ok(())
 }
 
+// promise: shards.change-wakes
 #[test]
 fn taken_out_and_woken() -> Result<(), Fail> {
     let queue = letters(1)?;
@@ -78,6 +80,7 @@ fn taken_out_and_woken() -> Result<(), Fail> {
     wakes_what_is_taken(&queue, &task, true)
 }
 
+// promise: shards.change-wakes
 #[test]
 fn taken_out_and_let_sleep() -> Result<(), Fail> {
     let queue = letters(1)?;

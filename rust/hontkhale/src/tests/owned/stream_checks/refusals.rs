@@ -25,6 +25,7 @@ fn takes_no_lock(queue: &Letters, task: &Task) -> Result<(), Fail> {
 }
 
 // Doesn't end where a stream that has ended takes its shard's lock, which this thread holds.
+// promise: stream.poll-next-lock
 #[test]
 fn ended_stream_takes_no_lock() -> Result<(), Fail> {
     let (queue, task) = letters_and_task(&[])?;
@@ -47,6 +48,7 @@ fn gives_the_source_back(queue: &Letters) {
     same(usize::MAX, refused(queue, usize::MAX), unknown);
 }
 
+// promise: stream.expiredstream-new
 #[test]
 fn unknown_shard_gives_the_source_back() -> Result<(), Fail> {
     let queue = letters(2)?;
@@ -59,6 +61,7 @@ fn says(fault: StreamFault, text: &str) -> Result<(), Fail> {
     Ok(())
 }
 
+// promise: stream.order-end
 #[test]
 fn faults_say_why() -> Result<(), Fail> {
     let too_large = StreamFault::TickTooLarge { limit: LIMIT };

@@ -65,6 +65,7 @@ fn came_beside(queue: &SharedDelayQueue<u64>, tick: &AtomicU64) -> bool {
     came
 }
 
+// promise: stream.order-end
 #[test]
 fn woken_from_another_thread() -> Result<(), Fail> {
     let queue = SharedDelayQueue::new(QueueConfig::of(1, 128))?;

@@ -25,6 +25,7 @@ fn wakes_though_dropped(queue: &Letters, task: &Task) -> Result<(), Fail> {
     Ok(())
 }
 
+// promise: stream.poller-taken
 #[test]
 fn dropped_while_parked() -> Result<(), Fail> {
     let (queue, task) = letters_and_task(&[('v', 10)])?;
@@ -41,12 +42,14 @@ fn wakes_the_second(queue: &Letters, first: &Task, second: &Task) -> Result<(), 
     Ok(())
 }
 
+// promise: shards.change-wakes stream.poller-taken
 #[test]
 fn new_stream_takes_the_poller_out() -> Result<(), Fail> {
     let (queue, first, second) = letters_and_tasks(1)?;
     wakes_the_second(&queue, &first, &second)
 }
 
+// promise: stream.pending-comes
 #[test]
 fn polled_twice_is_woken_once() -> Result<(), Fail> {
     play_over(
@@ -63,6 +66,7 @@ fn polled_twice_is_woken_once() -> Result<(), Fail> {
     )
 }
 
+// promise: shards.change-wakes stream.poll-takes
 #[test]
 fn out_leaves_nothing_parked() -> Result<(), Fail> {
     play_over(
@@ -103,6 +107,7 @@ fn wakes_of_each_shard(queue: &Letters, first: &Task, second: &Task) -> Result<(
     Ok(())
 }
 
+// promise: stream.poll-next-does
 #[test]
 fn each_shard_wakes_its_own_task() -> Result<(), Fail> {
     let (queue, first, second) = letters_and_tasks(2)?;

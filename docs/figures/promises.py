@@ -1,0 +1,54 @@
+"""The tests and the edits of each promise: the last column of docs/PROMISES.md, made of what the tests and the edits say of themselves.
+
+A row of the page begins with the promise's name, as `wheel.advance`. An edit has a line `promise: NAME ..`, and a test a
+comment `// promise: NAME ..` above its attribute. A row with neither says in its words that the promise is `proved alone`,
+or so `by inspection`.
+"""
+
+import re
+
+import tree
+from tree import TOP, files, text_of
+
+PAGE = TOP / "docs" / "PROMISES.md"
+ROW = re.compile(r"^(\| ([a-z]+\.[\w-]+) \|.*\|) [^|\n]*\|$", re.M)
+OF_EDIT = re.compile(r"^promise: (.*)$", re.M)
+OF_TEST = re.compile(r"// promise: (.*)\n\s*" + tree.TEST.pattern)
+ALONE = re.compile(r"proved alone|by inspection", re.I)
+
+
+def tests():
+    """Each test that has to name its promise, or does: its file, its name, and what it names."""
+    wanted = {(path, name) for it in tree.crates() for path in it.sources for name in tree.TEST.findall(text_of(path))}
+    wanted |= {(path, name) for folder in tree.PLAIN for path in files(folder, ".rs") for name in tree.TEST.findall(text_of(path))}
+    paths = {path for path, _ in wanted} | {it for part in ("src", "tests") for it in files(TOP / "rust" / "hontkhale" / part, ".rs")}
+    named = {(path, name): ids.split() for path in paths for ids, name in OF_TEST.findall(text_of(path))}
+    return [(path, name, named.get((path, name), [])) for path, name in sorted(wanted | named.keys())]
+
+
+def edits():
+    """Each edit: its file, its name, and the promises that it names."""
+    paths = [path for it in tree.crates() for path in it.edits()]
+    return [(path, path.stem, [it for line in OF_EDIT.findall(text_of(path)) for it in line.split()]) for path in paths]
+
+
+def filled(text, faults):
+    """The page with its last column made anew; adds to `faults` each file, and what it says of no promise."""
+    carriers = {found[2]: ([], []) for found in ROW.finditer(text)}
+    for place, its in enumerate((tests(), edits())):
+        for path, name, promises in its:
+            if not promises:
+                faults.append((path, f"{name} names no promise"))
+            for it in promises:
+                if it not in carriers:
+                    faults.append((path, f"{name} names the promise {it}, which docs/PROMISES.md hasn't"))
+                elif name not in carriers[it][place]:
+                    carriers[it][place].append(name)
+
+    def row(found):
+        told = "; ".join(", ".join(f"`{it}`" for it in sorted(its)) for its in carriers[found[2]] if its)
+        if not told and not ALONE.search(found[1]):
+            faults.append((PAGE, f"{found[2]} has no test and no edit, and says neither `proved alone` nor `by inspection`"))
+        return f"{found[1]} {told} |" if told else f"{found[1]} |"
+
+    return ROW.sub(row, text)

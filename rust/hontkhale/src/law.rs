@@ -1,0 +1,227 @@
+//! The law of a queue, gone through slot by slot and list by list: what the proofs say of its links, bits, counts and
+//! words, looked up in memory. Tests call it where a call was left by a panic, which the proofs know nothing of.
+//!
+//! It takes as long as the queue has slots, so no other call makes it.
+
+use crate::core::{DelayCore, Slots, Words};
+use crate::ticks::Mark;
+use crate::wheels::homes::list_of;
+use crate::wheels::row::{Row, NOT_FILED};
+use crate::wheels::{Wheel, LISTS};
+use alloc::vec;
+use alloc::vec::Vec;
+use core::mem;
+
+type Broken = &'static str;
+
+// What is said of a queue that isn't as it has to be.
+fn holds(is_so: bool, otherwise: Broken) -> Result<(), Broken> {
+    if is_so {
+        Ok(())
+    } else {
+        Err(otherwise)
+    }
+}
+
+// Whether a bit of a row of words is set.
+fn is_set(bits: &[u64], at: usize) -> bool {
+    bits[at / 64] >> (at % 64) & 1 == 1
+}
+
+// The bits that are set; each word that has one is told by its summary.
+fn counted(bits: &[u64], summary: &[u64]) -> Result<usize, Broken> {
+    for (at, word) in bits.iter().enumerate() {
+        holds(
+            is_set(summary, at) == (*word != 0),
+            "a summary tells of a word what isn't so",
+        )?;
+    }
+    Ok(bits.iter().map(|word| word.count_ones() as usize).sum())
+}
+
+// Walks a list by its links and returns how many indexes stand in it.
+fn walked(wheel: &Wheel, list: usize) -> Result<usize, Broken> {
+    let circles = &wheel.lists.circles;
+    let rows: &[Row] = &circles.rows;
+    let (capacity, head) = (circles.capacity(), circles.capacity() + list);
+    let (mut at, mut count) = (head, 0);
+    loop {
+        let next = rows[at].next as usize;
+        holds(rows[next].prev as usize == at, "a link back isn't the link ahead")?;
+        if next == head {
+            return Ok(count);
+        }
+        holds(next < capacity, "a list leads to the head of another one")?;
+        holds(
+            usize::from(circles.home(next)) == list + 1,
+            "an index stands in a list that isn't its home",
+        )?;
+        let filed = circles.filed(next);
+        holds(wheel.tick() <= filed, "an index is filed before the wheel's tick")?;
+        holds(
+            list_of(wheel.tick(), filed) == list,
+            "an index stands in a list that isn't its tick's",
+        )?;
+        (at, count) = (next, count + 1);
+        holds(count <= capacity, "a list has no end")?;
+    }
+}
+
+fn wheel_holds(wheel: &Wheel) -> Result<(), Broken> {
+    let circles = &wheel.lists.circles;
+    let mut linked = 0;
+    for list in 0..LISTS {
+        let count = walked(wheel, list)?;
+        let is_marked = is_set(&wheel.lists.maps, list);
+        holds(is_marked == (count > 0), "an occupancy bit isn't its list's")?;
+        linked += count;
+    }
+    let loose = (0..circles.capacity()).filter(|index| circles.home(*index) == 0);
+    let mut count = 0;
+    for index in loose {
+        holds(circles.rows[index].filed == NOT_FILED, "a loose index is filed")?;
+        count += 1;
+    }
+    holds(
+        linked + count == circles.capacity(),
+        "an index is neither loose nor in its list",
+    )?;
+    Ok(())
+}
+
+// How often each slot is given away as free.
+fn times_free<T>(slots: &Slots<T>) -> Result<Vec<usize>, Broken> {
+    counted(&slots.free.bits, &slots.free.summary)?;
+    let mut times = vec![0; slots.capacity()];
+    for (index, times) in times.iter_mut().enumerate() {
+        let recent = slots.free.recent.iter().filter(|at| usize::from(**at) == index);
+        *times = recent.count() + usize::from(is_set(&slots.free.bits, index));
+    }
+    Ok(times)
+}
+
+fn slots_hold<T>(slots: &Slots<T>) -> Result<(), Broken> {
+    let (deferred, worn) = (&slots.deferred, &slots.deferred_worn);
+    holds(
+        counted(&deferred.bits, &deferred.summary)? == deferred.count,
+        "a count isn't that of its bits",
+    )?;
+    holds(
+        counted(&worn.bits, &worn.summary)? == worn.count,
+        "a count isn't that of its bits",
+    )?;
+    let free = times_free(slots)?;
+    let (mut held, mut fit) = (0, 0);
+    for (index, cell) in slots.cells.iter().enumerate() {
+        let has_stamp = cell.stamp < slots.last();
+        let waits = is_set(&deferred.bits, index);
+        let waits_worn = is_set(&worn.bits, index);
+        let is_held = cell.born > 0;
+        held += usize::from(is_held);
+        fit += usize::from(!is_held && has_stamp);
+        holds(cell.born <= cell.stamp, "an entry is born after its slot's stamp")?;
+        holds(!is_held || cell.value.is_some(), "an entry has no value")?;
+        holds(
+            !waits || (!is_held && has_stamp),
+            "a slot that can't be taken counts as one whose value waits",
+        )?;
+        holds(
+            !waits_worn || (!is_held && !has_stamp),
+            "a slot with a stamp left counts as worn",
+        )?;
+        holds(
+            free[index] == usize::from(!is_held && has_stamp && !waits),
+            "a slot isn't free just once",
+        )?;
+        let may_lie = is_held || waits || waits_worn || !mem::needs_drop::<T>();
+        holds(may_lie || cell.value.is_none(), "a value waits that no bit tells of")?;
+        holds(
+            !(waits || waits_worn) || cell.value.is_some(),
+            "a bit tells of a value that isn't there",
+        )?;
+    }
+    holds(held == slots.held_count, "the count of entries isn't theirs")?;
+    holds(fit == slots.free_count, "the count of free slots isn't theirs")
+}
+
+impl<T, W: Words> DelayCore<T, W> {
+    /// Goes through all that the queue keeps, for tests: each list by its links, each bit, count and word.
+    ///
+    /// # Errors
+    /// What isn't as it has to be.
+    #[doc(hidden)]
+    pub fn check_law(&mut self) -> Result<(), Broken> {
+        wheel_holds(&self.wheel)?;
+        slots_hold(&self.slots)?;
+        holds(
+            self.wheel.tick() <= self.noted,
+            "the wheel's tick is after the noted one",
+        )?;
+        for index in 0..self.slots.capacity() {
+            let filed = self.wheel.filed(index);
+            holds(
+                self.slots.is_held(index) == filed.is_some(),
+                "an entry isn't filed, or what is filed is none",
+            )?;
+            let Some(filed) = filed else {
+                continue;
+            };
+            let word = self.words.look(index);
+            holds(word.stamp == self.slots.stamp(index), "a word's stamp isn't its slot's")?;
+            match word.mark {
+                Mark::LiveMark => holds(filed <= word.field, "an entry is filed after its deadline")?,
+                Mark::CancelledMark => {}
+                _ => Err("an entry's word is that of one that came out")?,
+            }
+        }
+        let ended = self.expired + self.removed;
+        holds(
+            ended + self.slots.linked() as u64 <= self.inserted,
+            "more came out than went in",
+        )
+    }
+}
+
+#[cfg(feature = "std")]
+impl<T> crate::shards::ShardState<T> {
+    /// Goes through all that the shard keeps, for tests: its queue, and that a parked poller waits for no later tick
+    /// than the next wake.
+    ///
+    /// # Errors
+    /// What isn't as it has to be.
+    #[doc(hidden)]
+    pub fn check_law(&mut self) -> Result<(), Broken> {
+        self.attended.core.check_law()?;
+        let next_wake = self.next_wake();
+        let waits_lawfully = match (self.parked(), next_wake) {
+            (None, _) => true,
+            (Some(until), Some(wake)) => until <= wake,
+            (Some(_), None) => false,
+        };
+        holds(waits_lawfully, "a poller is parked until after the next wake")
+    }
+}
+
+#[cfg(feature = "std")]
+impl<T> crate::lasting::LastingQueue<T> {
+    /// Goes through all that the shard at a place keeps, for tests: its queue, and that a parked poller waits for no
+    /// later tick than the next wake, or for an insert where nothing is linked.
+    ///
+    /// # Errors
+    /// What isn't as it has to be.
+    #[doc(hidden)]
+    pub fn check_law(&self, place: usize) -> Result<(), Broken> {
+        let mut shard = self.lock(place);
+        shard.attended.core.check_law()?;
+        let next_wake = shard.next_wake();
+        let waits_lawfully = match &shard.attended.parked {
+            None => true,
+            Some(poller) => match (poller.next, next_wake) {
+                (Some(until), Some(wake)) => until <= wake,
+                (None, None) => true,
+                (None, Some(_)) | (Some(_), None) => false,
+            },
+        };
+        holds(waits_lawfully, "a poller is parked until after the next wake")
+    }
+}

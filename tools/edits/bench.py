@@ -1,0 +1,205 @@
+"""The copies in which crates are checked, each with some edits in it, over what was built of the crates below."""
+
+import itertools
+import os
+import pathlib
+import re
+import shutil
+import signal
+import subprocess
+import threading
+import time
+
+import answers
+from source import TOP
+
+
+class Bench:
+    """The copies in which crates are checked."""
+
+    def __init__(self, room, crates, graph, lines, asks):
+        self.room, self.crates, self.graph, self.lines, self.is_over = room, crates, graph, lines, False
+        self.logs, self.notes_goals = asks.logs, asks.goals
+        self.checks, self.numbers, self.lock = set(), itertools.count(1), threading.Lock()
+        self.seconds = {}
+
+    def below(self, name):
+        """The crates of the repository that a crate stands on, lowest first, and itself."""
+        found = []
+        for it in self.graph[name]:
+            found += [below for below in self.below(it) if below not in found]
+        return [*found, name]
+
+    def stop(self):
+        """Ends the checks that still run, and begins no other."""
+        with self.lock:
+            self.is_over = True
+        for it in list(self.checks):
+            try:
+                os.killpg(it.pid, signal.SIGKILL)
+            except ProcessLookupError:
+                pass
+
+    def ran(self, name, folder, words):
+        """Runs a check in a crate's folder: its status and what it said. A killed one runs again."""
+        how = {"stdin": subprocess.DEVNULL, "stdout": subprocess.PIPE, "stderr": subprocess.STDOUT}
+        how.update(cwd=folder, encoding="utf-8", errors="replace", start_new_session=True)
+        for last in (False, True):
+            with self.lock:
+                if self.is_over:
+                    return 2, "it was ended"
+                ran = subprocess.Popen([*words, "--jobs", "1"], **how)
+                self.checks.add(ran)
+            begun = time.monotonic()
+            said = "".join(f"{time.monotonic() - begun:.1f} s: {it}" if answers.ENDED.match(it) else it for it in ran.stdout)
+            _, status, used = os.wait4(ran.pid, 0)
+            ran.returncode = -os.WTERMSIG(status) if os.WIFSIGNALED(status) else os.WEXITSTATUS(status)
+            self.checks.discard(ran)
+            with self.lock:
+                self.seconds[name] = self.seconds.get(name, 0) + used.ru_utime + used.ru_stime
+            if 0 <= ran.returncode <= 3 or last:
+                return ran.returncode, said
+
+    def rattle(self, name, folder, only):
+        """The words by which rattle checks some functions of a crate, none for all, as rt itself calls it: over built
+        libraries, and what the folder keeps of earlier checks."""
+        kind, of_kit = self.lines[name][0], [it for it in self.lines[name][1] if it not in self.graph]
+        kit = pathlib.Path(shutil.which("rt")).resolve().parent.parent
+        built = lambda it: TOP / "crates" / it / "out" / "rlib"
+        root = "src/main.rt" if (folder / "src" / "main.rt").is_file() else "src/lib.rt"
+        words = [f"{kit}/bin/rattle", "check", "--crate-name", name, root, "-L", f"dependency={kit}/rlibs"]
+        for it in ("std", *of_kit):
+            words += ["--extern", f"{it}={kit}/rlibs/{it}.rlib"]
+        for it in self.graph[name]:
+            words += ["--extern", f"{it}={built(it) / it}.rlib"]
+        for it in self.below(name)[:-1]:
+            words += ["-L", f"dependency={built(it)}"]
+        words += ["--crate-type", "staticlib"] if "staticlib" in kind else []
+        words += ["--antt-project", f"{kit}/rattle/logic/antt-project.json", "--logic-built", f"{kit}/logic_built"]
+        words += ["--links", f"{name}=", "--incremental", "out/incremental", "--progress"]
+        return [*words, *(word for it in only for word in ("--only", it))]
+
+    def begin(self, name):
+        """The folder of a new copy of a crate, in a tree of its own."""
+        folder = self.room / f"round-{next(self.numbers)}" / "crates" / name
+        for part in ("src", "specs", "proofs"):
+            if (TOP / "crates" / name / part).is_dir():
+                shutil.copytree(TOP / "crates" / name / part, folder / part)
+        return folder
+
+    def check(self, crate, edits):
+        """Checks a copy of a crate with these edits in it, over what earlier checks kept; where it only takes the contracts
+        of what they call, with a right body beside the wrong ones."""
+        folder = self.begin(crate.name)
+        at, takes_contracts = folder.parent.parent, all(it.is_searched() for it in edits) and any(it.copy for it in edits)
+        controls = crate.right([it for it in edits if it.pairs])[:1] if takes_contracts else []
+        edits = [*edits, *controls]
+        try:
+            kept = self.room / "kept" / crate.name
+            kept.mkdir(parents=True, exist_ok=True)
+            shutil.copytree(kept, folder / "out" / "incremental", copy_function=link)
+            for path, text in crate.texts_with(edits).items():
+                if text != crate.texts[path]:
+                    (folder / path).write_text(text, encoding="utf-8")
+            for edit in (it for it in edits if it.copy):
+                copy_proof(crate, folder, edit)
+            taken = take_contracts(crate, folder, edits) if takes_contracts else ()
+            searched = self.offer_nothing(crate, folder, edits)
+            only = sorted({name for it in edits for name in it.functions()})
+            status, said = self.ran(crate.name, folder, self.rattle(crate.name, folder, only))
+            if answers.NO_FUNCTION.search(said):
+                # a name that the check gives otherwise: it is asked for all
+                status, said = self.ran(crate.name, folder, self.rattle(crate.name, folder, ()))
+            if not any(it.reaches_further for it in edits):
+                keep_work(folder / "out" / "incremental", kept, [crate.name_of(name) for it in edits for name in it.wrong()])
+            if self.logs:
+                text = "".join(f"-- {it.name}\n" for it in edits) + said
+                (self.logs / f"{crate.name}-{at.name}.log").write_text(text, encoding="utf-8")
+            answer = answers.Answer(crate.name, status, said, searched, taken)
+            answer.controls = [answer.name_of(it.wrong()[0]) for it in controls]
+            return answer
+        finally:
+            shutil.rmtree(at, ignore_errors=True)
+
+    def offer_nothing(self, crate, folder, edits):
+        """Has a check only tell what isn't proved of the functions of these edits, where that may do: which they are."""
+        found = []
+        for edit, function in ((edit, it) for edit in edits if edit.is_searched() for it in edit.bodies):
+            its = crate.name_of(edit.wrong()[0] if edit.copy else function)
+            at = folder / "proofs" / its.replace("::", "/")
+            if not (at / "Proof.antt").exists():
+                found.append(its)
+                others = [] if self.notes_goals else edit.fails.get(crate.name_of(function), [])[1:]
+                leave_out(at, f"Rattle.{crate.name}.proofs.{its.replace('::', '.')}", others)
+        return found
+
+
+def copy_proof(crate, folder, edit):
+    """Gives a copy of a function what was written of the function's proof."""
+    (function,) = edit.bodies
+    at, to = (folder / crate.proof_of(it) for it in (function, edit.wrong()[0]))
+    one, other = (".".join(["", *crate.name_of(it).split("::"), ""]) for it in (function, edit.wrong()[0]))
+    for file in at.glob("*.antt"):
+        to.mkdir(parents=True, exist_ok=True)
+        text = file.read_text(encoding="utf-8")
+        for kind in ("proofs", "specs.contracts"):
+            text = text.replace(f"Rattle.{crate.name}.{kind}{one}", f"Rattle.{crate.name}.{kind}{other}")
+        (to / file.name).write_text(text, encoding="utf-8")
+
+
+def keep_work(made, kept, edited):
+    """Keeps what a check made, but of the functions that were edited in it: later checks want those as they stand."""
+    parts = [f".{it.replace('::', '.')}." for it in edited]
+    for file in filter(pathlib.Path.is_file, made.rglob("*")):
+        if "-proofs." not in file.name or not any(it in file.name for it in parts):
+            to = kept / file.relative_to(made)
+            to.parent.mkdir(parents=True, exist_ok=True)
+            file.replace(to)
+
+
+def take_contracts(crate, folder, edits):
+    """Gives the functions that these edits leave as they stand proofs that are refused at once: which they are. Where one
+    has another name for rattle, that says so and goes on."""
+    wrong = {crate.name_of(name) for it in edits for name in [*it.wrong(), *it.added]}
+    found = [it for it in crate.free() if it not in wrong]
+    for function in found:
+        at = folder / "proofs" / function.replace("::", "/")
+        at.mkdir(parents=True, exist_ok=True)
+        for name in ("Invariants.antt", "Answers.antt"):
+            (at / name).unlink(missing_ok=True)
+        (at / "Proof.antt").write_text(answers.TAKEN.format(function.rpartition("::")[2]), encoding="utf-8")
+    return found
+
+
+def leave_out(folder, module, goals):
+    """Adds answers that are refused to a function's file: one so that no other is offered, and one for each of these goals
+    so that they aren't searched for."""
+    folder.mkdir(parents=True, exist_ok=True)
+    file = folder / "Answers.antt"
+    before = file.read_text(encoding="utf-8") if file.exists() else ""
+    goals = [it for it in goals if f"\npub {it} :" not in f"\n{before}"]
+    uses = f"use {module}.Goals as goal\n"
+    parts = [uses] if goals and uses not in before else []
+    parts += [before, *map(answers.LEFT_OUT.format, goals), answers.OFFERS_NOTHING]
+    file.write_text("\n".join(parts), encoding="utf-8")
+
+
+def link(one, other):
+    """Gives a file that a check made a second name: a check replaces such a file, and never writes into it."""
+    try:
+        if one.endswith(".oantt"):
+            os.link(one, other)
+            return other
+    except OSError:
+        # the copies lie on another disk
+        pass
+    return shutil.copy2(one, other)
+
+
+def has_room(checks, room):
+    """Whether there is memory for so many checks beside those that run; so it is where nothing tells."""
+    try:
+        found = re.search(r"^MemAvailable: +(\d+) kB", pathlib.Path("/proc/meminfo").read_text(), re.M)
+    except OSError:
+        return True
+    return found is None or int(found[1]) >= checks * room

@@ -1,0 +1,308 @@
+"""Edits, as their files say them, and the crates that they are of: what each changes, and how many stand in one check."""
+
+import dataclasses
+import functools
+import pathlib
+import re
+
+import rattle
+
+TOP = pathlib.Path(__file__).resolve().parents[2]
+# So many edits stand in one check at most: its memory and what is lost when it is killed grow with them.
+MOST = 32
+# A type that has a name of its own in a module, whose methods the check calls by that module.
+TYPE = re.compile(r"^(?:pub(?:\([a-z]+\))? )?(?:struct|enum|trait) (\w+)", re.M)
+
+
+class Fault(Exception):
+    """Why an edit can't be applied."""
+
+
+@dataclasses.dataclass
+class Edit:
+    """A wrong body, or a wrong text of another kind: what it changes, and what became of it."""
+
+    crate: str
+    name: str
+    pairs: list = dataclasses.field(default_factory=list)
+    asks: list = dataclasses.field(default_factory=list)
+    fails: dict = dataclasses.field(default_factory=dict)
+    error: str = ""
+    # the name and the text of a copy of its function with the wrong body, which stands beside the right one
+    copy: tuple = ()
+    bodies: dict = dataclasses.field(default_factory=dict)
+    added: set = dataclasses.field(default_factory=set)
+    most: int = MOST
+    reaches_further: bool = False
+    tries: int = 0
+    came_to: str = ""
+    why: str = ""
+
+    def told(self):
+        return f"{self.crate}/{self.name}"
+
+    def is_alone(self):
+        """Whether it is tried alone."""
+        return self.most == 1
+
+    def is_searched(self):
+        """Whether a check of it only has to tell which goals aren't proved, and offers no answers for them."""
+        return not self.tries and not self.is_alone()
+
+    def wrong(self):
+        """The functions that have the wrong bodies."""
+        return [beside(it, self.copy[0]) for it in self.bodies] if self.copy else list(self.bodies)
+
+    def functions(self):
+        """The functions that its check is asked for, none for the whole crate."""
+        return self.asks or ([] if self.reaches_further else [end_of(self.crate, it) for it in self.wrong()])
+
+
+def read(path, crate=""):
+    """An edit as its file says it: `pairs` are of a file, a function if one is named, an old text and a new one."""
+    edit, file, function, old = Edit(crate, path.stem), None, "", None
+    for line in path.read_text(encoding="utf-8").split("\n"):
+        word, _, rest = line.partition(":")
+        rest = rest.removeprefix(" ")
+        if word == "file":
+            file, function = rest.strip(), ""
+        elif word == "in":
+            function = rest.strip()
+        elif word == "old":
+            old = rest
+        elif word == "new" and file and old:
+            edit.pairs.append((file, function, old, rest))
+            old = None
+        elif word == "asks":
+            edit.asks += rest.split()
+        elif word == "error":
+            edit.error = rest.strip()
+        elif word == "fails":
+            name, *goals = rest.split()
+            edit.fails.setdefault(name, []).extend(goals)
+    return edit
+
+
+def beside(function, name):
+    """The name of a copy that stands beside a function."""
+    return "::".join(filter(None, (function.rpartition("::")[0], name)))
+
+
+def end_of(crate, function):
+    """The end of a function's name by which a check finds it, without the module of an impl that stands in another."""
+    parts = function.split("::")
+    return "::".join(parts[-2:]) if parts[1:] else f"{crate}::{function}"
+
+
+@functools.lru_cache(maxsize=256)
+def file_of(path, text):
+    """A file of a crate as a tree."""
+    try:
+        return rattle.File(text, rattle.module_of(path))
+    except (rattle.Refused, IndexError) as refused:
+        raise Fault(f"{path} isn't read: {refused}") from None
+
+
+def applied(pairs, texts):
+    """The texts with these pairs applied, one after the other."""
+    texts = dict(texts)
+    for path, function, old, new in pairs:
+        text = texts.get(path, "")
+        spans = [(it.above, it.end) for it in file_of(path, text).named(function)] if function else [(0, len(text))]
+        times = sum(text.count(old, *span) for span in spans)
+        if times != 1:
+            raise Fault(f"an old text stands {times} times in {function or path}, and not once")
+        at = next(it for it in (text.find(old, *span) for span in spans) if it >= 0)
+        unnamed = None if function or path.endswith(".antt") else file_of(path, text).function_at(at)
+        if unnamed:
+            raise Fault(f"an old text stands in {unnamed.name}, and no line `in:` names it")
+        texts[path] = text[:at] + new + text[at + len(old):]
+    return texts
+
+
+def parts_of(path, text):
+    """The words of a file: of each function those of its header and of its body, and those of the rest."""
+    file, parts, rest, at = file_of(path, text), {}, [], 0
+    for it in file.functions:
+        # two of one name: no edit of either is one of a single function
+        twice = it.name in parts
+        parts[it.name] = None if twice else (text[it.begin:it.body].split(), text[it.body:it.end].split())
+        rest += text[at:it.begin].split()
+        at = it.end
+    return parts, rest + text[at:].split()
+
+
+class Crate:
+    """A crate: its sources as they stand, and its edits."""
+
+    def __init__(self, name, wanted=None):
+        self.name, self.folder = name, TOP / "crates" / name
+        files = [it for part in ("src/**/*.rt", "specs/**/*.antt", "proofs/**/*.antt") for it in sorted(self.folder.glob(part))]
+        self.texts = {it.relative_to(self.folder).as_posix(): it.read_text(encoding="utf-8") for it in files}
+        self.sources = {path: file_of(path, text) for path, text in self.texts.items() if path.endswith(".rt")}
+        types = [(it, file.module) for file in self.sources.values() for it in TYPE.findall(file.text)]
+        self.homes = {name: module for name, module in types if [it for it, _ in types].count(name) == 1}
+        found = [it for it in sorted((self.folder / "edits").glob("*.edit")) if wanted is None or it.stem in wanted]
+        self.edits = [read(it, name) for it in found]
+        for number, edit in enumerate(self.edits, 1):
+            self.look_at(edit)
+            edit.copy = self.copy_of(edit, number) or ()
+
+    def changed(self, texts):
+        """What differs in these texts: the bodies by function, the new functions, and whether anything else does."""
+        bodies, added, more = {}, {}, False
+        for path in (it for it in texts if texts[it] != self.texts[it]):
+            if path not in self.sources:
+                # a definition that contracts share, or a lemma
+                more = True
+                continue
+            (before, rest), (after, its_rest) = parts_of(path, self.texts[path]), parts_of(path, texts[path])
+            more = more or rest != its_rest or not before.keys() <= after.keys()
+            for name, it in after.items():
+                was = before.get(name, "new")
+                if was == "new":
+                    added[name] = it
+                elif was is None or it is None or was[0] != it[0]:
+                    more = more or was != it or was is None
+                elif was[1] != it[1]:
+                    bodies[name] = it[1]
+        return bodies, added, more
+
+    def look_at(self, edit):
+        """Notes which functions an edit changes, and whether it has to be tried alone."""
+        try:
+            texts = applied(edit.pairs, self.texts)
+            if texts == self.texts:
+                raise Fault("it changes nothing")
+        except Fault as fault:
+            edit.came_to, edit.why = "bad", str(fault)
+            return
+        try:
+            edit.bodies, added, more = self.changed(texts)
+            edit.added = set(added)
+            edit.reaches_further = bool(more or not edit.bodies)
+        except Fault:
+            edit.reaches_further = True
+        edit.most = 1 if edit.reaches_further or edit.error else MOST
+
+    def place_of(self, function):
+        """The file that a function stands in, and the function."""
+        return next((path, it) for path, file in self.sources.items() for it in file.functions if it.name == function)
+
+    def proof_of(self, function):
+        """The folder with what was written of a function's proof, in a copy of the crate."""
+        return pathlib.Path("proofs", *self.name_of(function).split("::"))
+
+    def copy_of(self, edit, number):
+        """The name and the text of a copy of the one function that an edit changes, with its wrong body."""
+        if edit.error or edit.reaches_further or edit.asks or edit.added or len(edit.bodies) != 1:
+            return None
+        (function,) = edit.bodies
+        path, (of, plain) = self.place_of(function)[0], ["", *function.split("::")][-2:]
+        proof = self.folder / self.proof_of(function)
+        # one whose proof stands where its name doesn't tell
+        elsewhere = [it for it in (self.folder / "proofs").rglob(plain) if it.is_dir() and it.parent.name == of]
+        if elsewhere and not proof.is_dir():
+            return None
+        return self.copied(file_of(path, applied(edit.pairs, self.texts)[path]), function, f"{plain}_wrong{number}")
+
+    @staticmethod
+    def copied(file, function, name):
+        """The name and the text of a copy of a function of a file; none where there can be none."""
+        text = file.copied(next(it for it in file.functions if it.name == function), name)
+        return text and (name, text)
+
+    def right(self, edits):
+        """Of each function that these edits copy, a copy with the right body, as an edit that changes nothing."""
+        found = []
+        for function in dict.fromkeys(it for edit in edits if edit.copy for it in edit.bodies):
+            copy = self.copied(self.sources[self.place_of(function)[0]], function, f"{function.rpartition('::')[2]}_right")
+            found.append(Edit(self.name, function, copy=copy, bodies={function: None}))
+        return found
+
+    def free(self):
+        """The functions beside which others may stand, as a check is likely to name them."""
+        return [self.name_of(it.name) for file in self.sources.values() for it in file.functions if it.is_free]
+
+    def texts_with(self, edits):
+        """The texts with these edits in them: copies with wrong bodies beside the right ones, the others in their place."""
+        texts = applied([pair for it in edits if not it.copy for pair in it.pairs], self.texts)
+        for edit in (it for it in edits if it.copy):
+            (function,) = edit.bodies
+            path = self.place_of(function)[0]
+            end = next(it.end for it in file_of(path, texts[path]).functions if it.name == function)
+            texts[path] = f"{texts[path][:end]}\n\n{edit.copy[1]}{texts[path][end:]}"
+        return texts
+
+    def name_of(self, function):
+        """The name that a check is likely to give a function: a method stands in the module of its type."""
+        of, _, method = function.rpartition("::")
+        _, _, of = of.rpartition("::")
+        return "::".join(filter(None, (self.homes[of], of, method))) if of in self.homes else function
+
+    def function_at(self, edits, unread):
+        """The function in whose text, with these edits in it, a line stands that isn't read."""
+        _, path, line = unread
+        if path not in self.sources:
+            return None
+        text = self.texts_with(edits)[path]
+        begun = [0, *(it.end() for it in re.finditer("\n", text))][line - 1]
+        found = file_of(path, text).function_at(begun)
+        return found and found.name
+
+    def fit(self, edits):
+        """Whether these edits stand in one text without touching one another."""
+        edits = [it for it in edits if not it.copy]
+        try:
+            bodies, added, more = self.changed(applied([pair for it in edits for pair in it.pairs], self.texts))
+        except Fault:
+            return False
+        lone = [self.changed(applied(it.pairs, self.texts)) for it in edits]
+        parts = [[*it[0].items(), *it[1].items()] for it in lone]
+        return not more and sorted([*bodies.items(), *added.items()]) == sorted(it for part in parts for it in part)
+
+    def rounds(self, edits):
+        """Packs edits into rounds in which no function is edited twice in its place: next the edit that the fewest rounds
+        can take, of those the one that the most others meet."""
+        def meet(one, other):
+            return bool(one.bodies.keys() & other.bodies.keys()) and not (one.copy and other.copy)
+
+        rounds = [[it] for it in edits if it.is_alone()]
+        free = [it for it in edits if not it.is_alone()]
+        met = {id(one): {id(it) for it in free if it is not one and meet(one, it)} for one in free}
+        closed = {id(it): set() for it in free}
+        while free:
+            edit = max(free, key=lambda it: (len(closed[id(it)]), len(met[id(it)])))
+            free.remove(edit)
+            for number, it in enumerate(rounds):
+                room = min(other.most for other in [*it, edit])
+                if len(it) < room and not any(id(other) in met[id(edit)] for other in it) and self.fit([*it, edit]):
+                    it.append(edit)
+                    break
+            else:
+                number = len(rounds)
+                rounds.append([edit])
+            for it in met[id(edit)]:
+                closed[it].add(number)
+        return sorted(rounds, key=len, reverse=True)
+
+
+def lines_of_crates():
+    """The lines of crates.txt: by a crate's name the words behind it, and the libraries that it uses."""
+    lines = [re.match(r"(\w+)([^:#]*):(.*)", it) for it in (TOP / "crates.txt").read_text(encoding="utf-8").splitlines()]
+    return {it[1]: (it[2].split(), it[3].split()) for it in lines if it}
+
+
+def graph_of():
+    """The crates of crates.txt, lowest first: which of the repository each stands on."""
+    named, graph = {name: libraries for name, (_, libraries) in lines_of_crates().items()}, {}
+
+    def add(name):
+        for it in named[name]:
+            if it in named and it not in graph:
+                add(it)
+        graph.setdefault(name, [it for it in named[name] if it in named])
+
+    for name in named:
+        add(name)
+    return graph

@@ -1,0 +1,289 @@
+"""Rattle as tokens, and a file of it as a small tree: its functions, and the impls, traits and modules that they stand in.
+
+Every script reads Rattle by this: the eraser its tokens, the others the tree. Rust is read as well.
+"""
+
+import re
+
+PATTERN = re.compile(
+    r"(?P<space>\s+)"
+    r"|(?P<doc>//[/!][^\n]*)"
+    r"|(?P<comment>//[^\n]*)"
+    r"|(?P<string>b?\"(?:[^\"\\]|\\.)*\")"
+    r"|(?P<char>b?'(?:[^'\\\n]|\\(?:u\{[0-9a-fA-F]+\}|x[0-9a-fA-F]{2}|.))')"
+    r"|(?P<life>'[A-Za-z_]\w*)"
+    r"|(?P<number>\d[\w]*(?:\.\d[\w]*)?)"
+    r"|(?P<word>(?:r#)?[A-Za-z_]\w*)"
+    r"|(?P<mark>\.\.=|\.\.\.|<<=|>>=|::|->|=>|\.\.|&&|\|\||==|!=|<=|>=|\+=|-=|\*=|/=|%=|\^=|\|=|&=|<<)"
+    r"|(?P<other>.)",
+    re.DOTALL,
+)
+OPENS = {"(": ")", "[": "]", "{": "}"}
+CLOSES = {")", "]", "}"}
+# What stands between a function's header and its body for proofs alone.
+CLAUSES = {"requires", "ensures", "invariant", "decreases"}
+
+
+class Refused(Exception):
+    """What no rule knows, with its line."""
+
+
+class Token:
+    """A token: its text, the spaces and comments before it, its line, and where it stands in the text."""
+
+    __slots__ = ("kind", "text", "before", "line", "place")
+
+    def __init__(self, kind, text, before="", line=0, place=0):
+        self.kind = kind
+        self.text = text
+        self.before = before
+        self.line = line
+        self.place = place
+
+    def __repr__(self):
+        return f"{self.text!r}:{self.line}"
+
+
+def tokens_of(text):
+    """The tokens of a text, the last one an empty token that has what is left before it."""
+    found, before, line = [], [], 1
+    for match in PATTERN.finditer(text):
+        kind = match.lastgroup
+        piece = match.group()
+        if kind in ("space", "comment"):
+            before.append(piece)
+        else:
+            found.append(Token(kind, piece, "".join(before), line, match.start()))
+            before = []
+        line += piece.count("\n")
+    found.append(Token("end", "", "".join(before), line, len(text)))
+    return found
+
+
+def text_of(tokens):
+    return "".join(token.before + token.text for token in tokens)
+
+
+def close_of(tokens, at):
+    """The index of the bracket that closes the one at an index."""
+    depth = 0
+    for index in range(at, len(tokens)):
+        if tokens[index].kind != "other":
+            continue
+        if tokens[index].text in OPENS:
+            depth += 1
+        elif tokens[index].text in CLOSES:
+            depth -= 1
+            if depth == 0:
+                return index
+    raise Refused(f"line {tokens[at].line}: a bracket isn't closed")
+
+
+def opening_of(tokens, at):
+    """The index of the bracket that the one at an index closes."""
+    depth = 0
+    for index in range(at, -1, -1):
+        if tokens[index].kind != "other":
+            continue
+        if tokens[index].text in CLOSES:
+            depth += 1
+        elif tokens[index].text in OPENS:
+            depth -= 1
+            if depth == 0:
+                return index
+    raise Refused(f"line {tokens[at].line}: a bracket isn't opened")
+
+
+def angle_close_of(tokens, at):
+    """The index of the angle that closes the one at an index."""
+    depth, index = 0, at
+    while index < len(tokens):
+        text = tokens[index].text
+        if text in OPENS:
+            index = close_of(tokens, index)
+        elif text == "<":
+            depth += 1
+        elif text == ">":
+            depth -= 1
+            if depth == 0:
+                return index
+        elif text == ";":
+            break
+        index += 1
+    raise Refused(f"line {tokens[at].line}: an angle isn't closed")
+
+
+def words_at(tokens, at, *texts):
+    """Whether these texts stand at an index, one after the other."""
+    return all(tokens[at + step].text == text for step, text in enumerate(texts) if at + step < len(tokens))
+
+
+def clause(tokens, at):
+    """The index behind a clause: its word, a name where it has one, and braces; never as a name of Rust."""
+    if tokens[at].text not in CLAUSES or tokens[at].kind != "word":
+        return None
+    after = at + 1
+    # as in `ensures* writes_back {..}`
+    after += tokens[after].text == "*"
+    after += tokens[after].kind == "word"
+    return close_of(tokens, after) + 1 if tokens[after].text == "{" else None
+
+
+def functions(tokens):
+    """Each function: where its item begins and `fn` stands, its name, its parameters' bracket, its body or its end."""
+    found = []
+    for at, token in enumerate(tokens):
+        if token.text != "fn" or token.kind != "word" or tokens[at + 1].kind != "word":
+            continue
+        index = at + 2
+        if tokens[index].text == "<":
+            index = angle_close_of(tokens, index) + 1
+        found.append((item_start(tokens, at), at, tokens[at + 1].text, index, body_of(tokens, close_of(tokens, index) + 1)))
+    return found
+
+
+def body_of(tokens, at):
+    """The index of a function's body, or of the semicolon in its place, behind its answer and its clauses."""
+    while tokens[at].text not in ("{", ";"):
+        if tokens[at].kind == "word" and tokens[at].text == "ghost":
+            while tokens[at].text != "{":
+                at += 1
+            at = close_of(tokens, at) + 1
+            continue
+        behind = clause(tokens, at)
+        if behind is None:
+            behind = close_of(tokens, at) + 1 if tokens[at].text in OPENS else at + 1
+        at = behind
+    return at
+
+
+def item_start(tokens, at):
+    """Where the item of a word like `fn` begins: with its docs, its attributes and its visibility."""
+    while at > 0:
+        before = tokens[at - 1]
+        if before.kind == "doc" and before.text.startswith("///"):
+            at -= 1
+        elif before.text in ("pub", "const", "unsafe") and before.kind == "word":
+            at -= 1
+        elif before.text == ")" and tokens[at - 4].text == "pub":
+            at -= 4
+        elif before.kind == "string" and tokens[at - 2].text == "extern":
+            at -= 2
+        elif before.text == "]" and is_attribute(tokens, at - 1):
+            at = opening_of(tokens, at - 1) - 1
+        else:
+            break
+    return at
+
+
+def is_attribute(tokens, at):
+    opening = opening_of(tokens, at)
+    return opening > 0 and tokens[opening - 1].text == "#"
+
+
+class Function:
+    """A function: its name behind those of what it stands in, and the places in the text where what is above it begins,
+    its header, its body, and where it ends; and
+    whether another may stand beside it, as none may that a trait names, and whether it is public."""
+
+    def __init__(self, name, above, begin, body, end, is_free, is_public):
+        self.name, self.above, self.begin, self.body, self.end = name, above, begin, body, end
+        self.is_free, self.is_public = is_free, is_public
+
+
+class File:
+    """A file, given the name of its module: its text, its tokens, and its functions but those inside of others."""
+
+    def __init__(self, text, module=""):
+        self.text, self.tokens, self.module = text, tokens_of(text), module
+        self.functions = list(self.read())
+
+    def read(self):
+        homes, behind = list(self.homes()), 0
+        for start, at, name, _, body in functions(self.tokens):
+            if at < behind:
+                continue
+            closes = close_of(self.tokens, body) if self.tokens[body].text == "{" else body
+            behind = closes + 1
+            around = [home for home in homes if home[0] < at < home[1]]
+            full = "::".join(filter(None, [self.module, *(it[2] for it in around), name]))
+            head = start
+            while self.tokens[head].kind == "doc" or self.tokens[head].text == "#":
+                head = head + 1 if self.tokens[head].kind == "doc" else close_of(self.tokens, head + 1) + 1
+            is_public = self.tokens[head].text == "pub" and self.tokens[head + 1].text != "("
+            places = (self.tokens[it].place for it in (start, head, body))
+            yield Function(full, *places, self.tokens[closes].place + 1, all(it[3] for it in around), is_public)
+
+    def homes(self):
+        """The modules, traits and impls: where each opens and closes, its name, and whether its functions are its own."""
+        for at, token in enumerate(self.tokens):
+            if token.kind != "word" or token.text not in ("mod", "trait", "impl") or self.is_inside_a_header(at):
+                continue
+            body = at + 1
+            while self.tokens[body].text not in ("{", ";"):
+                body += 1
+            if self.tokens[body].text == "{":
+                words = self.text[token.place + len("impl"):self.tokens[body].place]
+                name = name_of_impl(words) if token.text == "impl" else self.tokens[at + 1].text
+                is_own = token.text == "mod" or token.text == "impl" and " for " not in words
+                yield body, close_of(self.tokens, body), name, is_own
+
+    def is_inside_a_header(self, at):
+        """Whether `impl` is no item, as in a type, or `mod` and `trait` are other words."""
+        before = self.tokens[at - 1] if at else None
+        return before is not None and before.kind != "doc" and before.text not in ("}", ";", "{", "]", "pub", ")", "unsafe")
+
+    def function_at(self, place):
+        """The function in which a place of the text stands, or above which; none outside of all."""
+        return next((it for it in self.functions if it.above <= place < it.end), None)
+
+    def named(self, name):
+        """The functions of a name, without the file's own module."""
+        full = "::".join(filter(None, (self.module, name)))
+        return [it for it in self.functions if it.name == full]
+
+    def copied(self, function, name):
+        """The text of a function under another name, with what stands above it; none where it can't stand beside it, or
+        where it calls itself."""
+        plain = function.name.rpartition("::")[2]
+        inside = [it for it in range(len(self.tokens)) if function.body <= self.tokens[it].place < function.end]
+        if not function.is_free or any(self.calls(at, plain) for at in inside):
+            return None
+        line = self.text.rfind("\n", 0, function.above) + 1
+        header = re.sub(rf"\bfn {plain}\b", f"fn {name}", self.text[function.begin:function.body], count=1)
+        return self.text[line:function.begin] + header + self.text[function.body:function.end]
+
+    def calls(self, at, name):
+        """Whether a token is the name of this very function, where it is called."""
+        if not words_at(self.tokens, at, name, "("):
+            return False
+        before = self.tokens[at - 1].text
+        return before not in (".", "::") or self.tokens[at - 2].text == ("self" if before == "." else "Self")
+
+
+def module_of(path):
+    """The module of a file below src/."""
+    return "::".join(it for it in path[len("src/"):-len(".rt")].split("/") if it not in ("lib", "main", "mod"))
+
+
+def name_of_impl(words):
+    """The name that the check gives an `impl`: the type, and the trait with its arguments behind it. The impl of a type
+    with some arguments alone has them all in its name, as in `Queue+T+VecWords+A`."""
+    words, own = re.sub(r"\bwhere\b.*", "", words, flags=re.S).strip(), ""
+    if words.startswith("<"):
+        depth, at = 0, 0
+        for at, it in enumerate(words):
+            depth += (it == "<") - (it == ">" and words[at - 1] != "-")
+            if not depth:
+                break
+        own, words = words[1:at], words[at + 1:].strip()
+    of, _, type_name = words.rpartition(" for ")
+    last = lambda path: re.sub(r"^.*::", "", re.match(r"[^<]*", path)[0]).strip()
+    arguments = type_name.partition("<")[2].rpartition(">")[0]
+    is_own = lambda it: not it or it.startswith("'") or re.search(rf"(?:^|,)\s*(?:const )?{re.escape(it)}\b", own)
+    if not of and not all(is_own(it.strip()) for it in arguments.split(",")):
+        return "+".join([last(type_name), *re.findall(r"\w+", arguments)])
+    # of the type's own arguments the check names those that are no parameters, as in `OptionU64`
+    plain = re.findall(r"(?<!')\b[a-z]\w*\b(?!::)", type_name.partition("<")[2])
+    name = "".join(it[:1].upper() + it[1:] for it in (last(type_name), *plain))
+    return name + last(of) + "".join(it for it in re.findall(r"\w+", of.partition("<")[2]) if not is_own(it))
