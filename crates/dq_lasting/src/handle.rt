@@ -126,7 +126,7 @@ impl<A: Allocator> LastingHandle<A> {
     }
 
     // Takes the caller of the shard at a place on, where that was renewed; tells whether it was.
-    fn renew_at<R: Wait, T: Drop>(
+    fn renew_at<R: Wait, T>(
         &mut self,
         rt: &R,
         queue: &LastingQueue<T, A>,
@@ -155,7 +155,7 @@ impl<A: Allocator> LastingHandle<A> {
     /// shards; then nothing changes. Else it stops at the first place whose shard issues no caller: TooManyHandles
     /// where 1,024 of this generation were issued, or NoMemory. The error tells that place, and how many new callers
     /// were taken on below it, which stay; the callers from there on are those from before.
-    pub fn renew<R: Wait, T: Drop>(
+    pub fn renew<R: Wait, T>(
         &mut self,
         rt: &R,
         queue: &LastingQueue<T, A>,
@@ -224,7 +224,7 @@ fn refused(refusal: WordsError) -> HandleError
     }
 }
 
-impl<T: Drop, A: Allocator> LastingQueue<T, A> {
+impl<T, A: Allocator> LastingQueue<T, A> {
     // The number of the shard at a place.
     pub(crate) fn number_at<R: Wait>(&self, rt: &R, place: usize) -> u32
         requires { place < self.now.shards }
@@ -252,7 +252,7 @@ impl<T: Drop, A: Allocator> LastingQueue<T, A> {
     }
 }
 
-impl<T: Drop, A: Allocator + Clone + Drop> LastingQueue<T, A> {
+impl<T, A: Allocator + Clone + Drop> LastingQueue<T, A> {
     /// A handle, with a caller of each shard, issued in turn under that shard's lock.
     ///
     /// # Errors
