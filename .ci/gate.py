@@ -26,7 +26,7 @@ TOP = pathlib.Path(__file__).resolve().parent.parent
 TESTS = TOP / "rust" / "test"
 STORED = TOP / "bench" / "results" / "gate.tsv"
 # Both need Python alone, as rt does.
-FIRST = {"docs/check": ["python3", "docs/check"], "c/check": ["python3", "c/check", "--hash"]}
+FIRST = {"docs/check": ["python3", "docs/check"], "c/generate": ["python3", "c/generate", "--hash"]}
 SAID = {"cwd": TOP, "stderr": subprocess.STDOUT, "encoding": "utf-8", "errors": "replace"}
 
 

@@ -270,6 +270,23 @@ def adapter():
                 ([name, *(it for size in sizes for it in told(*found[name, size]))] for name in dict.fromkeys(name for name, _ in found)))
 
 
+def adapter_stack():
+    """What calls of the adapter and of its peer with large values want of the stack, worst first."""
+    found = [(f"`{call}`, {profile}", int(peer), int(here)) for kind, profile, call, peer, here, *_ in rows_of("adapter-room") if kind == "stack"]
+    return grid(["Call", "peer", "here", "ratio"],
+                ([name, f"{peer:,}", f"{here:,}", f"{here / peer:.1f}"] for name, peer, here in sorted(found, key=lambda it: (-it[2] / it[1], -it[2]))))
+
+
+def adapter_memory():
+    """What a compact of the adapter and of its peer makes of a million entries, the longest beside the peer's first."""
+    found = {(it[2], it[3]): [int(figure) for figure in it[4:]] for it in rows_of("adapter-room") if it[:2] == ["compact", "release"]}
+    times = lambda part, side: found[part, side][3] / found[part, "the peer"][3]
+    parts = sorted({part for part, _ in found}, key=lambda part: -times(part, "here"))
+    return grid(["Taken out before, and by whom", "MiB before", "% left", "% at most", "ms", "times the peer's"],
+                ([f"{part}, {side}", f"{found[part, side][0] / 1024:.0f}", *found[part, side][1:3], f"{found[part, side][3] / 1000:.0f}", f"{times(part, side):.1f}"]
+                 for part in parts for side in ("the peer", "here", "here, with a handle")))
+
+
 def gate():
     """What the parts of a whole run of the gate took, in minutes."""
     its = noted("gate")
@@ -362,7 +379,7 @@ def lasts(*sizes):
                 ([f"{capacity:,}", shards, *(told(capacity * shards * stamps / it) for it in RATES)] for capacity, shards in shapes), 0)
 
 
-TABLES = (adapter, ahead, beside, beside_delay_queue, edit, evidence, fair, gate, headline, instructions, lasts, life_standing, longest,
+TABLES = (adapter, adapter_memory, adapter_stack, ahead, beside, beside_delay_queue, edit, evidence, fair, gate, headline, instructions, lasts, life_standing, longest,
           pieces, renewing, shard_standing, shared_speed, sizes, speed, standing)
 
 

@@ -9,7 +9,7 @@ import kit
 import laws
 import links
 import paths
-from rattle import Refused, close_of, item_start, text_of, tokens_of, words_at
+from rattle import Refused, item_start, text_of, tokens_of
 
 TOP = Path(__file__).resolve().parent.parent.parent
 OUT = TOP / "rust" / "hontkhale" / "src"
@@ -71,19 +71,6 @@ def sources(hand):
     return found
 
 
-def without_empty_tests(tokens):
-    """A test that only called laws has nothing left."""
-    at = 0
-    while at < len(tokens) - 6:
-        if words_at(tokens, at, "#", "[", "test", "]", "fn"):
-            opening = at + 6
-            body = close_of(tokens, opening) + 1
-            if words_at(tokens, body, "{", "}"):
-                del tokens[at:body + 2]
-                continue
-        at += 1
-
-
 def erase_modules(source, gone, names):
     """Takes out `mod` and `use` of modules that are empty now, and of names that are gone."""
     tokens = source.tokens
@@ -103,16 +90,10 @@ def rebuilt_uses(source, gone, names):
     tokens = source.tokens
     module = MODULES[source.crate]
     spans = paths.uses_of(tokens)
-    test = test_module(tokens)
-    words, tested = paths.named(tokens, spans, test)
-    wanted, wanted_by_tests = [], []
+    words, wanted = paths.named(tokens, spans), []
     for start, end, vis, found in reversed(spans):
-        inner = test is not None and start > test
         kept = []
         for path in found:
-            if path.endswith("::*"):
-                kept.append(path)
-                continue
             if paths.last(path) in names or is_gone(source, path, gone):
                 continue
             new = guarded(source, paths.moved, path, module, MODULES)
@@ -121,33 +102,14 @@ def rebuilt_uses(source, gone, names):
                 continue
             if vis:
                 kept.append(new)
-            elif inner:
-                wanted_by_tests.append(new)
             elif name in words or name in TRAITS:
                 wanted.append(new)
-            elif name in tested:
-                wanted_by_tests.append(new)
         replace_use(tokens, start, end, vis, kept)
     defined = defined_names(tokens)
     for word, path in paths.PROVIDED.items():
         if word in words and word not in defined:
             wanted.append(path)
-        elif word in tested and word not in defined:
-            wanted_by_tests.append(path)
-    if wanted_by_tests:
-        within = next(at for at in range(len(tokens)) if tokens[at].text == "super" and tokens[at + 1].text == "::") + 4
-        new = sorted({path for path in wanted_by_tests if path not in wanted and paths.last(path) in tested})
-        lines = "".join(f"\n    {line}" for line in grouped(new))
-        tokens[within:within] = tokens_of(lines)[:-1]
     put_uses(tokens, sorted(set(wanted)))
-
-
-def test_module(tokens):
-    """Where the module of a file's tests begins, which is its last item; none where it has none."""
-    for at in range(len(tokens) - 8):
-        if words_at(tokens, at, "#", "[", "cfg", "(", "test", ")", "]", "mod") and tokens[at + 9].text == "{":
-            return at
-    return None
 
 
 def defined_names(tokens):
@@ -240,7 +202,6 @@ def erased(hand, closed):
     closed.all_found()
     for source in found:
         source.tokens = guarded(source, ghosts.erased, source.tokens)
-        guarded(source, without_empty_tests, source.tokens)
         guarded(source, kit.early, source.tokens, SWAPPED)
         source.tokens = guarded(source, handed.without_handed, source.tokens, fields[source.crate])
         guarded(source, kit.rewritten, source.tokens)
@@ -250,7 +211,6 @@ def erased(hand, closed):
     gone = {(source.crate, source.module_path()) for source in found if not laws.has_items(source.tokens)}
     for source in found:
         guarded(source, erase_modules, source, gone, names)
-        guarded(source, paths.with_paths, source.tokens, MODULES[source.crate], MODULES)
         rebuilt_uses(source, gone, names)
         guarded(source, links.with_links, source.tokens, MODULES[source.crate], closed.given)
     return {

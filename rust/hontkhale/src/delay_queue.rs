@@ -4,6 +4,7 @@
 //! receivers are woken in time. The shards that it stands over are proved, as the crate's front page tells; what is here, by
 //! which threads share them, wait, and find their entries, is written by hand and tested.
 
+mod asynchronous;
 mod builder;
 mod callers;
 mod dropping;
@@ -18,6 +19,7 @@ mod stats;
 mod time;
 mod waking;
 
+pub use asynchronous::AsyncReceiver;
 pub use builder::Builder;
 pub use errors::{InsertError, InsertErrorKind, KeyError};
 pub use handle::{Handle, Timeout};
@@ -305,6 +307,11 @@ impl<T> DelayQueue<T> {
     /// What is due now, one entry after the other: each step is a [`try_recv`](DelayQueue::try_recv).
     pub fn try_iter(&self) -> TryIter<'_, T> {
         TryIter::new(self)
+    }
+
+    /// What receives in a task: see [`AsyncReceiver`]. Under tokio the crate hontkhale-tokio makes a `Stream` of it, with a timer.
+    pub fn receiver(&self) -> AsyncReceiver<T> {
+        AsyncReceiver::new(self)
     }
 
     /// The number of entries that wait, or are due and didn't come out yet.

@@ -16,6 +16,15 @@ const STEPS: u32 = 256;
 /// How many entries are taken out under one lock.
 const TAKEN_AT_ONCE: usize = 64;
 
+/// What the steps under one lock came to.
+pub(crate) enum Step<T> {
+    Took(Expired<T>),
+    /// More may be due.
+    Works,
+    /// Nothing is due.
+    Rests,
+}
+
 /// A place in the line of those that wait.
 struct Seat<'q, T> {
     shared: &'q Shared<T>,
@@ -110,6 +119,20 @@ impl<T> Shared<T> {
         least.1
     }
 
+    /// Takes an entry out that is due, by as many steps as are made under one lock.
+    pub fn take_step(&self) -> Step<T> {
+        let now = self.front.time.tick();
+        let Some((at, place)) = self.most_due(now) else {
+            return Step::Rests;
+        };
+        let mut out = None;
+        self.poll(at, place, now, |expired| {
+            out = Some(expired);
+            false
+        });
+        out.map_or(Step::Works, |out| Step::Took(self.expired(at, out, now)))
+    }
+
     /// An entry that is due.
     pub fn take_one(&self) -> Option<Expired<T>> {
         let now = self.front.time.tick();
@@ -151,7 +174,8 @@ impl<T> Shared<T> {
         let segment = self.segment(at).expect("a segment of the queue");
         let mut shard = segment.enter(place);
         loop {
-            match shard.poll_some(now, STEPS).expect("a tick that isn't beyond the last") {
+            let (piece, _nobody) = shard.attended.poll_some(now, STEPS);
+            match piece.expect("a tick that isn't beyond the last") {
                 Piece::Answer(Turn::Out(expired)) => {
                     if !more(expired) {
                         break;
@@ -292,8 +316,8 @@ impl<'q, T> Drain<'q, T> {
         while let Some((entry, next)) = segment.entry_from(self.place, self.slot) {
             self.slot = next;
             let mut shard = segment.enter(self.place);
-            let Ok(removed) = shard.remove(&entry) else {
-                let _ = shard.reap(&entry);
+            let Ok(removed) = shard.attended.remove(&entry).0 else {
+                let _ = shard.attended.reap(&entry).0;
                 continue;
             };
             drop(shard);
