@@ -52,7 +52,7 @@ trait Queue: Sync {
 }
 
 macro_rules! queue {
-    ($queue:ty, $config:ty, $refusal:ident, $present:expr) => {
+    ($queue:ty, $config:ty, $refusal:ident, $present:expr, $noted_and_wake:expr) => {
         impl Queue for $queue {
             type Refusal = $refusal;
 
@@ -92,8 +92,7 @@ macro_rules! queue {
             }
 
             fn noted_and_wake(&self) -> (u64, Option<u64>) {
-                let shard = self.enter(0).expect("a shard");
-                (shard.noted(), shard.next_wake())
+                $noted_and_wake(self)
             }
 
             fn counts(&self) -> (u64, u64, u64) {
@@ -107,12 +106,19 @@ macro_rules! queue {
 type Shared = SharedDelayQueue<u64>;
 type Lasting = LastingQueue<u64>;
 
-queue!(Shared, QueueConfig, QueueError, |tally| tally);
+queue!(Shared, QueueConfig, QueueError, |tally| tally, |queue: &Shared| {
+    let shard = queue.enter(0).expect("a shard");
+    (shard.noted(), shard.next_wake())
+});
 queue!(
     Lasting,
     LastingConfig,
     LastingError,
-    |tally: hontkhale::lasting::LastingTally| tally.present
+    |tally: hontkhale::lasting::LastingTally| tally.present,
+    |queue: &Lasting| {
+        let state = queue.state(0).expect("a shard");
+        (state.noted, state.next_wake)
+    }
 );
 
 fn steps(steps: u32) -> NonZeroU32 {

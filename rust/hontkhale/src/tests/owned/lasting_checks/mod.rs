@@ -5,9 +5,11 @@ mod numbers;
 mod parking;
 mod pieces;
 mod play;
+mod rounds;
 mod six_places;
 mod steps;
 mod streams;
 mod tasks;
+mod twins;
 
 use crate::tests::lasting_checks::same;
