@@ -20,10 +20,10 @@ fn gives_way(queue: &LastingQueue<u64>, place: usize) -> bool {
 #[test]
 fn lasting_polls_through_give_way_to_who_waits_for_their_shard() {
     let queue = LastingQueue::new(LastingConfig::of(2, 8)).expect("a queue");
+    let most = NonZeroU32::new(1).expect("some steps");
     assert!(!gives_way(&queue, 0) && !gives_way(&queue, 1), "nobody waits yet");
     thread::scope(|scope| {
         let held = queue.lock(1);
-        let most = NonZeroU32::new(1).expect("some steps");
         scope.spawn(|| queue.poll_through(1, 0, most).is_ok());
         let start = Instant::now();
         while !gives_way(&queue, 1) {
