@@ -263,10 +263,11 @@ fn gives_way(queue: &Shared, shard: usize) -> bool {
     least.min().is_some_and(|least| least > Duration::from_nanos(1_500))
 }
 
+// A lasting queue hands out no shard whose lock is held: its test of this stands in the crate.
 // promise: shards.poll-through-makes
 #[test]
 fn polls_through_give_way_to_who_waits_for_their_shard() {
-    let queue = Shared::of(8);
+    let queue = <Shared as Queue>::of(8);
     assert!(!gives_way(&queue, 0) && !gives_way(&queue, 1), "nobody waits yet");
     thread::scope(|scope| {
         let held = queue.enter(1).expect("a shard");
