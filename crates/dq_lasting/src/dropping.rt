@@ -178,10 +178,12 @@ impl<T: Drop, A: Allocator> LastingQueue<T, A> {
         }
     }
 
-    /// As [`LastingQueue::insert`], for callers that answer a refusal with `?`: the value is dropped then.
+    /// Puts an entry in that is live until `when`, a tick of one millisecond, and returns its key, for callers that pass a
+    /// refusal on with `?`: the value is dropped then, and else it is [`LastingQueue::insert`].
     ///
     /// # Errors
-    /// As `insert`.
+    /// TooFar beyond the last tick, where the first that takes entries is asked; Closed where no shard takes entries;
+    /// and Full where those that do have no free slot, with the numbers of one of them.
     pub fn insert_or_drop<R: Wait>(
         &self,
         rt: &R,
@@ -198,11 +200,16 @@ impl<T: Drop, A: Allocator> LastingQueue<T, A> {
         }
     }
 
-    /// As [`DelayCore::poll`] of the shard at a place, `tick` of one millisecond. A closed shard is polled as any
+    /// Notes `tick`, of one millisecond, in the shard at a place, and takes out one entry of the shard whose deadline in
+    /// force is reached by the greatest tick noted there. Call again until it answers Waiting (nothing is due; `next` is
+    /// the next tick at which there is something to do) or Idle (nothing is linked). A closed shard is polled as any
     /// other.
     ///
+    /// The values of cancelled entries that it reaps are dropped by it once the lock is free, where it gives no entry,
+    /// and else by a later call.
+    ///
     /// # Errors
-    /// Unknown out of range, and TickTooLarge beyond the last tick.
+    /// Unknown out of range, before all else, and then TickTooLarge beyond the last tick, which is not noted then.
     pub fn poll<R: Wait>(&self, rt: &R, place: usize, tick: u64) -> Result<Turn<T>, LastingError>
         ensures unknown { IsErrOf result Unknown ↔ (self.now.shards ≤ place) }
         ensures answers { AtPlaceOr {T = T} self.now.shards place
@@ -251,8 +258,8 @@ impl<T: Drop, A: Allocator> LastingQueue<T, A> {
         Ok(piece)
     }
 
-    /// As [`LastingQueue::poll`], in pieces of at most `most` steps, `tick` of one millisecond. The shard's lock is
-    /// free between two pieces, and where another thread waits for it this one gives way for a bounded while: a call
+    /// Notes `tick`, of one millisecond, in the shard at a place, and takes out one entry that is due there, in pieces of
+    /// at most `most` steps. The shard's lock is free between two pieces, and where another thread waits for it this one gives way for a bounded while: a call
     /// by name then waits for about one piece, not for the whole poll.
     ///
     /// It returns once a piece comes to an answer: each leaves at least so many steps fewer, but other threads may
@@ -403,12 +410,15 @@ impl<T: Drop, A: Allocator> LastingQueue<T, A> {
         answer
     }
 
-    /// As [`LastingQueue::poll_or_park`], by at most `most` steps while the shard's lock is held, each in constant time
-    /// but for a value's drop. Where more is to do nothing is parked: the lock is let go, the polled task is woken, and
-    /// the answer is Pending. So others may take the lock before the task is polled again.
+    /// Polls the shard at a place at `tick`, of one millisecond, for a task, by at most `most` steps while the shard's lock
+    /// is held, each in constant time but for a value's drop: it gives an entry that is due. Where none is it is Pending,
+    /// and its task is parked in the shard, one task a shard, and woken as [`LastingQueue::poll_or_park`] tells. Where more
+    /// is to do nothing is parked: the lock is let go, the polled task is woken, and the answer is Pending. So others may
+    /// take the lock before the task is polled again.
     ///
     /// # Errors
-    /// As `poll_or_park`.
+    /// Unknown out of range, TickTooLarge beyond the last tick, and NoMemory where no waker can be made; nothing is
+    /// parked then.
     #[tactic(auto, using(crate::proofs::Piecewise::by_registering_pieces))]
     pub fn poll_some_or_park<R: Wait>(
         &self,

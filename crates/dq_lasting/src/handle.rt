@@ -82,7 +82,8 @@ impl<A: Allocator> LastingHandle<A> {
     /// gave up. Constant time.
     ///
     /// # Errors
-    /// As `extend`, but never TooFar.
+    /// Unknown where no slot has the key or it is of another generation than the caller, Stale where the slot has a later
+    /// stamp, and Ended where the entry isn't live.
     #[inline]
     pub fn cancel(&mut self, key: &Key) -> Result<u64, CallError>
         ensures { OfKey self.old key.now
@@ -95,7 +96,8 @@ impl<A: Allocator> LastingHandle<A> {
     /// What the entry of a key is, as [`NumberedCaller::look`] of the key's shard tells. Constant time.
     ///
     /// # Errors
-    /// Unknown, and Stale.
+    /// Unknown where no slot has the key or it is of another generation than the caller, and Stale where the slot has a
+    /// later stamp.
     #[inline]
     pub fn look(&mut self, key: &Key) -> Result<Look, CallError>
         ensures { OfKey self.old key.now

@@ -78,11 +78,11 @@ impl<T: Drop, A: Allocator + Clone + Drop> LastingQueue<T, A> {
         LastingQueue::named(alloc, config, 0)
     }
 
-    /// As `new`, with a name that the queue keeps and that its handles have. A handle is renewed by a queue of that
-    /// name alone.
+    /// A queue of empty shards at tick 0, with a name that the queue keeps and that its handles have. A handle is renewed
+    /// by a queue of that name alone.
     ///
     /// # Errors
-    /// As `new`.
+    /// BadConfig where a number of the configuration is out of its range, and else NoMemory.
     pub fn named(
         alloc: A,
         config: LastingConfig,

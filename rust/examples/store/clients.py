@@ -127,10 +127,11 @@ def itself(store):
     """What a client asks of its connection and of the server."""
     assert store.client_setname("clients.py") and store.client_getname() == "clients.py" and store.client_id() > 0
     assert store.config_get("max*")["maxclients"] and store.ping() and store.echo("text") == "text"
-    other = redis.Redis(port=store.connection_pool.connection_kwargs["port"], client_name="other", retry_on_error=[])
-    name, id = other.client_getname(), other.client_id()
-    assert name == b"other" and {it["name"] for it in store.client_list()} >= {"clients.py", "other"}
-    assert [it["id"] for it in store.client_list(client_id=[id])] == [str(id)]
+    other = redis.Redis(port=store.connection_pool.connection_kwargs["port"], client_name="other", decode_responses=True)
+    assert other.client_getname() == "other"
+    id = str(other.client_id())
+    assert [it["name"] for it in store.client_list(client_id=[id])] == ["other"]
+    assert {(it["id"], it["name"]) for it in store.client_list()} >= {(id, "other"), (str(store.client_id()), "clients.py")}
     connection = other.connection_pool.get_connection("PING")
     assert store.client_kill_filter(_id=id) == 1 and store.client_kill_filter(_id=id) == 0
     # Its thread closes it.

@@ -1,8 +1,8 @@
 //! The streams of a lasting queue: each touches its own place alone, and does nothing there but poll.
 
-use hontkhale::{
-    Expired, LastingConfig, LastingQueue, LastingStream, ParkedPoller, PlaceState, StreamFault, TickSource,
-};
+use hontkhale::lasting::{LastingConfig, LastingQueue, LastingStream, ParkedPoller, PlaceState};
+use hontkhale::owner::Expired;
+use hontkhale::streams::{StreamFault, TickSource};
 use std::cell::Cell;
 use std::num::NonZeroU32;
 use std::task::{Context, Poll, Waker};

@@ -145,7 +145,7 @@ def cut_link(it, seconds=30):
         wait_for(all_done, 60)
         took = time.monotonic() - mended
         exactly_once(it, 500)
-        assert took < 5, f"the worker served {took:.1f} s after its link was mended"
+        assert took < 3, f"the worker served {took:.1f} s after its link was mended"
         end(worker)
     print(f"stalls: a link was cut for {seconds} s; all jobs were done, once, {took:.1f} s after it", flush=True)
 
@@ -199,6 +199,7 @@ def vanished_host(it):
     begun = time.monotonic()
     given = len(Holder([f"127.0.0.1:{ports[1]}"]).take(100, seconds=25))
     took = time.monotonic() - begun
+    assert took < 8, f"the partitions of a host that vanished were served {took:.1f} s later"
     lost.kill()
     end(other)
     wire.mend()

@@ -131,8 +131,9 @@ impl Database {
                  nullif(current_setting('search_path'), '')), false);"
             ),
         };
+        // A plan that was made for any ids would look for them among all that is due, which takes a second.
         format!(
-            "SET statement_timeout = {}; SET lock_timeout = {}; SET tcp_user_timeout = {}; \
+            "SET plan_cache_mode = force_custom_plan; SET statement_timeout = {}; SET lock_timeout = {}; SET tcp_user_timeout = {}; \
              SET tcp_keepalives_idle = 10; SET tcp_keepalives_interval = 5; SET tcp_keepalives_count = 3; {path}",
             self.statement_timeout.as_millis(),
             self.lock_timeout.as_millis(),

@@ -167,7 +167,7 @@ impl Connection {
         match output.is_empty() {
             false => After::Waits,
             true if self.talk.is_refused => self.linger(),
-            true if *is_over || self.is_sent_away() => After::Over,
+            true if *is_over => After::Over,
             true if self.has_more || self.is_readable => After::Again,
             true => After::Waits,
         }

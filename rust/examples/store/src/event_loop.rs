@@ -167,8 +167,8 @@ impl EventLoop {
         let times = self.shop.desk.seats().times_sent_away();
         if mem::replace(&mut self.seen_away, times) != times {
             for place in 0..self.connections.len() {
-                // One that sends itself away is answered first.
-                if self.connections[place].as_ref().is_some_and(|it| it.is_sent_away() && !it.is_queued) {
+                // One that sent itself away was answered in its turn.
+                if self.connections[place].as_ref().is_some_and(Connection::is_sent_away) {
                     self.close(place);
                 }
             }

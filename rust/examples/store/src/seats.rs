@@ -114,9 +114,9 @@ impl Seats {
         self.guests.lock().unwrap_or_else(PoisonError::into_inner)
     }
 
-    /// Who is connected, by number.
+    /// Who is connected and isn't sent away, by number.
     pub fn guests(&self) -> Vec<Arc<Guest>> {
-        self.enter().values().cloned().collect()
+        self.enter().values().filter(|it| !it.is_sent_away()).cloned().collect()
     }
 
     /// This thread is woken where guests are sent away.

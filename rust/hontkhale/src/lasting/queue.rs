@@ -57,11 +57,11 @@ impl<T> LastingQueue<T> {
         LastingQueue::named(config, names::next())
     }
 
-    /// As `new`, with a name that the queue keeps and that its handles have. A handle is renewed by a queue of that
-    /// name alone.
+    /// A queue of empty shards at tick 0, with a name that the queue keeps and that its handles have. A handle is renewed
+    /// by a queue of that name alone.
     ///
     /// # Errors
-    /// As `new`.
+    /// BadConfig where a number of the configuration is out of its range, and else NoMemory.
     fn named(config: LastingConfig, name: u64) -> Result<LastingQueue<T>, CoreError> {
         let Ok(()) = config.check() else {
             return Err(CoreError::BadConfig);
