@@ -244,3 +244,64 @@ impl<T> fmt::Debug for AsyncReceiver<T> {
             .finish_non_exhaustive()
     }
 }
+
+#[cfg(test)]
+mod tests {
+    use crate::delay_queue::waking::NEVER;
+    use crate::delay_queue::{Key, ManualClock};
+    use crate::DelayQueue;
+    use std::sync::atomic::{AtomicBool, Ordering::SeqCst};
+    use std::sync::mpsc::channel;
+    use std::sync::Arc;
+    use std::task::{Context, Wake, Waker};
+    use std::thread;
+    use std::time::Duration;
+
+    /// A waker that asks for the deadline of an entry.
+    struct Asks {
+        queue: DelayQueue<u64>,
+        key: Key,
+        was_told: AtomicBool,
+    }
+
+    impl Wake for Asks {
+        fn wake(self: Arc<Self>) {
+            self.was_told.store(self.queue.deadline(&self.key).is_ok(), SeqCst);
+        }
+    }
+
+    /// A task that read the hints while an entry was moved may be woken by whoever moved it.
+    #[test]
+    fn a_waker_that_is_called_as_an_entry_was_moved_finds_the_entry() {
+        const FAR: Duration = Duration::from_secs(1_000);
+        let queue = DelayQueue::builder()
+            .clock(&ManualClock::new())
+            .shards(2)
+            .last_stamp(2)
+            .build();
+        let key = queue.insert(0, FAR).expect("room");
+        // So that no insert renews what is worn.
+        queue.shared.renew(queue.shared.segment(0).expect("a segment"), 0);
+        for number in 1..100 {
+            let key = queue.insert(number, FAR).expect("room");
+            queue.remove(&key).expect("it waits");
+        }
+        let asks = Arc::new(Asks {
+            queue: queue.clone(),
+            key,
+            was_told: AtomicBool::new(false),
+        });
+        let mut receiver = queue.receiver();
+        let waker = Waker::from(Arc::clone(&asks));
+        assert!(receiver.poll_recv(&mut Context::from_waker(&waker)).is_pending());
+        queue.shared.front.tasks.arm(&receiver.task, NEVER);
+        let (done, waits) = channel();
+        let renews = queue.clone();
+        thread::spawn(move || {
+            renews.shared.renew(renews.shared.segment(0).expect("a segment"), 0);
+            let _ = done.send(renews.shared.moves_made.load(SeqCst));
+        });
+        assert_eq!(waits.recv_timeout(Duration::from_secs(20)), Ok(1));
+        assert!(asks.was_told.load(SeqCst));
+    }
+}
