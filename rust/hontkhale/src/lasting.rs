@@ -40,7 +40,6 @@ pub use handle::LastingHandle;
 pub use keeping::Kept;
 pub use paced::LastingPacedStream;
 pub use queue::LastingQueue;
-#[cfg(test)]
-pub(crate) use shard::LastingShard;
+pub(crate) use shard::{with_ended, LastingShard};
 pub use state::PlaceState;
 pub use stream::LastingStream;
