@@ -96,6 +96,17 @@ impl Bound {
     }
 }
 
+/// What a step by a thread's own handle came to, in a register: a deadline, or one of the two below.
+#[derive(Clone, Copy, PartialEq, Eq)]
+pub(crate) struct Quick(pub u64);
+
+impl Quick {
+    /// The entry has ended.
+    pub const ENDED: Quick = Quick(u64::MAX - 1);
+    /// It takes the shard's lock to tell.
+    pub const UNTOLD: Quick = Quick(u64::MAX);
+}
+
 /// What a thread keeps.
 struct Places {
     kept: [Option<Kept>; PLACES],
@@ -226,25 +237,31 @@ impl Front {
 
     fn put_back(&self, handles: Handles) {
         let mut idle = self.idle();
-        if !self.is_ended() {
+        // Where memory is refused they go.
+        if !self.is_ended() && idle.try_reserve(1).is_ok() {
             idle.push(handles);
         }
     }
 
     /// What a step makes of the handle that this thread has of a segment; none where it has none. It takes no lock.
     #[inline(always)]
-    pub fn with_own<R>(&self, segment: usize, step: impl FnOnce(&mut LastingHandle) -> R) -> Option<R> {
+    pub fn with_own(&self, segment: usize, step: impl FnOnce(&mut LastingHandle) -> Quick) -> Quick {
         let made = KEPT.try_with(|kept| {
-            let mut places = kept.try_borrow_mut().ok()?;
+            let Ok(mut places) = kept.try_borrow_mut() else {
+                return Quick::UNTOLD;
+            };
             if places.ends != ENDS.load(Relaxed) {
                 places.tidy();
             }
             match &mut places.kept[self.id as usize % PLACES] {
-                Some(place) if place.id == self.id => place.handles.get_mut(segment)?.as_mut().map(step),
-                _ => None,
+                Some(place) if place.id == self.id => match place.handles.get_mut(segment) {
+                    Some(Some(handle)) => step(handle),
+                    _ => Quick::UNTOLD,
+                },
+                _ => Quick::UNTOLD,
             }
         });
-        made.ok()?
+        made.unwrap_or(Quick::UNTOLD)
     }
 
     /// What a call makes of this thread's handles, or of those that several threads share, where more call than may have

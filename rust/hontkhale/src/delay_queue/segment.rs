@@ -5,6 +5,7 @@ use crate::delay_queue::dropping::{Dropping, LetGo};
 use crate::delay_queue::waking::NEVER;
 use crate::lasting::{with_ended, LastingConfig, LastingQueue, LastingShard};
 use crate::locks::MutexGuard;
+use crate::memory::room_for;
 use crate::ticks::{EntryId, Key};
 use crate::words::{numbered_queue, Keeper};
 use std::sync::atomic::{
@@ -69,7 +70,7 @@ pub(crate) struct Locked<'s, T> {
 impl<T> Segment<T> {
     /// A row of empty shards.
     pub fn new(config: LastingConfig, let_go: &Arc<LetGo<T>>) -> Result<Segment<T>, CoreError> {
-        let row = || Row {
+        let row = |_| Row {
             hint: AtomicU64::new(NEVER),
             left: AtomicU64::new(0),
             linked: AtomicUsize::new(0),
@@ -77,9 +78,11 @@ impl<T> Segment<T> {
             has_aside: AtomicBool::new(false),
             sweep_from: AtomicUsize::new(0),
         };
+        let mut rows = room_for(config.shards)?;
+        rows.extend((0..config.shards).map(row));
         Ok(Segment {
             queue: LastingQueue::new(config)?,
-            rows: (0..config.shards).map(|_| row()).collect(),
+            rows: rows.into_boxed_slice(),
             config,
             is_closed: AtomicBool::new(false),
             is_worn: AtomicBool::new(false),
@@ -239,10 +242,13 @@ impl<T> Segment<T> {
             })
             .ok()
         };
-        let made: Option<Vec<DelayCore<T, Keeper>>> = (0..self.rows.len()).map(next).collect();
-        let Some(made) = made else {
+        let Ok(mut made) = room_for(self.rows.len()) else {
             return false;
         };
+        made.extend((0..self.rows.len()).map_while(next));
+        if made.len() < self.rows.len() {
+            return false;
+        }
         for (place, core) in made.into_iter().enumerate() {
             // The one that goes is dropped once the lock is free.
             let _old = self.enter(place).replace(core, takes);

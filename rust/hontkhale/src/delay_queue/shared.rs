@@ -1,7 +1,7 @@
 //! What the clones of a queue share: its segments, and the calls by key.
 
 use crate::core::{CallError, CoreError, Look, Removed};
-use crate::delay_queue::callers::{route, Bound, Front, Handles};
+use crate::delay_queue::callers::{route, Bound, Front, Handles, Quick};
 use crate::delay_queue::dropping::{Dropping, LetGo};
 use crate::delay_queue::errors::{InsertErrorKind, KeyError};
 use crate::delay_queue::key::Key;
@@ -9,6 +9,7 @@ use crate::delay_queue::moves::Moves;
 use crate::delay_queue::segment::{Locked, Row, Segment};
 use crate::delay_queue::waking::NEVER;
 use crate::lasting::{Kept, LastingConfig, LastingHandle};
+use crate::memory::room_for;
 use crate::ticks::LAST_TICK;
 use crate::ticks::{self, EntryId, CAPACITY_LIMIT};
 use std::sync::atomic::{
@@ -44,7 +45,8 @@ pub(crate) struct Limits {
 pub(crate) struct Shared<T> {
     pub front: Arc<Front>,
     limits: Limits,
-    segments: [OnceLock<Box<Segment<T>>>; SEGMENTS],
+    /// Each in a row of one, for which memory may be refused.
+    segments: [OnceLock<Vec<Segment<T>>>; SEGMENTS],
     /// How many segments there are, closed ones among them.
     open: AtomicUsize,
     /// How often one was made, or opened again.
@@ -100,11 +102,16 @@ pub(crate) fn quick_step(front: &Front, key: &Key, step: Step) -> Option<Result<
     if key.queue() != front.number() {
         return Some(Err(KeyError::WrongQueue));
     }
-    match front.with_own(key.segment(), |handle| step.make(handle, &key.inner()))? {
-        Ok(deadline) => Some(Ok(counted(front, step, deadline))),
-        // Another answer is told once the entry was looked for: it may have a newer key. One that was moved is found as removed.
-        Err(CallError::Ended { how }) if !matches!(how, Look::LookRemoved(_)) => Some(Err(KeyError::Ended)),
-        Err(_) => None,
+    let made = front.with_own(key.segment(), |handle| match step.make(handle, &key.inner()) {
+        Ok(deadline) => Quick(deadline),
+        Err(CallError::Ended { how }) if !matches!(how, Look::LookRemoved(_)) => Quick::ENDED,
+        // It may have a newer key, or have been moved: one that was is found as removed.
+        Err(_) => Quick::UNTOLD,
+    });
+    match made {
+        Quick::UNTOLD => None,
+        Quick::ENDED => Some(Err(KeyError::Ended)),
+        Quick(deadline) => Some(Ok(counted(front, step, deadline))),
     }
 }
 
@@ -206,6 +213,9 @@ fn handle_of<'h, T>(
     at: usize,
 ) -> Result<&'h mut LastingHandle, KeyError> {
     if handles.len() <= at {
+        handles
+            .try_reserve(at + 1 - handles.len())
+            .map_err(|_| KeyError::NoMemory)?;
         handles.resize_with(at + 1, || None);
     }
     let slot = &mut handles[at];
@@ -240,7 +250,7 @@ impl<T> Shared<T> {
     }
 
     pub fn segment(&self, at: usize) -> Option<&Segment<T>> {
-        self.segments.get(at)?.get().map(|segment| &**segment)
+        self.segments.get(at)?.get()?.first()
     }
 
     /// The segments that there are.
@@ -404,9 +414,10 @@ impl<T> Shared<T> {
             self.front.note_closed(at, false);
         } else {
             let slot = self.segments.get(open).ok_or(InsertErrorKind::Full)?;
-            let segment =
-                Segment::new(self.limits.of_segment(open), &self.let_go).map_err(|_| InsertErrorKind::NoMemory)?;
-            let _ = slot.set(Box::new(segment));
+            let mut row = room_for(1).map_err(|_| InsertErrorKind::NoMemory)?;
+            let config = self.limits.of_segment(open);
+            row.push(Segment::new(config, &self.let_go).map_err(|_| InsertErrorKind::NoMemory)?);
+            let _ = slot.set(row);
             self.open.store(open + 1, SeqCst);
         }
         self.grown.fetch_add(1, SeqCst);
@@ -636,12 +647,16 @@ impl<T> Shared<T> {
     fn sweep_next(&self) {
         let shards: usize = self.segments().map(|(_, segment)| segment.rows.len()).sum();
         let mut place = self.sweep_at.load(SeqCst) % shards.max(1);
-        for (_, segment) in self.segments() {
+        for (at, segment) in self.segments() {
             if place < segment.rows.len() {
                 if segment.sweep(place, SWEPT) {
                     self.sweep_at.fetch_add(1, SeqCst);
                 }
-                return segment.drop_aside(place);
+                segment.drop_aside(place);
+                if at > 0 && segment.is_empty() && !segment.is_closed() {
+                    self.shrink();
+                }
+                return;
             }
             place -= segment.rows.len();
         }
