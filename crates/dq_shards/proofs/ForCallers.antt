@@ -1,15 +1,18 @@
 -- What a caller was promised, of an entry that comes out of a shard of its own words.
-use Rattle.std.proofs.Common.{◌≡◌, ℕ, List, [], ◌∷◌, sym, ap, subst}
+use Rattle.std.proofs.Common.{◌≤◌, refl, inl, ◌≡◌, ℕ, List, [], ◌∷◌, sym, ap, subst}
 use mathlib.Core.Option.{some, some-injective, some-ne-none}
 use lib.ListN.{get_elem?}
-use Rattle.dq_core.specs.declared.outcomes.Expired.{Expired}
 use Rattle.dq_core.specs.declared.outcomes.Turn.{Turn}
 use Rattle.dq_core.specs.declared.outcomes.Turn.TheVariants.{Out, Waiting, Idle}
 use Rattle.dq_core.specs.declared.errors.CoreError.{CoreError}
 use Rattle.std.specs.Prelude.{Result, Ok, Err}
 use Rattle.dq_words.specs.declared.views.View.{View}
 use Rattle.dq_words.specs.declared.views.Write.{Write}
-use Rattle.dq_words.specs.Files.{IsIn, ends_at, keeper_writes}
+use Rattle.dq_words.specs.declared.views.Call.{Call}
+use Rattle.dq_words.specs.declared.views.Call.TheVariants.{Extend}
+use Rattle.dq_words.specs.Files.{IsIn, ends_at, extends_at, keeper_writes}
+use Rattle.dq_words.specs.Plays.{Covers}
+use Rattle.dq_words.proofs.Gathers.{if_here}
 use Rattle.dq_words.specs.Seats.{Sat}
 use Rattle.dq_words.specs.Together.{IsBeside}
 use Rattle.dq_shards.specs.ForCallers.{KeepsFor}
@@ -32,3 +35,10 @@ keeps_for T outs old new tick (Ok (Out x)) c law polled beside =
 keeps_for T outs old new tick (Ok (Waiting next)) c law polled beside = tt
 keeps_for T outs old new tick (Ok Idle) c law polled beside = tt
 keeps_for T outs old new tick (Err e) c law polled beside = tt
+
+-- what an accepted extend asked for is among what its caller was promised
+pub asked_for : (v w : View) (i s when d : ℕ) → w.calls ≡ Extend i s when ∷ v.calls → Covers w.calls i s d → when ≤ d
+asked_for v w i s when d calls covers =
+    let P : List Call → Type 0 = λ cs. IsIn (extends_at i s cs) when in
+    let Q : List ℕ → Type 0 = λ xs. IsIn xs when in
+    covers.0 when (subst P (sym calls) (subst Q (sym (if_here i s when (extends_at i s v.calls))) (inl refl)))

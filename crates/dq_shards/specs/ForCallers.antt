@@ -1,5 +1,5 @@
 -- What a poll by name says to a caller of the shard's own words.
-use Rattle.std.specs.Prelude.{◌≡◌, ℕ, [], Result}
+use Rattle.std.specs.Prelude.{[], Result}
 use Rattle.atomic_table.specs.Seated.{TableId}
 use Rattle.dq_core.specs.AtTheCall.{IfOut}
 use Rattle.dq_core.specs.declared.errors.CoreError.{CoreError}

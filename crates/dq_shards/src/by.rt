@@ -1,7 +1,7 @@
 //! A shard whose words have a name, and callers of those words: through the lock it is known that they are of one table.
 //!
 //! A poll by name of a [`NamedShard`] takes a caller, and tells of what comes out that no extend of that caller was lost.
-ghost use Rattle.std.specs.Prelude.{◌≡◌, IfOk};
+ghost use Rattle.std.specs.Prelude.{◌≡◌, ◌≤◌, IfSome};
 ghost use Rattle.dq_core.specs.declared.errors.CoreError.{CoreError};
 ghost use Rattle.dq_words.specs.CallerCalls.{CallerCancels, CallerExtends};
 ghost use Rattle.dq_shards.specs.ForCallers.{KeepsFor, no_table};
@@ -13,7 +13,7 @@ use crate::endings;
 use crate::state::ShardState;
 use dq_core::{CallError, CoreError, Turn};
 use dq_parking::Leaver;
-use dq_ticks::Key;
+use dq_ticks::{Key, is_same_key};
 use dq_words::{Caller, WordsError};
 use std::alloc::{Allocator, Global};
 use std::marker::{Brand, Model, PhantomData};
@@ -240,4 +240,29 @@ pub fn insert<T: Drop, J: Room, A: Allocator, R: Wait>(
     drop(locked);
     leaver.wake();
     answer
+}
+
+/// Extends an entry without the lock, and then polls by name. Where that entry comes out, its deadline isn't before the
+/// one asked for, whatever other threads did meanwhile. None where it was refused, or something else came out.
+pub fn extend_then_poll<T: Drop, J: Room, A: Allocator, R: Wait>(
+    rt: &R,
+    shard: &Mutex<NamedShard<T, J, A>>,
+    me: &mut NamedCaller<J, A>,
+    key: &Key,
+    when: u64,
+    tick: u64,
+) -> Option<u64>
+    ensures { IfSome result (λ d. when ≤ d) }
+{
+    let Ok(_) = me.extend(key, when) else {
+        return None;
+    };
+    let Ok(Turn::Out(out)) = poll_by(rt, shard, me, tick) else {
+        return None;
+    };
+    if is_same_key(out.key, *key) {
+        Some(out.deadline)
+    } else {
+        None
+    }
 }

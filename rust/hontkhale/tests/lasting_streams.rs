@@ -1,5 +1,8 @@
 //! The streams of a lasting queue: each touches its own place alone, and does nothing there but poll.
 
+// The tests ask for a newer Rust than the crate, and an error is shown without the value that came back.
+#![allow(clippy::incompatible_msrv, clippy::ok_expect)]
+
 use hontkhale::lasting::{LastingConfig, LastingQueue, LastingStream, ParkedPoller, PlaceState};
 use hontkhale::owner::Expired;
 use hontkhale::streams::{StreamFault, TickSource};

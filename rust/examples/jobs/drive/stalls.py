@@ -333,6 +333,23 @@ def old_snapshot(it):
     )
 
 
+def old_statistics(it):
+    """A table that was filled since it was analyzed: jobs are taken by their ids, and not out of all that is due."""
+    empty(it)
+    it.sql("ALTER TABLE jobs SET (autovacuum_enabled = off); VACUUM ANALYZE jobs")
+    worker = it.spawn("worker", "--effect", EFFECT)
+    it.wait_for_owners(1)
+    it.jobs("enqueue", "60000", "--delay", "2000", "--spread", "12000")
+    it.sql("SELECT pg_stat_reset()")
+    exactly_once(it, 60000)
+    time.sleep(1)
+    read = it.number("SELECT sum(idx_tup_read) FROM pg_stat_user_indexes WHERE indexrelname = 'jobs_waiting'") / 60000
+    end(worker)
+    it.sql("ALTER TABLE jobs RESET (autovacuum_enabled)")
+    assert read < 20, f"{read:.0f} entries of the index of what waits were read for each job"
+    print(f"stalls: with old statistics {read:.1f} entries of the index of what waits are read for each job", flush=True)
+
+
 def expiry_behind_a_lock(it):
     """A role has a lock_timeout, and rows are locked while their leases end."""
     empty(it)
@@ -360,7 +377,7 @@ def main(quick):
             print(f"stalls: {case.__name__} isn't run, since only root makes network namespaces", flush=True)
         for case in [
             *[vanished_host, locked_rows, locked_lease, told_deadline, two_schemas, expiry_behind_a_lock, old_snapshot],
-            *[cut_link, slow_effect],
+            *[old_statistics, cut_link, slow_effect],
         ]:
             if case not in apart:
                 case(it)

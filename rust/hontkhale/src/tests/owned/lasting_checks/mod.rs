@@ -1,5 +1,6 @@
 //! A lasting queue step by step; its handles; polls in pieces; tasks and streams that wait; a pool of handles.
 
+mod giving_way;
 mod handles;
 mod numbers;
 mod parking;
