@@ -160,7 +160,7 @@ def main():
     tries = {"gate": try_gates, "edits": try_edits}
     asked = sys.argv[1:] or [*tries]
     if not set(asked) <= set(tries):
-        print(__doc__.splitlines()[2], file=sys.stderr)
+        print(__doc__, end="")
         return 2
     failed = sum(tries[it]() for it in asked)
     print(f"planted: {failed} cases went wrong")

@@ -29,7 +29,7 @@ def current(folder):
     here = TOP / "c"
     lines = [(f"crates/{it}/src", hash_of((TOP / "crates" / it / "src").rglob("*.rt"), TOP)) for it in CRATES]
     lines += [(it, hash_of([here / it], here)) for it in ("include/hontkhale.h", "generate")]
-    lines += [("generator", hash_of((here / "generator").glob("*.py"), here))]
+    lines += [("generator", hash_of([*(here / "generator").glob("*.py"), here / "generator" / "helpers.c"], here))]
     lines += [(C_FILE, hash_of([folder / C_FILE], folder))]
     return "".join(f"{hash}  {name}\n" for name, hash in lines)
 

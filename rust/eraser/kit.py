@@ -1,6 +1,7 @@
 """Rules for what the kit has otherwise than std: memory that may be refused, locks, wakers, hashers, formatting."""
 from handed import where_list
-from rattle import OPENS, Refused, close_of, functions, tokens_of, words_at
+from lists import next_of
+from rattle import Refused, close_of, functions, tokens_of, words_at
 
 # Paths of std, and where a crate without std has them.
 PLACES = {
@@ -236,11 +237,7 @@ def questions(tokens):
         if words_at(tokens, at, "let", "Some", "("):
             close = close_of(tokens, at + 2)
             if close == at + 4 and tokens[close + 1].text == "=":
-                end = close + 2
-                while tokens[end].text not in ("else", ";", "{"):
-                    if tokens[end].kind == "other" and tokens[end].text in OPENS:
-                        end = close_of(tokens, end)
-                    end += 1
+                end = next_of(tokens, close + 2, ("else", ";", "{"))
                 if words_at(tokens, end, "else", "{", "return", "None", ";", "}", ";"):
                     name = tokens[at + 3]
                     name.before = " "
@@ -257,11 +254,7 @@ def tails(tokens):
     at = 0
     while at < len(tokens) - 6:
         if tokens[at].text == "let" and tokens[at + 1].kind == "word" and tokens[at + 2].text == "=":
-            end = at + 3
-            while tokens[end].text not in (";", "else", "}"):
-                if tokens[end].kind == "other" and tokens[end].text in OPENS:
-                    end = close_of(tokens, end)
-                end += 1
+            end = next_of(tokens, at + 3, (";", "else", "}"))
             if tokens[end].text == ";" and tokens[end + 1].text == tokens[at + 1].text and tokens[end + 2].text == "}":
                 tokens[at + 3].before = tokens[at].before
                 tokens[at:end + 2] = tokens[at + 3:end]
@@ -274,11 +267,7 @@ def wholes(tokens):
     at = 0
     while at < len(tokens) - 9:
         if tokens[at].text == "let" and tokens[at + 1].kind == "word" and tokens[at + 2].text == "=":
-            end = at + 3
-            while tokens[end].text not in (";", "else", "}"):
-                if tokens[end].kind == "other" and tokens[end].text in OPENS:
-                    end = close_of(tokens, end)
-                end += 1
+            end = next_of(tokens, at + 3, (";", "else", "}"))
             if tokens[end - 1].text == "?" and words_at(tokens, end, ";", "Some", "(", tokens[at + 1].text, ")", "}"):
                 tokens[at + 3].before = tokens[at].before
                 tokens[at:end + 5] = tokens[at + 3:end - 1]

@@ -1,4 +1,5 @@
 pub mod Auditing
+pub mod ForCallers
 pub mod Headline
 pub mod Locked
 pub mod Numbering

@@ -2,6 +2,7 @@
 #![tactic(auto)]
 
 mod audit;
+pub mod by;
 mod callers;
 mod calls;
 mod drops;

@@ -42,7 +42,7 @@ use std::marker::Model;
 /// as Ended, and a look shows it as removed.
 #[derive(Drop)]
 pub struct Caller<A: Allocator = Global> {
-    seat: Seated<A>,
+    pub(crate) seat: Seated<A>,
     cancels: u64,
 }
 

@@ -47,7 +47,7 @@ pub enum WordsError {
 /// Where it is dropped, what is live by its words is ended as removed, and its callers are refused from then on. That
 /// takes a load a slot, and two atomic steps or more for each live one.
 pub struct Keeper<A: Allocator = Global> {
-    seat: Seated<A>,
+    pub(crate) seat: Seated<A>,
     issued: u64,
 }
 

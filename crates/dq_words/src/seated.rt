@@ -14,6 +14,7 @@ ghost use Rattle.dq_words.specs.Plays.{giving_back, CallerLoads, KeeperLoads, Re
 ghost use Rattle.dq_words.specs.Plays.{BeginStep, ExchangeStep, ExtendStep, CancelStep, SeatGoesOn};
 ghost use Rattle.dq_words.specs.Rule.{first_keeper};
 
+mod beside;
 mod gone;
 mod plays;
 mod rule;
@@ -38,6 +39,7 @@ pub(crate) struct Seated<A: Allocator> {
 }
 
 impl<A: Allocator> Model for Seated<A> {
+    ghost use Rattle.std.specs.Prelude.{◌≡◌, false};
     ghost use Rattle.std.specs.Arc.{arc_value};
     ghost use Rattle.dq_words.specs.Keeping.{Knew};
     ghost use Rattle.dq_words.specs.Plays.{FitsTable};
@@ -45,11 +47,11 @@ impl<A: Allocator> Model for Seated<A> {
 
     ghost Value = { Sat };
 
-    ghost view = { λ s. record { table = s.seat.table_id; view = s.seat.me.0 } };
+    ghost view = { λ s. record { table = s.seat.table_id; view = s.seat.me.0.view } };
 
     ghost invariant = { λ s. FitsTable s.seat.table_id
-        (arc_value s.table).shared.table_id (arc_value s.table).shared.key s.rows s.seat.me.0
-        × Knew s.seat.me.0 };
+        (arc_value s.table).shared.table_id (arc_value s.table).shared.key s.rows s.seat.me.0.view
+        × Knew s.seat.me.0.view × (s.seat.me.0.carries ≡ false) };
 }
 
 impl<A: Allocator + Clone> Seated<A> {

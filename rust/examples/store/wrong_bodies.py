@@ -221,7 +221,7 @@ def ran(folder, test):
     """What a test prints, and whether it passes. It alone is built, without what a debugger wants."""
     of = ["--test", "hostile"] if f"fn {test}" in (folder / "tests" / "hostile.rs").read_text() else ["--bin", "store"]
     # It ends the test too, and not cargo alone.
-    command = ["timeout", "300", "cargo", "test", "--offline", "--quiet", *of, test]
+    command = ["timeout", "300", "cargo", "--config", str(HERE.parents[2] / "tools" / "debian.toml"), "test", "--offline", "--quiet", *of, test]
     done = subprocess.run(command, cwd=folder, stdout=subprocess.PIPE, stderr=subprocess.STDOUT, text=True,
                           env={**os.environ, "CARGO_PROFILE_DEV_DEBUG": "0", "RUST_BACKTRACE": "0"})
     return done.stdout, done.returncode == 0

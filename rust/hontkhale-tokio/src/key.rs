@@ -76,17 +76,16 @@ impl fmt::Debug for Key {
     }
 }
 
-/// An entry that came out of a queue, or was removed from it: of a [`DelayQueue`](crate::DelayQueue), or under another kind of
-/// key of a [`SharedDelayQueue`](crate::SharedDelayQueue).
-pub struct Expired<T, K = Key> {
-    pub(crate) key: K,
+/// An entry that came out of a [`DelayQueue`](crate::DelayQueue), or was removed from it.
+pub struct Expired<T> {
+    pub(crate) key: Key,
     pub(crate) data: T,
     /// The deadline, whose moment is reckoned where it is asked for.
     pub(crate) tick: u64,
     pub(crate) clock: Clock,
 }
 
-impl<T, K: Copy> Expired<T, K> {
+impl<T> Expired<T> {
     /// The value.
     pub fn get_ref(&self) -> &T {
         &self.data
@@ -108,12 +107,12 @@ impl<T, K: Copy> Expired<T, K> {
     }
 
     /// The key that the insert gave.
-    pub fn key(&self) -> K {
+    pub fn key(&self) -> Key {
         self.key
     }
 }
 
-impl<T: fmt::Debug, K: fmt::Debug + Copy> fmt::Debug for Expired<T, K> {
+impl<T: fmt::Debug> fmt::Debug for Expired<T> {
     fn fmt(&self, f: &mut fmt::Formatter<'_>) -> fmt::Result {
         f.debug_struct("Expired")
             .field("data", &self.data)

@@ -190,7 +190,9 @@ impl<T> Segments<T> {
     /// Moves the entries of sparse segments to free slots of others, or to segments of no more slots than they need.
     pub fn compact(&mut self) {
         // The values of cancelled entries are dropped first, while nothing else is under way.
-        self.row.iter_mut().flatten().for_each(Segment::sweep);
+        if self.cancelled() > 0 {
+            self.row.iter_mut().flatten().for_each(Segment::sweep);
+        }
         self.promised = 0;
         let (left, stay): (Vec<&Segment<T>>, Vec<&Segment<T>>) =
             self.segments().partition(|segment| segment.is_sparse());

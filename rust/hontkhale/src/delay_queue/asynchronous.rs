@@ -15,7 +15,7 @@ use std::task::{Context, Poll, Waker};
 use std::time::Instant;
 
 /// How often a poll takes a shard's lock, at most.
-const TURNS: usize = 8;
+const TURNS: usize = 4;
 
 /// A task that waits, or doesn't.
 struct Task {
@@ -155,7 +155,7 @@ impl<T> AsyncReceiver<T> {
     ///
     /// Where it is pending the task is woken by an insert or a reset that comes sooner than what it waits for, and by
     /// [`close`](DelayQueue::close). The caller polls again at [`wake_at`](AsyncReceiver::wake_at), too: the queue has no timer.
-    /// A poll takes a shard's lock eight times at most, each time for 256 steps; where more is to do it is pending, and wakes its
+    /// A poll takes a shard's lock four times at most, each time for 256 steps; where more is to do it is pending, and wakes its
     /// task at once.
     ///
     /// The values of cancelled entries are dropped here, before something is in hand, and while no lock is held.

@@ -174,7 +174,8 @@ impl<T> Shared<T> {
         let segment = self.segment(at).expect("a segment of the queue");
         let mut shard = segment.enter(place);
         loop {
-            match shard.poll_some(now, STEPS).expect("a tick that isn't beyond the last") {
+            let (piece, _nobody) = shard.attended.poll_some(now, STEPS);
+            match piece.expect("a tick that isn't beyond the last") {
                 Piece::Answer(Turn::Out(expired)) => {
                     if !more(expired) {
                         break;
@@ -315,8 +316,8 @@ impl<'q, T> Drain<'q, T> {
         while let Some((entry, next)) = segment.entry_from(self.place, self.slot) {
             self.slot = next;
             let mut shard = segment.enter(self.place);
-            let Ok(removed) = shard.remove(&entry) else {
-                let _ = shard.reap(&entry);
+            let Ok(removed) = shard.attended.remove(&entry).0 else {
+                let _ = shard.attended.reap(&entry).0;
                 continue;
             };
             drop(shard);

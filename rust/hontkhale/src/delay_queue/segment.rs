@@ -3,7 +3,8 @@
 use crate::core::CoreError;
 use crate::delay_queue::dropping::{Dropping, LetGo};
 use crate::delay_queue::waking::NEVER;
-use crate::lasting::{LastingConfig, LastingQueue, LockedLasting};
+use crate::lasting::{LastingConfig, LastingQueue, LastingShard, Wear};
+use crate::locks::MutexGuard;
 use crate::ticks::EntryId;
 use std::ops::{Deref, DerefMut};
 use std::sync::atomic::{AtomicBool, AtomicU64, AtomicUsize, Ordering::SeqCst};
@@ -58,7 +59,7 @@ impl<T> Drop for Left<'_, T> {
 
 /// A shard while its lock is held.
 pub(crate) struct Locked<'s, T> {
-    shard: LockedLasting<'s, T>,
+    shard: MutexGuard<'s, LastingShard<T>>,
     segment: &'s Segment<T>,
     place: usize,
 }
@@ -93,9 +94,8 @@ impl<T> Segment<T> {
     /// The shard at a place, with its lock held.
     #[inline]
     pub fn enter(&self, place: usize) -> Locked<'_, T> {
-        let shard = self.queue.enter(place).expect("a shard of the segment");
         Locked {
-            shard,
+            shard: self.queue.lock(place),
             segment: self,
             place,
         }
@@ -150,7 +150,7 @@ impl<T> Segment<T> {
     pub fn sweep(&self, place: usize, count: usize) -> bool {
         let row = &self.rows[place];
         let from = row.sweep_from.load(SeqCst);
-        let swept = self.enter(place).sweep_some(from, count);
+        let swept = self.enter(place).attended.sweep_some(from, count).0;
         row.sweep_from.store(swept.next.unwrap_or(0), SeqCst);
         swept.next.is_none()
     }
@@ -202,16 +202,16 @@ impl<T> Locked<'_, T> {
     }
 }
 
-impl<'s, T> Deref for Locked<'s, T> {
-    type Target = LockedLasting<'s, T>;
+impl<T> Deref for Locked<'_, T> {
+    type Target = LastingShard<T>;
 
-    fn deref(&self) -> &LockedLasting<'s, T> {
+    fn deref(&self) -> &LastingShard<T> {
         &self.shard
     }
 }
 
-impl<'s, T> DerefMut for Locked<'s, T> {
-    fn deref_mut(&mut self) -> &mut LockedLasting<'s, T> {
+impl<T> DerefMut for Locked<'_, T> {
+    fn deref_mut(&mut self) -> &mut LastingShard<T> {
         &mut self.shard
     }
 }
@@ -227,8 +227,7 @@ impl<T> Drop for Locked<'_, T> {
         if self.shard.aside() > 0 {
             self.segment.note_aside(self.place);
         }
-        let capacity = self.shard.capacity();
-        if self.shard.worn() >= capacity - capacity / 2 && self.shard.takes() {
+        if self.shard.takes() && self.shard.is_worn_by(Wear::Half) {
             self.segment.is_worn.store(true, SeqCst);
         }
     }

@@ -178,7 +178,7 @@ fn step_in<T>(handles: &mut Handles, segment: &Segment<T>, place: &Key, step: St
     let handle = handle_of(handles, segment, place.segment())?;
     for _ in 0..2 {
         let mut shard = segment.enter(segment.place_of(place.number()));
-        if shard.deadline(&place.entry()).is_err() {
+        if shard.deadline(&place.entry()).0.is_err() {
             return Ok(None);
         }
         // The entry is there by its birth, and under the lock nobody changes its stamp.
@@ -310,7 +310,7 @@ impl<T> Shared<T> {
         // Values may be dropped here. Where a drop panics the entry isn't in yet, and no key of it is lost.
         self.renew_where_due(segment, at);
         let mut shard = segment.enter_clean(place);
-        match shard.insert(value, tick) {
+        match shard.insert(value, tick).0 {
             Ok(key) => {
                 shard.lower_hint(tick);
                 Ok(self.key(at, &key))
@@ -406,7 +406,7 @@ impl<T> Shared<T> {
         self.own(key)?;
         let tick = tick.ok_or(KeyError::TooFar)?;
         let reset = self.at_entry(key, |shard, entry| {
-            let renamed = shard.reset(entry, tick)?;
+            let renamed = shard.attended.reset(entry, tick).0?;
             shard.lower_hint(tick);
             Ok(renamed)
         });
@@ -443,7 +443,7 @@ impl<T> Shared<T> {
     /// Takes a live entry out.
     pub fn remove(&self, key: &Key) -> Result<Removed<T>, KeyError> {
         self.own(key)?;
-        let removed = self.at_entry(key, |shard, entry| shard.remove(entry));
+        let removed = self.at_entry(key, |shard, entry| shard.attended.remove(entry).0);
         let (at, removed) = removed.map_err(|_| KeyError::Ended)?;
         self.user_key(at, &removed.key);
         self.front.waiting.fetch_sub(1, SeqCst);
@@ -476,7 +476,7 @@ impl<T> Shared<T> {
         let segment = self.segment(place.segment()).ok_or(Unmoved::Ended)?;
         let at = segment.place_of(place.number());
         let mut source = segment.enter(at);
-        source.deadline(&place.entry()).map_err(|_| Unmoved::Ended)?;
+        source.deadline(&place.entry()).0.map_err(|_| Unmoved::Ended)?;
         let key = moves.key(place);
         // From here on whoever doesn't find the entry at its place asks for where it was moved.
         self.moved.store(moves.len() + 1, SeqCst);
@@ -501,7 +501,7 @@ impl<T> Shared<T> {
     ) -> Result<(Key, u64), Unmoved> {
         let takes = |shard: &Locked<'_, T>| shard.has_room() && shard.aside() == 0;
         if takes(source) {
-            let removed = source.remove(entry).map_err(|_| Unmoved::Ended)?;
+            let removed = source.attended.remove(entry).0.map_err(|_| Unmoved::Ended)?;
             return Ok(self.put(source, from.0, removed, tick));
         }
         for (at, segment) in self.segments() {
@@ -511,7 +511,7 @@ impl<T> Shared<T> {
                 }
                 let mut other = segment.enter(place);
                 if takes(&other) {
-                    let removed = source.remove(entry).map_err(|_| Unmoved::Ended)?;
+                    let removed = source.attended.remove(entry).0.map_err(|_| Unmoved::Ended)?;
                     return Ok(self.put(&mut other, at, removed, tick));
                 }
             }
@@ -522,7 +522,7 @@ impl<T> Shared<T> {
     fn put(&self, shard: &mut Locked<'_, T>, at: usize, removed: Removed<T>, tick: Option<u64>) -> (Key, u64) {
         // An extend takes no lock: the deadline that counts is the one with which the entry was taken out.
         let tick = tick.unwrap_or(removed.deadline);
-        let key = shard.insert(removed.value, tick).map_err(|(error, _)| error);
+        let key = shard.insert(removed.value, tick).0.map_err(|(error, _)| error);
         shard.lower_hint(tick);
         (self.key(at, &key.expect("a shard that has a free slot")), tick)
     }
@@ -621,12 +621,12 @@ impl<T> Shared<T> {
             if shard.len() > shard.capacity() / 8 + 1 {
                 return false;
             }
-            match shard.deadline(&key.entry()) {
+            match shard.deadline(&key.entry()).0 {
                 Ok(deadline) if deadline > now => drop(shard),
                 // It is due, and comes out without being moved.
                 Ok(_) => return false,
                 Err(_) => {
-                    let _ = shard.reap(&key.entry());
+                    let _ = shard.attended.reap(&key.entry()).0;
                     continue;
                 }
             }

@@ -48,7 +48,7 @@ impl<T> Segment<T> {
     /// The tick by which the first entry of the shard at a place is filed. No deadline of a live one is before it.
     fn first_filed(&self, place: usize) -> Option<u64> {
         let shard = self.enter(place);
-        shard.filed(&shard.peek()?.entry())
+        shard.attended.core.filed(&shard.peek()?.entry())
     }
 
     /// How many cancelled entries were freed, but for those whose values are set aside.

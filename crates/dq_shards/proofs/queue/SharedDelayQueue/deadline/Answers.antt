@@ -1,4 +1,4 @@
-use Rattle.std.proofs.Common.{arith, refl, ◌∙◌, Ok, Err}
+use Rattle.std.proofs.Common.{arith, ◌∙◌, Ok, Err}
 use Rattle.std.proofs.lemmas.Result.{err_from_is_err_and}
 use Rattle.dq_shards.specs.Changes.{ShardDeadline}
 use Rattle.dq_shards.proofs.Locked.{on_numbered}
