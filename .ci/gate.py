@@ -1,12 +1,16 @@
 #!/usr/bin/env python3
 """The gate: what the pages say, the C file's hashes, the tests of the plain Rust, `rt ci`, and the wrong bodies.
 
+  .ci/run            all of it
+  .ci/run --store    and writes to bench/results/gate.tsv what its parts took; hold it to two cores by `taskset -c 0,1`
+
 The first two take seconds, and nothing else is tried where one of them fails. `tools/test-edits` comes behind `rt ci`, if
 that passed, with a check for each processor. The tests of the plain Rust run beside the two where there is more than
 one processor, and what they said is told whole at the end. The last line counts what passed and what failed in all.
 The status is that of `rt ci`, or 1 where only another part failed.
 """
 
+import datetime
 import os
 import pathlib
 import re
@@ -20,8 +24,9 @@ import time
 
 TOP = pathlib.Path(__file__).resolve().parent.parent
 TESTS = TOP / "rust" / "test"
+STORED = TOP / "bench" / "results" / "gate.tsv"
 # Both need Python alone, as rt does.
-FIRST = (["python3", "docs/check"], ["python3", "c/check", "--hash"])
+FIRST = {"docs/check": ["python3", "docs/check"], "c/generate": ["python3", "c/generate", "--hash"]}
 SAID = {"cwd": TOP, "stderr": subprocess.STDOUT, "encoding": "utf-8", "errors": "replace"}
 
 
@@ -42,22 +47,36 @@ def used():
     return time.monotonic() / 60, (its.ru_utime + its.ru_stime) / 60
 
 
+# What each part took, and the whole, by the clock and of a processor.
+TOOK = {}
+
+
 def tell_times(name, before):
-    """Says what a part took; docs/figures/gate_times reads this."""
-    clock, processor = (now - then for now, then in zip(used(), before))
+    """Says and keeps what a part took."""
+    TOOK[name] = clock, processor = [now - then for now, then in zip(used(), before)]
     say(f"-- {name} took {clock:.1f} minutes of the clock and {processor:.1f} of a processor")
 
 
-def shown(words, **more):
+def store(begun):
+    """Writes what the parts took."""
+    commit = subprocess.run(["git", "describe", "--always", "--dirty"], cwd=TOP, stdout=subprocess.PIPE, text=True, check=False).stdout.strip()
+    TOOK["the whole gate"] = (time.monotonic() - begun) / 60, sum(it[1] for it in TOOK.values())
+    head = (f"# What a whole run of the gate took, in minutes, as `.ci/run --store` writes it. Of {commit}, on "
+            f"{len(os.sched_getaffinity(0))} cores. Day: {datetime.date.today()}.\n")
+    rows = [f"{part}\t{what}\t{minutes:.1f}\n" for part, its in TOOK.items() for what, minutes in zip(("clock", "processor"), its)]
+    STORED.write_text(head + "".join(rows), encoding="utf-8")
+
+
+def shown(name, words, **more):
     """Runs a part, with more in its environment, and passes on what it says: its status, and what its last line counts."""
-    say(f"== {' '.join(words)}")
+    say(f"== {name}")
     last, before = "", used()
     with subprocess.Popen(words, stdout=subprocess.PIPE, env={**os.environ, **more}, **SAID) as ran:
         for line in ran.stdout:
             sys.stdout.write(line)
             sys.stdout.flush()
             last = line if line.strip() else last
-    tell_times(" ".join(words), before)
+    tell_times(name, before)
     return ran.returncode, counts(last, ran.returncode)
 
 
@@ -66,11 +85,11 @@ def proved():
     processors = len(os.sched_getaffinity(0))
     # two jobs of one proof take more of a processor than one: where there are two, other work takes the second
     jobs = {"RT_JOBS": "2"} if processors == 2 else {}
-    parts = [shown(["rt", "ci"], **jobs)]
+    parts = [shown("rt ci", ["rt", "ci"], **jobs)]
     if parts[0][0]:
         say("rt ci failed, so the wrong bodies were not tried")
         return parts
-    return [*parts, shown(["python3", "tools/test-edits", "--built", "-j", str(processors)])]
+    return [*parts, shown("tools/test-edits", ["python3", "tools/test-edits", "--built", "-j", str(processors)])]
 
 
 class Tests:
@@ -96,7 +115,7 @@ class Tests:
         self.said.seek(0)
         text = self.said.read()
         say("== rust/test\n" + text.rstrip("\n"))
-        tell_times("rust/test, behind the others,", before)
+        tell_times("rust/test", before)
         return status, counts((text.strip().splitlines() or [""])[-1], status)
 
     def stop(self):
@@ -105,7 +124,11 @@ class Tests:
 
 
 def main():
-    if any([shown(words)[0] for words in FIRST]):
+    begun = time.monotonic()
+    if sys.argv[1:] not in ([], ["--store"]):
+        print(__doc__, end="")
+        return 2
+    if any([shown(*part)[0] for part in FIRST.items()]):
         say("0 passed, 1 failed")
         return 1
     tests = Tests() if TESTS.exists() else None
@@ -116,6 +139,8 @@ def main():
     finally:
         if tests:
             tests.stop()
+    if sys.argv[1:]:
+        store(begun)
     say(f"{sum(it[0] for _, it in parts)} passed, {sum(it[1] for _, it in parts)} failed")
     return parts[0][0] or int(any(status or it[1] for status, it in parts))
 

@@ -1,6 +1,7 @@
-"""The charts of a run, as SVG of 900 pixels: panels of numbers, each with its name, on an axis that is drawn.
+"""The two charts of a run, as SVG: nanoseconds as dots on a logarithmic axis, each with a whisker from the best sample to the worst.
 
-On a linear axis from 0 a number is a bar. On a logarithmic one it is a dot, since a bar's length would tell nothing there.
+A bar's length would tell nothing on a logarithmic axis. A row that we lose is drawn as any other. `bench/run` draws them
+once it has stored a run; after a change of this file draw them by `python3 bench/chart.py`.
 """
 
 import math
@@ -8,287 +9,136 @@ from xml.sax.saxutils import escape
 
 import stored
 
-# Colours that are told apart without red and green (Okabe and Ito): ours warm, heaps blue, wheels green, DelayQueue yellow.
-COLOURS = {
-    "ours-owned": "#cc5a00",
-    "ours": "#d55e00",
-    "ours-shards": "#d55e00",
-    "rust": "#e07b39",
-    "rust-checked": "#f4a582",
-    "rust-shards": "#e07b39",
-    "rust-checked-shards": "#f4a582",
-    "adapter": "#f7c6ad",
-    "adapter-handle": "#e98a5f",
-    "fetch-max": "#000000",
-    "heap-note": "#56b4e9",
-    "heap-note-locked": "#56b4e9",
-    "heap-best": "#0072b2",
-    "heap-best-locked": "#0072b2",
-    "heap-tight": "#0072b2",
-    "heap-tight-locked": "#0072b2",
-    "heap-indexed": "#7a9cc6",
-    "heap-indexed-locked": "#7a9cc6",
-    "heap-push": "#9cc9e3",
-    "heap-push-locked": "#9cc9e3",
-    "hashed-wheel": "#009e73",
-    "hashed-wheel-locked": "#009e73",
-    "kit-wheel": "#7fc8ae",
-    "delay-queue": "#f0c800",
-    "delay-queue-locked": "#b08900",
-    "kit-delay-queue": "#d8c98a",
-    "sleep": "#8c8c8c",
+WIDTH, LEFT, RIGHT = 900, 250, 24
+ROW, TITLE, HEAD, FOOT = 20, 46, 74, 34
+# Colours that are told apart without red and green (Okabe and Ito), and for each a form.
+OURS, HEAP, OTHER, QUEUE = ("#d55e00", "circle"), ("#0072b2", "square"), ("#009e73", "triangle"), ("#b08900", "diamond")
+HEAP_LOCKED, QUEUE_LOCKED = "heap-best-locked", "delay-queue-locked"
+# Each product of ours with its rows, worst things first: what the row is called, its name in the run, its entries and its threads.
+ONE_QUEUE = [
+    ("an extend beside polls, 4 threads", "callers", 10_000, 4),
+    ("an extend beside polls, 1 thread", "callers", 10_000, 1),
+    *((words, row, 10_000, 1) for words, row in (
+        ("insert", "insert"), ("reset", "reset"), ("remove", "remove"), ("poll", "poll"), ("cancel, and its freeing", "cancel"),
+        ("idle timeouts, by extends", "mixed"), ("idle timeouts, by resets", "heartbeat"))),
+]
+BY_NAME = [(f"{row}, {shards} shard{'s' * (shards > 1)}, {threads} thread{'s' * (threads > 1)}", f"{row}/{shards}", 10_000, threads)
+           for row in ("insert", "reset", "remove", "poll", "extend") for shards, threads in ((4, 4), (1, 1))]
+PRODUCTS = {
+    "hontkhale: SharedDelayQueue, each call but an extend under its shard's lock": (stored.RUST_CHECKED_SHARDS, BY_NAME),
+    "hontkhale: shared_queue, one owner, and callers that extend in other threads": (stored.RUST_CHECKED, ONE_QUEUE),
+    "hontkhale-tokio: DelayQueue, with a handle": (stored.ADAPTER_HANDLE, ONE_QUEUE),
 }
-WIDTH, MARGIN, HEAD = 900, 14, 66
-BAR, STEP, TITLE, GAP = 11, 15, 22, 30
-# Room for the names on the left of a panel, and for the number on the right of its longest bar.
-NAME, NUMBER = 137, 40
-# What the front chart shows of each row: ours, the crate's, the fastest heap that several threads can call, and what servers use now.
-HEAPS = ["heap-best-locked", "heap-note-locked", "heap-push-locked"]
-FRONT = [["ours"], ["rust"], HEAPS, ["delay-queue-locked"]]
-FRONT_NAMES = {"ours": "ours, words that threads share", "rust": "ours, the crate"}
+LONGEST_PEERS = {"heap-best": HEAP, "heap-indexed": OTHER, "delay-queue": QUEUE, stored.RUST_CHECKED: OURS}
 
 
-def text(x, y, words, size=11, anchor="start", weight="normal", fill="#222"):
+def text(x, y, words, size=12, anchor="start", weight="normal", fill="#222"):
     return (f'<text x="{x:.1f}" y="{y:.1f}" font-size="{size}" text-anchor="{anchor}" '
             f'font-weight="{weight}" fill="{fill}">{escape(words)}</text>')
 
 
-def rectangle(x, y, wide, tall, fill, told=""):
-    title = f"<title>{escape(told)}</title>" if told else ""
-    return f'<rect x="{x:.1f}" y="{y:.1f}" width="{wide:.1f}" height="{tall:.1f}" fill="{fill}">{title}</rect>'
+def mark(x, y, look, told=""):
+    """A dot in the colour and the form of its peer."""
+    colour, form = look
+    points = {"square": "-4,-4 4,-4 4,4 -4,4", "triangle": "0,-5 5,4 -5,4", "diamond": "0,-5.5 5.5,0 0,5.5 -5.5,0"}.get(form)
+    body = f'<polygon points="{points}"' if points else '<circle r="4.5"'
+    return f'<g transform="translate({x:.1f} {y:.1f})">{body} fill="{colour}" stroke="white"/><title>{escape(told)}</title></g>'
 
 
-def dot(x, y, fill, told):
-    return f'<circle cx="{x:.1f}" cy="{y:.1f}" r="4.5" fill="{fill}" stroke="#444" stroke-width="0.7"><title>{escape(told)}</title></circle>'
-
-
-def beside(x, y, words):
-    """A number beside its bar or dot, over a white ground where a line of the axis goes through."""
-    yield rectangle(x - 1, y - 9, 6.1 * len(words) + 2, 11, "white")
-    yield text(x, y, words, 10.5, fill="#444")
-
-
-def number(value):
-    return f"{value:,.0f}" if value >= 9.95 else f"{value:.1f}"
-
-
-def name_of(peer):
-    return stored.NAMES[peer].replace("`", "")
-
-
-class Bar:
-    """A bar: its name, its colour, its number and how that is written."""
-
-    def __init__(self, name, colour, value, told, written=number):
-        self.name, self.colour, self.value, self.told, self.written = name, colour, value, told, written(value)
-
-
-class Panel:
-    """Bars under a title. A bar that is a text stands for a line of words between them."""
-
-    def __init__(self, title, bars):
-        self.title, self.bars = title, bars
-
-    def height(self):
-        return TITLE + STEP * len(self.bars) + GAP
-
-    def values(self):
-        return [bar.value for bar in self.bars if isinstance(bar, Bar)]
-
-    def draw(self, x, y, wide, axis, name_room):
-        yield text(x, y + 14, self.title, 12, weight="bold")
-        left, room = x + name_room, wide - name_room - NUMBER
-        foot = y + TITLE + STEP * len(self.bars)
-        for tick in axis.ticks:
-            at = left + axis.place(tick) * room
-            yield f'<line x1="{at:.1f}" y1="{y + TITLE - 2:.1f}" x2="{at:.1f}" y2="{foot:.1f}" stroke="#ddd"/>'
-            yield text(at, foot + 11, f"{tick:,g}{axis.unit}", 9.5, "middle", fill="#777")
-        for place, bar in enumerate(self.bars):
-            top = y + TITLE + place * STEP
-            if isinstance(bar, str):
-                yield text(left + 3, top + BAR, bar, 11, fill="#555")
-                continue
-            if bar.name:
-                yield text(left - 5, top + BAR - 1.5, bar.name, 10.5, "end")
-            at = axis.place(bar.value) * room
-            if axis.has_zero:
-                yield rectangle(left, top, max(at, 1), BAR, bar.colour, bar.told)
-            else:
-                yield dot(left + at, top + BAR / 2, bar.colour, bar.told)
-            yield from beside(left + at + (4 if axis.has_zero else 8), top + BAR - 1.5, bar.written)
-
-
-class Logarithmic:
-    """One axis of a whole chart, whose ticks are the powers of ten."""
-
-    words, unit, has_zero = "Logarithmic axes: a line is ten times the one before.", "", False
+class Axis:
+    """A logarithmic axis over all numbers, with lines at the powers of ten."""
 
     def __init__(self, values):
-        self.low = 10 ** math.floor(math.log10(max(min(values), 0.1)))
-        self.span = math.log(max(values) / self.low)
-        powers = (self.low * 10**it for it in range(12))
-        self.ticks = [it for it in powers if it <= max(values)]
+        self.low, high = min(values) / 1.3, max(values) * 1.3
+        self.decades = math.log10(high / self.low)
+        self.ticks = [10.0**it for it in range(math.ceil(math.log10(self.low)), math.floor(math.log10(high)) + 1)]
 
     def place(self, value):
-        return math.log(max(value, self.low) / self.low) / self.span
+        return LEFT + math.log10(value / self.low) / self.decades * (WIDTH - LEFT - RIGHT)
 
 
-class Linear:
-    """An axis of one panel, from 0 on, with one to three lines."""
+def panel(y, title, rows, axis):
+    """Rows under a title: each has its words, and dots as (least, middle, most, look, told)."""
+    yield text(14, y + 18, title, 13, weight="bold")
+    top, foot = y + 28, y + 28 + ROW * len(rows)
+    for tick in axis.ticks:
+        at = axis.place(tick)
+        yield f'<line x1="{at:.1f}" y1="{top}" x2="{at:.1f}" y2="{foot}" stroke="#ddd"/>'
+        yield text(at, foot + 13, f"{tick:,g}", 10, "middle", fill="#666")
+    for place, (words, dots) in enumerate(rows):
+        middle = top + ROW * place + ROW / 2
+        yield text(LEFT - 12, middle + 4, words, 12, "end")
+        for least, value, most, look, told in dots:
+            ends = [axis.place(it) for it in (least, most)]
+            yield f'<line x1="{ends[0]:.1f}" y1="{middle}" x2="{ends[1]:.1f}" y2="{middle}" stroke="{look[0]}" stroke-width="1.6"/>'
+            yield mark(axis.place(value), middle, look, told)
 
-    words, has_zero = "Linear axes from 0, one a panel.", True
 
-    def __init__(self, values, unit=""):
-        self.greatest, self.unit = max(values), unit
-        step = 10 ** math.floor(math.log10(self.greatest))
-        step = next(it for it in (step / 5, step / 2, step, step * 2, step * 5) if self.greatest / it < 3)
-        self.ticks = [it * step for it in range(int(self.greatest / step) + 1)]
-
-    def place(self, value):
-        return value / self.greatest
-
-
-def drawn(title, lines, about, columns, legend=(), name_room=NAME, axis_of=None):
-    """A chart of lines of panels: on one logarithmic axis, or each on its own as `axis_of` makes it of its numbers."""
-    shared = Logarithmic([value for line in lines for panel in line for value in panel.values()])
-    wide = (WIDTH - 2 * MARGIN - (columns - 1) * 18) / columns
-    heights = [max(panel.height() for panel in line) for line in lines]
-    tall = HEAD + sum(heights) + 26
+def drawn(title, legend, panels, about):
+    """A chart of panels, one below the other, all on one axis."""
+    axis = Axis([it for _, rows in panels for _, dots in rows for dot in dots for it in dot[:3]])
+    tall = HEAD + sum(TITLE + ROW * len(rows) for _, rows in panels) + FOOT
     parts = [
         f'<svg xmlns="http://www.w3.org/2000/svg" width="{WIDTH}" height="{tall}" viewBox="0 0 {WIDTH} {tall}" '
         'font-family="Helvetica, Arial, sans-serif">',
-        rectangle(0, 0, WIDTH, tall, "white"),
-        text(MARGIN, 24, title, 16, weight="bold"),
+        f'<rect width="{WIDTH}" height="{tall}" fill="white"/>',
+        text(14, 26, title, 16, weight="bold"),
     ]
-    x = MARGIN
-    for words, colour in legend:
-        if colour:
-            parts.append(rectangle(x, 38, 12, 12, colour))
-        parts.append(text(x + (17 if colour else 0), 48, words, 12))
-        x += 40 + 6.3 * len(words)
+    x = 20
+    for words, look in legend:
+        parts += [mark(x, 50, look), text(x + 11, 54, words)]
+        x += 34 + 6.6 * len(words)
     y = HEAD
-    for line, height in zip(lines, heights):
-        for column, panel in enumerate(line):
-            axis = axis_of(panel.values()) if axis_of else shared
-            parts.extend(panel.draw(MARGIN + column * (wide + 18), y, wide, axis, name_room))
-        y += height
-    words = Linear.words if axis_of else Logarithmic.words
-    parts.append(text(MARGIN, tall - 9, f"{about[0].split(';')[0]}. One run: the ratios count. {words}", 10.5, fill="#555"))
+    for words, rows in panels:
+        parts += panel(y, words, rows, axis)
+        y += TITLE + ROW * len(rows)
+    parts.append(text(14, tall - 10, f"{about[0].split(';')[0]}. One run: compare within it. Logarithmic axis: each line is ten times the one before.",
+                      10.5, fill="#555"))
     return "\n".join([*parts, "</svg>"]) + "\n"
 
 
-def told(case, peer):
-    return f"{case}: {stored.NAMES[peer]} {case.median(peer):.1f} ns, best {case.best(peer):.1f}"
-
-
-def bars_of(case):
-    return [Bar(name_of(peer), COLOURS[peer], case.median(peer), told(case, peer)) for peer in stored.NAMES if peer in case.samples]
-
-
-def found(cases, row, entries, threads=1):
-    return next((case for case in cases if case.key == (row, entries, threads)), None)
-
-
-def grid(lines):
-    """Lines of panels, of those that have some bars."""
-    lines = [[Panel(title, bars_of(case)) for title, case in line if case] for line in lines]
-    return [line for line in lines if line]
-
-
-def rows_chart(cases, about, title, rows):
-    sizes = sorted({case.entries for case in cases if case.row in rows})
-    lines = grid([[(f"{row}, {size:,} entries", found(cases, row, size)) for size in sizes] for row in rows])
-    return lines and drawn(title, lines, about, 3, [("Nanoseconds an operation, medians: further left is faster", "")])
-
-
-def threads_chart(cases, about):
-    shown = [case for case in cases if case.row == "callers"]
-    sizes, threads = sorted({case.entries for case in shown}), sorted({case.threads for case in shown})
-    lines = grid([[(f"{many} thread{'s' * (many > 1)}, {size:,} entries", found(cases, "callers", size, many)) for size in sizes]
-                  for many in threads])
-    title = "An extend in its thread, beside the owner's polls"
-    return lines and drawn(title, lines, about, 3, [("Nanoseconds, medians: further left is faster", "")])
-
-
-def shards_chart(cases, about):
-    sizes = {case.entries for case in cases if case.shards and not case.is_full}
-    size = 10_000 if 10_000 in sizes else min(sizes, default=0)
-
-    def line(row):
-        yield f"{row}: 1 shard, 1 thread", found(cases, f"{row}/1", size, 1)
-        yield f"{row}: 4 shards, 4 threads", found(cases, f"{row}/4", size, 4)
-        yield f"{row}: a shard for each of 4", found(cases, f"{stored.OWN}{row}/4", size, 4)
-
-    lines = grid([list(line(row)) for row in stored.SHARD_ROWS])
-    title = f"The shared queue, {size:,} entries a shard"
-    return lines and drawn(title, lines, about, 3, [("Nanoseconds a call, medians: further left is faster", "")])
-
-
-def full_chart(cases, about):
-    full = [(f"{case.call}, {case.threads} thread{'s' * (case.threads > 1)}", case) for case in cases if case.is_full]
-    lines = grid([full[at:at + 3] for at in range(0, len(full), 3)])
-    return lines and drawn("64 full shards, 4.2 million entries", lines, about, 3, [("Nanoseconds a call: further left is faster", "")])
+def front_chart(cases, about):
+    """Each product beside the best heap and tokio-util's queue, both in a lock."""
+    known, panels = {case.key: case for case in cases}, []
+    for title, (ours, rows) in PRODUCTS.items():
+        lines = []
+        for words, *key in rows:
+            samples = known[tuple(key)].samples if tuple(key) in known else {}
+            looks = [(it, look) for it, look in ((HEAP_LOCKED, HEAP), (QUEUE_LOCKED, QUEUE), (ours, OURS)) if it in samples]
+            dots = [(min(samples[it]), known[tuple(key)].median(it), max(samples[it]), look,
+                     f"{stored.NAMES[it]}: {known[tuple(key)].median(it):.1f} ns") for it, look in looks]
+            if len(dots) > 1:
+                lines.append((words, dots))
+        if lines:
+            panels.append((title, lines))
+    legend = [("ours", OURS), ("the best heap we know, in a Mutex", HEAP), ("tokio-util's DelayQueue, in a Mutex", QUEUE)]
+    return panels and drawn("Nanoseconds a call at 10,000 entries a queue or shard: median, best and worst sample", legend, panels, about)
 
 
 def longest_chart(cases, about):
-    """The longest poll of each peer, in microseconds."""
-    def written(value):
-        return f"{value:,.0f}" if value >= 10 else f"{value:.1f}" if value >= 0.095 else f"{value:.2f}"
-
-    def panel(case):
-        bars = []
-        for peer in stored.NAMES:
-            if (peer, "poll") in case.spreads:
-                calls, half, _, three_nines, _, most = case.spreads[peer, "poll"]
-                words = f"{case}: {stored.NAMES[peer]}, {calls} polls: half {half}, 99.9% {three_nines}, all {most} ns"
-                bars.append(Bar(name_of(peer), COLOURS[peer], most / 1000, words, written))
-        return Panel(f"{case.row.removeprefix('longest-')}, {case.entries:,} entries", bars)
-
-    shown = [[case for case in cases if case.row == row and case.spreads] for row in stored.LONGEST_ROWS]
-    lines = [[panel(case) for case in line] for line in shown if line]
-    return lines and drawn("The longest poll, after sessions were touched or cancelled", lines, about, 3,
-                           [("Microseconds of the longest of all polls: shorter is better", "")], axis_of=Linear)
+    """The longest poll of each kind, in microseconds."""
+    lines = []
+    for case in (it for row in stored.LONGEST_ROWS for it in cases if it.row == row):
+        found = {peer: case.spreads[peer, "poll"][-1] / 1000 for peer in LONGEST_PEERS if (peer, "poll") in case.spreads}
+        dots = [(value, value, value, LONGEST_PEERS[peer], f"{stored.NAMES[peer]}: {value:,.2f} µs") for peer, value in found.items()]
+        if dots:
+            lines.append((f"{case.entries:,} entries, {case.row.removeprefix('longest-')}s", dots))
+    legend = [("ours (shared_queue)", OURS), ("the best heap we know", HEAP), ("an indexed heap", OTHER), ("tokio-util's DelayQueue", QUEUE)]
+    return lines and drawn("The longest poll, in microseconds", legend, [("After sessions were touched by extends or resets, or all were cancelled", lines)], about)
 
 
-def front_chart(cases, about):
-    """A few groups that tell the most, each beside ours: for the first page."""
-    groups = [
-        ("An extend, beside the owner's polls",
-         [(f"{many} thread{'s' * (many > 1)}", found(cases, "callers", 10_000, many)) for many in (1, 2, 4)]),
-        ("Idle timeouts, a call", [("touched 100 times by extends", found(cases, "mixed", 10_000)),
-                                   ("touched 30 times by resets", found(cases, "heartbeat", 10_000))]),
-        ("A poll of what is due", [(f"{size:,} entries", found(cases, "poll", size)) for size in (1_000, 10_000, 65_536)]),
-    ]
-    panels, legend = [], {}
-    for title, rows in groups:
-        bars = []
-        for words, case in rows:
-            there = [[it for it in choices if case and it in case.samples] for choices in FRONT]
-            if not (there[0] and there[2] and there[3]):
-                return None
-            series = [min(its, key=case.median) if its else None for its in there]
-            ours = case.median(series[0])
-            bars.append(f"{words} (ours {number(ours)} ns)")
-            for peer in filter(None, series):
-                colour = COLOURS[HEAPS[0]] if peer in HEAPS else COLOURS[peer]
-                words = "the fastest heap in a Mutex" if peer in HEAPS else FRONT_NAMES.get(peer, name_of(peer))
-                bars.append(Bar("", colour, case.median(peer) / ours, told(case, peer), lambda ratio: f"{number(ratio)}x"))
-                legend[words] = colour
-        panels.append(Panel(title, bars))
-    return drawn("How many times as long as ours: medians of 10,000 entries where no other number stands", [panels], about, 3,
-                 legend.items(), name_room=8, axis_of=lambda values: Linear(values, "x"))
+def charts():
+    """The charts of the stored run, by their files."""
+    cases, about = stored.read()
+    return {stored.RESULTS / "latest.svg": front_chart(cases, about), stored.RESULTS / "latest-longest.svg": longest_chart(cases, about)}
 
 
-def charts(cases, about):
-    """The charts that a run has: the part that stands in the file's name, and the text."""
-    for part, text_of in (
-        ("", front_chart(cases, about)),
-        ("calls", rows_chart(cases, about, "One call", stored.SINGLE_ROWS)),
-        ("whole", rows_chart(cases, about, "With all that the calls leave behind", stored.WHOLE_ROWS)),
-        ("threads", threads_chart(cases, about)),
-        ("shards", shards_chart(cases, about)),
-        ("full", full_chart(cases, about)),
-        ("longest", longest_chart(cases, about)),
-    ):
-        if text_of:
-            yield part, text_of
+def stale():
+    """The charts that aren't what the stored samples make."""
+    return [path for path, picture in charts().items() if not path.exists() or path.read_text() != picture]
+
+
+if __name__ == "__main__":
+    for path, picture in charts().items():
+        path.write_text(picture)
+        print(path.name)

@@ -181,13 +181,29 @@ def is_attribute(tokens, at):
     return opening > 0 and tokens[opening - 1].text == "#"
 
 
+def homes(tokens):
+    """Each module, trait and impl with functions: where its word stands, and its bracket."""
+    for at, token in enumerate(tokens):
+        if token.kind != "word" or token.text not in ("mod", "trait", "impl"):
+            continue
+        # as the word of an item, and not in a type
+        if at and tokens[at - 1].kind != "doc" and tokens[at - 1].text not in ("}", ";", "{", "]", "pub", ")", "unsafe"):
+            continue
+        body = at + 1
+        while tokens[body].text not in ("{", ";"):
+            body += 1
+        if tokens[body].text == "{":
+            yield at, body
+
+
 class Function:
     """A function: its name behind those of what it stands in, and the places in the text where what is above it begins,
-    its header, its body, and where it ends; and whether another may stand beside it, as none may that a trait names."""
+    its header, its body, and where it ends; and
+    whether another may stand beside it, as none may that a trait names, and whether it is public."""
 
-    def __init__(self, name, above, begin, body, end, is_free, attributes):
+    def __init__(self, name, above, begin, body, end, is_free, is_public):
         self.name, self.above, self.begin, self.body, self.end = name, above, begin, body, end
-        self.is_free, self.is_test, self.is_public = is_free, "test" in attributes, "pub" in attributes
+        self.is_free, self.is_public = is_free, is_public
 
 
 class File:
@@ -198,39 +214,29 @@ class File:
         self.functions = list(self.read())
 
     def read(self):
-        homes, behind = list(self.homes()), 0
+        inside, behind = list(self.homes()), 0
         for start, at, name, _, body in functions(self.tokens):
             if at < behind:
                 continue
             closes = close_of(self.tokens, body) if self.tokens[body].text == "{" else body
             behind = closes + 1
-            around = [home for home in homes if home[0] < at < home[1]]
+            around = [home for home in inside if home[0] < at < home[1]]
             full = "::".join(filter(None, [self.module, *(it[2] for it in around), name]))
             head = start
             while self.tokens[head].kind == "doc" or self.tokens[head].text == "#":
                 head = head + 1 if self.tokens[head].kind == "doc" else close_of(self.tokens, head + 1) + 1
-            words = {it.text for it in self.tokens[start:at] if it.kind == "word"}
+            is_public = self.tokens[head].text == "pub" and self.tokens[head + 1].text != "("
             places = (self.tokens[it].place for it in (start, head, body))
-            yield Function(full, *places, self.tokens[closes].place + 1, all(it[3] for it in around), words)
+            yield Function(full, *places, self.tokens[closes].place + 1, all(it[3] for it in around), is_public)
 
     def homes(self):
         """The modules, traits and impls: where each opens and closes, its name, and whether its functions are its own."""
-        for at, token in enumerate(self.tokens):
-            if token.kind != "word" or token.text not in ("mod", "trait", "impl") or self.is_inside_a_header(at):
-                continue
-            body = at + 1
-            while self.tokens[body].text not in ("{", ";"):
-                body += 1
-            if self.tokens[body].text == "{":
-                words = self.text[token.place + len("impl"):self.tokens[body].place]
-                name = name_of_impl(words) if token.text == "impl" else self.tokens[at + 1].text
-                is_own = token.text == "mod" or token.text == "impl" and " for " not in words
-                yield body, close_of(self.tokens, body), name, is_own
-
-    def is_inside_a_header(self, at):
-        """Whether `impl` is no item, as in a type, or `mod` and `trait` are other words."""
-        before = self.tokens[at - 1] if at else None
-        return before is not None and before.kind != "doc" and before.text not in ("}", ";", "{", "]", "pub", ")", "unsafe")
+        for at, body in homes(self.tokens):
+            word = self.tokens[at].text
+            words = self.text[self.tokens[at].place + len(word):self.tokens[body].place]
+            name = name_of_impl(words) if word == "impl" else self.tokens[at + 1].text
+            is_own = word == "mod" or word == "impl" and " for " not in words
+            yield body, close_of(self.tokens, body), name, is_own
 
     def function_at(self, place):
         """The function in which a place of the text stands, or above which; none outside of all."""

@@ -15,7 +15,6 @@ mod fair;
 mod floor;
 mod free;
 mod hashed;
-#[cfg(not(feature = "other-order"))]
 mod heap;
 mod indexed;
 #[cfg(feature = "rust")]
@@ -30,9 +29,6 @@ mod sleep;
 #[cfg(feature = "rust")]
 mod through;
 mod tokio_queue;
-// The same code in another order: what a call takes hangs on where its build lays it too.
-#[cfg(feature = "other-order")]
-mod heap;
 
 use std::process::ExitCode;
 

@@ -1,5 +1,6 @@
 """The C file around the bodies that were translated: what they need, the header, and the calls that C makes."""
 
+import pathlib
 import re
 
 import translate
@@ -23,55 +24,18 @@ HEAD = """\
 #endif
 """
 
-# What the bodies call, each by its name; what isn't called is left out.
-HELPERS = {
-    "u128": "__extension__ typedef unsigned __int128 u128;",
-    "of_64_64": "struct of_64_64 { uint64_t f0; uint64_t f1; };",
-    "of_64_1": "struct of_64_1 { uint64_t f0; bool f1; };",
-    **{f"load_{w}": f"static inline uint{w}_t load_{w}(const char *at) {{\n    uint{w}_t value;\n"
-                    f"    memcpy(&value, at, sizeof value);\n    return value;\n}}" for w in (8, 16, 32, 64)},
-    "load_128": "static inline u128 load_128(const char *at) {\n    u128 value;\n    memcpy(&value, at, sizeof value);\n"
-                "    return value;\n}",
-    "load_ptr": "static inline char *load_ptr(const char *at) {\n    char *value;\n    memcpy(&value, at, sizeof value);\n"
-                "    return value;\n}",
-    **{f"store_{w}": f"static inline void store_{w}(char *at, uint{w}_t value) {{\n"
-                     f"    memcpy(at, &value, sizeof value);\n}}" for w in (8, 16, 32, 64)},
-    "store_128": "static inline void store_128(char *at, u128 value) {\n    memcpy(at, &value, sizeof value);\n}",
-    "store_ptr": "static inline void store_ptr(char *at, char *value) {\n    memcpy(at, &value, sizeof value);\n}",
-    **{f"{name}_{w}": f"static inline uint{w}_t {name}_{w}(uint{w}_t value) {{\n"
-                      f"    return value ? (uint{w}_t)__builtin_{call}{'ll' if w == 64 else ''}(value) : {w}u;\n}}"
-       for name, call in (("ctlz", "clz"), ("cttz", "ctz")) for w in (32, 64)},
-    **{f"ctpop_{w}": f"static inline uint{w}_t ctpop_{w}(uint{w}_t value) {{\n"
-                     f"    return (uint{w}_t)__builtin_popcount{'ll' if w == 64 else ''}(value);\n}}" for w in (32, 64)},
-    **{f"u{op}_64": f"static inline struct of_64_1 u{op}_64(uint64_t left, uint64_t right) {{\n"
-                    f"    struct of_64_1 answer;\n"
-                    f"    answer.f1 = __builtin_{op}_overflow(left, right, &answer.f0);\n    return answer;\n}}"
-       for op in ("add", "mul")},
-    # The heap of the library: whether there was memory, and where. A size of 0 asks for as much as its alignment.
-    "rattle_alloc": """\
-static struct of_64_64 rattle_alloc(uint64_t size, uint64_t align) {
-    void *made = malloc(size ? size : align);
-    return (struct of_64_64){made != NULL, (uintptr_t)made};
-}""",
-    "rattle_realloc": """\
-static struct of_64_64 rattle_realloc(char *held, uint64_t before, uint64_t size, uint64_t align) {
-    void *made = realloc(held, size ? size : align);
-    (void)before;
-    return (struct of_64_64){made != NULL, (uintptr_t)made};
-}""",
-    "rattle_dealloc": "static void rattle_dealloc(char *held) {\n    free(held);\n}",
-}
-NEEDS = {"umul_64": ["of_64_1"], "uadd_64": ["of_64_1"], "rattle_alloc": ["of_64_64"], "rattle_realloc": ["of_64_64"],
-         "load_128": ["u128"], "store_128": ["u128"]}
 LAYOUT = ["_Static_assert(sizeof(dq_answer) == 24 && offsetof(dq_answer, first) == 8 && offsetof(dq_answer, second) == 16,",
           "               \"an answer is a code and two numbers\");", ""]
 
 
 def helpers(body):
-    """The helpers that a text calls, in the order in which they stand above."""
-    wanted = {name for name in HELPERS if re.search(rf"\b{name}\b", body)}
-    wanted |= {it for name in list(wanted) for it in NEEDS.get(name, [])}
-    return [HELPERS[name] for name in HELPERS if name in wanted]
+    """What a text calls of helpers.c, and what that names, in the order in which it stands there."""
+    blocks = pathlib.Path(__file__).with_name("helpers.c").read_text(encoding="utf-8").strip().split("\n\n")[1:]
+    named = {re.search(r"typedef .* (\w+);|struct (\w+) \{|(\w+)\(", it): it for it in blocks}
+    named = {next(filter(None, found.groups())): it for found, it in named.items()}
+    wanted = {it for it in named if re.search(rf"\b{it}\b", body)}
+    wanted |= {other for it in wanted for other in named if re.search(rf"\b{other}\b", named[it])}
+    return [block for it, block in named.items() if it in wanted]
 
 
 def header_text(header):

@@ -13,6 +13,7 @@ import functools
 import re
 
 import tree
+import source
 from tree import TOP, text_of
 
 TABLE = re.compile(r"(<!-- table ([^>]*?) -->\n).*?(<!-- end -->)", re.S)
@@ -44,8 +45,6 @@ def bad_links(page):
             yield link
 
 
-# Pages whose programs another script types, and who that is.
-TYPED = {"docs/USING.md": "docs/figures/using"}
 BLOCK = re.compile(r"(?ms)^```([^\n]*)\n(.*?)^```$")
 # The folders of a package whose files cargo builds.
 BUILT = {"src", "tests", "examples"}
@@ -58,20 +57,22 @@ def is_documentation(page):
 
 
 def is_built(path):
-    """Whether cargo builds a file of the tree: it stands in a folder of a package that has such."""
+    """Whether cargo builds a file of the tree, as one in a folder of a package that has such, or docs/figures/using does, by rt."""
+    if path.endswith(".rattle"):
+        return True
     home = next((it for it in (TOP / path).parents if (it / "Cargo.toml").exists()), None)
     return path.endswith(".rs") and home is not None and (TOP / path).relative_to(home).parts[0] in BUILT
 
 
 def rust_blocks(page):
     """Each block of Rust of a page: its line, and what builds it, or None. What is quoted stands in that file, as the quotes tell."""
-    text, typed = text_of(page), TYPED.get(page.relative_to(TOP).as_posix())
+    text = text_of(page)
     quoted = {found.end(1): found[2] for found in QUOTE.finditer(text)}
     for found in BLOCK.finditer(text):
         kind = re.split(r"\W", found[1], maxsplit=1)[0]
         if kind in {"rust", "ignore", "no_run", "should_panic", "compile_fail"} or not kind and is_documentation(page):
             path = quoted.get(found.start(2))
-            yield text.count("\n", 0, found.start()) + 1, typed or (path if path and is_built(path) else None)
+            yield text.count("\n", 0, found.start()) + 1, path if path and is_built(path) else None
 
 
 PATH = re.compile(r"`([\w./-]+/[\w.-]+\.(?:rt|antt|md|rs|tsv|py|txt))`")
@@ -98,7 +99,7 @@ def words_of_the_code():
     plain += [it for part in ("src", "tests") for it in tree.files(TOP / "rust" / "hontkhale" / part, ".rs")]
     paths = [*tree.files(tree.CRATES, *endings), *tree.files(TOP / "bench", *endings), *plain, TOP / "crates.txt"]
     own = {word for it in paths for word in re.findall(r"\w+", text_of(it))}
-    return own | {it.stem for it in paths} | {it.suffix[1:] for it in paths} | set(tree.names())
+    return own | {it.stem for it in paths} | {it.suffix[1:] for it in paths} | set(source.lines_of_crates())
 
 
 def unknown_names(text):

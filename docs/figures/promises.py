@@ -28,7 +28,7 @@ def tests():
 
 def edits():
     """Each edit: its file, its name, and the promises that it names."""
-    paths = [path for it in tree.crates() for path in files(it.folder / "edits", ".edit")]
+    paths = [path for it in tree.crates() for path in it.edits()]
     return [(path, path.stem, [it for line in OF_EDIT.findall(text_of(path)) for it in line.split()]) for path in paths]
 
 

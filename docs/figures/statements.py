@@ -4,6 +4,7 @@ import functools
 import re
 import textwrap
 
+import tree
 from tree import CRATES, TOP, files, text_of
 
 HEAD = r"(?:pub (?:record|data) |(?:abbrev|unfoldable) pub ){}(?=[ :]|$)"
@@ -25,7 +26,7 @@ def definition(path, name, clause=None):
     lines = textwrap.dedent("\n".join(lines[first:last])).splitlines()
     if clause is None:
         return "\n".join(lines)
-    head, body = lines[: at + 1 - first], lines[at + 1 - first :]
+    head, body = lines[: at + 1 - first], lines[at + 1 - first:]
     heads = [n for n, line in enumerate(body) if line and not line[0].isspace()]
     for n, end in zip(heads, [*heads[1:], len(body)]):
         if re.search(rf"\({re.escape(clause)}\b", body[n].partition(" =")[0]):
@@ -33,35 +34,24 @@ def definition(path, name, clause=None):
     raise LookupError(f"{path}: {name} has no clause of {clause}")
 
 
-def end_of_function(lines, at, indent):
-    """The last line of a function: that of its body, or in a trait that of its last clause."""
-    has_body = False
-    for n in range(at, len(lines)):
-        line = lines[n]
-        has_body = has_body or line.endswith("{") and not line[len(indent)].isspace()
-        if line in (indent + "}", indent + "{}") or not has_body and line.endswith((";", "{}")):
-            return n
-    return len(lines) - 1
+def found(path, name):
+    """A function of a file, the first of its name."""
+    its = [it for it in tree.file_of(TOP / path).functions if it.name.rpartition("::")[2] == name]
+    if not its:
+        raise LookupError(f"{path} has no function {name}")
+    return its[0]
 
 
 def function(path, name):
     """A function with its comment, its attributes, its contract and its body."""
-    lines = text_of(TOP / path).splitlines()
-    at = next((n for n, line in enumerate(lines) if re.search(rf"\bfn {re.escape(name)}\b", line)), None)
-    if at is None:
-        raise LookupError(f"{path} has no function {name}")
-    indent = len(lines[at]) - len(lines[at].lstrip())
-    first = at
-    while first and re.match(r"\s*(///|#\[)", lines[first - 1]):
-        first -= 1
-    last = end_of_function(lines, at, " " * indent)
-    return textwrap.dedent("\n".join(lines[first : last + 1]))
+    text, its = text_of(TOP / path), found(path, name)
+    return textwrap.dedent(text[text.rfind("\n", 0, its.above) + 1:its.end])
 
 
 def contract(path, name):
     """The head and the clauses of a function, without its body."""
-    text = re.sub(r"(?m)^\s*///.*\n", "", function(path, name))
-    return re.split(r"(?m)^\{", text, maxsplit=1)[0]
+    its = found(path, name)
+    return text_of(TOP / path)[its.begin:its.body]
 
 
 def quoted(words):
@@ -77,22 +67,22 @@ def stands_in(path, quote):
     """Whether the lines of a quote stand in a file, one after the other, at any depth."""
     lines = [it.strip() for it in text_of(TOP / path).splitlines()]
     wanted = [it.strip() for it in quote.strip("\n").splitlines()]
-    return any(lines[at : at + len(wanted)] == wanted for at in range(len(lines)))
+    return any(lines[at:at + len(wanted)] == wanted for at in range(len(lines)))
 
 
 @functools.lru_cache(maxsize=None)
 def all_definitions():
     """The words that each name of specs/ is defined by, over all crates."""
-    found = {}
+    known = {}
     for path in files(CRATES, ".antt"):
         if "specs" not in path.parts:
             continue
         for part in re.split(r"\n\s*\n", text_of(path)):
             head = re.search(rf"(?m)^\s*{HEAD.format('([A-Za-z_][A-Za-z0-9_]*)')}", part)
             if head:
-                body = re.sub(r"(?m)^\s*--.*$", "", part[head.start() :])
-                found.setdefault(head[1], set()).update(NAME.findall(body))
-    return found
+                body = re.sub(r"(?m)^\s*--.*$", "", part[head.start():])
+                known.setdefault(head[1], set()).update(NAME.findall(body))
+    return known
 
 
 def carries(path, function_name, statement):

@@ -1,68 +1,56 @@
-"""The tables that the pages have made for them, of the tree and of stored runs."""
+"""The tables that the pages have made for them, of the tree and of the stored runs in bench/results."""
 
+import functools
 import itertools
 import math
 import re
 import statistics
 import textwrap
 
-import lasting
-import runs
 import tree
+from tree import TOP, text_of
 
+RESULTS = TOP / "bench" / "results"
 SIZES = ("1000", "10000", "65536")
 
 
-def table(path, begins):
-    """The lines and the answers of a table of a script, which stands behind a pattern."""
-    rows = re.search(begins + r".*?= &?\[(.*?)\n *\];", tree.text_of(tree.TOP / path), re.S)
-    if not rows:
-        raise LookupError(f"{path} has no table behind {begins}")
-    texts = re.findall(r'"((?:[^"\\]|\\.)*)"', rows[1])
-    return texts[::2], texts[1::2]
-
-
-def text_bytes(lines):
-    """The bytes of lines with their ends."""
-    return sum(len(re.sub(r"\\.", ".", line)) + 1 for line in lines)
-
-
-SCRIPTS = "crates/dq_scripts/src/tests/scripts.rt"
-REFUSED = "crates/dq_scripts/src/tests/memory.rt"
-SAME_CALLS = "rust/hontkhale/tests/slow/same_calls.rs"
-DRAWN = "rust/hontkhale/tests/models/draw.rs"
-
-
-def model_queues():
-    """The pairs of capacity and last stamp at which a queue goes beside the slow model."""
-    pairs = re.search(r"let sizes: &\[\(usize, u32\)\] = &\[(.*?)\];", tree.text_of(tree.TOP / SAME_CALLS), re.S)
-    if not pairs:
-        raise LookupError(f"{SAME_CALLS} has no pairs of capacity and last stamp")
-    return len(re.findall(r"\(\d+, \d+\)", pairs[1]))
-
-
-def drawn_calls(build="debug"):
-    """Calls that a model's test draws for each queue, in a debug or in a release build."""
-    debug, release = (tree.found(DRAWN, rf"const CALLS: u64 = if cfg!.debug_assertions. {it}")[0]
-                      for it in (r"\{ ([\d_]+) \}", r"\{ [\d_]+ \} else \{ ([\d_]+) \}"))
-    return release if build == "release" else debug
-
-
-# Rows in which a peer pays for all that its calls leave behind.
-WHOLE = ("cancel", "poll", "mixed", "insert+poll", "reset+poll", "remove+poll", "churn", "heartbeat")
-
-
-def lost_cells(peer, ours, rows):
-    """In how many cells of one thread a peer is the faster one."""
-    return sum(runs.times(row, peer, ours, size) < 1 for row in rows for size in SIZES)
-
-
 def row(*cells):
-    return "| " + " | ".join(cells) + " |"
+    return "| " + " | ".join(map(str, cells)) + " |"
+
+
+def grid(heads, rows, left=1):
+    """A table, of whose columns so many are words and the others numbers."""
+    return "\n".join([row(*heads), "|---" * left + "|--:" * (len(heads) - left) + "|", *(row(*it) for it in rows)])
+
+
+def rows_of(name):
+    """The rows of a file of results/."""
+    return [it.split("\t") for it in text_of(RESULTS / f"{name}.tsv").splitlines() if it and not it.startswith("#")]
+
+
+def noted(name):
+    """What a file of results/ notes: by key and by what it is."""
+    return {(key, what): value for key, what, value in rows_of(name)}
+
+
+@functools.cache
+def run(figure=statistics.median):
+    """A number of each cell of the bench, its median or its best: by peer, row, entries and callers."""
+    return {(peer, name, entries, threads): figure([float(it) for it in samples.split()])
+            for peer, name, entries, threads, samples in rows_of("latest")[1:]}
+
+
+def ns(name, peer, entries="10000", threads="1"):
+    return run()[peer, name, entries, threads]
 
 
 def ns_text(value):
     return f"{value:,.0f}" if value >= 10 else f"{value:.1f}"
+
+
+def us_text(value):
+    """Nanoseconds as microseconds."""
+    return f"{value / 1000:,.0f}" if value >= 10000 else f"{value / 1000:.1f}" if value >= 95 else f"{value / 1000:.2f}"
 
 
 # The rows of the bench's table, each with its words.
@@ -82,220 +70,273 @@ SPEED = {
 
 def speed():
     """The bench's table: medians at 10,000 entries."""
-    peers = ("ours-owned", "ours", "heap-note", "delay-queue", "delay-queue-locked")
-    lines = [
-        row("", "ours, one owner", "ours, shared words", "a lazy heap", "`DelayQueue`", "`Mutex<DelayQueue>`"),
-        "|---|--:|--:|--:|--:|--:|",
-    ]
-    for name, words in SPEED.items():
-        lines.append(row(words, *(ns_text(runs.ns(name, it, 10000)) for it in peers)))
-    return "\n".join(lines)
+    peers = {"ours-owned": "ours, one owner", "ours": "ours, shared words", "heap-note": "a lazy heap", "delay-queue": "`DelayQueue`",
+             "delay-queue-locked": "`Mutex<DelayQueue>`"}
+    return grid(["", *peers.values()], ([words, *(ns_text(ns(name, it)) for it in peers)] for name, words in SPEED.items()))
 
 
 def shared_speed():
     """The bench's table of the shared queue: medians of one shard in one thread, and of four shards in four."""
-    peers = ("ours-shards", "heap-note-locked", "delay-queue-locked")
-    lines = [
-        row("", "1 shard, 1 thread: ours", "a heap in a `Mutex`", "`Mutex<DelayQueue>`",
-            "4 shards, 4 threads: ours", "a heap in a `Mutex`", "`Mutex<DelayQueue>`"),
-        "|---" + "|--:" * 6 + "|",
-    ]
+    peers = {"ours-shards": "ours", "heap-note-locked": "a heap in a `Mutex`", "delay-queue-locked": "`Mutex<DelayQueue>`"}
+    heads = [*peers.values()] * 2
+    heads[0], heads[3] = f"1 shard, 1 thread: {heads[0]}", f"4 shards, 4 threads: {heads[3]}"
     names = {"insert-burst": "insert, 64 under one lock", "poll-burst": "poll, 64 under one lock"}
-    for name in ("insert", "extend", "reset", "remove", "poll", "insert-burst", "poll-burst"):
-        one = [ns_text(runs.ns(f"{name}/1", it, 10000, 1)) for it in peers]
-        four = [ns_text(runs.ns(f"{name}/4", it, 10000, 4)) for it in peers]
-        lines.append(row(names.get(name, name), *one, *four))
-    return "\n".join(lines)
+    calls = ("insert", "extend", "reset", "remove", "poll", *names)
+    return grid(["", *heads], ([names.get(it, it), *(ns_text(ns(f"{it}/{many}", peer, threads=many)) for many in ("1", "4") for peer in peers)]
+                               for it in calls))
 
 
-LONGEST_PEERS = ("ours-owned", "ours", "ours-shards", "heap-best", "heap-indexed", "hashed-wheel", "delay-queue")
-
-
-def us_text(value):
-    return f"{value / 1000:,.0f}" if value >= 10000 else f"{value / 1000:.1f}" if value >= 95 else f"{value / 1000:.2f}"
-
-
-def longest():
-    """The longest poll of each kind, in microseconds."""
-    heads = ("Touched by", "Entries", "ours, one owner", "ours, shared words", "ours, a shard", "best heap", "indexed heap", "hashed wheel", "`DelayQueue`")
-    lines = [row(*heads), "|---" + "|--:" * (len(heads) - 1) + "|"]
-    for call in ("extend", "reset", "cancel"):
-        for size in SIZES:
-            lines.append(row(f"{call}s", f"{int(size):,}", *(us_text(runs.longest(f"longest-{call}", "poll", it, size)) for it in LONGEST_PEERS)))
-    return "\n".join(lines)
-
-
-STANDING = {
-    "heap-best": "best heap",
-    "heap-note": "lazy heap",
-    "heap-indexed": "indexed heap",
-    "hashed-wheel": "hashed wheel",
-    "kit-wheel": "the kit's wheel",
-    "kit-delay-queue": "the kit's `DelayQueue`",
-    "delay-queue": "`DelayQueue`",
+# The columns of the front page's table: the cargo crates with their default features, and what others use. Our first one has two
+# names in the run, one of a queue with callers and one of shards that are called by name.
+FRONT = {"`hontkhale`": ("rust-checked", "rust-checked-shards"), "`hontkhale-tokio`": ("adapter-handle",),
+         "best heap in a `Mutex`": ("heap-best-locked",), "`Mutex<DelayQueue>`": ("delay-queue-locked",)}
+# Its rows, the worst for us first: by the words of each the row of the run, and the threads.
+FRONT_ROWS = {
+    **{f"{call}, 4 threads over 4 shards": (f"{call}/4", "4") for call in ("insert", "extend")},
+    **{f"{call}, one owner": (call, "1") for call in ("insert", "reset", "remove", "poll")},
+    "cancel, with its freeing": ("cancel", "1"), "idle timeouts, by resets": ("heartbeat", "1"), "idle timeouts, by extends": ("mixed", "1"),
+    "extend, 4 threads beside the owner's polls": ("callers", "4"),
 }
+
+
+def headline():
+    """What a reader links by default, beside locked queues: the longest calls, then the median of each kind of call and its best run."""
+    def both(name, threads, peers):
+        its = [(peer, name, "10000", threads) for peer in peers if (peer, name, "10000", threads) in run()]
+        return f"{ns_text(run()[its[0]])} ({ns_text(run(min)[its[0]])})" if its else ""
+
+    rows = [[f"longest poll after 65,536 {call}s, no locks", *(f"{us_text(longest_of(f'longest-{call}', its[0].removesuffix('-locked'), '65536'))} µs"
+                                                               for its in FRONT.values())] for call in ("cancel", "extend")]
+    return grid(["", *FRONT], [*rows, *([words, *(both(*its, peers) for peers in FRONT.values())] for words, its in FRONT_ROWS.items())])
+
+
+# What a reader links, by its name in the stored run.
+PRODUCTS = {"`hontkhale`": "rust-checked", "the same without bounds checks": "rust", "the drop-in": "adapter",
+            "the drop-in, by a handle": "adapter-handle"}
+
+
+def beside_delay_queue():
+    """How many times as fast as tokio-util's queue each product is: the least of three sizes rounded down, and the most rounded up."""
+    calls = {"insert": "insert", "reset": "reset", "remove": "remove", "poll": "poll", "extend": "extend", "cancel": "cancel, with its freeing",
+             "mixed": "idle timeouts"}
+
+    def span(name, ours):
+        ratios = [ns(name, "delay-queue", it) / ns(name, ours, it) for it in SIZES]
+        return f"{math.floor(min(ratios) * 10) / 10:.1f} to {math.ceil(max(ratios) * 10) / 10:.1f}"
+
+    return grid(["", *calls.values()], ([words, *(span(it, ours) for it in calls)] for words, ours in PRODUCTS.items()))
+
+
+# Rows in which a peer pays for all that its calls leave behind.
+WHOLE = ("cancel", "poll", "mixed", "insert+poll", "reset+poll", "remove+poll", "churn", "heartbeat")
+LIVES = ("insert+poll", "reset+poll", "remove+poll", "mixed", "churn", "heartbeat")
+
+
+def is_life(name):
+    """Whether a row is of whole lives over shards."""
+    kind, _, shards = name.removeprefix("own-").partition("/")
+    return bool(shards) and kind in LIVES
+
+
+def cells_of(peer, kind, call=""):
+    """The cells of a peer over shards, of calls or of whole lives: those of one call, or of all."""
+    its = {"calls": lambda name: "/" in name and not is_life(name) and name.startswith(call),
+           "lives": lambda name: is_life(name) and name.removeprefix("own-").startswith(call)}[kind]
+    return [cell for cell in run() if cell[0] == peer and its(cell[1])]
+
+
+def lost(ours, cells):
+    """In how many cells a peer is faster than ours."""
+    return sum(run()[cell] < run()[(ours, *cell[1:])] for cell in cells)
 
 
 def standing():
     """Where each peer stands in the rows that charge it for all that its calls leave behind."""
-    lines = [row("Peer", "Ahead of one owner's", "Ahead of shared words", "Its best row", "Its worst row"), "|---|--:|--:|---|---|"]
-    for peer, words in STANDING.items():
-        ratios = {(name, size): runs.times(name, peer, "ours-owned", size) for name in WHOLE for size in SIZES}
-        ends = (f"`{at[0]}` at {int(at[1]):,}: {ratios[at]:.2f}x" for at in (min(ratios, key=ratios.get), max(ratios, key=ratios.get)))
-        counts = (str(lost_cells(peer, ours, WHOLE)) for ours in ("ours-owned", "ours"))
-        lines.append(row(words, *counts, *ends))
-    return "\n".join(lines)
+    peers = {"heap-best": "best heap", "heap-note": "lazy heap", "heap-indexed": "indexed heap", "hashed-wheel": "hashed wheel",
+             "kit-wheel": "the kit's wheel", "kit-delay-queue": "the kit's `DelayQueue`", "delay-queue": "`DelayQueue`"}
+    rows = []
+    for peer, words in peers.items():
+        its = list(itertools.product([peer], WHOLE, SIZES, ["1"]))
+        ratios = {cell: run()[cell] / run()[("ours-owned", *cell[1:])] for cell in its}
+        ends = (f"`{at[1]}` at {int(at[2]):,}: {ratios[at]:.2f}x" for at in (min(ratios, key=ratios.get), max(ratios, key=ratios.get)))
+        rows.append([words, lost("ours-owned", its), lost("ours", its), *ends])
+    return grid(["Peer", "Ahead of one owner's", "Ahead of shared words", "Its best row", "Its worst row"], rows)
 
 
-SHARD_PEERS = {
-    "heap-best-locked": "best heap",
-    "heap-note-locked": "lazy heap",
-    "hashed-wheel-locked": "hashed wheel",
-    "delay-queue-locked": "`DelayQueue`",
-}
+LOCKED = {"heap-best-locked": "best heap", "heap-note-locked": "lazy heap", "heap-indexed-locked": "indexed heap",
+          "hashed-wheel-locked": "hashed wheel", "delay-queue-locked": "`DelayQueue`"}
+
+
+def ahead(ours, kind, calls):
+    """In how many rows of shards each peer in a `Mutex` is ahead, by calls or by whole lives."""
+    peers = [it for it in LOCKED if cells_of(it, kind)]
+    counts = {words: {len(cells_of(peer, kind, it)) for peer in peers} for words, it in calls.items()}
+    if any(len(it) != 1 for it in counts.values()):
+        raise LookupError("the peers have not as many rows as one another")
+    return grid(["In a `Mutex`", *(f"{words}: of {min(its)}" for words, its in counts.items())],
+                ([LOCKED[peer], *(lost(ours, cells_of(peer, kind, it)) for it in calls.values())] for peer in peers))
 
 
 def shard_standing():
-    """In how many rows of shards each peer in a `Mutex` is ahead."""
-    calls = {"all": "", "insert": "insert/", "reset": "reset", "remove": "remove", "poll": "poll/", "insert, in bursts": "insert-burst",
-             "poll, in bursts": "poll-burst", "extend": "extend", "own shard": "own-"}
-    cells = {words: {len(runs.shard_cells(peer, it)) for peer in SHARD_PEERS} for words, it in calls.items()}
-    if any(len(it) != 1 for it in cells.values()):
-        raise LookupError("the peers have not as many rows of shards as one another")
-    lines = [row("In a `Mutex`", *(f"{words}: of {min(its)}" for words, its in cells.items())), "|---" + "|--:" * len(calls) + "|"]
-    for peer, words in SHARD_PEERS.items():
-        lines.append(row(words, *(str(runs.lost_shard_cells(peer, it)) for it in calls.values())))
-    return "\n".join(lines)
-
-
-LIFE_PEERS = {
-    "heap-best-locked": "best heap",
-    "heap-note-locked": "lazy heap",
-    "heap-indexed-locked": "indexed heap",
-    "hashed-wheel-locked": "hashed wheel",
-    "delay-queue-locked": "`DelayQueue`",
-}
+    return ahead("ours-shards", "calls", {"all": "", "insert": "insert/", "reset": "reset", "remove": "remove", "poll": "poll/",
+                 "insert, in bursts": "insert-burst", "poll, in bursts": "poll-burst", "extend": "extend", "own shard": "own-"})
 
 
 def life_standing():
-    """In how many rows of whole lives over shards each peer in a `Mutex` is ahead of the crate."""
-    calls = {"all": "", **{f"`{it}`": f"{it}/" for it in ("insert+poll", "reset+poll", "remove+poll", "mixed", "churn", "heartbeat")}}
-    cells = {words: {len(runs.life_cells(peer, it)) for peer in LIFE_PEERS} for words, it in calls.items()}
-    if any(len(it) != 1 for it in cells.values()):
-        raise LookupError("the peers have not as many rows of whole lives as one another")
-    lines = [row("In a `Mutex`", *(f"{words}: of {min(its)}" for words, its in cells.items())), "|---" + "|--:" * len(calls) + "|"]
-    for peer, words in LIFE_PEERS.items():
-        lines.append(row(words, *(str(runs.lost_life_cells(peer, it)) for it in calls.values())))
-    return "\n".join(lines)
+    return ahead("rust-shards", "lives", {"all": "", **{f"`{it}`": f"{it}/" for it in LIVES}})
+
+
+def longest_of(name, peer, entries):
+    """The nanoseconds of a peer's longest poll in a row of the longest call."""
+    for its_peer, its_row, its_entries, call, _, taken in rows_of("latest.longest")[1:]:
+        if (its_peer, its_row, its_entries, call) == (peer, name, entries, "poll"):
+            return float(taken.split()[-1])
+    raise LookupError(f"the stored run has no poll of {peer} in {name} at {entries}")
+
+
+def longest():
+    """The longest poll of each kind, in microseconds."""
+    peers = {"ours-owned": "ours, one owner", "ours": "ours, shared words", "ours-shards": "ours, a shard", "heap-best": "best heap",
+             "heap-indexed": "indexed heap", "hashed-wheel": "hashed wheel", "delay-queue": "`DelayQueue`"}
+    return grid(["Touched by", "Entries", *peers.values()], ([f"{call}s", f"{int(size):,}", *(us_text(longest_of(f"longest-{call}", it, size)) for it in peers)]
+                                                             for call in ("extend", "reset", "cancel") for size in SIZES))
+
+
+PIECE_WAYS = ("whole", "pieces-16", "pieces-64", "pieces-256")
+
+
+def pieces():
+    """Polls whole and in pieces: the longest call."""
+    found = {tuple(it[:3]): it for it in rows_of("pieces") if it[1].startswith("pieces-") and it[3] == "poll"}
+    return grid(["Touched by", "Entries", *PIECE_WAYS],
+                ([f"{call}s", f"{int(size):,}", *(ns_text(float(found[way, f"pieces-{call}", size][9])) for way in PIECE_WAYS)]
+                 for call in ("extend", "reset", "cancel") for size in SIZES))
+
+
+def beside():
+    """A poll and another thread's inserts: the longest of each, medians over the rounds."""
+    def median(way, size, at):
+        return ns_text(statistics.median(float(it[at]) for it in rows_of("pieces") if it[:3] == [way, "beside", size]))
+
+    return grid(["Entries", *PIECE_WAYS], ([f"{int(size):,}", *(f"{median(way, size, 3)} / {median(way, size, 5)}" for way in PIECE_WAYS)]
+                                           for size in SIZES), 0)
+
+
+def fair():
+    """What another thread's calls by name wait beside a poll, and what that takes, in microseconds."""
+    ways = {"whole": "`poll`", "pieces": "`poll_some` again and again", "through": "`poll_through`"}
+    queues = {"name": "`SharedDelayQueue`", "lasting": "`LastingQueue`"}
+    found = {tuple(it[:3]): it[4:] for it in rows_of("fair")}
+    us = lambda queue, way, pace, size, at: f"{float(found[way, f'fair-{queue}-{pace}', size][at]) / 1000:,.1f}"
+    return grid(["Entries", "Queue", "Polled by", "calm: 99.9%", "all", "its poll", "rushed: 99.9%", "all", "its poll", "beside nobody"],
+                ([f"{int(size):,}", queues[queue], ways[way], *(us(queue, way, pace, size, at) for pace in ("calm", "rushed") for at in (2, 3, 4)),
+                  us(queue, way, "absent", size, 4)] for size, queue, way in itertools.product(SIZES[1:], queues, ways)), 3)
+
+
+def renewing():
+    """The calls of a lasting queue: steady, and while one shard is renewed at any time."""
+    found = {tuple(it[:4]): it for it in rows_of("pieces") if it[1] == "renewing"}
+
+    def both(call, size, number):
+        return " / ".join(ns_text(number(found[name, "renewing", size, call])) for name in ("steady", "renewed"))
+
+    numbers = {"mean": lambda it: float(it[10]) / float(it[4]), "longest": lambda it: float(it[9])}
+    return grid(["Call", *(f"{what}, {int(size):,} entries" for what in numbers for size in SIZES)],
+                ([call, *(both(call, size, number) for number in numbers.values() for size in SIZES)]
+                 for call in ("insert", "extend", "reset", "remove", "poll", "keep")))
+
+
+def instructions():
+    """Instructions and cache misses an operation, of ours, of the heap and of the crate."""
+    its = noted("instructions")
+    ours, crate = ("ours-owned", "ours", "heap-note"), ("rust", "rust-checked")
+
+    def told(name, what, peers):
+        text = " / ".join(its[name, f"{what} {peer}"] for peer in peers)
+        later = its.get((name, f"{what} heap-note later")) if peers == ours else None
+        return f"{text}, and {later} more at a later poll" if later else text
+
+    heads = ["Row", "Instructions: one owner / shared / lazy heap", "by the crate: `rust` / `rust-checked`", "Misses: one owner / shared / lazy heap"]
+    return grid(heads, ([name, told(name, "instructions", ours), told(name, "instructions", crate), told(name, "misses", ours)]
+                        for name in ("insert", "extend", "reset", "remove", "poll")), 4)
+
+
+def adapter():
+    """The adapter for tokio beside its peer: the instructions of a call, a column for each number of entries."""
+    found = {(name, entries): (float(peer), float(ours)) for name, entries, peer, ours in rows_of("adapter")}
+    sizes = list(dict.fromkeys(entries for _, entries in found))
+    told = lambda peer, ours: (f"{peer:,.0f}", f"{ours:,.0f}", f"{peer / ours:.1f}")
+    return grid(["Instructions of", *(it for size in sizes for it in (f"{int(size):,} entries: peer", "here", "ratio"))],
+                ([name, *(it for size in sizes for it in told(*found[name, size]))] for name in dict.fromkeys(name for name, _ in found)))
+
+
+def adapter_stack():
+    """What calls of the adapter and of its peer with large values want of the stack, worst first."""
+    found = [(f"`{call}`, {profile}", int(peer), int(here)) for kind, profile, call, peer, here, *_ in rows_of("adapter-room") if kind == "stack"]
+    return grid(["Call", "peer", "here", "ratio"],
+                ([name, f"{peer:,}", f"{here:,}", f"{here / peer:.1f}"] for name, peer, here in sorted(found, key=lambda it: (-it[2] / it[1], -it[2]))))
+
+
+def adapter_soak():
+    """What a soak of the adapter did."""
+    heads = ["Seconds", "Values made, each dropped once", "Entries that came out", "Calls of tasks and threads"]
+    return grid(heads, ([f"{int(it):,}" for it in figures] for figures in rows_of("adapter-soak")), 0)
+
+
+def adapter_memory():
+    """What a compact of the adapter and of its peer makes of a million entries, the longest beside the peer's first."""
+    found = {(it[2], it[3]): [int(figure) for figure in it[4:]] for it in rows_of("adapter-room") if it[:2] == ["compact", "release"]}
+    times = lambda part, side: found[part, side][3] / found[part, "the peer"][3]
+    parts = sorted({part for part, _ in found}, key=lambda part: -times(part, "here"))
+    return grid(["Taken out before, and by whom", "MiB before", "% left", "% at most", "ms", "times the peer's"],
+                ([f"{part}, {side}", f"{found[part, side][0] / 1024:.0f}", *found[part, side][1:3], f"{found[part, side][3] / 1000:.0f}", f"{times(part, side):.1f}"]
+                 for part in parts for side in ("the peer", "here", "here, with a handle")))
 
 
 def gate():
-    """What the crates take in the gate: each that a user runs, and the others together by their role."""
-    noted, sums = runs.noted("gate"), {}
-    for crate in (it for it in tree.crates() if it.role != "bench"):
-        name = f"`{crate.name}`" if crate.role == "queue" else ROLES[crate.role]
-        proof, edits = (float(noted.get((crate.name, it), 0)) for it in ("proof", "edits"))
-        took = (proof, len(crate.edits()), edits)
-        sums[name] = [one + other for one, other in zip(sums.get(name, (0, 0, 0)), took)]
-    lines = [row("Crate", "Proof, tests and programs", "Edits", "Their checks"), "|---" + "|--:" * 3 + "|"]
-    told = ((name, *(f"{it:.1f}" if isinstance(it, float) and it else str(it or "") for it in its)) for name, its in sums.items())
-    return "\n".join([*lines, *(row(*it) for it in told)])
+    """What the parts of a whole run of the gate took, in minutes."""
+    its = noted("gate")
+    parts = dict.fromkeys(part for part, _ in its)
+    return grid(["Part", "Clock", "Processor"], ([f"`{it}`" if it != "the whole gate" else it, its[it, "clock"], its[it, "processor"]] for it in parts))
 
 
-PARTS = {"rt-ci": "`rt ci`", "test-edits": "`tools/test-edits`", "rust-test": "`rust/test`, behind the others", "whole": "the whole gate"}
-SUMS = {"queue": "proofs and tests of what a user runs", "tests": "the tests' crates", "example": "the examples", "bench": "the bench's load",
-        "plain_rust": "cargo's tests", "all-edits": "checks with edits in them"}
-# What earlier runs of the gate were, by the file of each.
-RUNS = {"gate_on_two_cores": "one by one, by `rt ci`", "gate_in_pieces": "one by one, by `rt ci`, which tried few of them",
-        "gate_on_four_cores": "many in one check", "gate_with_callees": "many in one check, which looks for one goal of each",
-        "gate": "many in one check, which takes what `rt ci` proved"}
+def script_rows(path, begins):
+    """The lines and the answers of a table of a script, which stands behind a pattern."""
+    rows = re.search(begins + r".*?= &?\[(.*?)\n *\];", text_of(TOP / path), re.S)
+    texts = re.findall(r'"((?:[^"\\]|\\.)*)"', rows[1])
+    return texts[::2], texts[1::2]
 
 
-def gate_parts():
-    """What the parts of a whole run of the gate took, and what each kind of work in it."""
-    noted = runs.noted("gate")
-    if ("whole", "clock") not in noted:
-        return "Not measured yet."
-    lines = [row("Part", "Clock", "Processor"), "|---|--:|--:|"]
-    lines += [row(words, *(f"{float(noted[part, it]):.1f}" for it in ("clock", "processor"))) for part, words in PARTS.items() if (part, "clock") in noted]
-    lines += [row(f"of it {words}", "", f"{float(noted[name, 'minutes']):.1f}") for name, words in SUMS.items() if (name, "minutes") in noted]
-    return "\n".join(lines)
-
-
-def gate_runs():
-    """What whole runs of the gate took, the first one first."""
-    lines = [row("Day", "Cores", "Wrong bodies", "How they were tried", "Clock", "Processor"), "|---|--:|--:|---|--:|--:|"]
-    for file, words in RUNS.items():
-        noted = runs.noted(file)
-        day, cores, edits = (noted.get(("whole", it), "") for it in ("day", "cores", "edits"))
-        clock, processor = (f"{float(it):.0f}" if it else "" for it in (noted.get(("whole", it)) for it in ("clock", "processor")))
-        lines.append(row(day, cores, edits, words, clock, processor))
-    return "\n".join(lines)
-
-
-def forms():
-    """What a proof of a crate took of a processor before and after it got new forms, in seconds."""
-    noted = runs.noted("forms")
-    lines = [row("Crate", "Before", "After"), "|---|--:|--:|"]
-    crates = dict.fromkeys(name for name, _ in noted)
-    return "\n".join([*lines, *(row(f"`{it}`", *(noted[it, when] for when in ("before", "after"))) for it in crates)])
-
-
-def first_answer():
-    """What a fresh clone takes until the README's script is answered."""
-    ways = {"`./delay-replay --unproved`": ("unproved", "s"), "`./delay-replay`": ("proved", "min")}
-    lines = [row("How", "Clock", "Processor"), "|---|--:|--:|"]
-    for words, (way, unit) in ways.items():
-        lines.append(row(words, *(f"{runs.stored('first_answer', way, it):.0f} {unit}" for it in ("clock", "processor"))))
-    return "\n".join(lines)
+def text_bytes(lines):
+    """The bytes of lines with their ends."""
+    return sum(len(re.sub(r"\\.", ".", line)) + 1 for line in lines)
 
 
 def evidence():
     """What stands behind the claims, in numbers."""
+    scripts, refused = "crates/dq_scripts/src/tests/scripts.rt", "crates/dq_scripts/src/tests/memory.rt"
     code, proofs, tests = tree.lines("code", "queue"), tree.lines("proofs+specs+contract", "queue"), tree.lines("test", "all")
-    planted = [f"{runs.stored('plant', 'all', *it.split()):,.0f}" for it in ("refused", "let through", "not judged")]
-    plain, owned = len(tree.plain_test_names()), len(tree.plain_test_names([tree.OWNED]))
-    reads = text_bytes(["delay 1", *table(SCRIPTS, "const THREE_NAMES")[0]]) + 1
-    ends = len(table(REFUSED, r"fn refused_memory\b")[0]) + 2 * len(table(SCRIPTS, "const EVERY_COMMAND")[0])
+    planted = [f"{sum(float(it) for (_, its), it in noted('plant').items() if its == what):,.0f}" for what in ("refused", "let through", "not judged")]
+    queues = re.search(r"let sizes: &\[\(usize, u32\)\] = &\[(.*?)\];", text_of(TOP / "rust/hontkhale/tests/slow/same_calls.rs"), re.S)[1].count("(")
+    calls = re.search(r"const CALLS: u64 = if cfg!.debug_assertions. \{ ([\d_]+) \}", text_of(TOP / "rust/hontkhale/tests/models/draw.rs"))[1]
+    lines, answers = script_rows(scripts, "const THREE_NAMES")
+    ends = len(script_rows(refused, r"fn refused_memory\b")[0]) + 2 * len(script_rows(scripts, "const EVERY_COMMAND")[0])
     told = {
         "Lines of code that a user runs, each function proved safe, total and true to its contract":
-            f"{code:,} in {tree.functions('queue'):,} functions, {tree.public_functions('queue'):,} of them public",
+            f"{code:,} in {tree.functions('queue'):,} functions, {tree.functions('queue', only_public=True):,} of them public",
         "Lines of proofs, definitions and contracts about them": f"{proofs:,}, {proofs / code:.1f} to a line of code",
         "Definitions, which a reader has to believe in": f"{tree.definitions('queue'):,}",
         "Lines of tests in Rattle, proved safe too": f"{tests:,} in {tree.tests('all'):,} functions",
-        "Tests in plain Rust over the erased crate that the gate runs by name": f"{plain:,}, {owned:,} of them once erased from tests in Rattle",
+        "Tests in plain Rust over the erased crate that the gate runs by name":
+            f"{len(tree.plain_tests()):,}, {len(tree.plain_tests([tree.ERASED_ONCE])):,} of them once erased from tests in Rattle",
         "Mutations, each named for its bug, that each gate tries and the prover refuses": f"{tree.edits('all'):,}",
         "Bodies planted by `rt plant`": f"{planted[0]} refused, {planted[1]} let through and seen by a test, {planted[2]} not judged (the tactics met a limit)",
-        "Calls beside a slow model, every answer and count compared": f"{model_queues() * drawn_calls():,}; five times as many in a release build",
-        "Faults at each byte of a script and of its answers": f"{reads} of reading, {text_bytes(table(SCRIPTS, 'const THREE_NAMES')[1])} of writing",
+        "Calls beside a slow model, every answer and count compared": f"{queues * int(calls.replace('_', '')):,}; five times as many in a release build",
+        "Faults at each byte of a script and of its answers": f"{text_bytes(['delay 1', *lines]) + 1} of reading, {text_bytes(answers)} of writing",
         "Places at which a refused allocation ends a run": f"{ends}",
         "Compilers of each program": "2; what both print is compared with what is stored",
     }
-    return "\n".join([row("What", "How many"), "|---|---|", *(row(*it) for it in told.items())])
-
-
-# The constants that a change meets: where each stands, and what rests on it.
-CONSTANTS = {
-    "LEVELS": ("crates/dq_ticks/src/lib.rt", "384 lists; an entry moves at most five times a schedule; a `u16` for a list"),
-    "SLOTS": ("crates/dq_ticks/src/lib.rt", "the same"),
-    "LAST_TICK": ("crates/dq_ticks/src/lib.rt", "seven digits; the field's 42 bits"),
-    "LAST_STAMP": ("crates/dq_ticks/src/lib.rt", "the stamp's 20 bits; `most_begins`; a script's lines"),
-    "REACH": ("crates/dq_ticks/src/lib.rt", "six levels; a later deadline is scheduled again there"),
-    "CAPACITY_LIMIT": ("crates/dq_ticks/src/lib.rt", "free slots in two bytes; links in four; `most_begins`"),
-    "HANDLE_LIMIT": ("crates/dq_words/src/keeper.rt", "the return word: below twice as many callers are told from cancels"),
-    "ONE_CANCEL": ("crates/dq_words/src/parts.rt", "more than `HANDLE_LIMIT`; times `most_begins` it is below 2^64"),
-    "LAST_LINE": ("crates/dq_replay/src/line.rt", "less than `LAST_STAMP`, so no script meets a used-up slot"),
-    "LINE_LIMIT": ("crates/dq_replay/src/line.rt", "a name of 32 bytes and a number of 20 digits"),
-}
-
-
-def constants():
-    """The constants, and what rests on each."""
-    lines = [row("Constant", "Value", "Where", "What rests on it"), "|---|--:|---|---|"]
-    for name, (path, rests) in CONSTANTS.items():
-        value = tree.found(path, rf"const {name}: \w+ = ([0-9_]+);")[0]
-        lines.append(row(f"`{name}`", f"{value:,}", f"`{path.removeprefix('crates/')}`", rests))
-    return "\n".join(lines)
+    return grid(["What", "How many"], told.items(), 2)
 
 
 # The rows of the table of sizes: the crates of a role together.
@@ -304,87 +345,17 @@ ROLES = {"queue": "what a user runs", "tests": "the tests' crates", "bench": "th
 
 def sizes():
     """Lines by kind, and edits, of the crates of each role."""
-    heads = ("Crates", "Code", "Contracts", "Definitions", "Proofs", "Tests", "Edits")
-    counted = {name: [0] * (len(heads) - 1) for name in (*ROLES.values(), "all")}
-    for crate in tree.crates():
-        count = crate.lines()
-        numbers = [count[it] for it in ("code", "contract", "specs", "proofs", "test")]
-        numbers.append(len(crate.edits()))
-        for name in (ROLES[crate.role], "all"):
-            counted[name] = [a + b for a, b in zip(counted[name], numbers)]
-    lines = [row(*heads), "|---" + "|--:" * (len(heads) - 1) + "|"]
-    return "\n".join([*lines, *(row(name, *(f"{it:,}" if it else "" for it in its)) for name, its in counted.items())])
-
-
-def instructions():
-    """Instructions and cache misses an operation, of ours, of the heap and of the crate."""
-    noted = runs.noted("instructions")
-    ours, crate = ("ours-owned", "ours", "heap-note"), ("rust", "rust-checked")
-    lines = [
-        row("Row", "Instructions: one owner / shared / lazy heap", "by the crate: `rust` / `rust-checked`", "Misses: one owner / shared / lazy heap"),
-        "|---|---|---|---|",
-    ]
-    for name in ("insert", "extend", "reset", "remove", "poll"):
-        cells = []
-        for what, peers in (("instructions", ours), ("instructions", crate), ("misses", ours)):
-            told = " / ".join(noted.get((name, f"{what} {it}"), "") for it in peers)
-            later = noted.get((name, f"{what} heap-note later")) if peers == ours else None
-            told += f", and {later} more at a later poll" if later else ""
-            cells.append(told if told.strip(" /") else "not counted")
-        lines.append(row(name, *cells))
-    return "\n".join(lines)
-
-
-def with_best(name, peer, entries, threads):
-    """The median of a cell, and its best run in brackets."""
-    return f"{ns_text(runs.ns(name, peer, entries, threads))} ({ns_text(runs.bench(min)[peer, name, entries, threads])})"
-
-
-# What a reader links, by its name in the stored run.
-PRODUCTS = {"`hontkhale`": "rust-checked", "the same without bounds checks": "rust", "the drop-in": "adapter", "the drop-in, by a handle": "adapter-handle"}
-
-
-def beside_delay_queue():
-    """How many times as fast as tokio-util's queue each product is: the least of three sizes rounded down, and the most rounded up."""
-    calls = {"insert": "insert", "reset": "reset", "remove": "remove", "poll": "poll", "extend": "extend", "cancel": "cancel, with its freeing",
-             "mixed": "idle timeouts"}
-    lines = [row("", *calls.values()), "|---" + "|--:" * len(calls) + "|"]
-    for words, ours in PRODUCTS.items():
-        ends = ((runs.least(it, "delay-queue", ours), runs.most(it, "delay-queue", ours)) for it in calls)
-        lines.append(row(words, *(f"{math.floor(least * 10) / 10:.1f} to {math.ceil(most * 10) / 10:.1f}" for least, most in ends)))
-    return "\n".join(lines)
-
-
-def losses():
-    """In how many rows the best heap in a `Mutex` is faster than the crate's shards, and the longest polls of each."""
-    heap, us = "heap-best-locked", lambda peer: f"{runs.longest('longest-cancel', 'poll', peer, '65536') / 1000:,.0f} µs"
-    lost = lambda lost, cells: f"{lost} of {len(cells)}"
-    cells = (lost(runs.lost_shard_cells(heap), runs.shard_cells(heap)), lost(runs.lost_shard_cells(heap, "extend"), runs.shard_cells(heap, "extend")),
-             lost(runs.lost_life_cells(heap), runs.life_cells(heap)))
-    lines = [row("The best heap in a `Mutex` is faster in", "its share"), "|---|--:|"]
-    lines += [row(*it) for it in zip(("calls by name", "of them extends, which take no lock", "whole lives of entries, beside the build without bounds checks"), cells)]
-    lines += ["", row("The poll that frees 65,536 cancelled entries", "takes"), "|---|--:|"]
-    polls = {"a shard's, under its lock": "ours-shards", "through the drop-in, with a handle": "adapter-handle", "the best heap's": "heap-best"}
-    return "\n".join([*lines, *(row(words, us(peer)) for words, peer in polls.items())])
-
-
-def headline():
-    """An extend of what a reader links by default, beside its floor and beside locked queues."""
-    peers = {"`hontkhale`": "rust-checked", "the drop-in, by a handle": "adapter-handle", "a bare `fetch_max`": "fetch-max",
-             "best heap in a `Mutex`": "heap-best-locked", "lazy heap in a `Mutex`": "heap-note-locked",
-             "`Mutex<DelayQueue>` of tokio-util": "delay-queue-locked"}
-    lines = [row("An extend, in ns", *peers), "|---" + "|--:" * len(peers) + "|"]
-    for threads, words in ((1, "one thread"), (4, "four threads")):
-        lines.append(row(f"{words} beside the owner's polls", *(with_best("callers", it, 10000, threads) for it in peers.values())))
-    return "\n".join(lines)
+    kinds = {"Code": "code", "Contracts": "contract", "Definitions": "specs", "Proofs": "proofs", "Tests": "test"}
+    which = {**{words: role for role, words in ROLES.items()}, "all": "all"}
+    counts = ([words, *(tree.lines(kind, role) for kind in kinds.values()), tree.edits(role)] for words, role in which.items())
+    return grid(["Crates", *kinds, "Edits"], ([words, *(f"{it:,}" if it else "" for it in its)] for words, *its in counts))
 
 
 def edit(name):
-    """An edit as a diff, and what `test-edits` printed of it."""
+    """An edit as a diff, and what `tools/test-edits` printed of it."""
     crate, _, stem = name.partition("/")
-    text = tree.text_of(tree.CRATES / crate / "edits" / f"{stem}.edit")
     lines, before = ["```diff"], ""
-    for word, text in re.findall(r"(?m)^(file|old|new): (.*)$", text):
+    for word, text in re.findall(r"(?m)^(file|old|new): (.*)$", text_of(tree.CRATES / crate / "edits" / f"{stem}.edit")):
         if word == "file":
             lines.append(f"--- crates/{crate}/{text}")
         elif word == "old":
@@ -392,128 +363,33 @@ def edit(name):
         else:
             stays = text.startswith(before)
             lines.append((" " if stays else "-") + "   " + before)
-            added = text[len(before) :].strip() if stays else text
-            lines.append("+   " + added)
-    told = textwrap.wrap(runs.told("refused", name, "printed"), 110, break_on_hyphens=False)
+            lines.append("+   " + (text[len(before):].strip() if stays else text))
+    told = textwrap.wrap(noted("refused")[name, "printed"], 110, break_on_hyphens=False)
     return "\n".join([*lines, "```", "", "```text", f"$ tools/test-edits {name}", *told, "```"])
 
 
-PIECE_WAYS = ("whole", "pieces-16", "pieces-64", "pieces-256")
+RATES = (1000, 10000, 100000, 1000000)
+# The units of a time, the greatest first: a time is told in the greatest of which it has two.
+UNITS = (("years", 365.25 * 24 * 3600), ("days", 24 * 3600), ("hours", 3600), ("minutes", 60))
 
 
-def pieces_rows():
-    """The rows of the stored run of bench/pieces; none where it isn't there yet."""
-    return runs.rows_of("pieces") if (runs.RESULTS / "pieces.tsv").exists() else []
+def lasts(*sizes):
+    """How long a queue lasts, until each of its slots is worn, by its inserts and resets a second: a row for each `CAPACITYxSHARDS`."""
+    def told(seconds):
+        unit, size = next((it for it in UNITS if seconds >= 2 * it[1]), UNITS[-1])
+        return f"{seconds / size:.1f} {unit}" if seconds / size < 100 else f"{seconds / size:.0f} {unit}"
+
+    stamps = tree.constant("crates/dq_ticks/src/lib.rt", "LAST_STAMP")
+    shapes = [tuple(map(int, it.split("x"))) for it in sizes]
+    return grid(["Entries a shard", "Shards", *(f"{it:,} a second" for it in RATES)],
+                ([f"{capacity:,}", shards, *(told(capacity * shards * stamps / it) for it in RATES)] for capacity, shards in shapes), 0)
 
 
-def beside_median(way, size, at):
-    """The median over the rounds of one column of the rows beside another thread."""
-    its = [float(it[at]) for it in pieces_rows() if it[:3] == [way, "beside", size]]
-    if not its:
-        raise LookupError(f"no run of {way} beside another thread at {size} is stored")
-    return statistics.median(its)
-
-
-def pieces():
-    """Polls whole and in pieces: the longest call."""
-    found = {tuple(it[:3]): it for it in pieces_rows() if it[1].startswith("pieces-") and it[3] == "poll"}
-    if not found:
-        return "Not measured yet."
-    heads = ("Touched by", "Entries", *PIECE_WAYS)
-    lines = [row(*heads), "|---" + "|--:" * (len(heads) - 1) + "|"]
-    for call in ("extend", "reset", "cancel"):
-        for size in SIZES:
-            its = [found[way, f"pieces-{call}", size] for way in PIECE_WAYS]
-            lines.append(row(f"{call}s", f"{int(size):,}", *(ns_text(float(it[9])) for it in its)))
-    return "\n".join(lines)
-
-
-def beside():
-    """A poll and another thread's inserts: the longest of each, medians over the rounds."""
-    if not any(it[1] == "beside" for it in pieces_rows()):
-        return "Not measured yet."
-    lines = [row("Entries", *PIECE_WAYS), "|--:" * (len(PIECE_WAYS) + 1) + "|"]
-    for size in SIZES:
-        lines.append(row(f"{int(size):,}", *(" / ".join(ns_text(beside_median(way, size, at)) for at in (3, 5)) for way in PIECE_WAYS)))
-    return "\n".join(lines)
-
-
-# How a full slot is polled by name, in the order of the page's rows.
-BY_NAME = {"whole": "`poll`", "pieces": "`poll_some` again and again", "through": "`poll_through`"}
-
-
-# The two shared queues, by what their rows are called.
-QUEUES_BY_NAME = {"name": "`SharedDelayQueue`", "lasting": "`LastingQueue`"}
-
-
-def fair():
-    """What another thread's calls by name wait beside a poll, and what that takes, in microseconds."""
-    found = {(it[0], it[1], it[2]): it[4:] for it in runs.rows_of("fair")}
-    queues = [it for it in QUEUES_BY_NAME if ("whole", f"fair-{it}-calm", SIZES[1]) in found]
-    us = lambda queue, way, pace, size, at: f"{float(found[way, f'fair-{queue}-{pace}', size][at]) / 1000:,.1f}"
-    heads = ("Entries", "Queue", "Polled by", "calm: 99.9%", "all", "its poll", "rushed: 99.9%", "all", "its poll", "beside nobody")
-    lines = [row(*heads), "|--:|---|---" + "|--:" * (len(heads) - 3) + "|"]
-    for size, queue, way in itertools.product(SIZES[1:], queues, BY_NAME):
-        waits = (us(queue, way, pace, size, at) for pace in ("calm", "rushed") for at in (2, 3, 4))
-        lines.append(row(f"{int(size):,}", QUEUES_BY_NAME[queue], BY_NAME[way], *waits, us(queue, way, "absent", size, 4)))
-    return "\n".join(lines)
-
-
-def renewing():
-    """The calls of a lasting queue: steady, and while one shard is renewed at any time."""
-    found = {tuple(it[:4]): it for it in pieces_rows() if it[1] == "renewing" and it[3] != "reopened"}
-    if not found:
-        return "Not measured yet."
-    lines = [row("Call", *(f"{what}, {int(size):,} entries" for what in ("mean", "longest") for size in SIZES)), "|---" + "|--:" * 6 + "|"]
-    for call in ("insert", "extend", "reset", "remove", "poll", "keep"):
-        its = [[found[name, "renewing", size, call] for name in ("steady", "renewed")] for size in SIZES]
-        means = (" / ".join(ns_text(float(it[10]) / float(it[4])) for it in both) for both in its)
-        lines.append(row(call, *means, *(" / ".join(ns_text(float(it[9])) for it in both) for both in its)))
-    return "\n".join(lines)
-
-
-def adapter():
-    """The adapter for tokio beside its peer: the instructions of a call, a column for each number of entries."""
-    found = {(name, entries): (float(peer), float(ours)) for name, entries, peer, ours in runs.rows_of("adapter")}
-    sizes = list(dict.fromkeys(entries for _, entries in found))
-    heads = ["Instructions of", *(it for size in sizes for it in (f"{int(size):,} entries: peer", "here", "ratio"))]
-    lines = [row(*heads), "|---" + "|--:" * (len(heads) - 1) + "|"]
-    for name in dict.fromkeys(name for name, _ in found):
-        both = [found[name, size] for size in sizes]
-        lines.append(row(name, *(it for peer, ours in both for it in (f"{peer:,.0f}", f"{ours:,.0f}", f"{peer / ours:.1f}"))))
-    return "\n".join(lines)
-
-
-TABLES = {
-    "adapter": adapter,
-    "pieces": pieces,
-    "beside": beside,
-    "fair": fair,
-    "renewing": renewing,
-    "headline": headline,
-    "beside-delay-queue": beside_delay_queue,
-    "losses": losses,
-    "evidence": evidence,
-    "constants": constants,
-    "first-answer": first_answer,
-    "speed": speed,
-    "shared-speed": shared_speed,
-    "longest": longest,
-    "standing": standing,
-    "shard-standing": shard_standing,
-    "life-standing": life_standing,
-    "gate": gate,
-    "gate-parts": gate_parts,
-    "forms": forms,
-    "gate-runs": gate_runs,
-    "sizes": sizes,
-    "instructions": instructions,
-    "edit": edit,
-    "lasts": lasting.table,
-}
+TABLES = (adapter, adapter_memory, adapter_soak, adapter_stack, ahead, beside, beside_delay_queue, edit, evidence, fair, gate, headline, instructions, lasts, life_standing, longest,
+          pieces, renewing, shard_standing, shared_speed, sizes, speed, standing)
 
 
 def made(name):
     """A table by the words of its mark."""
     name, *arguments = name.split()
-    return TABLES[name](*arguments)
+    return {it.__name__.replace("_", "-"): it for it in TABLES}[name](*arguments)

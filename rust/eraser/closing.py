@@ -2,7 +2,7 @@
 import re
 
 from kit import made
-from rattle import Refused, angle_close_of, clause, close_of, functions
+from rattle import Refused, angle_close_of, clause, close_of, functions, homes
 
 WAYS = {"inside", "checked", "user code"}
 
@@ -80,27 +80,16 @@ def given(lib, roots):
 
 def bodies(tokens):
     """Each `impl` and `trait`: its bracket, its end, its type's name (none for `impl Trait for`), whether a trait."""
-    found = []
-    for at, token in enumerate(tokens):
-        if token.kind != "word" or token.text not in ("impl", "trait"):
-            continue
-        if at and tokens[at - 1].kind != "doc" and tokens[at - 1].text not in ("}", ";", "]", "pub", ")"):
-            continue
-        index = at + 1
-        if tokens[index].text == "<":
-            index = angle_close_of(tokens, index) + 1
-        body = index
-        while tokens[body].text not in ("{", ";"):
-            body += 1
-        if tokens[body].text == "{":
-            is_for = any(part.text == "for" for part in tokens[index:body])
-            found.append((body, close_of(tokens, body), None if is_for else tokens[index].text, token.text == "trait"))
-    return found
+    for at, body in homes(tokens):
+        index = angle_close_of(tokens, at + 1) + 1 if tokens[at + 1].text == "<" else at + 1
+        is_for = any(part.text == "for" for part in tokens[index:body])
+        if tokens[at].text != "mod":
+            yield body, close_of(tokens, body), None if is_for else tokens[index].text, tokens[at].text == "trait"
 
 
 def requirements(tokens):
     """The functions of a file that require something and that are public: their owner, their name, line and body."""
-    inside = bodies(tokens)
+    inside = list(bodies(tokens))
     found = []
     for _, at, name, head, body in functions(tokens):
         behind = close_of(tokens, head) + 1

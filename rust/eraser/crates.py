@@ -1,15 +1,15 @@
 """The product crates, erased file by file."""
 from pathlib import Path
 
-import documents
 import errors
 import ghosts
 import handed
 import indexes
 import kit
 import laws
+import links
 import paths
-from rattle import Refused, close_of, item_start, text_of, tokens_of, words_at
+from rattle import Refused, item_start, text_of, tokens_of
 
 TOP = Path(__file__).resolve().parent.parent.parent
 OUT = TOP / "rust" / "hontkhale" / "src"
@@ -27,8 +27,8 @@ MODULES = {
     "dq_lasting": "lasting",
     "dq_replay": "replay",
 }
-# What is told where a closure of `lend` put another shard's state in a shard's place.
-SWAPPED = "a closure of `lend` put the state of another shard here"
+# What is told where another shard's state stands in a shard's place: a closure of `lend`, or who entered both, put it there.
+SWAPPED = "the state of another shard was put here"
 
 
 class Source:
@@ -60,29 +60,15 @@ def guarded(source, rule, *arguments):
         raise Refused(f"{source.path.relative_to(TOP)}: {refused}") from None
 
 
-def sources(hand, said):
+def sources(hand):
     found = []
     for crate in MODULES:
         for path in sorted((TOP / "crates" / crate / "src").rglob("*.rt")):
             if hand.leaves_out(path):
                 continue
-            found.append(Source(crate, path, hand.applied(path, said.applied(path, path.read_text(encoding="utf-8")))))
+            found.append(Source(crate, path, hand.applied(path, path.read_text(encoding="utf-8"))))
     hand.all_used()
-    said.all_used()
     return found
-
-
-def without_empty_tests(tokens):
-    """A test that only called laws has nothing left."""
-    at = 0
-    while at < len(tokens) - 6:
-        if words_at(tokens, at, "#", "[", "test", "]", "fn"):
-            opening = at + 6
-            body = close_of(tokens, opening) + 1
-            if words_at(tokens, body, "{", "}"):
-                del tokens[at:body + 2]
-                continue
-        at += 1
 
 
 def erase_modules(source, gone, names):
@@ -104,16 +90,10 @@ def rebuilt_uses(source, gone, names):
     tokens = source.tokens
     module = MODULES[source.crate]
     spans = paths.uses_of(tokens)
-    test = test_module(tokens)
-    words, tested = paths.named(tokens, spans, test)
-    wanted, wanted_by_tests = [], []
+    words, wanted = paths.named(tokens, spans), []
     for start, end, vis, found in reversed(spans):
-        inner = test is not None and start > test
         kept = []
         for path in found:
-            if path.endswith("::*"):
-                kept.append(path)
-                continue
             if paths.last(path) in names or is_gone(source, path, gone):
                 continue
             new = guarded(source, paths.moved, path, module, MODULES)
@@ -122,33 +102,14 @@ def rebuilt_uses(source, gone, names):
                 continue
             if vis:
                 kept.append(new)
-            elif inner:
-                wanted_by_tests.append(new)
             elif name in words or name in TRAITS:
                 wanted.append(new)
-            elif name in tested:
-                wanted_by_tests.append(new)
         replace_use(tokens, start, end, vis, kept)
     defined = defined_names(tokens)
     for word, path in paths.PROVIDED.items():
         if word in words and word not in defined:
             wanted.append(path)
-        elif word in tested and word not in defined:
-            wanted_by_tests.append(path)
-    if wanted_by_tests:
-        within = next(at for at in range(len(tokens)) if tokens[at].text == "super" and tokens[at + 1].text == "::") + 4
-        new = sorted({path for path in wanted_by_tests if path not in wanted and paths.last(path) in tested})
-        lines = "".join(f"\n    {line}" for line in grouped(new))
-        tokens[within:within] = tokens_of(lines)[:-1]
     put_uses(tokens, sorted(set(wanted)))
-
-
-def test_module(tokens):
-    """Where the module of a file's tests begins, which is its last item; none where it has none."""
-    for at in range(len(tokens) - 8):
-        if words_at(tokens, at, "#", "[", "cfg", "(", "test", ")", "]", "mod") and tokens[at + 9].text == "{":
-            return at
-    return None
 
 
 def defined_names(tokens):
@@ -222,9 +183,9 @@ def put_uses(tokens, found):
     tokens[at:at] = new
 
 
-def erased(hand, closed, said):
+def erased(hand, closed):
     """The erased text of each file, by its path in the crate."""
-    found = sources(hand, said)
+    found = sources(hand)
     closed.learn({MODULES[source.crate]: source.text for source in found if source.module_path() == ()})
     for source in found:
         source.tokens = guarded(source, without_ghosts_but_clauses, source.tokens)
@@ -241,7 +202,6 @@ def erased(hand, closed, said):
     closed.all_found()
     for source in found:
         source.tokens = guarded(source, ghosts.erased, source.tokens)
-        guarded(source, without_empty_tests, source.tokens)
         guarded(source, kit.early, source.tokens, SWAPPED)
         source.tokens = guarded(source, handed.without_handed, source.tokens, fields[source.crate])
         guarded(source, kit.rewritten, source.tokens)
@@ -251,9 +211,8 @@ def erased(hand, closed, said):
     gone = {(source.crate, source.module_path()) for source in found if not laws.has_items(source.tokens)}
     for source in found:
         guarded(source, erase_modules, source, gone, names)
-        guarded(source, paths.with_paths, source.tokens, MODULES[source.crate], MODULES)
         rebuilt_uses(source, gone, names)
-        documents.with_links(source.tokens, MODULES[source.crate], closed.given)
+        guarded(source, links.with_links, source.tokens, MODULES[source.crate], closed.given)
     return {
         source.out(): text_of(source.tokens)
         for source in found

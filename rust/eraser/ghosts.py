@@ -1,17 +1,11 @@
 """Rules for what is there for proofs alone: ghosts, clauses, models, tactics."""
-from rattle import OPENS, Refused, clause, close_of, words_at
+from lists import next_of
+from rattle import clause, close_of, words_at
 
 
 def end_of_statement(tokens, at):
     """The index behind the semicolon that ends what begins at an index."""
-    index = at
-    while tokens[index].text != ";":
-        if tokens[index].kind == "end":
-            raise Refused(f"line {tokens[at].line}: a ghost without its end")
-        if tokens[index].text in OPENS:
-            index = close_of(tokens, index)
-        index += 1
-    return index + 1
+    return next_of(tokens, at, (";",)) + 1
 
 
 def ghost(tokens, at):

@@ -13,7 +13,7 @@ class Hand:
         self.name = name
         self.edits = []
         self.left_out = {}
-        file = None
+        file = said = None
         for number, line in enumerate(text.splitlines(), 1):
             mark, rest = line[:1], line[2:]
             if mark == "@":
@@ -22,9 +22,10 @@ class Hand:
                 self.left_out[rest.strip()] = number
             elif mark in ("-", "+") and file:
                 if mark == "-" and (not self.edits or self.edits[-1]["file"] != file or self.edits[-1]["closed"]):
-                    self.edits.append({"file": file, "old": [], "new": [], "closed": False, "line": number})
+                    self.edits.append({"file": file, "old": [], "new": [], "closed": False, "line": number, "said": said})
                 self.edits[-1]["old" if mark == "-" else "new"].append(rest)
             elif not line.strip() or mark == "#":
+                said = rest if mark == "#" else said
                 if self.edits:
                     self.edits[-1]["closed"] = True
             else:

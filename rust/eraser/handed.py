@@ -1,6 +1,6 @@
 """Rules for what each call is handed and std needs not: the runtime, the allocator, the name of a source of wakes."""
-from lists import begins_element, element_end, value_end, without
-from rattle import OPENS, Refused, close_of, functions
+from lists import begins_element, element_end, next_of, value_end, without
+from rattle import Refused, close_of, functions
 
 # Bounds that say no more than that a type is a runtime or an allocator.
 RUNTIME = {"Wait"}
@@ -59,10 +59,6 @@ def without_types(tokens, types):
             before, after = tokens[at - 1].text, tokens[at + 1].text
             if before in ("<", ",") and after == ":" or before == "where" and after == ":":
                 end = bounds_end(tokens, at + 2)
-                if tokens[end].text == "{" and before == ",":
-                    del tokens[at:end]
-                    at -= 1
-                    continue
                 if before == "where":
                     if tokens[end].text == ",":
                         end += 1
@@ -231,11 +227,7 @@ def handed_let(tokens, at, names, fields):
         name, value = tokens[at + 3].text, at + 6
     else:
         return None
-    end = value
-    while tokens[end].text not in (";", "else", "{"):
-        if tokens[end].kind == "other" and tokens[end].text in OPENS:
-            end = close_of(tokens, end)
-        end += 1
+    end = next_of(tokens, value, (";", "else", "{"))
     if tokens[end].text == "{" or not is_handed(tokens, value, end, names, fields):
         return None
     names.add(name)

@@ -1,7 +1,7 @@
 """Rules for what the kit has otherwise than std: memory that may be refused, locks, wakers, hashers, formatting."""
 from handed import where_list
-from lists import value_end
-from rattle import OPENS, Refused, close_of, functions, tokens_of, words_at
+from lists import next_of
+from rattle import Refused, close_of, functions, tokens_of, words_at
 
 # Paths of std, and where a crate without std has them.
 PLACES = {
@@ -31,7 +31,6 @@ IMPORTS = {
     "thiserror::Error": "core::fmt",
     "std::hash::FoldHasher": "",
     "std::hash::BuildHasherDefault": "std::collections::hash_map::RandomState",
-    "std::test::Fail": "crate::memory::AllocError",
     "atomic_table::Table": "crate::words::table::Table",
     "arrayvec::ArrayString": "crate::replay::text::ArrayString",
     "std::time::Clock": "",
@@ -73,8 +72,6 @@ def without_drop(tokens):
             elif before == "+":
                 del tokens[at - 1:at + 1]
                 at -= 1
-            elif before == ":" and after == "+":
-                del tokens[at:at + 2]
             elif before == ":" and after == "," and where_list(tokens, at - 2):
                 tokens[at + 2].before = tokens[at - 2].before
                 del tokens[at - 2:at + 2]
@@ -85,9 +82,6 @@ def without_drop(tokens):
             elif before == "," and after in (")", ","):
                 del tokens[at - 1:at + 1]
                 at -= 1
-            elif before == "(" and after == ",":
-                tokens[at + 2].before = ""
-                del tokens[at:at + 2]
             elif words_at(tokens, at - 4, "#", "[", "derive", "(", "Drop", ")", "]"):
                 # The line of the attribute goes with it.
                 tokens[at + 3].before = tokens[at - 4].before
@@ -180,14 +174,19 @@ def without_line(before, line):
 
 
 def forever(tokens, lent):
-    """`for _ in rt.forever() { .. }` waits for what never comes; a panic in words says so."""
+    """`for _ in rt.forever() { .. }` is a loop where it returns, and else waits for what never comes: a panic says so."""
     at = 0
     while at < len(tokens) - 8:
         if words_at(tokens, at, "for", "_", "in", "rt", ".", "forever", "(", ")", "{"):
-            end = close_of(tokens, at + 8) + 1
+            close = close_of(tokens, at + 8)
+            end = close + 1
             if words_at(tokens, end, "unreachable", "!", "(", ")"):
                 end += 4
-            tokens[at:end] = made(f'panic!("{lent}");', tokens[at])
+            if any(token.text == "return" for token in tokens[at + 9:close]):
+                del tokens[close + 1:end]
+                tokens[at:at + 8] = made("loop", tokens[at])
+            else:
+                tokens[at:end] = made(f'panic!("{lent}");', tokens[at])
         at += 1
     return tokens
 
@@ -195,18 +194,6 @@ def forever(tokens, lent):
 def hashing(tokens):
     replaced(tokens, "BuildHasherDefault<FoldHasher>", "RandomState")
     replaced(tokens, "BuildHasherDefault::new()", "RandomState::new()")
-    return tokens
-
-
-def asserting(tokens):
-    """`assert!(rt; ..)` has no runtime in Rust."""
-    at = 0
-    while at < len(tokens) - 4:
-        if tokens[at].text == "!" and tokens[at + 1].text == "(" and tokens[at + 3].text == ";":
-            if tokens[at + 2].text == "rt":
-                tokens[at + 4].before = ""
-                del tokens[at + 2:at + 4]
-        at += 1
     return tokens
 
 
@@ -250,11 +237,7 @@ def questions(tokens):
         if words_at(tokens, at, "let", "Some", "("):
             close = close_of(tokens, at + 2)
             if close == at + 4 and tokens[close + 1].text == "=":
-                end = close + 2
-                while tokens[end].text not in ("else", ";", "{"):
-                    if tokens[end].kind == "other" and tokens[end].text in OPENS:
-                        end = close_of(tokens, end)
-                    end += 1
+                end = next_of(tokens, close + 2, ("else", ";", "{"))
                 if words_at(tokens, end, "else", "{", "return", "None", ";", "}", ";"):
                     name = tokens[at + 3]
                     name.before = " "
@@ -271,11 +254,7 @@ def tails(tokens):
     at = 0
     while at < len(tokens) - 6:
         if tokens[at].text == "let" and tokens[at + 1].kind == "word" and tokens[at + 2].text == "=":
-            end = at + 3
-            while tokens[end].text not in (";", "else", "}"):
-                if tokens[end].kind == "other" and tokens[end].text in OPENS:
-                    end = close_of(tokens, end)
-                end += 1
+            end = next_of(tokens, at + 3, (";", "else", "}"))
             if tokens[end].text == ";" and tokens[end + 1].text == tokens[at + 1].text and tokens[end + 2].text == "}":
                 tokens[at + 3].before = tokens[at].before
                 tokens[at:end + 2] = tokens[at + 3:end]
@@ -288,11 +267,7 @@ def wholes(tokens):
     at = 0
     while at < len(tokens) - 9:
         if tokens[at].text == "let" and tokens[at + 1].kind == "word" and tokens[at + 2].text == "=":
-            end = at + 3
-            while tokens[end].text not in (";", "else", "}"):
-                if tokens[end].kind == "other" and tokens[end].text in OPENS:
-                    end = close_of(tokens, end)
-                end += 1
+            end = next_of(tokens, at + 3, (";", "else", "}"))
             if tokens[end - 1].text == "?" and words_at(tokens, end, ";", "Some", "(", tokens[at + 1].text, ")", "}"):
                 tokens[at + 3].before = tokens[at].before
                 tokens[at:end + 5] = tokens[at + 3:end - 1]
@@ -321,7 +296,6 @@ def sharing(tokens):
 
 def early(tokens, lent):
     """What has to be seen before the runtime is gone."""
-    asserting(tokens)
     forever(tokens, lent)
     waking(tokens)
     sharing(tokens)
@@ -357,7 +331,4 @@ def rewritten(tokens):
     streams(tokens)
     unused(tokens)
     tails(tokens)
-    for at, token in enumerate(tokens):
-        if token.text == "Fail" and tokens[at - 1].text != "::":
-            token.text = "AllocError"
     return wholes(questions(tokens))

@@ -30,6 +30,15 @@ def value_end(tokens, at):
         index += 1
 
 
+def next_of(tokens, at, texts):
+    """The index of the next token with one of these texts, outside of the brackets that open on the way."""
+    while tokens[at].text not in texts:
+        if tokens[at].kind == "other" and tokens[at].text in OPENS:
+            at = close_of(tokens, at)
+        at += 1
+    return at
+
+
 def begins_element(tokens, at, openings=("(", "{", "<", "[", "|")):
     return at > 0 and tokens[at - 1].text in openings + (",",)
 

@@ -1,5 +1,5 @@
 """Paths: a crate becomes a module, and what is imported is what is named."""
-from kit import IMPORTS, PLACES, formatted, made
+from kit import IMPORTS, PLACES, formatted
 from rattle import Refused
 
 # What is imported from the crate's own modules where it is named.
@@ -84,40 +84,22 @@ def moved(path, module, modules):
     raise Refused(f"`{path}` is imported, which no rule knows")
 
 
-def with_paths(tokens, module, modules):
-    """Each path of a crate outside of uses, as a path of its module."""
-    at = 0
-    while at < len(tokens) - 1:
-        token = tokens[at]
-        if token.text == "use" and token.kind == "word":
-            while tokens[at].text != ";":
-                at += 1
-        if token.kind == "word" and tokens[at + 1].text == "::" and tokens[at - 1].text not in ("::", "."):
-            if token.text == "crate":
-                tokens[at:at + 1] = made(f"crate::{module}", token)
-            elif token.text in modules:
-                tokens[at:at + 1] = made(f"crate::{modules[token.text]}", token)
-        at += 1
-    return tokens
-
-
-def named(tokens, spans, test):
-    """The words of a file outside of its uses: those before its tests, and those of its tests."""
+def named(tokens, spans):
+    """The words of a file outside of its uses."""
     inside = set()
     for start, end, _, _ in spans:
         inside.update(range(start, end))
-    words, tested = set(), set()
+    words = set()
     for at, token in enumerate(tokens):
-        into = words if test is None or at < test else tested
         if token.kind == "word" and at not in inside and tokens[at - 1].text not in (".", "fn"):
             if token.text not in CALLS or tokens[at + 1].text == "(":
-                into.add(token.text)
+                words.add(token.text)
         elif token.kind == "word" and token.text in ("try_push", "try_push_str"):
-            into.add(token.text)
+            words.add(token.text)
         elif token.kind == "string":
             # A text of a format names constants.
-            into |= formatted(token.text)
-    return words, tested
+            words |= formatted(token.text)
+    return words
 
 
 def last(path):

@@ -15,9 +15,6 @@ NAMES = re.compile(r"has no field|is not in scope|has no `|was not admitted")
 UNREAD = re.compile(r"is not in scope|has no field|is no name|operand is missing|expected the end|cannot continue")
 ERROR = re.compile(r"(?:\./)?(src/\S+?|specs/\S+?):(\d+):\d+: error(\[[\w-]+\])?: (.*)")
 PLACED = re.compile(r"note: \S+:\d+:\d+:|\S+:\d+:\d+: error")
-# How a check tells that it ended with a function, where it is asked for its progress, and that line behind its seconds.
-ENDED = re.compile(r"checked \S+, \d+ of ")
-STAMPED = re.compile(r"^([\d.]+) s: checked (\S+),", re.M)
 # How rattle tells that it is asked for a function that the crate hasn't.
 NO_FUNCTION = re.compile(r"^rattle: error: `\w+` has no function `([^`]+)`", re.M)
 # How a check tells of a goal that it didn't prove, with the goal's name and what it found behind.
@@ -65,7 +62,6 @@ class Answer:
         self.lines = text.rstrip("\n").split("\n")
         self.functions = {it[1].partition("::")[2]: (it[2], it[3] or "") for it in LINE.finditer(text)}
         self.crate, self.stray, self.controls, self.notes = crate, "", [], self.notes_of_functions()
-        self.seconds = self.seconds_of_functions()
         self.proved = status == 0 and PROVED.search(text) is not None
         self.refused = status == 1 and REFUSED.search(text) is not None
 
@@ -86,16 +82,6 @@ class Answer:
         """The goals of a function that the check didn't prove, each with the note on it; first what cost it least."""
         found = [it for it in map(UNPROVED.match, self.notes.get(name, [])) if it]
         return sorted(((it[1], it[0]) for it in found), key=lambda it: cost_of(it[1]))
-
-    def seconds_of_functions(self):
-        """How long the check took for each function that it tells of but the first, by the end of the one before it."""
-        ended = [(it[2].partition("::")[2], float(it[1])) for it in STAMPED.finditer(self.text)]
-        return {name: at - before for (_, before), (name, at) in zip(ended, ended[1:])}
-
-    def time_of(self, edit):
-        """What the check took for the functions of an edit, in words, where it tells."""
-        found = [self.seconds[it] for it in map(self.name_of, [*edit.wrong(), *edit.added]) if it in self.seconds]
-        return f" ({sum(found):.0f} s)" if found else ""
 
     def errors_of(self, name):
         """The lines that the check has on a function's proof."""

@@ -8,7 +8,6 @@ import shutil
 import signal
 import subprocess
 import threading
-import time
 
 import answers
 from source import TOP
@@ -50,8 +49,7 @@ class Bench:
                     return 2, "it was ended"
                 ran = subprocess.Popen([*words, "--jobs", "1"], **how)
                 self.checks.add(ran)
-            begun = time.monotonic()
-            said = "".join(f"{time.monotonic() - begun:.1f} s: {it}" if answers.ENDED.match(it) else it for it in ran.stdout)
+            said = ran.stdout.read()
             _, status, used = os.wait4(ran.pid, 0)
             ran.returncode = -os.WTERMSIG(status) if os.WIFSIGNALED(status) else os.WEXITSTATUS(status)
             self.checks.discard(ran)
@@ -76,7 +74,7 @@ class Bench:
             words += ["-L", f"dependency={built(it)}"]
         words += ["--crate-type", "staticlib"] if "staticlib" in kind else []
         words += ["--antt-project", f"{kit}/rattle/logic/antt-project.json", "--logic-built", f"{kit}/logic_built"]
-        words += ["--links", f"{name}=", "--incremental", "out/incremental", "--progress"]
+        words += ["--links", f"{name}=", "--incremental", "out/incremental"]
         return [*words, *(word for it in only for word in ("--only", it))]
 
     def begin(self, name):

@@ -250,17 +250,6 @@ class Crate:
         found = file_of(path, text).function_at(begun)
         return found and found.name
 
-    def fit(self, edits):
-        """Whether these edits stand in one text without touching one another."""
-        edits = [it for it in edits if not it.copy]
-        try:
-            bodies, added, more = self.changed(applied([pair for it in edits for pair in it.pairs], self.texts))
-        except Fault:
-            return False
-        lone = [self.changed(applied(it.pairs, self.texts)) for it in edits]
-        parts = [[*it[0].items(), *it[1].items()] for it in lone]
-        return not more and sorted([*bodies.items(), *added.items()]) == sorted(it for part in parts for it in part)
-
     def rounds(self, edits):
         """Packs edits into rounds in which no function is edited twice in its place: next the edit that the fewest rounds
         can take, of those the one that the most others meet."""
@@ -275,8 +264,7 @@ class Crate:
             edit = max(free, key=lambda it: (len(closed[id(it)]), len(met[id(it)])))
             free.remove(edit)
             for number, it in enumerate(rounds):
-                room = min(other.most for other in [*it, edit])
-                if len(it) < room and not any(id(other) in met[id(edit)] for other in it) and self.fit([*it, edit]):
+                if len(it) < min(other.most for other in [*it, edit]) and not any(id(other) in met[id(edit)] for other in it):
                     it.append(edit)
                     break
             else:

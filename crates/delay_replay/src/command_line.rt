@@ -11,6 +11,21 @@ use std::{env, io};
 // The capacity where none is given.
 const DEFAULT_CAPACITY: usize = 1024;
 
+// What the help says of a script, after the options.
+const OF_A_SCRIPT: &str = "\
+A script begins with the line `delay 1`. Each later line is a command. Here each has its answers beside it:
+
+  delay 1
+  insert a 5          a at 5
+  insert b 3          b at 3
+  extend a 7          a at 7
+  tick 4              b expired 3
+                      tick 4
+
+Without that first line the script ends with `line 1: bad header`. A line ends with a line feed alone:
+a carriage return before it counts as part of the last word, so `delay 1` is then a bad header too.
+docs/SCRIPT.md has every command. Ctrl-D ends a script that is typed in a terminal.";
+
 /// Why no script is replayed.
 #[derive(Drop)]
 pub enum Refusal {
@@ -57,6 +72,7 @@ fn parse<S: AsStr>(alloc: Global, words: &[S]) -> Result<usize, Error> {
         .about(
             "Replays a script of delays from standard input and writes its answers to standard output",
         )
+        .after_help(OF_A_SCRIPT)
         .arg(capacity)?;
     let matches = command.try_get_matches_from(words)?;
     Ok(

@@ -21,6 +21,16 @@ use std::marker::Model;
 
 /// Values by keys, each seen until its deadline. Ticks are of one millisecond and are handed in: no clock is read.
 ///
+/// ```
+/// use hontkhale::cache::TtlCache;
+///
+/// let mut cache = TtlCache::with_capacity(100).unwrap();
+/// cache.put("key", 1, 500, 1_000).unwrap();
+/// assert_eq!(cache.get(&"key", 1_499), Some(&1));
+/// assert_eq!(cache.get(&"key", 1_500), None);
+/// assert_eq!(cache.purge(1_500), Ok(1));
+/// ```
+///
 /// The cache keeps a moment, at first 0; a call at `now` is made at the greater of `now` and the moment. What is due
 /// stays until a put or a purge drops it, but isn't seen.
 ///
@@ -54,8 +64,7 @@ impl<K: Eq + Hash + Drop, V: Drop, A: Allocator + Clone> TtlCache<K, V, A> {
     /// A cache for so many keys where nothing is kept, at moment 0. Time and memory as the capacity; the map takes
     /// its own later, as puts fill it.
     ///
-    /// The map's hasher has no seed, so whoever picks the keys can make a call take as long as there are keys. Where
-    /// a stranger picks them, [`TtlCache::with_hasher`] takes a seeded one.
+    /// The map's hasher is std's, which is seeded; [`TtlCache::with_hasher`] takes another.
     ///
     /// # Errors
     /// BadConfig where the capacity isn't 1 to 65536 or the last stamp isn't 1 to 1048575, and else NoMemory.
@@ -85,8 +94,7 @@ where
     A: Allocator + Clone,
     S: BuildHasher + Drop,
 {
-    /// As [`TtlCache::with_capacity`], with a hasher of the caller's: by `RandomState::new(rt)?` nobody who picks the
-    /// keys can tell which of them share a place of the map.
+    /// As [`TtlCache::with_capacity`], with a hasher of the caller's.
     ///
     /// # Errors
     /// BadConfig where the capacity isn't 1 to 65536, and else NoMemory.

@@ -1,4 +1,4 @@
-//! The calls that change a cache. The first clause of each is exact; those behind it say what is seen then.
+//! The calls that change a cache.
 ghost use Rattle.std.specs.Prelude.{◌≡◌, ℕ, ◌+◌, true, None, IfOk, IfErr, OnOk, OnErr};
 ghost use Rattle.dq_apps.specs.Cache.{moment_at, value_seen};
 ghost use Rattle.dq_apps.specs.Calls.{Takes, Renews, Puts, Purges, TakesExpired};

@@ -10,6 +10,15 @@ use std::hash::{BuildHasher, BuildHasherDefault, FoldHasher, Hash};
 
 /// A cache whose look-ups are counted: as a hit where a value was seen, and else as a miss.
 ///
+/// ```
+/// use hontkhale::cache::{CountedCache, TtlCache};
+///
+/// let mut cache = CountedCache::new(TtlCache::with_capacity(100).unwrap());
+/// let long = cache.get_or_insert_with("key", 500, 1_000, || 1).unwrap();
+/// let short = cache.get_or_insert_with("key", 500, 1_001, || unreachable!()).unwrap();
+/// assert_eq!((long, short, cache.hits(), cache.misses()), (1, 1, 1, 1));
+/// ```
+///
 /// A count stays at the greatest `u64` where it came so far. What goes by the cache itself isn't counted.
 #[derive(Drop)]
 pub struct CountedCache<

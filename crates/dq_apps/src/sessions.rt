@@ -18,8 +18,22 @@ use std::alloc::{AllocError, Allocator, Global};
 use std::marker::Model;
 use std::sync::Wait;
 
-/// Sessions, each of which ends when nobody touched it for a time. Ticks are of one millisecond and are handed in: no
-/// clock is read.
+/// Sessions, each of which ends when nobody touched it for a time. Ticks are of one millisecond and are handed in: no clock
+/// is read.
+///
+/// ```
+/// use hontkhale::owner::Turn;
+/// use hontkhale::sessions::IdleSessions;
+/// use hontkhale::shards::QueueConfig;
+///
+/// let sessions = IdleSessions::new(QueueConfig::of(1, 100), 30_000)?;
+/// let mut handle = sessions.handle()?;
+/// let key = sessions.login(0, "alice", 0)?;
+/// assert_eq!(sessions.touch(&mut handle, &key, 20_000), Ok(50_000));
+/// assert!(matches!(sessions.next_idle(0, 30_000)?, Turn::Waiting { .. }));
+/// assert!(matches!(sessions.next_idle(0, 50_000)?, Turn::Out(idle) if idle.value.text() == "alice"));
+/// # Ok::<(), hontkhale::shards::QueueError>(())
+/// ```
 ///
 /// Many threads may log in, and poll for the sessions that ended, each call under the lock of one shard. Each thread
 /// that touches sessions has a handle, whose calls take no lock. All memory but that of names and handles is taken

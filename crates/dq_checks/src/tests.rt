@@ -1,25 +1,13 @@
-//! Ticks, packed words and keys, and the laws of them; the worked cases of the queue over plain words and over shared
-//! ones, of its parts and of shared words alone; limits; what is sent to a thread; refused memory, and calls where no
-//! memory is left.
+//! The worked cases of the queue over plain words and over shared ones; laws that are called; refused memory, and calls
+//! where no memory is left. The other tests of these parts are in plain Rust, in `rust/hontkhale/src/tests`.
 
 mod calls_memory;
 mod cases;
-mod digits;
-mod front;
-mod keys;
 mod laws;
-mod limits;
 mod makings;
-mod packed;
-mod plain_queue;
-mod plain_words;
 mod queues;
-mod sent;
-mod slots;
 mod step;
-mod wheel;
-mod wheel_calls;
-mod words;
+mod wheel_memory;
 mod worked;
 
 use std::fmt::{Debug, Display};

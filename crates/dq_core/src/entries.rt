@@ -21,7 +21,18 @@ pub struct LiveEntry<'a, T> {
     pub value: &'a T,
 }
 
-/// The live entries of a queue over plain words, seen as the list of those that are left.
+/// The live entries of a queue over plain words, as an iterator over those that are left.
+///
+/// ```
+/// use hontkhale::owner::DelayCore;
+///
+/// let mut queue = DelayCore::with_capacity(4)?;
+/// queue.insert_or_drop("a", 10)?;
+/// queue.insert_or_drop("b", 20)?;
+/// let sum: u64 = queue.entries().map(|entry| entry.deadline).sum();
+/// assert_eq!(sum, 30);
+/// # Ok::<(), hontkhale::owner::CoreError>(())
+/// ```
 #[derive(Drop)]
 pub struct Entries<'a, T, A: Allocator = Global> {
     queue: &'a DelayCore<T, VecWords<A>, A>,

@@ -10,6 +10,7 @@
 #![tactic(auto)]
 
 mod ahead;
+mod beside;
 mod callers;
 mod deferred;
 mod entries;
@@ -32,6 +33,7 @@ mod sweeps;
 mod vec_words;
 mod words;
 
+pub use beside::BesideWords;
 pub use entries::{Entries, LiveEntry};
 pub use errors::{BadNumber, CoreConfig, CoreError, ReapError};
 pub use outcomes::{Expired, Piece, Removed, Swept, Tally, Turn};

@@ -52,6 +52,16 @@ fn soonest<T>(entries: &[Pending<T>]) -> (usize, u64)
 }
 
 /// The slow twin: a delay queue over a plain list, of one owner.
+///
+/// ```
+/// use hontkhale::owner::{PlainQueue, PlainTurn};
+///
+/// let mut queue = PlainQueue::new(4)?;
+/// assert_eq!(queue.insert("value", 10), Ok(10));
+/// assert!(matches!(queue.poll(9)?, PlainTurn::PlainWaiting));
+/// assert!(matches!(queue.poll(10)?, PlainTurn::PlainOut { deadline: 10, value: "value" }));
+/// # Ok::<(), hontkhale::owner::CoreError>(())
+/// ```
 #[derive(Drop)]
 pub struct PlainQueue<T, A: Allocator = Global> {
     capacity: usize,

@@ -22,9 +22,24 @@ use dq_wheel::{Wheel, wakes_are_ahead};
 use std::alloc::{AllocError, Allocator, Global};
 use std::marker::Model;
 
-/// A delay queue of one owner: values of `T`, with their deadlines in the words `W`, in memory of `A`.
+/// A delay queue of one owner: values of `T`, with their deadlines in the words `W`.
 ///
 /// Ticks are of one millisecond and are handed in by the owner: no clock is read. All memory is taken by `new`.
+///
+/// ```
+/// use hontkhale::owner::{DelayCore, Turn};
+///
+/// let mut queue = DelayCore::with_capacity(1_000)?;
+/// let first = queue.insert_or_drop("first", 100)?;
+/// let second = queue.insert_or_drop("second", 200)?;
+/// assert_eq!(queue.extend(&first, 300), Ok(300));
+///
+/// assert_eq!(queue.remove(&second.entry())?.value, "second");
+/// assert!(matches!(queue.poll(299)?, Turn::Waiting { .. }));
+/// assert!(matches!(queue.poll(300)?, Turn::Out(expired) if expired.value == "first"));
+/// assert!(matches!(queue.poll(300)?, Turn::Idle));
+/// # Ok::<(), hontkhale::owner::CoreError>(())
+/// ```
 #[derive(Drop)]
 pub struct DelayCore<T, W: Words, A: Allocator = Global> {
     pub(crate) shard: u32,

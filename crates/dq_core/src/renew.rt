@@ -2,8 +2,7 @@
 //!
 //! A slot has as many stamps as its queue's last one, and holds nothing more once they are used. Where nothing is
 //! linked the queue may be renewed: each slot begins anew, and the queue's keys carry a higher number from then on.
-//! So each key from before is refused for good. A renewal is no event of the queue's machine: it ends one machine,
-//! whose table is empty, and begins another at the same ticks.
+//! So each key from before is refused for good.
 
 ghost use Rattle.std.specs.Prelude.{◌≡◌, ◌<◌, OnOk, IfOk, IfErr};
 ghost use Rattle.dq_core.specs.Words.{AreFresh};
@@ -119,11 +118,26 @@ impl<T, W: Words, A: Allocator> DelayCore<T, W, A> {
     /// StillLinked where an entry is linked, then UsedNumber where the number isn't higher than the queue's, and then
     /// WrongRows where the words aren't as many as the slots. The words come back then, and nothing changes.
     ///
-    /// ```ignore
+    /// # Panics
+    /// Where the words were in use before.
+    ///
+    /// ```
+    /// use hontkhale::owner::{CoreConfig, CoreError, DelayCore, VecWords};
+    ///
+    /// # fn main() -> Result<(), CoreError> {
+    /// let config = CoreConfig { shard: 0, capacity: 1, last_stamp: 1 };
+    /// let mut queue = DelayCore::new(config, VecWords::new(1)?).map_err(|refused| refused.0)?;
+    /// queue.insert_or_drop("value", 10)?;
+    /// queue.clear();
+    /// assert!(matches!(queue.insert_or_drop("value", 10), Err(CoreError::Full { linked: 0, worn: 1 })));
+    ///
     /// if queue.is_empty() && queue.worn() > 0 {
-    ///     let words = VecWords::new(alloc, queue.capacity())?;
-    ///     queue.renew(queue.shard() + 1, words)?;
+    ///     let words = VecWords::new(queue.capacity())?;
+    ///     assert!(queue.renew(queue.shard() + 1, words).is_ok());
     /// }
+    /// queue.insert_or_drop("value", 10)?;
+    /// # Ok(())
+    /// # }
     /// ```
     pub fn renew(&mut self, shard: u32, words: W) -> Result<W, (RenewError, W)>
         requires { AreFresh (W.known words) (W.counts words) }

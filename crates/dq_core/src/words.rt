@@ -1,8 +1,7 @@
 //! What the queue asks of its words: a row of packed words, one for each slot, and what their keeper knows of them.
 //!
 //! A word may be plain, and then only its keeper changes it, or shared, and then callers may extend or cancel a
-//! live word at any moment. The contract is the same: it speaks of the words that the keeper knows, and lets the
-//! keeper learn of such a step where it looks.
+//! live word at any moment. The keeper learns of such a step where it looks.
 
 ghost use Rattle.std.specs.Prelude.{◌≡◌, ℕ, ◌+◌, ◌<◌, ◌≤◌, length, slice_set, List, Bool, Result, IfOk};
 ghost use Rattle.dq_ticks.specs.declared.words.Parts.{Parts};
@@ -67,16 +66,25 @@ impl fmt::Display for Look {
 pub enum CallError {
     /// The deadline is beyond the last tick, which is `limit`.
     #[error("the deadline is beyond the last tick, {limit}")]
-    TooFar { limit: u64 },
+    TooFar {
+        /// The last tick.
+        limit: u64,
+    },
     /// The key names no slot, or a stamp that its slot was not given.
     #[error("the key is unknown")]
     Unknown,
     /// The slot has the later stamp `seen`.
     #[error("the key is stale, its slot has stamp {seen}")]
-    Stale { seen: u32 },
+    Stale {
+        /// The stamp that the slot has now.
+        seen: u32,
+    },
     /// The entry has ended, as `how` shows.
     #[error("{how}")]
-    Ended { how: Look },
+    Ended {
+        /// How it ended.
+        how: Look,
+    },
 }
 
 /// A row of words, and what the keeper knows of them.

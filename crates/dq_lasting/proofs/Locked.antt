@@ -5,13 +5,10 @@ use Rattle.std.proofs.lemmas.Bool.{cases_eq, cases_lt}
 use Rattle.dq_lasting.specs.declared.errors.LastingError.TheVariants.{Core, Closed, Unknown}
 use Rattle.dq_lasting.specs.declared.errors.LastingError.{LastingError}
 use Rattle.dq_lasting.specs.declared.errors.HandleError.{HandleError}
-use Rattle.dq_lasting.specs.declared.errors.ReopenError.{ReopenError}
-use Rattle.dq_lasting.specs.declared.keeping.Kept.{Kept}
-use Rattle.dq_lasting.specs.declared.keeping.Kept.TheVariants as Step
 use Rattle.dq_lasting.specs.Shard.{LastingView, IsLasting}
 use Rattle.dq_lasting.specs.Answers.{IsOfPlace, AtPlace, InsertsAtPlace, PassedOnAt, TellsOfAll, goes_on, told_of}
 use Rattle.dq_lasting.specs.Handles.{IssuedAt, IssuedFrom, TakesOn}
-use Rattle.dq_lasting.specs.Keeping.{KeepsGoing, GoesOnAt, AtEach, TellsTakes, WasDue, AnotherTakes}
+use Rattle.dq_lasting.specs.Keeping.{AtEach}
 use Rattle.dq_lasting.specs.Numbered.{Numbered}
 
 -- a call that goes by the guard of a lock
@@ -58,26 +55,6 @@ same_value {T} n p when value v w e given back one =
 pub issued_more : (T : Type 0) (n p : ℕ) (cs : List Numbered) (c : Numbered) → IssuedFrom T n p cs → IssuedAt T n (p + length cs) c → IssuedFrom T n p (cs ++ c ∷ [])
 issued_more T n p [] c all one = (subst (λ (q : ℕ). IssuedAt T n q c) (omega arith) one, tt {0})
 issued_more T n p (x ∷ cs) c all one = (all.0, issued_more T n (p + 1) cs c all.1 (subst (λ (q : ℕ). IssuedAt T n q c) (omega arith) one))
-
--- the step at the place of a shard that was seen closed
-pub keeps : (T : Type 0) (n p : ℕ) → p < n → WasDue T n p → (r : Result Kept ReopenError) → AtPlace {T = T} n p (GoesOnAt n p) r → KeepsGoing T n r
-keeps T n p below due (Ok Step.Fine) a = inl (p, below, (due, a))
-keeps T n p below due (Ok (Step.Closed q)) a = absurd a.4
-keeps T n p below due (Ok (Step.Drains q linked)) a =
-    let P : ℕ → Type 0 = λ x. (x < n) × WasDue T n x × AtPlace {T = T} n x (GoesOnAt n x) (Ok (Step.Drains q linked)) in
-    subst P (sym a.4.0) (below, due, a)
-keeps T n p below due (Ok (Step.Reopened q)) a =
-    let P : ℕ → Type 0 = λ x. (x < n) × WasDue T n x × AtPlace {T = T} n x (GoesOnAt n x) (Ok (Step.Reopened q)) in
-    subst P (sym a.4.0) (below, due, a)
-keeps T n p below due (Err e) a = (p, below, due, a)
-
--- of two shards that take entries one is another than that of a place
-pub another : (T : Type 0) (n p first second : ℕ) → first < n → second < n → first + 1 ≤ second → AtPlace {T = T} n first TellsTakes true → AtPlace {T = T} n second TellsTakes true → AnotherTakes T n p
-another T n p first second f s apart one two =
-    ⊎_elim
-    (λ eq. (second, s, (λ e. omega arith), two))
-    (λ ne. (first, f, (λ e. ne (sym e)), one))
-    (cases_eq p first)
 
 -- a handle keeps its size
 pub takes_size : (T : Type 0) (n p : ℕ) (old new : List Numbered) (r : Result Bool HandleError) → TakesOn T n p old r new → length new ≡ length old

@@ -1,6 +1,6 @@
 -- What the steps do that keep a queue going.
 use Rattle.std.specs.Prelude.{◌≡◌, ◌≢◌, ℕ, ◌*◌, ◌<◌, ◌≤◌, ◌⊎◌, Bool, true, false, Result}
-use Rattle.std.specs.Prelude.{Ok, Err, length}
+use Rattle.std.specs.Prelude.{Ok, Err, length, Option, Some, None, IfSome, is_some, if◌then◌else◌}
 use Rattle.std.specs.List.{count_by}
 use Rattle.dq_core.specs.Renewals.{UnusedRows, AreUnused, IsOfSize}
 use Rattle.dq_core.specs.Slots.{is_held, is_worn}
@@ -9,6 +9,13 @@ use Rattle.dq_words.specs.Seats.{Sat}
 use Rattle.dq_lasting.specs.declared.errors.ReopenError.{ReopenError}
 use Rattle.dq_lasting.specs.declared.keeping.Kept.{Kept}
 use Rattle.dq_lasting.specs.declared.keeping.Kept.TheVariants.{Fine, Closed, Drains, Reopened}
+use Rattle.dq_lasting.specs.declared.keeping.Wear.{Wear}
+use Rattle.dq_lasting.specs.declared.keeping.Wear.TheVariants.{Half, Far}
+use Rattle.dq_lasting.specs.declared.keeping.Seen.{Seen}
+use Rattle.dq_lasting.specs.declared.keeping.Seen.TheVariants.{Drained, Draining, Fresh, HalfWorn, FarWorn}
+use Rattle.dq_lasting.specs.declared.keeping.Round.{Round}
+use Rattle.dq_lasting.specs.declared.keeping.Due.{Due}
+use Rattle.dq_lasting.specs.declared.keeping.Due.TheVariants.{Made, At}
 use Rattle.dq_lasting.specs.declared.opening.Begun.{Begun}
 use Rattle.dq_lasting.specs.declared.opening.Begun.TheVariants.{Answered, Opens}
 use Rattle.dq_lasting.specs.declared.opening.ShardSize.{ShardSize}
@@ -17,21 +24,18 @@ use Rattle.dq_lasting.specs.Answers.{AtPlace}
 use Rattle.dq_lasting.specs.Changes.{LastingSweepsOn, Closes, Reopens}
 
 module _ {T : Type 0} where
-  -- half of the slots at the least are worn
-  abbrev pub IsHalfWorn : LastingView T → Type 0
-  IsHalfWorn s =
+  -- at least half of the slots are worn, or three quarters
+  abbrev pub IsWornBy : Wear → LastingView T → Type 0
+  IsWornBy Half s =
       length s.core.slots.rows
       ≤ 2 * count_by (is_worn s.core.slots.last_stamp) s.core.slots.rows
-
-  -- three quarters of the slots at the least are worn
-  abbrev pub IsFarWorn : LastingView T → Type 0
-  IsFarWorn s =
+  IsWornBy Far s =
       3 * length s.core.slots.rows
       ≤ 4 * count_by (is_worn s.core.slots.last_stamp) s.core.slots.rows
 
   -- nothing is linked, and it is closed or worn by half: it can be opened again
   abbrev pub IsDrained : LastingView T → Type 0
-  IsDrained s = (count_by is_held s.core.slots.rows ≡ 0) × ((s.takes ≡ false) ⊎ IsHalfWorn s)
+  IsDrained s = (count_by is_held s.core.slots.rows ≡ 0) × ((s.takes ≡ false) ⊎ IsWornBy Half s)
 
   -- whether it is drained
   abbrev pub TellsDrained : LastingView T → Bool → LastingView T → Type 0
@@ -42,15 +46,21 @@ module _ {T : Type 0} where
   abbrev pub TellsTakes : LastingView T → Bool → LastingView T → Type 0
   TellsTakes old takes new = (takes ≡ old.takes) × (new ≡ old)
 
-  -- a shard that took entries and was worn by half is closed; any other stays as it was
-  abbrev pub ClosesWorn : LastingView T → Bool → LastingView T → Type 0
-  ClosesWorn old true new = (old.takes ≡ true) × IsHalfWorn old × Closes old new
-  ClosesWorn old false new = ¬ ((old.takes ≡ true) × IsHalfWorn old) × (new ≡ old)
+  -- what it is seen to be
+  abbrev pub TellsSeen : LastingView T → Seen → LastingView T → Type 0
+  TellsSeen old Drained new = IsDrained old × (new ≡ old)
+  TellsSeen old Draining new = (¬ IsDrained old) × (old.takes ≡ false) × (new ≡ old)
+  TellsSeen old Fresh new =
+      (¬ IsDrained old) × (old.takes ≡ true) × (¬ IsWornBy Half old) × (new ≡ old)
+  TellsSeen old HalfWorn new =
+      (¬ IsDrained old) × (old.takes ≡ true) × IsWornBy Half old × (new ≡ old)
+  TellsSeen old FarWorn new =
+      (¬ IsDrained old) × (old.takes ≡ true) × IsWornBy Far old × (new ≡ old)
 
-  -- the same of a shard that is worn by three quarters
-  abbrev pub ClosesFarWorn : LastingView T → Bool → LastingView T → Type 0
-  ClosesFarWorn old true new = (old.takes ≡ true) × IsFarWorn old × Closes old new
-  ClosesFarWorn old false new = ¬ ((old.takes ≡ true) × IsFarWorn old) × (new ≡ old)
+  -- a shard that took entries and was worn so far is closed; any other stays as it was
+  abbrev pub ClosesWorn : Wear → LastingView T → Bool → LastingView T → Type 0
+  ClosesWorn wear old true new = (old.takes ≡ true) × IsWornBy wear old × Closes old new
+  ClosesWorn wear old false new = ¬ ((old.takes ≡ true) × IsWornBy wear old) × (new ≡ old)
 
   -- The step of one shard that isn't drained: a few slots of a closed one are swept. Any other
   -- stays as it was.
@@ -104,7 +114,7 @@ AtEach shards many gives result = (p : ℕ) → p < many → AtPlace shards p gi
 abbrev pub NoneIsDue : (T : Type 0) → ℕ → ℕ → Type 0
 NoneIsDue T shards many =
     AtEach {T = T} shards shards TellsDrained false × AtEach {T = T} shards shards TellsTakes true
-    × AtEach {T = T} shards many ClosesWorn false
+    × AtEach {T = T} shards many (ClosesWorn Half) false
 
 -- some shard was seen closed
 abbrev pub SomeIsClosed : (T : Type 0) → ℕ → Type 0
@@ -121,7 +131,7 @@ AnotherTakes T shards p =
 abbrev pub ClosesBeside : (T : Type 0) → ℕ → ℕ → Type 0
 ClosesBeside T shards p =
     AtEach {T = T} shards shards TellsDrained false × SomeIsClosed T shards
-    × AtPlace {T = T} shards p ClosesFarWorn true × AnotherTakes T shards p
+    × AtPlace {T = T} shards p (ClosesWorn Far) true × AnotherTakes T shards p
 
 -- the shard of that place was seen drained; or none was, and it was seen closed
 abbrev pub WasDue : (T : Type 0) → ℕ → ℕ → Type 0
@@ -142,7 +152,7 @@ KeepsGoing T shards (Ok Fine) =
     ((p : ℕ) × (p < shards) × WasOpenedMeanwhile T shards p) ⊎ NoneIsDue T shards shards
 KeepsGoing T shards (Ok (Closed p)) =
     (p < shards)
-    × ((NoneIsDue T shards p × AtPlace {T = T} shards p ClosesWorn true) ⊎ ClosesBeside T shards p)
+    × ((NoneIsDue T shards p × AtPlace {T = T} shards p (ClosesWorn Half) true) ⊎ ClosesBeside T shards p)
 KeepsGoing T shards (Ok (Drains p linked)) =
     (p < shards) × WasDue T shards p
     × AtPlace {T = T} shards p (GoesOnAt shards p) (Ok (Drains p linked))
@@ -152,3 +162,54 @@ KeepsGoing T shards (Ok (Reopened p)) =
 KeepsGoing T shards (Err e) =
     (p : ℕ) × (p < shards) × WasDue T shards p
     × AtPlace {T = T} shards p (GoesOnAt shards p) (Err e)
+
+-- What is due, by one look at each place: the shard of a place is to be opened or drains on, or the
+-- step was made.
+abbrev pub IsDue : (T : Type 0) → ℕ → Due → Type 0
+IsDue T shards (Made kept) = KeepsGoing T shards (Ok kept)
+IsDue T shards (At p) = (p < shards) × WasDue T shards p
+
+-- the first place of two
+abbrev pub first_of : Option ℕ → ℕ → ℕ
+first_of None place = place
+first_of (Some before) place = before
+
+-- what was found, with one place more
+abbrev pub round_with : Round → ℕ → Seen → Round
+round_with found place Drained = found
+round_with found place Draining = record found { closed = Some (first_of found.closed place) }
+round_with found place Fresh = record found { beside = Some place }
+round_with found place HalfWorn =
+    record found { half_worn = Some (first_of found.half_worn place); beside = Some place }
+round_with found place FarWorn =
+    record found {
+      half_worn = Some (first_of found.half_worn place);
+      far_worn = Some (first_of found.far_worn place);
+      beside = if is_some found.far_worn then Some place else found.beside;
+    }
+
+-- the first closed shard of so many places; where there is none each took entries
+abbrev pub IsFirstClosed : (T : Type 0) → ℕ → ℕ → Option ℕ → Type 0
+IsFirstClosed T shards many None = AtEach {T = T} shards many TellsTakes true
+IsFirstClosed T shards many (Some p) =
+    (p < many) × AtPlace {T = T} shards p TellsTakes false
+
+-- the first of so many that takes entries and is worn by half: those before it weren't
+abbrev pub IsFirstWorn : (T : Type 0) → ℕ → ℕ → Option ℕ → Type 0
+IsFirstWorn T shards many None = AtEach {T = T} shards many (ClosesWorn Half) false
+IsFirstWorn T shards many (Some p) =
+    (p < many) × AtEach {T = T} shards p (ClosesWorn Half) false
+
+-- one of so many that takes entries, beside another place
+abbrev pub TakesBeside : (T : Type 0) → ℕ → ℕ → Option ℕ → Option ℕ → Type 0
+TakesBeside T shards many far None = Unit {0}
+TakesBeside T shards many far (Some q) =
+    (q < many) × AtPlace {T = T} shards q TellsTakes true × ((p : ℕ) → far ≡ Some p → q ≢ p)
+
+-- what was found by one look at each of so many places, of which none could be opened
+pub record IsRound (T : Type 0) (shards many : ℕ) (found : Round) : Type 0 where
+  pub undrained : AtEach {T = T} shards many TellsDrained false
+  pub closed : IsFirstClosed T shards many found.closed
+  pub half_worn : IsFirstWorn T shards many found.half_worn
+  pub far_worn : IfSome found.far_worn (λ p. p < many)
+  pub beside : TakesBeside T shards many found.far_worn found.beside

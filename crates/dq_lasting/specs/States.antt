@@ -17,6 +17,7 @@ pub record IsState {T : Type 0} (s : LastingView T) (r : PlaceState) : Type 0 wh
   pub capacity : r.capacity ≡ length s.core.slots.rows
   pub linked : r.linked ≡ count_by is_held s.core.slots.rows
   pub worn : r.worn ≡ count_by (is_worn s.core.slots.last_stamp) s.core.slots.rows
+  pub noted : r.noted ≡ s.core.noted
   pub wake : TellsWake s.core r.next_wake
   pub none_before : IfSome r.next_wake (λ w. NoneLiveBefore (machine s.core) w)
   pub tally : LastingTells s r.tally s

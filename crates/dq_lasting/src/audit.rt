@@ -33,7 +33,7 @@ fn one_more(totals: LastingTotals, tally: LastingTally) -> LastingTotals
     }
 }
 
-impl<T: Drop, A: Allocator> LastingQueue<T, A> {
+impl<T, A: Allocator> LastingQueue<T, A> {
     /// The totals of all shards over all of their generations: one tally of each place, taken in turn under its lock.
     /// It takes no memory, and handles may be out. What callers cancelled counts as linked until it is reaped.
     pub fn audit<R: Wait>(&self, rt: &R) -> LastingTotals

@@ -17,6 +17,17 @@ pub enum LastingError {
     Unknown,
 }
 
+impl From<CoreError> for LastingError {
+    ghost use Rattle.std.specs.Prelude.{◌≡◌};
+    ghost use Rattle.dq_lasting.specs.declared.errors.LastingError.TheVariants.{Core};
+
+    ghost from_gives = { λ error e. e ≡ Core error };
+
+    fn from(error: CoreError) -> LastingError {
+        LastingError::Core(error)
+    }
+}
+
 /// Why a shard isn't opened again.
 #[derive(Clone, Copy, Debug, PartialEq, Eq, Error)]
 pub enum ReopenError {

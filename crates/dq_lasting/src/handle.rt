@@ -82,7 +82,8 @@ impl<A: Allocator> LastingHandle<A> {
     /// gave up. Constant time.
     ///
     /// # Errors
-    /// As `extend`, but never TooFar.
+    /// Unknown where no slot has the key or it is of another generation than the caller, Stale where the slot has a later
+    /// stamp, and Ended where the entry isn't live.
     #[inline]
     pub fn cancel(&mut self, key: &Key) -> Result<u64, CallError>
         ensures { OfKey self.old key.now
@@ -95,7 +96,8 @@ impl<A: Allocator> LastingHandle<A> {
     /// What the entry of a key is, as [`NumberedCaller::look`] of the key's shard tells. Constant time.
     ///
     /// # Errors
-    /// Unknown, and Stale.
+    /// Unknown where no slot has the key or it is of another generation than the caller, and Stale where the slot has a
+    /// later stamp.
     #[inline]
     pub fn look(&mut self, key: &Key) -> Result<Look, CallError>
         ensures { OfKey self.old key.now
@@ -126,7 +128,7 @@ impl<A: Allocator> LastingHandle<A> {
     }
 
     // Takes the caller of the shard at a place on, where that was renewed; tells whether it was.
-    fn renew_at<R: Wait, T: Drop>(
+    fn renew_at<R: Wait, T>(
         &mut self,
         rt: &R,
         queue: &LastingQueue<T, A>,
@@ -155,7 +157,7 @@ impl<A: Allocator> LastingHandle<A> {
     /// shards; then nothing changes. Else it stops at the first place whose shard issues no caller: TooManyHandles
     /// where 1,024 of this generation were issued, or NoMemory. The error tells that place, and how many new callers
     /// were taken on below it, which stay; the callers from there on are those from before.
-    pub fn renew<R: Wait, T: Drop>(
+    pub fn renew<R: Wait, T>(
         &mut self,
         rt: &R,
         queue: &LastingQueue<T, A>,
@@ -224,7 +226,7 @@ fn refused(refusal: WordsError) -> HandleError
     }
 }
 
-impl<T: Drop, A: Allocator> LastingQueue<T, A> {
+impl<T, A: Allocator> LastingQueue<T, A> {
     // The number of the shard at a place.
     pub(crate) fn number_at<R: Wait>(&self, rt: &R, place: usize) -> u32
         requires { place < self.now.shards }
@@ -252,7 +254,7 @@ impl<T: Drop, A: Allocator> LastingQueue<T, A> {
     }
 }
 
-impl<T: Drop, A: Allocator + Clone + Drop> LastingQueue<T, A> {
+impl<T, A: Allocator + Clone + Drop> LastingQueue<T, A> {
     /// A handle, with a caller of each shard, issued in turn under that shard's lock.
     ///
     /// # Errors

@@ -1,13 +1,10 @@
-//! What keeps a queue going for years: a worn shard is closed, drains, and is opened again.
-ghost use Rattle.std.specs.Prelude.{◌≡◌, ◌<◌, ◌≤◌, ◌*◌, IfSome, None, true, false};
-ghost use Rattle.dq_lasting.specs.Answers.{AtPlace, AtPlaceAll};
-ghost use Rattle.dq_lasting.specs.Changes.{Closes};
-ghost use Rattle.dq_lasting.specs.Keeping.{KeepsGoing, ClosesWorn, ClosesFarWorn, AtEach};
-ghost use Rattle.dq_lasting.specs.Keeping.{TellsTakes, TellsDrained, AnotherTakes};
+//! What is due to keep a queue going for years: a worn shard is closed, drains, and is opened again.
+ghost use Rattle.std.specs.Prelude.{◌≡◌, ◌+◌, ◌<◌, ◌≤◌, IfSome, Some, None, Ok, true};
+ghost use Rattle.dq_lasting.specs.Answers.{AtPlace};
+ghost use Rattle.dq_lasting.specs.Keeping.{ClosesWorn, TellsSeen, TellsDrained, KeepsGoing};
+ghost use Rattle.dq_lasting.specs.Keeping.{first_of, round_with, IsRound, IsDue, NoneIsDue};
 
-use crate::errors::{LastingError, ReopenError};
-use crate::queue::LastingQueue;
-use crate::quiet::unlock;
+use crate::queue::{LastingQueue, unlock};
 use std::alloc::Allocator;
 use std::sync::Wait;
 
@@ -37,168 +34,186 @@ pub enum Kept {
     },
 }
 
-impl<T: Drop, A: Allocator> LastingQueue<T, A> {
-    /// Closes the shard at a place to new entries, until it is opened again.
-    ///
-    /// # Errors
-    /// Unknown out of range.
-    pub fn close<R: Wait>(&self, rt: &R, place: usize) -> Result<(), LastingError>
-        ensures { AtPlaceAll {T = T} self.now.shards place (λ old r new. Closes old new) result }
-    {
-        if place >= self.shards() {
-            return Err(LastingError::Unknown);
-        }
-        let mut shard = self.lock(rt, place);
-        let leaver = shard.close_quietly();
-        unlock(shard, leaver);
-        Ok(())
-    }
+// How far a shard is worn: at least so many of its slots are.
+#[derive(Clone, Copy, Debug, PartialEq, Eq)]
+pub(crate) enum Wear {
+    // Half of them.
+    Half,
+    // Three quarters.
+    Far,
+}
 
-    // Whether the shard at a place takes entries.
-    fn takes_at<R: Wait>(&self, rt: &R, place: usize) -> bool
-        requires { place < self.now.shards }
-        ensures { AtPlace {T = T} self.now.shards place TellsTakes result }
-    {
-        self.lock(rt, place).takes()
-    }
+// What a shard is seen to be.
+#[derive(Clone, Copy, Debug, PartialEq, Eq)]
+pub(crate) enum Seen {
+    // It can be opened again.
+    Drained,
+    // It is closed, and entries are linked.
+    Draining,
+    // It takes entries, and isn't worn by half.
+    Fresh,
+    // It takes entries, and is worn by half, but not by three quarters.
+    HalfWorn,
+    // It takes entries, and is worn by three quarters.
+    FarWorn,
+}
 
-    // The first place whose shard is closed; none where each takes entries.
-    fn closed_place<R: Wait>(&self, rt: &R) -> Option<usize>
-        ensures closed { IfSome result (λ place. (place < self.now.shards)
-            × AtPlace {T = T} self.now.shards place TellsTakes false) }
-        ensures none { (result ≡ None)
-            → AtEach {T = T} self.now.shards self.now.shards TellsTakes true }
-    {
-        for place in 0..self.shards() {
-            if !self.takes_at(rt, place) {
-                return Some(place);
-            }
-        }
-        None
-    }
+// What was found by one look at each place, as long as none can be opened again.
+#[derive(Clone, Copy, Debug, PartialEq, Eq)]
+pub(crate) struct Round {
+    // The first that is closed.
+    closed: Option<usize>,
+    // The first that takes entries and is worn by half.
+    half_worn: Option<usize>,
+    // The first that takes entries and is worn by three quarters, and one beside it that takes entries too.
+    far_worn: Option<usize>,
+    beside: Option<usize>,
+}
 
-    // The first place from one on whose shard takes entries.
-    fn open_place<R: Wait>(&self, rt: &R, from: usize) -> Option<usize>
-        ensures { IfSome result (λ place. (from ≤ place) × (place < self.now.shards)
-            × AtPlace {T = T} self.now.shards place TellsTakes true) }
-    {
-        for place in from..self.shards() {
-            if self.takes_at(rt, place) {
-                return Some(place);
-            }
-        }
-        None
-    }
-
-    // Whether the shard at a place can be opened again.
-    fn is_drained_at<R: Wait>(&self, rt: &R, place: usize) -> bool
-        requires { place < self.now.shards }
-        ensures { AtPlace {T = T} self.now.shards place TellsDrained result }
-    {
-        self.lock(rt, place).is_drained()
-    }
-
-    // The first place whose shard can be opened again.
-    fn drained_place<R: Wait>(&self, rt: &R) -> Option<usize>
-        ensures drained { IfSome result (λ place. (place < self.now.shards)
-            × AtPlace {T = T} self.now.shards place TellsDrained true) }
-        ensures none { (result ≡ None)
-            → AtEach {T = T} self.now.shards self.now.shards TellsDrained false }
-    {
-        for place in 0..self.shards() {
-            if self.is_drained_at(rt, place) {
-                return Some(place);
-            }
-        }
-        None
-    }
-
-    // Closes the shard at a place, where it takes entries and three quarters of its slots are worn.
-    fn close_far_worn<R: Wait>(&self, rt: &R, place: usize) -> bool
-        requires { place < self.now.shards }
-        ensures { AtPlace {T = T} self.now.shards place ClosesFarWorn result }
-    {
-        let mut shard = self.lock(rt, place);
-        let (is_closed, leaver) = shard.close_far_worn();
-        unlock(shard, leaver);
-        is_closed
-    }
-
-    // Closes the first shard that is worn by three quarters, where another takes entries, and tells its place.
-    fn close_beside<R: Wait>(&self, rt: &R) -> Option<usize>
-        ensures { IfSome result (λ place. (place < self.now.shards)
-            × AtPlace {T = T} self.now.shards place ClosesFarWorn true × AnotherTakes T self.now.shards place) }
-    {
-        let shards = self.shards();
-        let Some(first) = self.open_place(rt, 0) else {
-            return None;
-        };
-        let Some(_second) = self.open_place(rt, first + 1) else {
-            return None;
-        };
-        for place in 0..shards {
-            if self.close_far_worn(rt, place) {
-                return Some(place);
-            }
-        }
-        None
-    }
-
-    // Closes the shard at a place, where it takes entries and half of its slots are worn.
-    fn close_worn<R: Wait>(&self, rt: &R, place: usize) -> bool
-        requires { place < self.now.shards }
-        ensures { AtPlace {T = T} self.now.shards place ClosesWorn result }
-    {
-        let mut shard = self.lock(rt, place);
-        let (is_closed, leaver) = shard.close_worn();
-        unlock(shard, leaver);
-        is_closed
+// The first place of two: the one that was found before, if one was.
+fn first(found: Option<usize>, place: usize) -> Option<usize>
+    ensures { result ≡ Some (first_of found place) }
+{
+    match found {
+        Some(before) => Some(before),
+        None => Some(place),
     }
 }
 
-impl<T: Drop, A: Allocator + Clone + Drop> LastingQueue<T, A> {
-    // The step beside a shard that drains, where none could be opened.
-    fn drain_on<R: Wait>(&self, rt: &R, alloc: A, place: usize) -> Result<Kept, ReopenError>
-        requires place { place < self.now.shards }
-        requires closed { AtPlace {T = T} self.now.shards place TellsTakes false }
-        requires undrained { AtEach {T = T} self.now.shards self.now.shards TellsDrained false }
-        ensures { KeepsGoing T self.now.shards result }
+impl Round {
+    // With one place more, which was seen so.
+    fn with(self, place: usize, seen: Seen) -> Round
+        ensures { result ≡ round_with self place seen }
     {
-        if let Some(worn) = self.close_beside(rt) {
-            return Ok(Kept::Closed { place: worn });
+        match seen {
+            Seen::Drained => self,
+            Seen::Draining => Round {
+                closed: first(self.closed, place),
+                ..self
+            },
+            Seen::Fresh => Round {
+                beside: Some(place),
+                ..self
+            },
+            Seen::HalfWorn => Round {
+                half_worn: first(self.half_worn, place),
+                beside: Some(place),
+                ..self
+            },
+            Seen::FarWorn => match self.far_worn {
+                Some(_) => Round {
+                    half_worn: first(self.half_worn, place),
+                    beside: Some(place),
+                    ..self
+                },
+                None => Round {
+                    half_worn: first(self.half_worn, place),
+                    far_worn: Some(place),
+                    ..self
+                },
+            },
         }
-        self.go_on(rt, alloc, place)
+    }
+}
+
+// What is due.
+#[derive(Clone, Copy, Debug, PartialEq, Eq)]
+pub(crate) enum Due {
+    // The step was made, or none is due.
+    Made(Kept),
+    // The shard at this place is to be opened, or drains on.
+    At(usize),
+}
+
+impl<T, A: Allocator> LastingQueue<T, A> {
+    // What the shard at a place is seen to be.
+    fn seen_at<R: Wait>(&self, rt: &R, place: usize) -> Seen
+        requires { place < self.now.shards }
+        ensures { AtPlace {T = T} self.now.shards place TellsSeen result }
+    {
+        self.lock(rt, place).seen()
     }
 
-    /// Does the one step that is due to keep the queue going, and tells which. Whoever polls calls it in a quiet
-    /// moment.
-    ///
-    /// The first shard where nothing is linked, and which is closed or worn by half, is opened again under its next
-    /// number. Where none is closed the first is closed of which half the slots are worn. While one drains, another
-    /// is closed once three quarters of its slots are worn, so that an entry with a far deadline holds up no shard
-    /// but its own. One that takes entries always stays, where one thread alone calls this. Else the next 256 slots
-    /// of the first closed shard are swept: what was cancelled there is reaped. An entry that is extended for ever
-    /// keeps its shard closed: `remove` and `insert` move it.
-    ///
-    /// It holds a lock for a step of constant time, or for 256 slots. Where it opens a shard it takes memory before
-    /// the lock and gives the old one back behind it.
-    ///
-    /// # Errors
-    /// NoMemory and NumbersSpent where a shard isn't opened again, which stays closed then.
-    pub fn keep_going<R: Wait>(&self, rt: &R, alloc: A) -> Result<Kept, ReopenError>
-        ensures { KeepsGoing T self.now.shards result }
+    // A look at one place more; none where its shard can be opened again.
+    fn look_at<R: Wait>(&self, rt: &R, place: usize, found: Round) -> Option<Round>
+        requires place { place < self.now.shards }
+        requires found { IsRound T self.now.shards place found }
+        ensures more { IfSome result (λ r. IsRound T self.now.shards (place + 1) r) }
+        ensures drained { (result ≡ None)
+            → AtPlace {T = T} self.now.shards place TellsDrained true }
     {
-        if let Some(place) = self.drained_place(rt) {
-            return self.go_on(rt, alloc, place);
+        let seen = self.seen_at(rt, place);
+        match seen {
+            Seen::Drained => None,
+            _ => Some(found.with(place, seen)),
         }
-        if let Some(place) = self.closed_place(rt) {
-            return self.drain_on(rt, alloc, place);
-        }
-        for place in 0..self.shards() {
-            if self.close_worn(rt, place) {
-                return Ok(Kept::Closed { place });
+    }
+
+    // Closes the shard at a place, where it takes entries and is worn so far.
+    fn close_worn<R: Wait>(&self, rt: &R, place: usize, wear: Wear) -> bool
+        requires { place < self.now.shards }
+        ensures { AtPlace {T = T} self.now.shards place (ClosesWorn wear) result }
+    {
+        let mut shard = self.lock(rt, place);
+        let (is_closed, leaver) = shard.close_worn(wear);
+        unlock(shard, leaver);
+        is_closed
+    }
+
+    // Closes the first shard from a place on that is worn by half, where each takes entries.
+    fn close_from<R: Wait>(&self, rt: &R, from: usize) -> Kept
+        requires range { from ≤ self.now.shards }
+        requires fine { NoneIsDue T self.now.shards from }
+        ensures { KeepsGoing T self.now.shards (Ok result) }
+    {
+        for place in from..self.shards() {
+            if self.close_worn(rt, place, Wear::Half) {
+                return Kept::Closed { place };
             }
         }
-        Ok(Kept::Fine)
+        Kept::Fine
+    }
+
+    // While the shard at a place drains, one that is worn by three quarters is closed where another takes entries.
+    fn close_beside<R: Wait>(&self, rt: &R, found: Round, closed: usize) -> Due
+        requires found { IsRound T self.now.shards self.now.shards found }
+        requires closed { found.closed ≡ Some closed }
+        ensures { IsDue T self.now.shards result }
+    {
+        let Some(worn) = found.far_worn else {
+            return Due::At(closed);
+        };
+        if found.beside.is_none() {
+            return Due::At(closed);
+        }
+        if self.close_worn(rt, worn, Wear::Far) {
+            return Due::Made(Kept::Closed { place: worn });
+        }
+        Due::At(closed)
+    }
+
+    // What is due, by one look at each place. A shard to be closed is closed.
+    pub(crate) fn due<R: Wait>(&self, rt: &R) -> Due
+        ensures { IsDue T self.now.shards result }
+    {
+        let mut found = Round {
+            closed: None,
+            half_worn: None,
+            far_worn: None,
+            beside: None,
+        };
+        for place in 0..self.shards() {
+            match self.look_at(rt, place, found) {
+                Some(more) => found = more,
+                None => return Due::At(place),
+            }
+        }
+        if let Some(closed) = found.closed {
+            return self.close_beside(rt, found, closed);
+        }
+        match found.half_worn {
+            Some(worn) => Due::Made(self.close_from(rt, worn)),
+            None => Due::Made(Kept::Fine),
+        }
     }
 }

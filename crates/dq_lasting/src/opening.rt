@@ -14,8 +14,7 @@ ghost use Rattle.dq_lasting.specs.Keeping.{BeginsAt, DrainsOn, GoesOnAt, IsDrain
 use crate::ended::Ended;
 use crate::errors::ReopenError;
 use crate::keeping::Kept;
-use crate::queue::LastingQueue;
-use crate::quiet::{nobody, unlock};
+use crate::queue::{LastingQueue, goes_on_if, unlock};
 use crate::shard::{LastingShard, with_ended};
 use dq_core::{FreshRows, Slots};
 use dq_parking::{Leaver, take};
@@ -48,8 +47,18 @@ pub(crate) type Rows<T, A> = FreshRows<T, Keeper<A>, A>;
 // What is dropped once the lock is free: the rows that a shard had, or those that it didn't want any more.
 pub(crate) type LeftOver<T, A> = Result<(Keeper<A>, Slots<T, A>), Rows<T, A>>;
 
+// What the second lock came to, who is woken once it is free, and what is dropped then.
+pub(crate) struct Opened<K, T, A: Allocator> {
+    pub(crate) answer: Result<K, ReopenError>,
+    pub(crate) woken: Leaver<Option<u64>>,
+    pub(crate) left: LeftOver<T, A>,
+}
+
 // Rows that were never used; none where memory is refused.
-fn fresh_rows<T: Drop, A: Allocator + Clone + Drop>(alloc: A, size: ShardSize) -> Option<Rows<T, A>>
+pub(crate) fn fresh_rows<T, A: Allocator + Clone + Drop>(
+    alloc: A,
+    size: ShardSize,
+) -> Option<Rows<T, A>>
     ensures { IfSome result (λ r. AreFreshRows size r) }
 {
     let Ok(other) = alloc.clone() else {
@@ -67,8 +76,16 @@ fn fresh_rows<T: Drop, A: Allocator + Clone + Drop>(alloc: A, size: ShardSize) -
     }
 }
 
-impl<T: Drop, A: Allocator> LastingShard<T, A> {
-    // As `sweep`, at the next few slots.
+// An answer by which nobody leaves.
+fn nobody<K>(answer: K) -> (K, Leaver<Option<u64>>)
+    ensures answer { result.0 ≡ answer }
+    ensures nobody { result.1.poller ≡ None }
+{
+    (answer, Leaver { poller: None })
+}
+
+impl<T, A: Allocator> LastingShard<T, A> {
+    // Frees the slots of entries that were cancelled among the next few slots. Their values are set aside.
     fn sweep_on(&mut self) -> (usize, Leaver<Option<u64>>)
         ensures sweeps { LastingSweepsOn self.old result.0 self.new }
         ensures leaves { Leaves self.old.parked result.1.poller self.new.parked }
@@ -135,80 +152,85 @@ impl<T: Drop, A: Allocator> LastingShard<T, A> {
     }
 
     // Goes on over other rows under the number that is higher by so much.
-    fn open_over(
-        &mut self,
-        rows: Rows<T, A>,
-        by: u32,
-    ) -> (Result<(), ReopenError>, Leaver<Option<u64>>, LeftOver<T, A>)
+    fn open_over(&mut self, rows: Rows<T, A>, by: u32) -> Opened<(), T, A>
         requires by { 0 < by }
         requires empty { count_by is_held self.old.core.slots.rows ≡ 0 }
         requires fits { FitsShard self.old rows }
         // Its number rises, so each entry from before is missing for good, and it takes entries again.
-        ensures rises { OnOk result.0 (self.new.core.shard ≡ self.old.core.shard + by) }
-        ensures stale { OnOk result.0 (OldAreMissing self.old.core self.new.core) }
-        ensures opened { OnOk result.0 (self.new.takes ≡ true) }
-        ensures refused { OnErr result.0 (self.new ≡ self.old) }
+        ensures rises { OnOk result.answer (self.new.core.shard ≡ self.old.core.shard + by) }
+        ensures stale { OnOk result.answer (OldAreMissing self.old.core self.new.core) }
+        ensures opened { OnOk result.answer (self.new.takes ≡ true) }
+        ensures refused { OnErr result.answer (self.new ≡ self.old) }
 
         // All that it does.
-        ensures reopens { Reopens self.old by result.0 self.new }
-        ensures leaves { Leaves self.old.parked result.1.poller self.new.parked }
+        ensures reopens { Reopens self.old by result.answer self.new }
+        ensures leaves { Leaves self.old.parked result.woken.poller self.new.parked }
     {
         let Some((number, past)) = self.next_generation(by) else {
-            let (answer, leaver) = nobody(Err(ReopenError::NumbersSpent));
-            return (answer, leaver, Err(rows));
+            return Opened {
+                answer: Err(ReopenError::NumbersSpent),
+                woken: Leaver { poller: None },
+                left: Err(rows),
+            };
         };
         match self.attended.core.renew_with(number, rows) {
             Ok(old) => {
                 self.takes = true;
                 self.past = past;
                 self.sweep_from = 0;
-                let leaver = take(&mut self.attended.parked);
-                (Ok(()), leaver, Ok(old))
+                let woken = take(&mut self.attended.parked);
+                Opened {
+                    answer: Ok(()),
+                    woken,
+                    left: Ok(old),
+                }
             }
             Err(_refused) => unreachable!(),
         }
     }
 
     // Under the second lock: one that is still drained goes on over the rows. Any other makes its step, and wants none.
-    pub(crate) fn end(
-        &mut self,
-        rows: Rows<T, A>,
-        place: usize,
-        by: u32,
-    ) -> (
-        Result<Kept, ReopenError>,
-        Leaver<Option<u64>>,
-        LeftOver<T, A>,
-    )
+    pub(crate) fn end(&mut self, rows: Rows<T, A>, place: usize, by: u32) -> Opened<Kept, T, A>
         requires by { 0 < by }
         requires fits { FitsShard self.old rows }
-        ensures goes { GoesOnAt by place self.old result.0 self.new }
-        ensures leaves { Leaves self.old.parked result.1.poller self.new.parked }
+        ensures goes { GoesOnAt by place self.old result.answer self.new }
+        ensures leaves { Leaves self.old.parked result.woken.poller self.new.parked }
     {
         if !self.is_drained() {
-            let (kept, leaver) = self.drain_on(place);
-            return (Ok(kept), leaver, Err(rows));
+            let (kept, woken) = self.drain_on(place);
+            return Opened {
+                answer: Ok(kept),
+                woken,
+                left: Err(rows),
+            };
         }
-        let (answer, leaver, left) = self.open_over(rows, by);
-        match answer {
-            Ok(()) => (Ok(Kept::Reopened { place }), leaver, left),
-            Err(error) => (Err(error), leaver, left),
+        let Opened {
+            answer,
+            woken,
+            left,
+        } = self.open_over(rows, by);
+        let answer = match answer {
+            Ok(()) => Ok(Kept::Reopened { place }),
+            Err(error) => Err(error),
+        };
+        Opened {
+            answer,
+            woken,
+            left,
         }
     }
 }
 
-impl<T: Drop, A: Allocator> LastingQueue<T, A> {
-    // The first of the two locks.
-    fn begin_at<R: Wait>(&self, rt: &R, place: usize) -> Begun
+impl<T, A: Allocator> LastingQueue<T, A> {
+    // The first of the two locks. How many values are set aside is told too.
+    pub(crate) fn begin_at<R: Wait>(&self, rt: &R, place: usize) -> (Begun, usize)
         requires { place < self.now.shards }
-        ensures { AtPlace {T = T} self.now.shards place (BeginsAt self.now.shards place) result }
+        ensures { AtPlace {T = T} self.now.shards place (BeginsAt self.now.shards place) result.0 }
     {
         let shards = self.shards() as u32;
         let mut shard = self.lock(rt, place);
         let (begun, leaver) = shard.begin(place, shards);
-        let aside = unlock(shard, leaver);
-        self.drop_aside(rt, place, aside);
-        begun
+        (begun, unlock(shard, leaver))
     }
 
     // As `lock`. The size is compared once: no call changes it.
@@ -224,47 +246,30 @@ impl<T: Drop, A: Allocator> LastingQueue<T, A> {
     {
         let shard = self.lock(rt, place);
         let found = shard.size();
-        if found.capacity != size.capacity || found.last_stamp != size.last_stamp {
-            for _ in rt.forever() {}
-            unreachable!()
-        }
+        goes_on_if(rt, found.capacity == size.capacity);
+        goes_on_if(rt, found.last_stamp == size.last_stamp);
         shard
     }
 
-    // The second of the two locks.
-    fn end_at<R: Wait>(
+    // The second of the two locks. What is left over and how many values are set aside is told too.
+    pub(crate) fn end_at<R: Wait>(
         &self,
         rt: &R,
         place: usize,
         size: ShardSize,
         rows: Rows<T, A>,
-    ) -> Result<Kept, ReopenError>
+    ) -> (Result<Kept, ReopenError>, LeftOver<T, A>, usize)
         requires place { place < self.now.shards }
         requires rows { AreFreshRows size rows }
-        ensures { AtPlace {T = T} self.now.shards place (GoesOnAt self.now.shards place) result }
+        ensures { AtPlace {T = T} self.now.shards place (GoesOnAt self.now.shards place) result.0 }
     {
         let shards = self.shards() as u32;
         let mut shard = self.lock_of_size(rt, place, size);
-        let (answer, leaver, left) = shard.end(rows, place, shards);
-        let aside = unlock(shard, leaver);
-        drop(left);
-        self.drop_aside(rt, place, aside);
-        answer
-    }
-}
-
-impl<T: Drop, A: Allocator + Clone + Drop> LastingQueue<T, A> {
-    // Opens the shard at a place again where it is drained, and else sweeps the next few slots of a closed one.
-    pub(crate) fn go_on<R: Wait>(&self, rt: &R, alloc: A, place: usize) -> Result<Kept, ReopenError>
-        requires { place < self.now.shards }
-        ensures { AtPlace {T = T} self.now.shards place (GoesOnAt self.now.shards place) result }
-    {
-        match self.begin_at(rt, place) {
-            Begun::Answered(answer) => answer,
-            Begun::Opens(size) => match fresh_rows(alloc, size) {
-                Some(rows) => self.end_at(rt, place, size, rows),
-                None => Err(ReopenError::NoMemory),
-            },
-        }
+        let Opened {
+            answer,
+            woken,
+            left,
+        } = shard.end(rows, place, shards);
+        (answer, left, unlock(shard, woken))
     }
 }

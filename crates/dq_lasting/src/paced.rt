@@ -6,26 +6,26 @@ ghost use Rattle.futures.specs.Runs.{After, Within};
 ghost use Rattle.dq_parking.specs.Items.{IfFault};
 ghost use Rattle.dq_lasting.specs.Answers.{AtPlace};
 ghost use Rattle.dq_lasting.specs.Polling.{with_none_parked};
-ghost use Rattle.dq_lasting.specs.Paces.{PollsSomeOrParksWith, PollsSomeOrParksAt};
-ghost use Rattle.dq_lasting.specs.Paces.{LastingPacedPolls, LastingPacedGives};
+ghost use Rattle.dq_lasting.specs.Changes.{LastingPollsSome};
+ghost use Rattle.dq_lasting.specs.Paces.{PollsSomeOrParksWith, LastingPacedPolls, LastingPacedGives};
 ghost use Rattle.dq_lasting.specs.Streams.{NeverEnds, IsLastingFault};
 
 use crate::errors::LastingError;
 use crate::queue::LastingQueue;
 use crate::shard::LastingShard;
 use crate::stream::{LastingStream, fault_of};
-use dq_core::{Expired, Piece, Turn};
-use dq_parking::{Parked, StreamFault, TickSource, forget, let_sleep, register};
+use dq_core::{CoreError, Expired, Piece, Turn};
+use dq_parking::{Parked, StreamFault, TickSource};
 use futures::Stream;
-use futures::task::{Context, Poll, Source, Waker};
+use futures::task::{Context, Poll, Waker};
 use std::alloc::{Allocator, Global};
 use std::num::NonZeroU32;
 use std::sync::Wait;
 
 // What a poll gives where it has come to an end.
-type Polled<T> = Poll<Result<Expired<T>, LastingError>>;
+pub(crate) type Polled<T> = Poll<Result<Expired<T>, LastingError>>;
 
-impl<T: Drop, A: Allocator> LastingShard<T, A> {
+impl<T, A: Allocator> LastingShard<T, A> {
     // As `poll_or_park`, by at most `most` steps. None where more is to do, and then nothing is parked.
     fn poll_some_or_park(
         &mut self,
@@ -33,9 +33,10 @@ impl<T: Drop, A: Allocator> LastingShard<T, A> {
         most: u32,
         slot: &mut Option<Waker>,
     ) -> Option<Polled<T>>
+        requires { self.old.parked ≡ None }
         ensures { PollsSomeOrParksWith self.old tick most slot.old result self.new }
     {
-        match self.poll_some(tick, most) {
+        match self.poll_some_unparked(tick, most) {
             Ok(Piece::Working) => None,
             Ok(Piece::Answer(Turn::Out(expired))) => Some(Poll::Ready(Ok(expired))),
             Ok(Piece::Answer(Turn::Waiting { next })) => Some(self.wait(Some(next), slot)),
@@ -43,11 +44,19 @@ impl<T: Drop, A: Allocator> LastingShard<T, A> {
             Err(error) => Some(Poll::Ready(Err(LastingError::Core(error)))),
         }
     }
+
+    // A poll by at most so many steps where none is parked, so nobody leaves.
+    fn poll_some_unparked(&mut self, tick: u64, most: u32) -> Result<Piece<T>, CoreError>
+        requires { self.old.parked ≡ None }
+        ensures { LastingPollsSome self.old tick most result self.new }
+    {
+        self.attended.core.poll_some_deferring(tick, most)
+    }
 }
 
-impl<T: Drop, A: Allocator> LastingQueue<T, A> {
+impl<T, A: Allocator> LastingQueue<T, A> {
     // As `poll_or_park_at`, by at most `most` steps. No answer where more is to do.
-    fn poll_some_or_park_at<R: Wait>(
+    pub(crate) fn poll_some_or_park_at<R: Wait>(
         &self,
         rt: &R,
         place: usize,
@@ -65,56 +74,6 @@ impl<T: Drop, A: Allocator> LastingQueue<T, A> {
         let answer = shard.poll_some_or_park(tick, most, slot);
         shard.law();
         (answer, shard.aside())
-    }
-
-    /// As [`LastingQueue::poll_or_park`], by at most `most` steps while the shard's lock is held, each in constant time
-    /// but for a value's drop. Where more is to do nothing is parked: the lock is let go, the polled task is woken, and
-    /// the answer is Pending. So others may take the lock before the task is polled again.
-    ///
-    /// # Errors
-    /// As `poll_or_park`.
-    #[tactic(auto, using(crate::proofs::Piecewise::by_registering_pieces))]
-    pub fn poll_some_or_park<R: Wait>(
-        &self,
-        rt: &R,
-        place: usize,
-        tick: u64,
-        most: u32,
-        name: &Source,
-        cx: &mut Context<'_>,
-    ) -> Poll<Result<Expired<T>, LastingError>>
-        // It waits registered with its context, or with its task woken.
-        ensures registered { OnPending result (Covers cx.new (λ s. s ≡ name.now.id)) }
-
-        // All that it answers.
-        ensures polls { PollsSomeOrParksAt T self.now.shards place cx.old cx.new tick most result }
-        ensures kept { Keeps cx.old cx.new }
-    {
-        if place >= self.shards() {
-            return Poll::Ready(Err(LastingError::Unknown));
-        }
-        let mut before = None;
-        let mut slot = register(name, cx);
-        let (polled, aside) = self.poll_some_or_park_at(
-            rt,
-            place,
-            tick,
-            most,
-            &mut slot,
-            &mut before,
-        );
-        let_sleep(before);
-        forget(slot);
-        let Some(answer) = polled else {
-            let _woken: Poll<()> = cx.yield_now();
-            self.drop_aside(rt, place, aside);
-            return Poll::Pending;
-        };
-        // A drop that panics would lose what came out.
-        if answer.is_pending() {
-            self.drop_aside(rt, place, aside);
-        }
-        answer
     }
 }
 

@@ -1,20 +1,38 @@
 //! Shards behind locks, each renewed by itself.
-ghost use Rattle.std.specs.Prelude.{◌≡◌, ◌<◌, ◌≤◌, vec_len};
+ghost use Rattle.std.specs.Prelude.{◌≡◌, ◌<◌, ◌≤◌, true, OnOk, IfOk, IfErr, vec_len};
 ghost use Rattle.std.specs.Sync.Mutex.{mutex_guard_value};
 ghost use Rattle.dq_lasting.specs.declared.config.TheConstants.{SHARD_LIMIT};
+ghost use Rattle.dq_lasting.specs.declared.errors.LastingError.TheVariants.{Unknown};
 ghost use Rattle.dq_lasting.specs.Answers.{IsLastingConfig, LastingIsMade, IsOfPlace};
+ghost use Rattle.dq_lasting.specs.Shard.{IsLasting};
 
 use crate::config::{LastingConfig, SHARD_LIMIT};
+use crate::errors::LastingError;
 use crate::shard::LastingShard;
 use dq_core::{CoreConfig, CoreError};
-use dq_parking::{Waiting, waiting_row};
+use dq_parking::{Leaver, Waiting, waiting_row};
 use dq_words::locked_shards;
 use std::alloc::{Allocator, Global};
 use std::marker::Model;
 use std::sync::{Mutex, MutexGuard, Wait};
 
-/// A delay queue in shards, each behind a lock of its own, which are renewed one by one while the others serve. To a
-/// contract it is the number of its shards, and its name.
+/// A delay queue in shards, each behind a lock of its own, which are renewed one by one while the others serve.
+///
+/// ```
+/// use hontkhale::lasting::{Kept, LastingConfig, LastingQueue};
+/// use hontkhale::owner::Turn;
+///
+/// # fn main() -> Result<(), Box<dyn std::error::Error>> {
+/// let queue = LastingQueue::new(LastingConfig::of(2, 100))?;
+/// let key = queue.insert(0, "value", 100).map_err(|refused| refused.0)?;
+/// queue.handle()?.extend(&key, 200)?;
+/// assert!(matches!(queue.poll(0, 200)?, Turn::Out(expired) if expired.value == "value"));
+///
+/// // Whoever polls calls this in a quiet moment.
+/// assert_eq!(queue.keep_going()?, Kept::Fine);
+/// # Ok(())
+/// # }
+/// ```
 ///
 /// It hands out no `&mut` of a shard, so no two shards change places.
 ///
@@ -60,11 +78,11 @@ impl<T: Drop, A: Allocator + Clone + Drop> LastingQueue<T, A> {
         LastingQueue::named(alloc, config, 0)
     }
 
-    /// As `new`, with a name that the queue keeps and that its handles have. A handle is renewed by a queue of that
-    /// name alone, so queues whose handles may meet need names of their own. `new` gives the name 0.
+    /// A queue of empty shards at tick 0, with a name that the queue keeps and that its handles have. A handle is renewed
+    /// by a queue of that name alone.
     ///
     /// # Errors
-    /// As `new`.
+    /// BadConfig where a number of the configuration is out of its range, and else NoMemory.
     pub fn named(
         alloc: A,
         config: LastingConfig,
@@ -103,7 +121,7 @@ impl<T, A: Allocator> LastingQueue<T, A> {
         self.shards.len()
     }
 
-    /// The name that it was given.
+    /// The name that it was given where it was made. No other queue of the process has it.
     pub fn name(&self) -> u64
         ensures { result ≡ self.now.name }
     {
@@ -111,7 +129,7 @@ impl<T, A: Allocator> LastingQueue<T, A> {
     }
 }
 
-impl<T: Drop, A: Allocator> LastingQueue<T, A> {
+impl<T, A: Allocator> LastingQueue<T, A> {
     /// Gives way to whoever waits for the lock of the shard at a place: it looks for a bounded while until nobody
     /// does, and returns at once where nobody does. A place out of range has no lock.
     ///
@@ -124,6 +142,19 @@ impl<T: Drop, A: Allocator> LastingQueue<T, A> {
         }
     }
 
+    // Whether there is such a place. Refused as Unknown out of range.
+    #[inline]
+    pub(crate) fn in_range(&self, place: usize) -> Result<(), LastingError>
+        ensures inside { OnOk result (place < self.now.shards) }
+        ensures outside { IfErr result (λ e. (self.now.shards ≤ place) × (e ≡ Unknown)) }
+    {
+        if place < self.shards() {
+            Ok(())
+        } else {
+            Err(LastingError::Unknown)
+        }
+    }
+
     // The shard at a place, with its lock held. The number is compared once: no call makes it another place's.
     #[inline]
     pub(crate) fn lock<R: Wait>(&self, rt: &R, place: usize) -> MutexGuard<'_, LastingShard<T, A>>
@@ -132,11 +163,50 @@ impl<T: Drop, A: Allocator> LastingQueue<T, A> {
     {
         let waiting = &self.waiting[place];
         let shard = waiting.taken(rt, &self.shards[place]);
-        if shard.number() as usize % self.shards.len() != place {
-            for _ in rt.forever() {}
-            unreachable!()
-        }
+        goes_on_if(rt, shard.number() as usize % self.shards.len() == place);
         shard.law();
         shard
     }
+
+    // The same of a place that may be out of range: refused as Unknown then.
+    #[inline]
+    pub(crate) fn entered<R: Wait>(
+        &self,
+        rt: &R,
+        place: usize,
+    ) -> Result<MutexGuard<'_, LastingShard<T, A>>, LastingError>
+        ensures entered { IfOk result (λ s. (place < self.now.shards)
+            × IsOfPlace self.now.shards place (mutex_guard_value s)) }
+        ensures refused { IfErr result (λ e. (self.now.shards ≤ place) × (e ≡ Unknown)) }
+    {
+        self.in_range(place)?;
+        Ok(self.lock(rt, place))
+    }
+}
+
+// Goes on where it is so. No call makes it otherwise, but no contract of a lock says so.
+#[inline]
+pub(crate) fn goes_on_if<R: Wait>(rt: &R, is_so: bool)
+    ensures { is_so ≡ true }
+{
+    if !is_so {
+        for _ in rt.forever() {}
+        unreachable!()
+    }
+}
+
+// Lets the lock go, and then wakes who has left: whoever is woken may call the queue at once. Returns how many values are
+// set aside.
+#[inline]
+pub(crate) fn unlock<T, A: Allocator>(
+    shard: MutexGuard<'_, LastingShard<T, A>>,
+    leaver: Leaver<Option<u64>>,
+) -> usize
+    ensures { IsLasting (mutex_guard_value shard.entry) }
+{
+    shard.law();
+    let aside = shard.aside();
+    drop(shard);
+    leaver.wake();
+    aside
 }

@@ -1,22 +1,28 @@
 //! One shard: a queue that is closed, drained and opened again.
+//!
+//! Its calls are made while its lock is held, so they wake nobody and drop no value: who leaves is handed over, to be
+//! woken once the lock is free, and what is reaped or cleared is set aside.
 ghost use Rattle.std.specs.Prelude.{◌≡◌, ◌↔◌, ◌+◌, ◌<◌, ◌≤◌, true, false, None, OnOk, OnErr, IfErr, IfSome, IsErrAnd, length};
 ghost use Rattle.std.specs.List.{count_by};
 ghost use Rattle.dq_core.specs.Calls.{TellsWake};
+ghost use Rattle.dq_core.specs.Readers.{TellsLeast};
 ghost use Rattle.dq_core.specs.Slots.{is_held, is_worn};
 ghost use Rattle.dq_parking.specs.Parking.{Leaves};
 ghost use Rattle.dq_lasting.specs.declared.errors.LastingError.TheVariants.{Closed};
 ghost use Rattle.dq_lasting.specs.Shard.{IsLasting, AddsUp};
-ghost use Rattle.dq_lasting.specs.Changes.{LastingInserts, LastingResets, LastingRemoves};
-ghost use Rattle.dq_lasting.specs.Changes.{LastingDeadline, LastingPolls, LastingSweeps, Closes};
-ghost use Rattle.dq_lasting.specs.Changes.{LastingClears, LastingTells, LastingIssues, IsWith};
-ghost use Rattle.dq_lasting.specs.Changes.{count_end};
-ghost use Rattle.dq_lasting.specs.Keeping.{ClosesWorn, ClosesFarWorn, TellsDrained};
+ghost use Rattle.dq_lasting.specs.Changes.{LastingInserts, LastingDeadline, LastingTells, LastingIssues};
+ghost use Rattle.dq_lasting.specs.Changes.{Closes, IsWith, count_end};
+ghost use Rattle.dq_lasting.specs.Keeping.{IsWornBy, ClosesWorn, TellsDrained, TellsSeen};
+ghost use Rattle.dq_lasting.specs.Parking.{TellsParked};
+ghost use Rattle.dq_lasting.specs.Polling.{RingsParked, with_none_parked};
 
 use crate::ended::{Ended, LastingTally};
 use crate::errors::LastingError;
+use crate::keeping::{Seen, Wear};
 use crate::numbered::NumberedCaller;
-use dq_core::{CoreError, DelayCore, Removed, Tally, Turn};
-use dq_parking::{Attended, Leaver};
+use crate::poller::ParkedPoller;
+use dq_core::{CoreError, DelayCore, Tally};
+use dq_parking::{Attended, Leaver, Parked, keep_or_leave, ring, take};
 use dq_ticks::{EntryId, Key};
 use dq_words::{Keeper, WordsError};
 use std::alloc::{Allocator, Global};
@@ -26,7 +32,7 @@ use std::marker::Model;
 /// its earlier generations, and the poller that is parked there.
 ///
 /// It always keeps the parked law: a poller that is parked waits for a tick that isn't after the next wake, or for an
-/// insert where nothing is linked. A call that would break the law takes the poller out and wakes it.
+/// insert where nothing is linked. A call that would break the law takes the poller out and hands it over.
 #[derive(Drop)]
 pub struct LastingShard<T, A: Allocator = Global> {
     pub(crate) attended: Attended<T, Option<u64>, A>,
@@ -95,7 +101,10 @@ impl<T, A: Allocator> From<DelayCore<T, Keeper<A>, A>> for LastingShard<T, A> {
     }
 }
 
-impl<T: Drop, A: Allocator> LastingShard<T, A> {
+// What an insert came to; refused, the value comes back.
+pub(crate) type Inserted<T> = Result<Key, (LastingError, T)>;
+
+impl<T, A: Allocator> LastingShard<T, A> {
     /// What every shard keeps. The call does nothing, and is for proofs.
     pub fn law(&self)
         ensures { IsLasting self.now }
@@ -159,147 +168,190 @@ impl<T: Drop, A: Allocator> LastingShard<T, A> {
         }
     }
 
-    /// As [`DelayCore::insert`], where the shard takes entries.
-    ///
-    /// # Errors
-    /// Closed exactly where it takes none, then TooFar beyond the last tick, and else Full where no slot is free. The
-    /// value comes back.
-    #[inline]
-    pub fn insert(&mut self, value: T, when: u64) -> Result<Key, (LastingError, T)>
+    /// How many values are set aside: those of entries that were reaped or cleared, and that aren't dropped yet.
+    /// Constant time.
+    #[inline(always)]
+    pub fn aside(&self) -> usize {
+        self.attended.core.aside()
+    }
+
+    /// A linked entry that is filed least, possibly a cancelled one; none where nothing is linked. No live entry has a
+    /// deadline before the tick by which that one is filed.
+    pub fn peek(&self) -> Option<Key>
+        ensures { TellsLeast self.now.core result }
+    {
+        self.attended.core.peek()
+    }
+
+    /// What the poller waits for that is parked here.
+    pub fn parked(&self) -> ParkedPoller
+        ensures { TellsParked self.now.parked result }
+    {
+        let Some(poller) = &self.attended.parked else {
+            return ParkedPoller::Nobody;
+        };
+        match poller.next {
+            Some(tick) => ParkedPoller::UntilTick(tick),
+            None => ParkedPoller::UntilInsert,
+        }
+    }
+
+    // Takes out a value that is set aside where an insert, if one is taken, might have no place for it.
+    #[inline(always)]
+    pub(crate) fn take_crowded(&mut self) -> Option<T>
+        ensures { self.new ≡ self.old }
+    {
+        if self.takes {
+            self.attended.core.take_crowded()
+        } else {
+            None
+        }
+    }
+
+    // Puts an entry in, where the shard takes entries. What waited for its drop where the entry is now is handed over.
+    #[inline(always)]
+    pub(crate) fn insert(
+        &mut self,
+        value: T,
+        when: u64,
+    ) -> (Inserted<T>, Leaver<Option<u64>>, Option<T>)
         // As closed exactly where it takes none. Refused, the value comes back and nothing changes.
-        ensures closed { IsErrAnd result (λ e. e.0 ≡ Closed) ↔ (self.old.takes ≡ false) }
-        ensures refused { IfErr result (λ e. (e.1 ≡ value) × (self.new ≡ self.old)) }
+        ensures closed { IsErrAnd result.0 (λ e. e.0 ≡ Closed) ↔ (self.old.takes ≡ false) }
+        ensures refused { IfErr result.0 (λ e. (e.1 ≡ value) × (self.new ≡ self.old)) }
 
-        // All that it does.
-        ensures inserts { LastingInserts self.old value when result self.new }
-    {
-        drop(self.take_crowded());
-        let (answer, leaver, _crowded) = self.insert_quietly(value, when);
-        leaver.wake();
-        answer
-    }
-
-    /// As [`DelayCore::reset`].
-    #[inline]
-    pub fn reset(&mut self, entry: &EntryId, when: u64) -> Result<Key, CoreError>
-        ensures { LastingResets self.old entry.now when result self.new }
-    {
-        let (answer, leaver) = self.attended.reset(entry, when);
-        leaver.wake();
-        answer
-    }
-
-    /// As [`DelayCore::remove`].
-    #[inline]
-    pub fn remove(&mut self, entry: &EntryId) -> Result<Removed<T>, CoreError>
-        ensures { LastingRemoves self.old entry.now result self.new }
-    {
-        let (answer, leaver) = self.attended.remove(entry);
-        leaver.wake();
-        answer
-    }
-
-    /// As [`DelayCore::deadline`].
-    #[inline]
-    pub fn deadline(&mut self, entry: &EntryId) -> Result<u64, CoreError>
-        ensures { LastingDeadline self.old entry.now result self.new }
-    {
-        let (answer, leaver) = self.deadline_quietly(entry);
-        leaver.wake();
-        answer
-    }
-
-    /// As [`DelayCore::poll`].
-    #[inline]
-    pub fn poll(&mut self, tick: u64) -> Result<Turn<T>, CoreError>
-        ensures { LastingPolls self.old tick result self.new }
-    {
-        let (answer, leaver) = self.attended.poll(tick);
-        leaver.wake();
-        answer
-    }
-
-    /// As [`DelayCore::sweep`].
-    pub fn sweep(&mut self) -> usize
-        ensures { LastingSweeps self.old result self.new }
-    {
-        let (reaped, leaver) = self.attended.sweep();
-        leaver.wake();
-        reaped
-    }
-
-    /// As [`DelayCore::clear`].
-    pub fn clear(&mut self) -> usize
-        ensures { LastingClears self.old result self.new }
-    {
-        let (removed, leaver) = self.attended.clear();
-        leaver.wake();
-        removed
-    }
-
-    /// Takes no more entries until it is opened again. Those that are there stay until they end, and a reset still
-    /// moves them. A poller that is parked is woken.
-    pub fn close(&mut self)
-        ensures { Closes self.old self.new }
-    {
-        self.close_quietly().wake();
-    }
-
-    // Closes it where it takes entries and half of its slots at the least are worn, and tells whether it did.
-    pub(crate) fn close_worn(&mut self) -> (bool, Leaver<Option<u64>>)
-        ensures closes { ClosesWorn self.old result.0 self.new }
+        // All that it does, and who leaves.
+        ensures inserts { LastingInserts self.old value when result.0 self.new }
         ensures leaves { Leaves self.old.parked result.1.poller self.new.parked }
+    {
+        if !self.takes {
+            return (
+                Err((LastingError::Closed, value)),
+                Leaver { poller: None },
+                None,
+            );
+        }
+        let (answer, leaver, crowded) = self.attended.insert(value, when);
+        match answer {
+            Ok(key) => (Ok(key), leaver, crowded),
+            Err((error, value)) => (Err((LastingError::Core(error), value)), leaver, crowded),
+        }
+    }
+
+    // The deadline of a live entry.
+    #[inline]
+    pub(crate) fn deadline(
+        &mut self,
+        entry: &EntryId,
+    ) -> (Result<u64, CoreError>, Leaver<Option<u64>>)
+        ensures tells { LastingDeadline self.old entry.now result.0 self.new }
+        ensures leaves { Leaves self.old.parked result.1.poller self.new.parked }
+    {
+        let answer = self.attended.core.deadline(entry);
+        (
+            answer,
+            keep_or_leave(&self.attended.core, &mut self.attended.parked),
+        )
+    }
+
+    // Takes no more entries until it is opened again. Those that are there stay until they end, and a reset still moves
+    // them. A poller that is parked leaves.
+    pub(crate) fn close(&mut self) -> Leaver<Option<u64>>
+        ensures closes { Closes self.old self.new }
+        ensures leaves { Leaves self.old.parked result.poller self.new.parked }
+    {
+        self.takes = false;
+        take(&mut self.attended.parked)
+    }
+
+    // Takes out a poller that is parked at or before a tick, and tells whether there was one.
+    pub(crate) fn ring(&mut self, tick: u64) -> (bool, Leaver<Option<u64>>)
+        ensures rings { RingsParked self.old tick result.0 self.new }
+        ensures leaves { Leaves self.old.parked result.1.poller self.new.parked }
+    {
+        let rung = ring(&mut self.attended.parked, tick);
+        (rung.is_some(), rung)
+    }
+
+    // Takes the parked poller out.
+    pub(crate) fn take_parked(&mut self) -> Option<Parked<Option<u64>>>
+        ensures taken { result ≡ self.old.parked }
+        ensures left { self.new ≡ with_none_parked self.old }
+    {
+        self.attended.parked.take()
+    }
+
+    // Whether it is worn so far.
+    pub(crate) fn is_worn_by(&self, wear: Wear) -> bool
+        ensures worn { (result ≡ true) → IsWornBy wear self.now }
+        ensures unworn { (result ≡ false) → ¬ IsWornBy wear self.now }
     {
         let worn = self.attended.core.worn();
         let capacity = self.attended.core.capacity();
-        if !self.takes {
-            return (false, Leaver { poller: None });
+        match wear {
+            Wear::Half => {
+                if worn < capacity - capacity / 2 {
+                    return false;
+                }
+                true
+            }
+            Wear::Far => {
+                if worn < capacity - capacity / 4 {
+                    return false;
+                }
+                true
+            }
         }
-        if worn < capacity - capacity / 2 {
-            return (false, Leaver { poller: None });
-        }
-        (true, self.close_quietly())
     }
 
-    // Closes it where it takes entries and three quarters of its slots at the least are worn, and tells whether it did.
-    pub(crate) fn close_far_worn(&mut self) -> (bool, Leaver<Option<u64>>)
-        ensures closes { ClosesFarWorn self.old result.0 self.new }
+    // Closes it where it takes entries and is worn so far, and tells whether it did.
+    pub(crate) fn close_worn(&mut self, wear: Wear) -> (bool, Leaver<Option<u64>>)
+        ensures closes { ClosesWorn wear self.old result.0 self.new }
         ensures leaves { Leaves self.old.parked result.1.poller self.new.parked }
     {
-        let worn = self.attended.core.worn();
-        let capacity = self.attended.core.capacity();
         if !self.takes {
             return (false, Leaver { poller: None });
         }
-        if worn < capacity - capacity / 4 {
+        if !self.is_worn_by(wear) {
             return (false, Leaver { poller: None });
         }
-        (true, self.close_quietly())
+        (true, self.close())
     }
 
-    // Whether nothing is linked, and it is closed or half of its slots at the least are worn: it can be opened again.
+    // Whether nothing is linked, and it is closed or worn by half: it can be opened again.
     pub(crate) fn is_drained(&self) -> bool
         ensures { TellsDrained self.now result self.now }
     {
-        let worn = self.attended.core.worn();
-        let half = self.attended.core.capacity() / 2;
         if !self.attended.core.is_empty() {
             return false;
         }
         if !self.takes {
             return true;
         }
-        if worn < self.attended.core.capacity() - half {
-            return false;
-        }
-        true
+        self.is_worn_by(Wear::Half)
     }
 
-    /// One caller more of this generation.
-    ///
-    /// # Errors
-    /// TooManyHandles where 1,024 callers of this generation were issued, given back or not, and else NoMemory.
-    pub fn issue(&mut self) -> Result<NumberedCaller<A>, WordsError>
+    // What is due of it.
+    pub(crate) fn seen(&self) -> Seen
+        ensures { TellsSeen self.now result self.now }
+    {
+        if self.is_drained() {
+            return Seen::Drained;
+        }
+        if !self.takes {
+            return Seen::Draining;
+        }
+        if self.is_worn_by(Wear::Far) {
+            return Seen::FarWorn;
+        }
+        if self.is_worn_by(Wear::Half) {
+            return Seen::HalfWorn;
+        }
+        Seen::Fresh
+    }
+
+    // One caller more of this generation. Refused as TooManyHandles where 1,024 callers of this generation were issued,
+    // given back or not, and else as NoMemory.
+    pub(crate) fn issue(&mut self) -> Result<NumberedCaller<A>, WordsError>
         ensures { LastingIssues self.old result self.new }
     {
         let number = self.attended.core.shard();

@@ -24,6 +24,8 @@ pub struct PlaceState {
     pub linked: usize,
     /// The number of worn slots, which hold nothing and have no stamp left. It is closed once they are half.
     pub worn: usize,
+    /// The greatest tick of one millisecond that a poll of it accepted; at first 0.
+    pub noted: u64,
     /// The next wake: the tick of one millisecond at which it has something to do, none where nothing is linked. No
     /// live entry has a deadline before it. The least deadline may be later, since an entry that is far ahead moves
     /// to a lower level first, and one that was extended is found when it comes due.
@@ -32,7 +34,7 @@ pub struct PlaceState {
     pub tally: LastingTally,
 }
 
-impl<T: Drop, A: Allocator> LastingShard<T, A> {
+impl<T, A: Allocator> LastingShard<T, A> {
     /// Its state. Constant time.
     #[tactic(auto, using(crate::proofs::States::wake_bounds))]
     pub fn state(&self) -> PlaceState
@@ -45,13 +47,14 @@ impl<T: Drop, A: Allocator> LastingShard<T, A> {
             capacity: self.capacity(),
             linked: self.len(),
             worn: self.worn(),
+            noted: self.attended.core.noted(),
             next_wake: self.next_wake(),
             tally: self.tally(),
         }
     }
 }
 
-impl<T: Drop, A: Allocator> LastingQueue<T, A> {
+impl<T, A: Allocator> LastingQueue<T, A> {
     /// The state of the shard at a place: all of it is of one moment. Constant time.
     ///
     /// # Errors
@@ -60,10 +63,7 @@ impl<T: Drop, A: Allocator> LastingQueue<T, A> {
         ensures unknown { IsErrOf result Unknown ↔ (self.now.shards ≤ place) }
         ensures tells { AtPlaceAll {T = T} self.now.shards place TellsState result }
     {
-        if place >= self.shards() {
-            return Err(LastingError::Unknown);
-        }
-        let shard = self.lock(rt, place);
+        let shard = self.entered(rt, place)?;
         Ok(shard.state())
     }
 

@@ -41,7 +41,7 @@ pub struct Attended<T, N = u64, A: Allocator = Global> {
 /// Takes the poller out where it may not wait on, with the queue as it is now. Where none is parked, which is so in most
 /// calls, the next wake isn't asked for.
 #[inline(always)]
-pub fn keep_or_leave<T: Drop, N: Until, A: Allocator>(
+pub fn keep_or_leave<T, N: Until, A: Allocator>(
     core: &DelayCore<T, Keeper<A>, A>,
     parked: &mut Option<Parked<N>>,
 ) -> Leaver<N>
@@ -71,7 +71,7 @@ impl<T, N, A: Allocator> Attended<T, N, A> {
     }
 }
 
-impl<T: Drop, N: Until, A: Allocator> Attended<T, N, A> {
+impl<T, N: Until, A: Allocator> Attended<T, N, A> {
     /// As [`DelayCore::insert`]. Refused, nothing changes. What waited for its drop where the entry is now is handed over,
     /// to be dropped once the lock is free: none, where it was taken out before.
     #[inline(always)]

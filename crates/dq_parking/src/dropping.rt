@@ -56,7 +56,7 @@ impl Dropping {
     }
 }
 
-impl<T: Drop, N: Drop, A: Allocator> Attended<T, N, A> {
+impl<T, N: Drop, A: Allocator> Attended<T, N, A> {
     /// Takes out a value for a thread that drops it once the lock is free, and then calls again. `is_mine` is false at its
     /// first call, and tells whether it is at it. None where no more are set aside, and it is over; or where another thread is
     /// at it, or this one further up: it drops these too.

@@ -8,6 +8,7 @@ mod dropping;
 mod fault;
 mod parked;
 mod registering;
+mod row;
 mod source;
 mod waiting;
 
@@ -16,5 +17,6 @@ pub use dropping::Dropping;
 pub use fault::StreamFault;
 pub use parked::{Leaver, Parked, let_sleep, ring, take};
 pub use registering::{forget, register};
+pub use row::{Dropper, Row, Shard, unlock};
 pub use source::{MillisecondTicks, TickSource};
 pub use waiting::{Waiting, waiting_row};

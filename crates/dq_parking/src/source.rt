@@ -6,6 +6,18 @@ use std::io;
 use std::time::{Clock, Duration, Instant};
 
 /// Says which tick it is.
+///
+/// ```
+/// use hontkhale::streams::TickSource;
+///
+/// struct At(u64);
+///
+/// impl TickSource for At {
+///     fn now(&mut self) -> u64 {
+///         self.0
+///     }
+/// }
+/// ```
 pub trait TickSource: Drop {
     /// What it may answer, and what it is after that.
     ghost tells: { Self → ℕ → Self → Type 0 } = { λ _ _ _. ⊤ };
@@ -16,8 +28,15 @@ pub trait TickSource: Drop {
         ensures { tells self.old result self.new };
 }
 
-/// The whole milliseconds since an instant of a clock. It never goes back: where the clock does, or fails, it stays at
-/// its last tick. Sources that share one start tell one time.
+/// The whole milliseconds since an instant. It never goes back. Sources that share one start tell one time.
+///
+/// ```
+/// use hontkhale::streams::{MillisecondTicks, TickSource};
+///
+/// let mut ticks = MillisecondTicks::new();
+/// let first = ticks.now();
+/// assert!(first <= ticks.now());
+/// ```
 #[derive(Drop)]
 pub struct MillisecondTicks<'c, C: Clock> {
     clock: &'c C,

@@ -1,4 +1,4 @@
-//! The expiring cache and idle sessions: the worked rows, and refused memory.
+//! The expiring cache and idle sessions: the worked rows of the cache, and refused memory.
 
 mod calls;
 mod memo_memory;
@@ -6,7 +6,6 @@ mod memory;
 mod refresh_memory;
 mod refusing;
 mod rows;
-mod sessions;
 mod sessions_memory;
 
 use crate::same;

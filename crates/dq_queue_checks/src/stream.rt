@@ -1,5 +1,5 @@
 mod clocks;
-mod refusals;
+mod memory;
 mod rows;
 mod steps;
 mod streams;

@@ -1,6 +1,3 @@
-mod faults;
 mod memory;
-mod readers;
 mod scripts;
 mod table;
-mod writers;

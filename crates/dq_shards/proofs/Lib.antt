@@ -1,5 +1,7 @@
 pub mod Auditing
+pub mod ForCallers
 pub mod Headline
+pub mod Locked
 pub mod Numbering
 pub mod Parking
 pub mod Refusing

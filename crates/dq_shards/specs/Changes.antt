@@ -124,10 +124,6 @@ module _ {T : Type 0} where
   ShardTells old out new =
       Tells old.core.words out new.core.words × OnlyKeeperGoesOn old new
 
-  -- a call leaves a state that every shard may have, and lets its lock go
-  abbrev pub LeavesShard : (ShardView T → Type 0) → Type 0
-  LeavesShard Holds = (new : ShardView T) × IsShard new × Holds new
-
   -- a call gives an answer on some state that every shard may have
   abbrev pub OnSome : {R : Type 0} → (ShardView T → R → ShardView T → Type 0) → R → Type 0
   OnSome {R} gives result =

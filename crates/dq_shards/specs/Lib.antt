@@ -2,6 +2,7 @@ pub mod Answers
 pub mod Audits
 pub mod Changes
 pub mod Endings
+pub mod ForCallers
 pub mod Handles
 pub mod Issuing
 pub mod Many

@@ -50,7 +50,7 @@ fn totals_of(tally: &Tally, cancelled: u64) -> Totals
     }
 }
 
-impl<T: Drop, A: Allocator> ShardState<T, A> {
+impl<T, A: Allocator> ShardState<T, A> {
     /// The totals, where every caller is given back: what was inserted is what expired, was removed, was cancelled
     /// (reaped or not) and is live. Refused with the number of callers that are out.
     pub fn audit(&mut self) -> Result<Totals, HandlesOut>
@@ -74,15 +74,13 @@ impl<T: Drop, A: Allocator> ShardState<T, A> {
     }
 }
 
-impl<T: Drop, A: Allocator> SharedDelayQueue<T, A> {
+impl<T, A: Allocator> SharedDelayQueue<T, A> {
     // The totals of one shard.
     fn audit_of<R: Wait>(&self, rt: &R, shard: usize) -> Result<Totals, HandlesOut>
         requires { shard < self.now }
         ensures { OnNumbered {T = T} shard ShardAudits result }
     {
-        let Ok(mut shard) = self.read(rt, shard) else {
-            unreachable!()
-        };
+        let mut shard = self.lock(rt, shard);
         let audited = shard.audit();
         shard.law();
         audited

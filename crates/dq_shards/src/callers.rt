@@ -8,7 +8,7 @@ use crate::state::ShardState;
 use dq_words::{Caller, WordsError};
 use std::alloc::Allocator;
 
-impl<T: Drop, A: Allocator> ShardState<T, A> {
+impl<T, A: Allocator> ShardState<T, A> {
     /// One caller more of this shard's words, which may go to any thread. Refused as TooManyHandles where 1,024
     /// callers were issued, given back or not, and else as NoMemory.
     #[tactic(auto, using(crate::proofs::Parking::parked_over))]

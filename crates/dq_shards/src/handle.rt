@@ -12,7 +12,7 @@ use crate::queue::SharedDelayQueue;
 use dq_core::{CallError, CoreError, Look};
 use dq_ticks::{Key, LAST_TICK};
 use dq_words::{Caller, WordsError};
-use std::alloc::{AllocError, Allocator, Global};
+use std::alloc::{Allocator, Global};
 use std::marker::Model;
 use std::sync::Wait;
 
@@ -20,6 +20,20 @@ use std::sync::Wait;
 /// shard. Its calls take no lock and no memory, and wait for nobody.
 ///
 /// A handle that is dropped counts as out for good: see [`Handle::give_back`].
+///
+/// ```
+/// use hontkhale::owner::{CallError, Look};
+/// use hontkhale::shards::{QueueConfig, SharedDelayQueue};
+///
+/// let queue = SharedDelayQueue::new(QueueConfig::of(1, 100))?;
+/// let mut handle = queue.handle()?;
+/// let key = queue.insert_or_drop(0, "value", 100)?;
+/// assert_eq!(handle.extend(&key, 150), Ok(150));
+/// assert_eq!(handle.cancel(&key), Ok(150));
+/// assert_eq!(handle.extend(&key, 200), Err(CallError::Ended { how: Look::LookCancelled }));
+/// assert_eq!(handle.give_back(), 1);
+/// # Ok::<(), hontkhale::shards::QueueError>(())
+/// ```
 #[derive(Drop)]
 pub struct Handle<A: Allocator = Global> {
     callers: Vec<Caller<A>, A>,
@@ -143,7 +157,7 @@ fn refused(refusal: WordsError) -> QueueError
     }
 }
 
-impl<T: Drop, A: Allocator> SharedDelayQueue<T, A> {
+impl<T, A: Allocator> SharedDelayQueue<T, A> {
     // One caller more of a shard.
     fn issue_of<R: Wait>(&self, rt: &R, shard: usize) -> Result<Caller<A>, WordsError>
         requires { shard < self.now }
@@ -156,14 +170,14 @@ impl<T: Drop, A: Allocator> SharedDelayQueue<T, A> {
     }
 }
 
-impl<T: Drop, A: Allocator + Clone + Drop> SharedDelayQueue<T, A> {
+impl<T, A: Allocator + Clone + Drop> SharedDelayQueue<T, A> {
     /// A handle, with a caller of each shard, issued in turn under that shard's lock. Refused as NoMemory where there
     /// is no room for the callers, and then, shard by shard, as TooManyHandles where 1,024 callers were issued, given
     /// back or not, and as NoMemory. The callers that were issued before are given back then, but stay counted.
     pub fn handle<R: Wait>(&self, rt: &R) -> Result<Handle<A>, QueueError>
         ensures { QueueHandles T self.now result }
     {
-        let Ok(mut callers) = self.room_for_callers() else {
+        let Ok(mut callers) = self.row.room_for_each() else {
             return Err(QueueError::Core(CoreError::NoMemory));
         };
         for shard in 0..self.shards() {

@@ -9,7 +9,7 @@ use dq_parking::{Parked, let_sleep, ring};
 use futures::task::Waker;
 use std::alloc::Allocator;
 
-impl<T: Drop, A: Allocator> ShardState<T, A> {
+impl<T, A: Allocator> ShardState<T, A> {
     /// The tick of one millisecond until which a poller is parked; none where none is.
     pub fn parked(&self) -> Option<u64>
         ensures { result ≡ option_map (λ p. p.next) self.now.parked }

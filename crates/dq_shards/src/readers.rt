@@ -11,7 +11,7 @@ use dq_ticks::{EntryId, Key};
 use dq_wheel::Place;
 use std::alloc::Allocator;
 
-impl<T: Drop, A: Allocator> ShardState<T, A> {
+impl<T, A: Allocator> ShardState<T, A> {
     /// The number of the shard, which its keys carry.
     #[inline]
     pub fn shard(&self) -> u32

@@ -1,6 +1,6 @@
 //! The value behind a shard's lock: a queue over shared words, and the poller that waits for it.
 ghost use Rattle.std.specs.Prelude.{◌≡◌, ◌+◌, ◌<◌, ◌≤◌, ◌↔◌, ◌⊎◌, ℕ, max, length, None, IfOk, IfErr, IfSome};
-ghost use Rattle.std.specs.Prelude.{OnOk, OnErr, IsErr, IsErrOf, IsErrAnd};
+ghost use Rattle.std.specs.Prelude.{OnOk, OnErr, IsErr, IsErrOf, IsErrAnd, vec_capacity};
 ghost use Rattle.dq_ticks.specs.declared.TheConstants.{LAST_TICK};
 ghost use Rattle.dq_core.specs.declared.errors.CoreError.TheVariants.{TooFar, Missing, WasCancelled};
 ghost use Rattle.dq_core.specs.Core.{machine};
@@ -13,11 +13,12 @@ ghost use Rattle.dq_shards.specs.Shard.{IsShard, KeepsOrWakes};
 ghost use Rattle.dq_shards.specs.Changes.{ShardInserts, ShardResets, ShardRemoves, ShardDeadline};
 ghost use Rattle.dq_shards.specs.Changes.{ShardPolls, ShardPollsSome, IfWorking};
 ghost use Rattle.dq_shards.specs.Changes.{ShardSweeps, ShardSweepsSome, ShardReaps, ShardClears, going_on};
+ghost use Rattle.dq_shards.specs.Many.{ShardPollsMany};
 
-use dq_core::{CoreError, DelayCore, Piece, ReapError, Removed, Swept, Turn};
+use dq_core::{CoreError, DelayCore, Expired, Piece, ReapError, Removed, Swept, Turn};
 use dq_parking::{Attended, keep_or_leave};
 use dq_ticks::{EntryId, Key};
-use dq_words::Keeper;
+use dq_words::{Keeper, ManyTurn};
 use std::alloc::{Allocator, Global};
 use std::marker::Model;
 
@@ -62,15 +63,8 @@ impl<T, A: Allocator> From<DelayCore<T, Keeper<A>, A>> for ShardState<T, A> {
     }
 }
 
+// The one call of a state that may drop a value.
 impl<T: Drop, A: Allocator> ShardState<T, A> {
-    /// What every shard keeps. The call does nothing, and is for proofs.
-    #[tactic(auto, using(crate::proofs::Parking::told))]
-    pub fn law(&self)
-        ensures { IsShard self.now }
-    {
-        self.attended.core.law();
-    }
-
     /// Puts an entry in that is live until `when`, a tick of one millisecond, or until the wheel's tick where `when`
     /// lies before it, and answers its key. Constant time. Refused as TooFar beyond the last tick, and else as Full
     /// where no slot is free; the value comes back then.
@@ -91,11 +85,19 @@ impl<T: Drop, A: Allocator> ShardState<T, A> {
         // All that it does.
         ensures inserts { ShardInserts self.old value when result self.new }
     {
-        // A drop that panics then loses no key.
-        drop(self.attended.core.take_crowded());
         let answer = self.attended.core.insert(value, when);
         keep_or_leave(&self.attended.core, &mut self.attended.parked).wake();
         answer
+    }
+}
+
+impl<T, A: Allocator> ShardState<T, A> {
+    /// What every shard keeps. The call does nothing, and is for proofs.
+    #[tactic(auto, using(crate::proofs::Parking::told))]
+    pub fn law(&self)
+        ensures { IsShard self.now }
+    {
+        self.attended.core.law();
     }
 
     /// Gives a live entry another deadline, earlier or later, but not before the wheel's tick, and its slot's next
@@ -241,6 +243,38 @@ impl<T: Drop, A: Allocator> ShardState<T, A> {
     {
         let answer = self.attended.core.poll_some_deferring(tick, most);
         keep_or_leave(&self.attended.core, &mut self.attended.parked).wake();
+        answer
+    }
+
+    /// Polls until the caller's own row is full, or nothing is due: what comes out is put behind what stands in the row, in
+    /// order, as many as it has free room for. `tick` is of one millisecond. Call again while it answers More. It takes no
+    /// memory.
+    ///
+    /// A full row takes nothing out, and no tick is noted then.
+    ///
+    /// # Errors
+    /// TickTooLarge beyond the last tick. Nothing changes then.
+    pub fn poll_many(
+        &mut self,
+        tick: u64,
+        row: &mut Vec<Expired<T>, A>,
+    ) -> Result<ManyTurn, CoreError>
+        // A tick is refused exactly beyond the last one, and then the row stays.
+        ensures refused { IsErr result ↔ (LAST_TICK < tick) }
+        ensures kept { OnErr result (row.new ≡ row.old) }
+
+        // The row has the room that it had: no memory was taken.
+        ensures room { vec_capacity row.new ≡ vec_capacity row.old }
+
+        // The poller is woken where it waits for a tick after the next wake.
+        ensures poller { KeepsOrWakes self.new.core self.old.parked self.new.parked }
+
+        // All that it does.
+        ensures polls { ShardPollsMany self.old tick (vec_capacity row.old) row.old.items
+            row.new.items result self.new }
+    {
+        let (answer, leaver) = self.attended.poll_many(tick, row);
+        leaver.wake();
         answer
     }
 

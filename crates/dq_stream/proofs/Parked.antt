@@ -1,5 +1,5 @@
 -- Who is parked after a registration, and until when.
-use Rattle.std.proofs.Common.{◌≡◌, ℕ, ◌<◌, [], refl, sym, ap, subst, Option, Some, None, Result, Ok, Err, OnOk, IfErr}
+use Rattle.std.proofs.Common.{◌≡◌, ℕ, ◌<◌, ◌∙◌, [], refl, sym, ap, subst, Option, Some, None, Result, Ok, Err, OnOk, IfErr}
 use Rattle.futures.specs.Poll.{OnPending}
 use Rattle.futures.specs.declared.task.Poll.TheVariants.{Ready, Pending}
 use Rattle.futures.specs.declared.task.context.Context.{Context}
@@ -34,6 +34,14 @@ pub entered : {T : Type 0} (state start new : ShardView T) (number tick : ℕ) (
     → OnNumbered {T = T} number (λ old r new. StreamPollsWith (unparked old) tick slot r new) a
 entered {T} state start new number tick slot a before at begins after is =
     (state, new, before, after, (at, subst (λ (s : ShardView T). StreamPollsWith s tick slot a new) begins is))
+
+-- the same by the guard of the lock
+pub entered_by_guard : {T : Type 0} (held state begun start new read : ShardView T) (number tick : ℕ) (slot : Option Waker) (a : Answer T)
+    → IsShard held → held.core.shard ≡ number → state ≡ held → begun ≡ unparked state → start ≡ begun → IsShard read → read ≡ new
+    → StreamPollsWith start tick slot a new → OnNumbered {T = T} number (λ old r new. StreamPollsWith (unparked old) tick slot r new) a
+entered_by_guard {T} held state begun start new read number tick slot a before at same taken go after told is =
+    entered state start new number tick slot a (subst (λ (s : ShardView T). IsShard s) (sym same) before) (ap (λ (s : ShardView T). s.core.shard) same ∙ at) (go ∙ taken)
+    (subst (λ (s : ShardView T). IsShard s) told after) is
 
 module _ {T : Type 0} (cx cy : Context) where
   -- the waker that is parked, if one is, is the one that the task's registration left

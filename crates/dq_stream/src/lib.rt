@@ -4,28 +4,6 @@
 //! gone. Whoever keeps the time rings the shard, at each tick or at the ticks that matter: a stream that nobody rings
 //! sleeps until the next wake changes. A shard parks one poller, so a second stream on it puts the first to sleep.
 //!
-//! The crate `examples` has the program that these are of, as `stream`:
-//!
-//! ```ignore
-//! let stream = ExpiredStream::new(rt, jobs, SHARD, ticks);
-//! let mut due = stream.map_err(|refused| refused.0)?;
-//! for _ in rt.forever() {
-//!     let Some(job) = block_on(rt, due.next())? else {
-//!         return Ok(());
-//!     };
-//!     let job = job?;
-//!     println!(rt; "{}: {} is tried again", job.deadline, job.value)?;
-//! }
-//! ```
-//!
-//! In another thread somebody rings:
-//!
-//! ```ignore
-//! for second in 5..=60 {
-//!     time.store(1_000 * second, SeqCst);
-//!     jobs.ring(rt, SHARD, 1_000 * second)?;
-//! }
-//! ```
 #![tactic(auto)]
 
 pub mod endings;

@@ -13,10 +13,10 @@ ghost use Rattle.dq_stream.specs.PacedGives.{PacedGives};
 ghost use Rattle.dq_stream.specs.Answers.{IsLeastDue, IsParkedAtWake};
 
 use crate::parking::wait;
-use crate::stream::{ExpiredStream, Polled, drop_at_rest, ends};
+use crate::stream::{ExpiredStream, Polled, dropped_behind, ends};
 use dq_core::{CoreError, Expired, Piece, Turn};
 use dq_parking::{Parked, StreamFault, TickSource, forget, let_sleep, register};
-use dq_shards::LockedShard;
+use dq_shards::ShardState;
 use futures::Stream;
 use futures::task::{Context, Poll, Waker};
 use std::alloc::{Allocator, Global};
@@ -59,12 +59,12 @@ impl<'q, T, S, R: Wait, A: Allocator> PacedStream<'q, T, S, R, A> {
     }
 }
 
-impl<'q, T: Drop, S: TickSource, R: Wait, A: Allocator> ExpiredStream<'q, T, S, R, A> {
+impl<'q, T, S: TickSource, R: Wait, A: Allocator> ExpiredStream<'q, T, S, R, A> {
     /// As [`ExpiredStream::poll_locked`], by at most so many steps. Where the shard has more to do nothing is parked: the
     /// polled task is woken, and the answer is Pending.
     pub fn poll_some_locked(
         &mut self,
-        shard: &mut LockedShard<'_, T, A>,
+        shard: &mut ShardState<T, A>,
         steps: NonZeroU32,
         cx: &mut Context<'_>,
     ) -> Poll<Option<Result<Expired<T>, StreamFault>>>
@@ -191,13 +191,10 @@ impl<'q, T: Drop, S: TickSource, R: Wait, A: Allocator> Stream for PacedStream<'
                     .drop_aside(self.stream.rt, self.stream.shard, aside);
                 return Poll::Pending;
             };
-            drop_at_rest(
-                self.stream.queue,
-                self.stream.rt,
-                self.stream.shard,
-                aside,
-                &answer,
-            );
+            let aside = dropped_behind(&answer, aside);
+            self.stream
+                .queue
+                .drop_aside(self.stream.rt, self.stream.shard, aside);
             answer
         }
     }
@@ -215,8 +212,8 @@ fn has_ended<T>(polled: &Option<Polled<T>>) -> bool
 
 // One poll in pieces of a stream, while the shard's lock is held and none is parked there, by a task that left its
 // waker. None where more is to do.
-fn piece<T: Drop, S: TickSource, A: Allocator>(
-    shard: &mut LockedShard<'_, T, A>,
+fn piece<T, S: TickSource, A: Allocator>(
+    shard: &mut ShardState<T, A>,
     source: &mut S,
     slot: &mut Option<Waker>,
     steps: NonZeroU32,

@@ -4,13 +4,13 @@ ghost use Rattle.dq_core.specs.Calls.{TellsWake};
 ghost use Rattle.dq_stream.specs.Wakers.{ParksWaker, ParksWith};
 
 use dq_parking::StreamFault;
-use dq_shards::LockedShard;
+use dq_shards::ShardState;
 use futures::task::Waker;
 use std::alloc::Allocator;
 
 // Parks the waker that a registration left at the next wake, if it left one.
-pub(crate) fn wait<T: Drop, A: Allocator>(
-    shard: &mut LockedShard<'_, T, A>,
+pub(crate) fn wait<T, A: Allocator>(
+    shard: &mut ShardState<T, A>,
     next: u64,
     slot: &mut Option<Waker>,
 ) -> Result<(), StreamFault>
@@ -25,8 +25,8 @@ pub(crate) fn wait<T: Drop, A: Allocator>(
 /// Parks a poller at the shard's next wake, with the waker that a registration left. It takes the place of one that was
 /// parked before, which is not woken. Refused as NoMemory where the registration left none; the shard stays as it was
 /// then. A future of your own over a locked shard may use it.
-pub fn park_with<T: Drop, A: Allocator>(
-    shard: &mut LockedShard<'_, T, A>,
+pub fn park_with<T, A: Allocator>(
+    shard: &mut ShardState<T, A>,
     next: u64,
     slot: Option<Waker>,
 ) -> Result<(), StreamFault>

@@ -13,7 +13,7 @@ ghost use Rattle.dq_stream.specs.Answers.{IsLeastDue, IsParkedAtWake};
 use crate::parking::wait;
 use dq_core::{CoreError, Expired, Turn};
 use dq_parking::{Parked, StreamFault, TickSource, forget, let_sleep, register};
-use dq_shards::{LockedShard, QueueError, SharedDelayQueue};
+use dq_shards::{QueueError, ShardState, SharedDelayQueue};
 use futures::Stream;
 use futures::task::{Context, Poll, Source, Waker};
 use std::alloc::{Allocator, Global};
@@ -30,6 +30,18 @@ pub(crate) type Polled<T> = Poll<Option<Result<Expired<T>, StreamFault>>>;
 /// again at any time. A stream that is dropped stays parked until then.
 ///
 /// After a tick that is refused it has ended for good: its polls take no lock, and its source is asked no more.
+///
+/// ```
+/// use hontkhale::shards::{QueueConfig, SharedDelayQueue};
+/// use hontkhale::streams::{ExpiredStream, MillisecondTicks};
+/// use std::future::poll_fn;
+///
+/// async fn first(queue: &SharedDelayQueue<String>) -> Option<String> {
+///     let mut stream = ExpiredStream::new(queue, 0, MillisecondTicks::new()).ok()?;
+///     let expired = poll_fn(|cx| stream.poll_next(cx)).await?;
+///     Some(expired.ok()?.value)
+/// }
+/// ```
 #[derive(Drop)]
 pub struct ExpiredStream<'q, T, S, R: Wait, A: Allocator = Global> {
     pub(crate) rt: &'q R,
@@ -67,7 +79,7 @@ impl<'q, T, S, R: Wait, A: Allocator> ExpiredStream<'q, T, S, R, A> {
     }
 }
 
-impl<'q, T: Drop, S: TickSource, R: Wait, A: Allocator> ExpiredStream<'q, T, S, R, A> {
+impl<'q, T, S: TickSource, R: Wait, A: Allocator> ExpiredStream<'q, T, S, R, A> {
     ghost use Rattle.dq_stream.specs.EachPoll.{EndsWhereEmpty, StaysOver, EndsByFault, StaysOfShard, AtToldTick};
 
     /// One poll of the stream on a shard whose lock is held, which [`SharedDelayQueue::enter`] gave: what
@@ -77,11 +89,11 @@ impl<'q, T: Drop, S: TickSource, R: Wait, A: Allocator> ExpiredStream<'q, T, S, 
     /// out is given. Where the shard waits the polled task is parked at its next wake.
     ///
     /// The polled task's waker is made under the lock, and the one that was parked is let go there. Where letting it go may
-    /// call the queue, take it out before, by [`LockedShard::take_parked`], and let it go once the lock is free, as
+    /// call the queue, take it out before, by [`ShardState::take_parked`], and let it go once the lock is free, as
     /// [`Stream::poll_next`] does.
     pub fn poll_locked(
         &mut self,
-        shard: &mut LockedShard<'_, T, A>,
+        shard: &mut ShardState<T, A>,
         cx: &mut Context<'_>,
     ) -> Poll<Option<Result<Expired<T>, StreamFault>>>
         // What is given is due, and no live entry of the shard has an earlier deadline. None is given
@@ -194,24 +206,19 @@ impl<'q, T: Drop, S: TickSource, R: Wait, A: Allocator> Stream for ExpiredStream
             let (answer, aside) = self.poll_entered(&mut slot, &mut before);
             let_sleep(before);
             forget(slot);
-            drop_at_rest(self.queue, self.rt, self.shard, aside, &answer);
+            let aside = dropped_behind(&answer, aside);
+            self.queue.drop_aside(self.rt, self.shard, aside);
             answer
         }
     }
 }
 
-// Drops so many values that are set aside in a shard, behind a poll that gave no entry. A drop that panics would lose the
-// entry that one gave.
-pub(crate) fn drop_at_rest<T: Drop, R: Wait, A: Allocator>(
-    queue: &SharedDelayQueue<T, A>,
-    rt: &R,
-    shard: usize,
-    aside: usize,
-    answer: &Polled<T>,
-) {
-    let gives = matches!(answer, Poll::Ready(Some(Ok(_))));
-    if !gives {
-        queue.drop_aside(rt, shard, aside);
+// How many of the values that are set aside are dropped behind a poll: none where it gave an entry, which a drop that panics
+// would lose.
+pub(crate) fn dropped_behind<T>(answer: &Polled<T>, aside: usize) -> usize {
+    match answer {
+        Poll::Ready(Some(Ok(_))) => 0,
+        _ => aside,
     }
 }
 
@@ -232,8 +239,8 @@ pub(crate) fn ends<T>(answer: &Polled<T>) -> bool
 }
 
 // One poll of a stream, while the shard's lock is held and none is parked there, by a task that left its waker.
-fn turn<T: Drop, S: TickSource, A: Allocator>(
-    shard: &mut LockedShard<'_, T, A>,
+fn turn<T, S: TickSource, A: Allocator>(
+    shard: &mut ShardState<T, A>,
     source: &mut S,
     slot: &mut Option<Waker>,
 ) -> Polled<T>

@@ -7,7 +7,17 @@ use std::marker::Model;
 
 const HALF_UNIT: u64 = 4294967296;
 
-/// An entry: its shard, its index there, and the stamp of its birth.
+/// An entry: its shard, its index there, and the stamp of its birth. Calls of a queue take it from a [`Key`].
+///
+/// ```
+/// use hontkhale::owner::{DelayCore, EntryId};
+///
+/// let mut queue = DelayCore::with_capacity(4)?;
+/// let key = queue.insert_or_drop("value", 10)?;
+/// assert_eq!(key.entry(), EntryId::new(0, 0, 1));
+/// assert_eq!(queue.get(&key.entry()), Some(&"value"));
+/// # Ok::<(), hontkhale::owner::CoreError>(())
+/// ```
 #[derive(Clone, Copy, PartialEq, Eq, PartialOrd, Ord, Hash)]
 pub struct EntryId {
     // Shard and index share a number, so that an id fits two registers.
@@ -71,7 +81,7 @@ impl EntryId {
 }
 
 /// Whether two entries are one: the same shard, the same index there and the same birth. The derived `==` says the
-/// same, but under no contract.
+/// same.
 #[inline]
 pub fn is_same_entry(one: EntryId, other: EntryId) -> bool
     ensures { IsTrue result ↔ (one ≡ other) }
@@ -91,6 +101,17 @@ impl Debug for EntryId {
 
 /// A key: an entry, and the stamp at which it is meant. A reset gives the entry a new stamp, and its old keys are
 /// stale.
+///
+/// ```
+/// use hontkhale::owner::{CallError, DelayCore};
+///
+/// let mut queue = DelayCore::with_capacity(4)?;
+/// let old = queue.insert_or_drop("value", 10)?;
+/// let new = queue.reset(&old.entry(), 5)?;
+/// assert_eq!(new.entry(), old.entry());
+/// assert_eq!(queue.extend(&old, 20), Err(CallError::Stale { seen: new.stamp() }));
+/// # Ok::<(), hontkhale::owner::CoreError>(())
+/// ```
 #[derive(Clone, Copy, PartialEq, Eq, PartialOrd, Ord, Hash)]
 pub struct Key {
     // Shard and index share a number, and so do birth and stamp, so that a key fits two registers.
@@ -155,8 +176,7 @@ impl Key {
     }
 }
 
-/// Whether two keys are one: the same entry, meant at the same stamp. The derived `==` says the same, but under no
-/// contract.
+/// Whether two keys are one: the same entry, meant at the same stamp. The derived `==` says the same.
 #[inline]
 pub fn is_same_key(one: Key, other: Key) -> bool
     ensures { IsTrue result ↔ (one ≡ other) }

@@ -11,10 +11,12 @@ pub mod Gathers
 pub mod Keepings
 pub mod Knowing
 pub mod Outs
+pub mod Places
 pub mod Returns
 pub mod Seats
 pub mod Starts
 pub mod Steps
 pub mod Tallies
+pub mod Together
 pub mod Trying
 pub mod Writes

@@ -6,8 +6,10 @@ pub mod Endings
 pub mod Files
 pub mod Keeping
 pub mod Many
+pub mod Places
 pub mod Plays
 pub mod Rule
 pub mod Seats
 pub mod Shards
+pub mod Together
 pub mod Word

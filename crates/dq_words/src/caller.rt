@@ -17,15 +17,32 @@ use dq_ticks::{Key, LAST_TICK, Mark, stamp, unpack};
 use std::alloc::{Allocator, Global};
 use std::marker::Model;
 
-/// Extends and cancels entries, and looks at them, without a lock. To a contract it is the table that it sits at and
-/// what it knows: the words that it saw and its accepted calls.
+/// Extends and cancels entries, and looks at them, without a lock.
+///
+/// ```
+/// use hontkhale::owner::{shared_queue, Look, Turn};
+/// use std::thread;
+///
+/// let mut queue = shared_queue(1_000)?;
+/// let mut caller = queue.issue().unwrap();
+/// let key = queue.insert_or_drop("lease", 100)?;
+/// let worker = thread::spawn(move || {
+///     assert_eq!(caller.extend(&key, 250), Ok(250));
+///     assert_eq!(caller.look(&key), Ok(Look::StillLive(250)));
+///     caller.give_back();
+/// });
+/// worker.join().unwrap();
+/// assert!(matches!(queue.poll(249)?, Turn::Waiting { .. }));
+/// assert!(matches!(queue.poll(250)?, Turn::Out(expired) if expired.value == "lease"));
+/// # Ok::<(), hontkhale::owner::CoreError>(())
+/// ```
 ///
 /// Each call takes one load and at most one atomic step, waits for nobody and takes no memory. A caller that is
 /// dropped counts as out for good. It may outlive its queue: what was live when the queue was dropped is then refused
 /// as Ended, and a look shows it as removed.
 #[derive(Drop)]
 pub struct Caller<A: Allocator = Global> {
-    seat: Seated<A>,
+    pub(crate) seat: Seated<A>,
     cancels: u64,
 }
 

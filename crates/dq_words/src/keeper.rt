@@ -41,14 +41,13 @@ pub enum WordsError {
     },
 }
 
-/// Begins and ends the entries of a row of words, and issues the callers that extend and cancel them. To a contract
-/// it is the table that it sits at and what it knows: the words that it saw, its own writes, and how many callers it
-/// issued.
+/// Begins and ends the entries of a row of words, and issues the callers that extend and cancel them. A queue that
+/// [`shared_queue`](crate::owner::shared_queue) makes has one.
 ///
 /// Where it is dropped, what is live by its words is ended as removed, and its callers are refused from then on. That
 /// takes a load a slot, and two atomic steps or more for each live one.
 pub struct Keeper<A: Allocator = Global> {
-    seat: Seated<A>,
+    pub(crate) seat: Seated<A>,
     issued: u64,
 }
 

@@ -5,6 +5,7 @@
 //! of its own, extend and cancel entries by one atomic step on that word, whatever the owner does meanwhile.
 #![tactic(auto)]
 
+mod beside;
 mod caller;
 pub mod endings;
 mod front;

@@ -1,9 +1,7 @@
 //! A seat at a table of words.
 //!
-//! This module alone can name the table, and it has one function for each kind of step, which makes that step's
-//! atomic operation once. So the keeper and its callers reach the words by these steps and by nothing else, and the
-//! steps that a seat records are all that were made through it, but for the loads of `once_read`. It alone calls the
-//! table's `peek`, a load that no seat records: what it finds decides nothing, as its contract says.
+//! This module alone can name the table, and it has one function for each kind of step, which makes that step's atomic
+//! operation once. So the keeper and its callers reach the words by these steps and by nothing else.
 ghost use Rattle.std.specs.Prelude.{◌≡◌, ◌+◌, ◌*◌, ◌<◌, ◌≤◌, length, true, false, slice_index};
 ghost use Rattle.std.specs.Prelude.{IfOk, IfErr};
 ghost use Rattle.dq_ticks.specs.declared.TheConstants.{CAPACITY_LIMIT};
@@ -16,6 +14,7 @@ ghost use Rattle.dq_words.specs.Plays.{giving_back, CallerLoads, KeeperLoads, Re
 ghost use Rattle.dq_words.specs.Plays.{BeginStep, ExchangeStep, ExtendStep, CancelStep, SeatGoesOn};
 ghost use Rattle.dq_words.specs.Rule.{first_keeper};
 
+mod beside;
 mod gone;
 mod plays;
 mod rule;
@@ -40,6 +39,7 @@ pub(crate) struct Seated<A: Allocator> {
 }
 
 impl<A: Allocator> Model for Seated<A> {
+    ghost use Rattle.std.specs.Prelude.{◌≡◌, false};
     ghost use Rattle.std.specs.Arc.{arc_value};
     ghost use Rattle.dq_words.specs.Keeping.{Knew};
     ghost use Rattle.dq_words.specs.Plays.{FitsTable};
@@ -47,11 +47,11 @@ impl<A: Allocator> Model for Seated<A> {
 
     ghost Value = { Sat };
 
-    ghost view = { λ s. record { table = s.seat.table_id; view = s.seat.me.0 } };
+    ghost view = { λ s. record { table = s.seat.table_id; view = s.seat.me.0.view } };
 
     ghost invariant = { λ s. FitsTable s.seat.table_id
-        (arc_value s.table).shared.table_id (arc_value s.table).shared.key s.rows s.seat.me.0
-        × Knew s.seat.me.0 };
+        (arc_value s.table).shared.table_id (arc_value s.table).shared.key s.rows s.seat.me.0.view
+        × Knew s.seat.me.0.view × (s.seat.me.0.carries ≡ false) };
 }
 
 impl<A: Allocator + Clone> Seated<A> {

@@ -57,3 +57,13 @@ pub struct View {
     /// The return word that the keeper saw last.
     pub returns: u64,
 }
+
+/// What stands at a place of the table.
+pub struct Place {
+    /// What a seat knows.
+    pub view: View,
+    /// It is no seat's own: it carries calls from one seat to another, or did.
+    pub carries: bool,
+    /// Accepted calls of another seat, as far as the seat was told of them.
+    pub told: LinkedList<Call>,
+}

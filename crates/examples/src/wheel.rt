@@ -1,6 +1,6 @@
 //! How entries come down the wheels: where each one stands at each wake of its queue.
 //!
-//! In crates/examples `rt run -- wheel` prints it, and `docs/figures/wheel_at_work` draws that.
+//! In crates/examples `rt run -- wheel` prints it, and docs/wheel_at_work.svg shows that.
 
 use anyhow::Result;
 use dq_core::{DelayCore, Turn, VecWords};

@@ -127,6 +127,15 @@ def itself(store):
     """What a client asks of its connection and of the server."""
     assert store.client_setname("clients.py") and store.client_getname() == "clients.py" and store.client_id() > 0
     assert store.config_get("max*")["maxclients"] and store.ping() and store.echo("text") == "text"
+    other = redis.Redis(port=store.connection_pool.connection_kwargs["port"], client_name="other", decode_responses=True)
+    assert other.client_getname() == "other"
+    id = str(other.client_id())
+    assert [it["name"] for it in store.client_list(client_id=[id])] == ["other"]
+    assert {(it["id"], it["name"]) for it in store.client_list()} >= {(id, "other"), (str(store.client_id()), "clients.py")}
+    connection = other.connection_pool.get_connection("PING")
+    assert store.client_kill_filter(_id=id) == 1 and store.client_kill_filter(_id=id) == 0
+    # Its thread closes it.
+    assert connection._sock.recv(1) == b"" and all(it["name"] != "other" for it in store.client_list())
     told = store.info()
     assert told["redis_version"] and told["connected_clients"] >= 1
 

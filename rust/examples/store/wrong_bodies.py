@@ -160,9 +160,13 @@ BODIES = [
     ("an_address_for_others_is_open", OPTIONS, "if is_open && options.is_protected {", "if is_open && options.keys > 1 << 30 {",
      "an_address_for_others_wants_a_password"),
     ("holes_stop_what_is_counted", OPTIONS, "counted + self.memory / 8;", "counted + self.memory / 80;", "what_is_counted_goes_in_whole"),
-    ("silence_lasts_for_ever", CONNECTION, "self.heard.elapsed() >= timeout", "self.heard.elapsed() >= timeout * 1000",
+    ("silence_lasts_for_ever", CONNECTION, "self.seat.guest.idle() >= timeout", "self.seat.guest.idle() >= timeout * 1000",
      "a_silent_connection_is_closed"),
-    ("whoever_asks_is_silent", CONNECTION, "        self.heard = Instant::now();\n", "", "a_silent_connection_is_closed"),
+    ("whoever_is_sent_away_stays", LOOP, "is_some_and(Connection::is_sent_away)", "is_none()", "whoever_is_sent_away"),
+    ("no_thread_hears_of_it", SEATS, "            let _ = waker.wake();\n", "            let _ = waker;\n", "whoever_is_sent_away"),
+    ("its_own_connection_goes_too", ASKED, "!spares_own || it.id", "spares_own || it.id", "whoever_is_sent_away"),
+    ("another_is_sent_away", ASKED, "guests.retain(|it| it.id == id);", "guests.retain(|it| it.id != id);", "whoever_is_sent_away"),
+    ("whoever_asks_is_silent", CONNECTION, "        self.seat.guest.hear();\n", "", "a_silent_connection_is_closed"),
     ("a_lease_is_ended_by_anybody", LEASE, "|value| value == words[2]", "|_| true", "a_lease_is_ended_and_prolonged_by_its_holder"),
     ("a_lease_is_set_by_anybody", KEYS, "Only::Equal(value) => old == Some(value)", "Only::Equal(_) => old.is_some()",
      "a_lease_is_ended_and_prolonged_by_its_holder"),
@@ -217,7 +221,7 @@ def ran(folder, test):
     """What a test prints, and whether it passes. It alone is built, without what a debugger wants."""
     of = ["--test", "hostile"] if f"fn {test}" in (folder / "tests" / "hostile.rs").read_text() else ["--bin", "store"]
     # It ends the test too, and not cargo alone.
-    command = ["timeout", "300", "cargo", "test", "--offline", "--quiet", *of, test]
+    command = ["timeout", "300", "cargo", "--config", str(HERE.parents[2] / "tools" / "debian.toml"), "test", "--offline", "--quiet", *of, test]
     done = subprocess.run(command, cwd=folder, stdout=subprocess.PIPE, stderr=subprocess.STDOUT, text=True,
                           env={**os.environ, "CARGO_PROFILE_DEV_DEBUG": "0", "RUST_BACKTRACE": "0"})
     return done.stdout, done.returncode == 0

@@ -2,7 +2,7 @@
 
 use futures_core::Stream;
 use futures_util::StreamExt;
-use hontkhale::lasting::{LastingConfig, LastingQueue, LastingStream};
+use hontkhale::lasting::{LastingConfig, LastingQueue, LastingStream, ParkedPoller};
 use hontkhale::owner::{Expired, LAST_TICK};
 use hontkhale::shards::{QueueConfig, SharedDelayQueue};
 use hontkhale::streams::{ExpiredStream, StreamFault, TickSource};
@@ -174,7 +174,7 @@ fn a_paced_lasting_stream_wakes_for_the_rest() {
         match task.poll(&mut stream) {
             Poll::Ready(item) => outs.push(item.unwrap().unwrap().value),
             Poll::Pending => {
-                assert_eq!((queue.parked(1), task.woken()), (Ok(None), 1), "a piece parks nobody");
+                assert_eq!((queue.parked(1), task.woken()), (Ok(ParkedPoller::Nobody), 1), "a piece parks nobody");
                 pieces += 1;
             }
         }
@@ -184,11 +184,12 @@ fn a_paced_lasting_stream_wakes_for_the_rest() {
 
     // Where nothing is linked it waits for an insert.
     assert!(task.poll(&mut stream).is_pending());
-    assert_eq!((queue.parked(1), task.woken()), (Ok(Some(None)), 0));
+    assert_eq!((queue.parked(1), task.woken()), (Ok(ParkedPoller::UntilInsert), 0));
     queue.insert_or_drop(1, 100, 6_000).unwrap();
-    assert_eq!((queue.parked(1), task.woken()), (Ok(None), 1));
+    assert_eq!((queue.parked(1), task.woken()), (Ok(ParkedPoller::Nobody), 1));
     assert!(task.poll(&mut stream).is_pending());
-    assert_eq!(queue.parked(1), Ok(Some(queue.next_wake(1).unwrap())));
+    let wake = queue.next_wake(1).unwrap().unwrap();
+    assert_eq!(queue.parked(1), Ok(ParkedPoller::UntilTick(wake)));
     tick.set(LAST_TICK + 1);
     assert!(matches!(
         task.poll(&mut stream),

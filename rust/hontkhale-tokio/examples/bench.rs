@@ -8,7 +8,7 @@
 
 use std::hint::black_box;
 use std::sync::atomic::{AtomicBool, Ordering::Relaxed};
-use std::sync::Arc;
+use std::sync::{Arc, Mutex, MutexGuard};
 use std::task::{Context, Poll, Wake, Waker};
 use std::time::Duration;
 use tokio::time::Instant;
@@ -219,6 +219,30 @@ fn extend(entries: usize, _clock: &Clock, dice: &mut Dice, watch: &mut Stopwatch
     }
 }
 
+/// The same as `peers::idle` where any thread may touch the entries: what the peer wants a `Mutex` for.
+fn idle_by_mutex(entries: usize, clock: &Clock, dice: &mut Dice, watch: &mut Stopwatch) {
+    let (queue, keys) = peers::filled(entries, dice);
+    let queue = Mutex::new(queue);
+    let task = Task::new();
+    keys.iter().for_each(|key| locked(&queue).reset(key, Duration::from_secs(30)));
+    let mut at = 0;
+    while watch.calls < CALLS.max(2 * entries) {
+        clock.pass(1_000);
+        let part = entries / 20;
+        watch.time(part, || {
+            for _ in 0..part {
+                at = (at + 1) % keys.len();
+                locked(&queue).reset(&keys[at], Duration::from_secs(30));
+            }
+            task.run(|cx| assert!(locked(&queue).poll_expired(cx).is_pending()));
+        });
+    }
+}
+
+fn locked<Q>(queue: &Mutex<Q>) -> MutexGuard<'_, Q> {
+    queue.lock().expect("nobody panics under the lock")
+}
+
 fn idle_by_handle(entries: usize, clock: &Clock, dice: &mut Dice, watch: &mut Stopwatch) {
     let (mut queue, keys) = ours::filled(entries, dice);
     let handle = queue.handle();
@@ -301,7 +325,7 @@ fn main() {
         ("poll_expired, no limit", peers::poll, poll_whole),
         ("reset_at / handle.extend_at", peers::reset, extend),
         ("idle timeouts by reset", peers::idle, ours::idle),
-        ("idle timeouts by handle", peers::idle, idle_by_handle),
+        ("idle timeouts by handle", idle_by_mutex, idle_by_handle),
     ];
     println!("{:28} {:>8} {:>8} {:>8} {:>6} {:>9}", "row", "entries", "peer ns", "ours ns", "ratio", "calls");
     let is_asked = |name: &str| asked.row.is_empty() || asked.row == name;

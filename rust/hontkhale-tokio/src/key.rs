@@ -21,6 +21,16 @@ impl Key {
         Key { segment, name: u64::from(born) << 32 | (index as u64) << 16 | u64::from(slot as u16) }
     }
 
+    /// A key of its two numbers.
+    pub(crate) fn named(segment: u64, name: u64) -> Key {
+        Key { segment, name }
+    }
+
+    /// The two numbers of the key, neither of which is 0.
+    pub(crate) fn parts(&self) -> (u64, u64) {
+        (self.segment, self.name)
+    }
+
     /// The segment's number.
     #[inline]
     pub(crate) fn segment(&self) -> u64 {
@@ -66,17 +76,16 @@ impl fmt::Debug for Key {
     }
 }
 
-/// An entry that came out of a queue, or was removed from it: of a [`DelayQueue`](crate::DelayQueue), or under another kind of
-/// key of a [`SharedDelayQueue`](crate::SharedDelayQueue).
-pub struct Expired<T, K = Key> {
-    pub(crate) key: K,
+/// An entry that came out of a [`DelayQueue`](crate::DelayQueue), or was removed from it.
+pub struct Expired<T> {
+    pub(crate) key: Key,
     pub(crate) data: T,
     /// The deadline, whose moment is reckoned where it is asked for.
     pub(crate) tick: u64,
     pub(crate) clock: Clock,
 }
 
-impl<T, K: Copy> Expired<T, K> {
+impl<T> Expired<T> {
     /// The value.
     pub fn get_ref(&self) -> &T {
         &self.data
@@ -98,12 +107,12 @@ impl<T, K: Copy> Expired<T, K> {
     }
 
     /// The key that the insert gave.
-    pub fn key(&self) -> K {
+    pub fn key(&self) -> Key {
         self.key
     }
 }
 
-impl<T: fmt::Debug, K: fmt::Debug + Copy> fmt::Debug for Expired<T, K> {
+impl<T: fmt::Debug> fmt::Debug for Expired<T> {
     fn fmt(&self, f: &mut fmt::Formatter<'_>) -> fmt::Result {
         f.debug_struct("Expired")
             .field("data", &self.data)

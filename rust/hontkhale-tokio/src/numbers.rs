@@ -3,8 +3,7 @@ use std::fmt;
 use std::sync::atomic::{AtomicBool, AtomicU64, Ordering::Relaxed};
 use std::time::Duration;
 
-/// What a server watches of a queue: see [`DelayQueue::numbers`](crate::DelayQueue::numbers) and
-/// [`SharedDelayQueue::numbers`](crate::SharedDelayQueue::numbers). It is shown as one line.
+/// What a server watches of a queue: see [`DelayQueue::numbers`](crate::DelayQueue::numbers). It is shown as one line.
 #[derive(Clone, Copy, Debug, Default, PartialEq, Eq)]
 #[non_exhaustive]
 pub struct Numbers {
@@ -16,11 +15,9 @@ pub struct Numbers {
     pub worn: usize,
     /// The handles that are out.
     pub handles: usize,
-    /// By how much the live entry with the least deadline is late, nothing where none is due. Of a
-    /// [`SharedDelayQueue`](crate::SharedDelayQueue::numbers) it is so much at most.
+    /// By how much the live entry with the least deadline is late, nothing where none is due.
     pub late: Duration,
-    /// By how much an entry was late, at most: as it came out, or as `late` tells it now. Of a
-    /// [`DelayQueue`](crate::DelayQueue) what `late` told before counts too.
+    /// By how much an entry was late, at most: as it came out, or as `late` tells it now or told it before.
     ///
     /// It is by the clock from the first time on that the numbers are asked for. What came out before counts by the moment at
     /// which the queue had looked at the clock last, so it may have been later.

@@ -455,9 +455,9 @@ impl<T> DelayQueue<T> {
         self.segments.reserve(additional);
     }
 
-    /// Moves the entries of segments of the queue that are less than a quarter full together, under the keys that they have, and
-    /// lets those segments go: so there is room for at most four times as many entries as there are. It goes over every slot. A
-    /// moved entry takes 150 bytes more until it ends, 230 where there is a [`Handle`]; those of fuller segments stay.
+    /// Moves the entries of segments of the queue that are less than half full together, under the keys that they have, and lets
+    /// those segments go: so there is room for at most twice as many entries as there are. It goes over every slot. While moved
+    /// entries are there, 8 bytes are taken for each slot that the segments had, and 16 for each slot of the new ones.
     ///
     /// ```
     /// # #[tokio::main(flavor = "current_thread")]

@@ -1,4 +1,7 @@
-//! A segment of the queue: a queue of hontkhale's for one owner, of a fixed number of slots. Its values stand in it.
+//! A segment of the queue: a queue of hontkhale's for one owner, of a fixed number of slots, and the values in a row beside it.
+//!
+//! The queue below is of entries without values, so that no call there moves one or drops one: a large value takes a place on
+//! the stack for each move. What is dropped, and when, is told here alone.
 
 use crate::budget::Limit;
 use crate::clock::Clock;
@@ -6,7 +9,8 @@ use crate::key::{Expired, Key};
 use crate::shared::Shared;
 use crate::shared_state::SharedState;
 use crate::unique_ids::UniqueIds;
-use hontkhale::owner::{CallError, Caller, CoreConfig, CoreError, DelayCore, Keeper, Look, Piece, Turn};
+use hontkhale::owner::{CallError, Caller, CoreConfig, CoreError, DelayCore, EntryId, Keeper, Look, Piece, Turn};
+use std::mem;
 use std::sync::{Arc, Mutex, PoisonError};
 
 /// The slots of the first segment. Each later one has twice as many, up to hontkhale's limit.
@@ -16,7 +20,12 @@ pub(crate) const FIRST_SLOTS: usize = 64;
 static SEGMENTS: UniqueIds = UniqueIds::from_one();
 
 pub(crate) struct Segment<T> {
-    queue: DelayCore<T, Keeper>,
+    queue: DelayCore<(), Keeper>,
+    /// The value of each slot's entry. That of a cancelled entry stays there until it is dropped, also where a poll of the queue
+    /// freed the slot before.
+    values: Vec<Option<T>>,
+    /// Values of cancelled entries whose slots were filled anew before anybody dropped them.
+    left_over: Vec<T>,
     /// The segment's number.
     pub number: u64,
     /// The segment's place in the row.
@@ -43,6 +52,14 @@ pub(crate) enum Step {
     Working,
 }
 
+/// A row of so many places for values.
+fn empty_row<T>(slots: usize) -> Vec<Option<T>> {
+    let mut row = Vec::new();
+    row.try_reserve_exact(slots).expect("memory for more entries");
+    (0..slots).for_each(|_| row.push(None));
+    row
+}
+
 impl<T> Segment<T> {
     /// A segment of so many slots, at a tick.
     pub fn new(slots: usize, last_stamp: u32, clock: Clock, tick: u64) -> Segment<T> {
@@ -50,9 +67,19 @@ impl<T> Segment<T> {
         let config = CoreConfig { shard: 0, capacity: slots, last_stamp };
         let mut queue = hontkhale::owner::numbered_queue(config).expect("memory for more entries");
         let reader = Mutex::new(queue.issue().expect("a queue's first caller"));
-        let state = Arc::new(SharedState::new(number, slots));
-        let (is_left, is_stale, is_shared) = (false, false, false);
-        let mut segment = Segment { queue, number, index: 0, is_left, is_stale, state, is_shared, clock, reader };
+        let mut segment = Segment {
+            queue,
+            values: empty_row(slots),
+            left_over: Vec::new(),
+            number,
+            index: 0,
+            is_left: false,
+            is_stale: false,
+            state: Arc::new(SharedState::new(number, slots)),
+            is_shared: false,
+            clock,
+            reader,
+        };
         segment.note(tick);
         segment
     }
@@ -117,26 +144,34 @@ impl<T> Segment<T> {
         self.queue.tally().cancelled as usize
     }
 
-    /// Whether less than a quarter of the slots have an entry. The notes of where moved entries are take more memory than the
-    /// free slots of a fuller segment.
+    /// Whether less than half of the slots have an entry. To move the entries of a fuller segment would take more memory, for
+    /// where they are now, than its free slots have.
     pub fn is_sparse(&self) -> bool {
-        4 * self.queue.len() < self.queue.capacity()
+        2 * self.queue.len() < self.queue.capacity()
     }
 
-    /// Puts the value in, where a slot is free. A debug build has a place for each of its moves, so it isn't inlined there.
-    #[cfg_attr(not(debug_assertions), inline(always))]
+    /// Whether so many slots are free that entries may be moved here: the row of their keys has 16 bytes for each slot.
+    pub fn is_roomy(&self) -> bool {
+        4 * self.free() >= self.queue.capacity()
+    }
+
+    /// Puts the value in, where a slot is free.
+    #[inline(always)]
     pub fn insert(&mut self, value: &mut Option<T>, when: u64) -> Option<Key> {
-        match self.queue.insert(value.take()?, when) {
-            Ok(key) => {
-                let (slot, born) = (key.entry().index(), key.stamp());
-                self.state.note(slot as usize, born, born);
-                Some(Key::of(self.number, self.index, slot, born))
-            }
-            Err((_, back)) => {
-                *value = Some(back);
-                None
-            }
+        let key = self.queue.insert_or_drop((), when).ok()?;
+        let (slot, born) = (key.entry().index(), key.stamp());
+        self.state.note(slot as usize, born, born);
+        mem::swap(&mut self.values[slot as usize], value);
+        if value.is_some() {
+            self.leave_over(value);
         }
+        Some(Key::of(self.number, self.index, slot, born))
+    }
+
+    /// Keeps a value whose entry was cancelled, and whose slot another has by now: an insert drops none.
+    #[cold]
+    fn leave_over(&mut self, value: &mut Option<T>) {
+        self.left_over.extend(value.take());
     }
 
     /// Polls the queue at a tick, by at most so many steps. An entry that comes out is written to `out`.
@@ -169,12 +204,10 @@ impl<T> Segment<T> {
     }
 
     #[inline]
-    fn answer(&mut self, turn: Turn<T>, out: &mut Option<Expired<T>>) -> Step {
+    fn answer(&mut self, turn: Turn<()>, out: &mut Option<Expired<T>>) -> Step {
         match turn {
             Turn::Out(expired) => {
-                let entry = expired.key.entry();
-                let key = Key::of(self.number, self.index, entry.index(), entry.born());
-                *out = Some(Expired { key, tick: expired.deadline, clock: self.clock, data: expired.value });
+                self.give(self.key(expired.key), expired.deadline, out);
                 Step::Out
             }
             Turn::Waiting { next } => {
@@ -186,6 +219,13 @@ impl<T> Segment<T> {
                 Step::Idle
             }
         }
+    }
+
+    /// Writes an entry that left the queue to `out`.
+    #[inline]
+    fn give(&mut self, key: Key, tick: u64, out: &mut Option<Expired<T>>) {
+        let clock = self.clock;
+        *out = self.values[key.slot()].take().map(|data| Expired { key, tick, clock, data });
     }
 
     /// The user's key of what came out.
@@ -229,25 +269,37 @@ impl<T> Segment<T> {
         match self.queue.remove(&place.entry()) {
             Ok(removed) => {
                 self.is_stale = true;
-                *out = Some(Expired { key: *place, tick: removed.deadline, clock: self.clock, data: removed.value });
+                self.give(*place, removed.deadline, out);
                 true
             }
             Err(_) => false,
         }
     }
 
-    /// Drops the values of the entries that handles cancelled, and frees their slots.
+    /// Whether there is a value yet, that of a cancelled entry too.
+    pub fn has_values(&self) -> bool {
+        !self.left_over.is_empty() || self.values.iter().any(Option::is_some)
+    }
+
+    /// Drops the values of the entries that handles cancelled, and frees their slots. Where a drop panics the others stay, for
+    /// the next call.
     pub fn sweep(&mut self) {
         self.is_stale = true;
         self.queue.sweep();
+        for slot in 0..self.values.len() {
+            drop_ended(&self.queue, &self.state, &mut self.values, slot);
+        }
+        drop_all(&mut self.left_over);
     }
 
     /// The same of those that handles noted since, at most so many. Answers how many it looked at.
     pub fn reap(&mut self, most: u32) -> u32 {
         self.is_stale = true;
-        let queue = &mut self.queue;
-        self.state.take_cancelled(most, |slot| {
+        drop_all(&mut self.left_over);
+        let (queue, state, values) = (&mut self.queue, &self.state, &mut self.values);
+        state.take_cancelled(most, |slot| {
             queue.sweep_some(slot, 1);
+            drop_ended(queue, state, values, slot);
         })
     }
 
@@ -296,5 +348,74 @@ impl<T> Segment<T> {
             // A handle extended or cancelled it, or a slot is gone through whose entries are filed at its start.
             _ => self.places().filter_map(|place| Some((self.deadline(&place)?, place))).min_by_key(|it| it.0),
         }
+    }
+}
+
+/// Drops the value at a slot that has no entry any more.
+fn drop_ended<T>(queue: &DelayCore<(), Keeper>, state: &SharedState, values: &mut [Option<T>], slot: usize) {
+    if values[slot].is_some() {
+        let entry = state.born(slot).map(|born| EntryId::new(0, slot as u32, born));
+        if entry.and_then(|entry| queue.filed(&entry)).is_none() {
+            values[slot] = None;
+        }
+    }
+}
+
+/// Drops values one by one: where a drop panics, those behind it stay.
+fn drop_all<T>(values: &mut Vec<T>) {
+    while values.pop().is_some() {}
+}
+
+#[cfg(test)]
+mod tests {
+    use super::{Segment, Step};
+    use crate::budget::Limit;
+    use crate::clock::Clock;
+    use hontkhale::owner::Caller;
+    use std::cell::Cell;
+
+    /// A value that counts its drops, and panics where it is told to.
+    struct Counted<'c>(&'c Cell<u32>, bool);
+
+    impl Drop for Counted<'_> {
+        fn drop(&mut self) {
+            self.0.set(self.0.get() + 1);
+            assert!(!self.1, "a drop that panics");
+        }
+    }
+
+    /// A segment of one slot, in which an entry was cancelled that a handle hasn't noted yet, and freed by a poll.
+    fn freed<'c>(drops: &'c Cell<u32>, panics: bool) -> (Segment<Counted<'c>>, Caller) {
+        let mut segment = Segment::new(1, 1_000, Clock::new(), 0);
+        let mut caller = segment.queue.issue().expect("a caller");
+        let key = segment.insert(&mut Some(Counted(drops, panics)), 5).expect("a slot");
+        caller.cancel(&key.stamped(key.born())).expect("it waits");
+        let mut out = None;
+        assert!(matches!(segment.poll(9, Limit::None, &mut out), Step::Idle));
+        assert!(out.is_none() && segment.len() == 0 && segment.has_values());
+        (segment, caller)
+    }
+
+    #[test]
+    fn an_insert_drops_no_value_of_a_slot_that_a_poll_freed() {
+        let drops = Cell::new(0);
+        let (mut segment, _caller) = freed(&drops, false);
+        let other = segment.insert(&mut Some(Counted(&drops, false)), 20).expect("the slot");
+        assert_eq!(drops.get(), 0);
+        segment.reap(1);
+        assert_eq!((drops.get(), segment.has_values()), (1, true));
+        let mut out = None;
+        assert!(segment.remove(&other, &mut out) && out.is_some());
+        assert!(!segment.has_values());
+    }
+
+    #[test]
+    fn a_sweep_drops_what_a_poll_freed_and_a_drop_that_panics_is_made_once() {
+        let drops = Cell::new(0);
+        let (mut segment, _caller) = freed(&drops, true);
+        let sweep = std::panic::AssertUnwindSafe(|| segment.sweep());
+        assert!(std::panic::catch_unwind(sweep).is_err());
+        segment.sweep();
+        assert_eq!((drops.get(), segment.has_values()), (1, false));
     }
 }

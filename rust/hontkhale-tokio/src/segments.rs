@@ -7,7 +7,6 @@
 //! with cancelled entries in it stays aside until a poll drops their values.
 
 use crate::key::{Expired, Key};
-use crate::relocations::Relocations;
 use crate::segment::Segment;
 use crate::shared::Shared;
 use hontkhale::owner::{CoreError, LAST_TICK};
@@ -42,7 +41,8 @@ pub(crate) struct Segments<T> {
     left: usize,
     /// The slots that are asked for and not yet in a segment.
     promised: usize,
-    relocations: Relocations,
+    /// Whether there are entries that were moved.
+    has_moved: bool,
     /// What is put in comes out no earlier: the deadline of what came out last, or the tick up to which nothing was left.
     tick: u64,
     last_stamp: u32,
@@ -86,7 +86,7 @@ impl<T> Segments<T> {
             open: 0,
             left: 0,
             promised: 0,
-            relocations: Relocations::default(),
+            has_moved: false,
             tick: 0,
             last_stamp,
             shared: Owner(Arc::new(shared)),
@@ -111,7 +111,6 @@ impl<T> Segments<T> {
         for segment in self.row.iter_mut().flatten() {
             segment.share(&self.shared);
         }
-        self.shared.states().moved.extend(self.relocations.iter());
     }
 
     /// Puts a value in. It stands where the caller has it until it is in its slot: a large one is moved as seldom as may be.
@@ -157,7 +156,7 @@ impl<T> Segments<T> {
 
     fn put_somewhere(&mut self, value: &mut Option<T>, when: u64) -> Key {
         loop {
-            self.open = self.find_room();
+            self.open = self.find_room(|segment| segment.free() > 0);
             if let Some(key) = self.put(self.open, value, when) {
                 return key;
             }
@@ -171,7 +170,7 @@ impl<T> Segments<T> {
         if when > LAST_TICK {
             return Err(CoreError::TooFar { limit: LAST_TICK });
         }
-        let place = self.relocations.place(key);
+        let place = self.place(key);
         let segment = self.segment_mut(&place).ok_or(CoreError::Missing)?;
         match segment.reset(&place, when) {
             Ok(()) => {
@@ -195,7 +194,7 @@ impl<T> Segments<T> {
     /// Takes the entry of a key out and writes it to `out`. False where there is none.
     #[inline]
     pub fn remove(&mut self, key: &Key, out: &mut Option<Expired<T>>) -> bool {
-        let place = self.relocations.place(key);
+        let place = self.place(key);
         self.take_out(place, out)
     }
 
@@ -213,27 +212,37 @@ impl<T> Segments<T> {
     /// Notes that the entry at a place has ended, and gives the user's key.
     #[inline]
     fn end(&mut self, place: &mut Key) {
-        if !self.relocations.is_empty() {
+        if self.has_moved {
             *place = self.forget(*place);
         }
     }
 
     #[cold]
     fn forget(&mut self, place: Key) -> Key {
-        match self.relocations.end(&place) {
-            Some(key) => {
-                if self.has_handles {
-                    self.shared.states().moved.remove(&key);
-                }
-                key
-            }
-            None => place,
+        let mut states = self.shared.states();
+        let key = states.relocations.end(&place).unwrap_or(place);
+        self.has_moved = !states.relocations.is_empty();
+        key
+    }
+
+    /// Where the entry of a key is.
+    #[inline]
+    fn place(&self, key: &Key) -> Key {
+        if self.has_moved {
+            self.moved_place(key)
+        } else {
+            *key
         }
+    }
+
+    #[cold]
+    fn moved_place(&self, key: &Key) -> Key {
+        self.shared.states().relocations.place(key).unwrap_or(*key)
     }
 
     /// The deadline in force of the entry of a key.
     pub fn deadline(&self, key: &Key) -> Option<u64> {
-        let place = self.relocations.place(key);
+        let place = self.place(key);
         self.segment(&place)?.deadline(&place)
     }
 

@@ -1,12 +1,12 @@
-//! What the handles of a queue share with its owner: the shared states of its segments, and the new places of the entries
-//! that were moved.
+//! What the handles of a queue share with its owner: the shared states of its segments, and where the entries are that were
+//! moved.
 
 use crate::clock::Clock;
 use crate::key::Key;
+use crate::relocations::Relocations;
 use crate::shared_state::{Refusal, SharedState, Step};
 use crate::thread_callers;
 use crate::unique_ids::UniqueIds;
-use std::collections::HashMap;
 use std::sync::atomic::{AtomicBool, AtomicUsize, Ordering};
 use std::sync::{Arc, Mutex, MutexGuard, PoisonError};
 
@@ -31,11 +31,11 @@ pub(crate) struct Shared {
     callers: AtomicUsize,
 }
 
-/// The states of a queue's segments, by their places, and where moved entries are now, by their keys.
+/// The states of a queue's segments, by their places, and where moved entries are now.
 #[derive(Default)]
 pub(crate) struct SharedStates {
     row: Vec<Option<Arc<SharedState>>>,
-    pub moved: HashMap<Key, Key>,
+    pub relocations: Relocations,
 }
 
 impl Shared {
@@ -129,15 +129,15 @@ impl Shared {
     #[cold]
     pub fn step_by_states(&self, key: &Key, step: Step) -> Result<u64, Refusal> {
         let states = self.states();
-        let place = states.moved.get(key).unwrap_or(key);
-        let state = states.of(place).ok_or(Refusal::Ended)?;
-        let made = thread_callers::first_step(self.number, place, state, step);
+        let place = states.relocations.place(key).unwrap_or(*key);
+        let state = states.of(&place).ok_or(Refusal::Ended)?;
+        let made = thread_callers::first_step(self.number, &place, state, step);
         if made != Err(Refusal::NoCaller) {
             return made;
         }
         self.want_callers(state);
         let mut spare = state.spare();
-        state.step(spare.last_mut().ok_or(Refusal::Ended)?, place, step)
+        state.step(spare.last_mut().ok_or(Refusal::Ended)?, &place, step)
     }
 
     /// A handle's note that a segment has no caller to give.

@@ -1,248 +1,118 @@
-use crate::budget::{Budget, Limit, DEFAULT_BUDGET};
-use crate::sharded::Inner;
-use crate::shared_queue::Expired;
 use crate::timer::Timer;
-use crate::waiters::{Notifier, NEVER};
 use futures_core::{ready, Stream};
-use hontkhale::owner::{Piece, Turn, LAST_TICK};
+use hontkhale::delay_queue::{AsyncReceiver, Builder, Expired};
+use hontkhale::DelayQueue;
 use std::fmt;
-use std::future::Future;
-use std::ops::Range;
+use std::future::poll_fn;
 use std::pin::Pin;
-use std::sync::Arc;
-use std::task::{Context, Poll};
+use std::task::{Context, Poll, Waker};
+use tokio::time::Instant;
 
-/// What is due in a [`SharedDelayQueue`](crate::SharedDelayQueue): in all of its shards, or in one.
+/// What a [`hontkhale::DelayQueue`] has more of under tokio.
+pub trait QueueExt<T> {
+    /// What expires, as a stream: see [`QueueStream`].
+    ///
+    /// ```
+    /// # #[tokio::main(flavor = "current_thread")]
+    /// # async fn main() -> Result<(), Box<dyn std::error::Error>> {
+    /// use hontkhale::DelayQueue;
+    /// use hontkhale_tokio::QueueExt;
+    /// use std::time::Duration;
+    ///
+    /// let queue = DelayQueue::new();
+    /// let mut expired = queue.stream();
+    /// queue.insert("session", Duration::from_millis(5))?;
+    /// assert_eq!(expired.next().await.map(|out| out.value), Some("session"));
+    /// # Ok(()) }
+    /// ```
+    fn stream(&self) -> QueueStream<T>;
+}
+
+impl<T> QueueExt<T> for DelayQueue<T> {
+    fn stream(&self) -> QueueStream<T> {
+        QueueStream { receiver: self.receiver(), timer: Timer::default(), task: None }
+    }
+}
+
+/// Begins a [`hontkhale::DelayQueue`] whose clock is tokio's. That is the system's but where a test pauses it: a queue that
+/// [`DelayQueue::new`] makes knows nothing of the pause, and its streams would be polled on and on.
 ///
-/// Entries come out in the order of their deadlines, over all shards of the stream; one that is put in late, or reset to a
-/// moment that is over, comes out next. Where none is due the task sleeps, and is woken by tokio's timer, or by an insert or
-/// a reset that comes sooner, from any thread. A handle's extend or cancel wakes nobody.
+/// ```
+/// # #[tokio::main(flavor = "current_thread", start_paused = true)]
+/// # async fn main() -> Result<(), Box<dyn std::error::Error>> {
+/// use hontkhale_tokio::QueueExt;
+/// use std::time::Duration;
 ///
-/// A poll makes so many steps at most, and wakes its task for the rest: see [`set_budget`](ExpiredStream::set_budget). No
-/// lock is held for more than eight of them.
+/// let queue = hontkhale_tokio::builder().build();
+/// queue.insert("lease", Duration::from_secs(3_600))?;
+/// assert_eq!(queue.stream().next().await.map(|out| out.value), Some("lease"));
+/// # Ok(()) }
+/// ```
+pub fn builder<T>() -> Builder<T> {
+    DelayQueue::builder().read_clock(|| Instant::now().into_std())
+}
+
+/// What expires in a [`hontkhale::DelayQueue`], given to a task.
 ///
-/// Each entry comes out once, under the lock of its shard, and no earlier than its deadline. Nothing is taken out ahead: a
-/// stream that is dropped leaves all entries where they are, and a new stream gives them.
+/// It is woken by tokio's timer, and by an insert or a reset that comes sooner, from any thread; an extend or a cancel wakes
+/// nobody. An entry is taken out as it is given, once: a stream, or a `next()` in a `select!`, that is dropped leaves all others
+/// in the queue. Any number of streams and of threads may receive from one queue. It gives none once the queue is
+/// [closed](DelayQueue::close) and nothing is due.
 ///
-/// A shard has one stream, the one that was made last. A stream whose shard was taken over goes on with the others that it
-/// has.
-///
-/// **`None`** means that nothing comes any more. Either the shards are empty and the last hold of the queue was dropped, so
-/// that nobody can put anything in; or other streams took over every shard ([`is_replaced`](ExpiredStream::is_replaced)).
-/// While somebody has the queue, a stream over empty shards waits.
-pub struct ExpiredStream<T> {
-    inner: Arc<Inner<T>>,
-    places: Vec<Place>,
-    notifier: Arc<Notifier>,
-    /// The greatest tick that is known to be over.
-    reached: u64,
+/// The values of entries that were cancelled are dropped in its polls, while no lock is held and before an entry is in hand: a
+/// drop may call the queue, and one that panics is lost alone. Wakers are called, cloned and dropped so, too.
+#[must_use = "a stream does nothing until it is polled"]
+pub struct QueueStream<T> {
+    receiver: AsyncReceiver<T>,
     timer: Timer,
-    /// The most steps of a poll.
-    budget: u32,
-}
-
-/// The stream's place in a shard.
-struct Place {
-    shard: usize,
-    /// None where another stream took the shard over.
-    seat: Option<u64>,
-    /// A tick before which nothing comes out of the shard. While it lies ahead, what comes sooner there notifies the stream.
-    wake: u64,
-}
-
-/// The next entry of a stream.
-struct Next<'a, T>(&'a mut ExpiredStream<T>);
-
-enum Found<T> {
-    Out(Expired<T>),
-    /// Nothing before that tick.
-    Waiting(u64),
-    Idle,
-    /// The budget is spent, and there is more to do.
-    Working,
+    /// The task that polled last, in whose runtime the timer is.
+    task: Option<Waker>,
 }
 
 // No value is ever pinned.
-impl<T> Unpin for ExpiredStream<T> {}
+impl<T> Unpin for QueueStream<T> {}
 
-impl<T> ExpiredStream<T> {
-    /// A stream of these shards, which takes them over.
-    pub(crate) fn of(inner: Arc<Inner<T>>, shards: Range<usize>) -> ExpiredStream<T> {
-        let notifier = Arc::<Notifier>::default();
-        let take_over = |(place, shard): (usize, usize)| {
-            let (seat, notify) = inner.waiters[shard].take_over(&notifier, place);
-            notify();
-            Place { shard, seat: Some(seat), wake: 0 }
-        };
-        let places = shards.enumerate().map(take_over).collect();
-        ExpiredStream { inner, places, notifier, reached: 0, timer: Timer::default(), budget: DEFAULT_BUDGET }
+impl<T> QueueStream<T> {
+    /// The next entry that expires; none once the queue is closed and nothing is due.
+    pub async fn next(&mut self) -> Option<Expired<T>> {
+        poll_fn(|cx| Pin::new(&mut *self).poll_next(cx)).await
     }
 
-    /// The most steps that a poll makes.
-    pub fn budget(&self) -> u32 {
-        self.budget
+    /// The queue that it receives from.
+    pub fn queue(&self) -> &DelayQueue<T> {
+        self.receiver.queue()
     }
 
-    /// Sets the most steps that a poll makes, 128 at first, as [`DelayQueue::set_budget`](crate::DelayQueue::set_budget) does:
-    /// one that has more to do is pending and wakes its task at once. 0 is taken as 1.
-    pub fn set_budget(&mut self, steps: u32) {
-        self.budget = steps;
-    }
-
-    /// Takes out the entry whose deadline is reached first. Pending where none is, and the task is woken for the next, and
-    /// where the [budget](ExpiredStream::set_budget) is spent, and the task is woken at once; none where nothing comes any more.
-    pub fn poll_expired(&mut self, cx: &mut Context<'_>) -> Poll<Option<Expired<T>>> {
-        if !self.notifier.listen(cx.waker()) {
+    /// Where another task polls than before it may be in another runtime, and then the timer is of no use there.
+    fn note_task(&mut self, waker: &Waker) {
+        if !matches!(&self.task, Some(task) if task.will_wake(waker)) {
+            self.task = Some(waker.clone());
             self.timer.leave();
         }
-        let mut has_looked = false;
-        let mut budget = Budget::of(self.budget);
-        loop {
-            match self.turn(&mut budget) {
-                Found::Out(out) => {
-                    self.timer.leave();
-                    return Poll::Ready(Some(out));
-                }
-                Found::Waiting(wake) => {
-                    if !has_looked {
-                        has_looked = true;
-                        self.reached = self.reached.max(self.inner.clock.tick_over());
-                        self.inner.keep_at(self.reached);
-                    }
-                    if wake > self.reached {
-                        ready!(self.poll_sleep(wake, cx));
-                    }
-                }
-                Found::Working => {
-                    cx.waker().wake_by_ref();
-                    return Poll::Pending;
-                }
-                // The waiters are armed by now, so a hold that is dropped from here on wakes the task.
-                Found::Idle if self.inner.may_be_filled() && !self.is_replaced() => return Poll::Pending,
-                Found::Idle => return Poll::Ready(None),
-            }
-        }
-    }
-
-    /// The next entry, as [`poll_expired`](ExpiredStream::poll_expired) gives it. A future that is dropped loses none.
-    pub async fn next(&mut self) -> Option<Expired<T>> {
-        Next(self).await
-    }
-
-    /// Whether other streams took over every shard.
-    pub fn is_replaced(&self) -> bool {
-        self.places.iter().all(|place| place.seat.is_none())
-    }
-
-    /// What the shards have at the tick that is reached.
-    fn turn(&mut self, budget: &mut Budget) -> Found<T> {
-        loop {
-            // Nothing is in our hands here that a drop which panics could take along.
-            self.inner.drop_queue.clear();
-            self.heed();
-            let (at, wake, second) = self.soonest();
-            if wake == NEVER {
-                return Found::Idle;
-            }
-            if wake > self.reached {
-                return Found::Waiting(wake);
-            }
-            let Some(most) = budget.piece().map(Limit::steps) else {
-                return Found::Working;
-            };
-            let limit = self.reached.min(second).min(LAST_TICK);
-            if let Some(out) = self.places[at].poll(&self.inner, limit, most) {
-                self.inner.latest.note(out.tick, self.reached, &self.inner.clock);
-                return Found::Out(out);
-            }
-        }
-    }
-
-    /// The places in whose shards something came are to be polled.
-    fn heed(&mut self) {
-        let mut notified = self.notifier.take_notified();
-        while notified != 0 {
-            let place = &mut self.places[notified.trailing_zeros() as usize];
-            if place.seat.is_some() {
-                place.wake = 0;
-            }
-            notified &= notified - 1;
-        }
-    }
-
-    /// The place with the least wake, that wake, and the least of the others'.
-    fn soonest(&self) -> (usize, u64, u64) {
-        let (mut at, mut wake, mut second) = (0, NEVER, NEVER);
-        for (it, place) in self.places.iter().enumerate() {
-            if place.wake < wake {
-                (at, second, wake) = (it, wake, place.wake);
-            } else {
-                second = second.min(place.wake);
-            }
-        }
-        (at, wake, second)
-    }
-
-    /// Sleeps until a tick. Ready where it is reached.
-    fn poll_sleep(&mut self, wake: u64, cx: &mut Context<'_>) -> Poll<()> {
-        let moment = self.inner.clock.moment(wake);
-        ready!(self.timer.poll_until(moment, cx));
-        self.reached = wake;
-        Poll::Ready(())
     }
 }
 
-impl Place {
-    /// Takes one entry out of the shard that is due at a tick, by at most so many steps. Where these don't do, or something
-    /// came meanwhile, the wake stays.
-    fn poll<T>(&mut self, inner: &Inner<T>, tick: u64, most: u32) -> Option<Expired<T>> {
-        let Some(look) = self.seat.and_then(|seat| inner.waiters[self.shard].look(seat)) else {
-            (self.seat, self.wake) = (None, NEVER);
-            return None;
-        };
-        let wake = match inner.queue.poll_some(self.shard, tick, most).expect("a shard and a tick of the queue") {
-            Piece::Answer(Turn::Out(out)) => {
-                look.arm(0);
-                self.wake = out.deadline;
-                return Some(inner.expired(out.key, out.deadline, out.value.into_inner()));
-            }
-            Piece::Answer(Turn::Waiting { next }) => next,
-            Piece::Answer(Turn::Idle) => NEVER,
-            Piece::Working => 0,
-        };
-        if look.arm(wake) && wake > 0 {
-            self.wake = wake;
-        }
-        None
-    }
-}
-
-impl<T> Drop for ExpiredStream<T> {
-    fn drop(&mut self) {
-        // A notification that stays in a waiter wakes nobody.
-        drop(self.notifier.take_task());
-    }
-}
-
-impl<T> Future for Next<'_, T> {
-    type Output = Option<Expired<T>>;
-
-    fn poll(self: Pin<&mut Self>, cx: &mut Context<'_>) -> Poll<Option<Expired<T>>> {
-        self.get_mut().0.poll_expired(cx)
-    }
-}
-
-impl<T> Stream for ExpiredStream<T> {
+impl<T> Stream for QueueStream<T> {
     type Item = Expired<T>;
 
     fn poll_next(self: Pin<&mut Self>, cx: &mut Context<'_>) -> Poll<Option<Expired<T>>> {
-        self.get_mut().poll_expired(cx)
+        let stream = self.get_mut();
+        stream.note_task(cx.waker());
+        loop {
+            if let Poll::Ready(received) = stream.receiver.poll_recv(cx) {
+                stream.timer.leave();
+                return Poll::Ready(received);
+            }
+            match stream.receiver.wake_at() {
+                Some(when) => ready!(stream.timer.poll_until(Instant::from_std(when), cx)),
+                None => return Poll::Pending,
+            }
+        }
     }
 }
 
-impl<T> fmt::Debug for ExpiredStream<T> {
+impl<T> fmt::Debug for QueueStream<T> {
     fn fmt(&self, f: &mut fmt::Formatter<'_>) -> fmt::Result {
-        let shards = self.places.iter().filter(|place| place.seat.is_some()).count();
-        f.debug_struct("ExpiredStream").field("shards", &shards).finish_non_exhaustive()
+        f.debug_struct("QueueStream").field("receiver", &self.receiver).finish_non_exhaustive()
     }
 }

@@ -5,11 +5,9 @@ use crate::handle::{EntryError, Handle};
 use crate::key::{Expired, Key};
 use crate::segments::{Found, Segments};
 use crate::shared::Shared;
-use crate::waiters::{Notifier, Waiter};
 use std::cell::Cell;
 use std::collections::HashMap;
 use std::rc::Rc;
-use std::sync::Arc;
 
 /// Marsaglia's xorshift.
 struct Dice(u64);
@@ -268,27 +266,4 @@ fn a_worn_segment_goes_in_no_insert_or_reset_with_the_values_that_were_cancelled
             assert_eq!((drops_in_calls.get(), Rc::strong_count(&is_in_call), segments.len()), (0, 1, 0), "{by_reset}");
         }
     }
-}
-
-#[test]
-fn what_comes_beside_a_look_is_not_slept_through() {
-    let (waiter, notifier) = (Waiter::default(), Arc::<Notifier>::default());
-    let (seat, notify) = waiter.take_over(&notifier, 0);
-    notify();
-    for (inserted, may_wait) in [(None, true), (Some(7), false), (Some(1 << 40), false)] {
-        let look = waiter.look(seat).expect("the shard's seat");
-        if let Some(tick) = inserted {
-            waiter.notify_before(tick);
-        }
-        assert_eq!(look.arm(100), may_wait, "{inserted:?}");
-        assert_eq!(notifier.take_notified(), 0, "a stream that looks isn't woken");
-    }
-    assert!(waiter.look(seat).expect("the shard's seat").arm(100));
-    waiter.notify_before(100);
-    assert_eq!(notifier.take_notified(), 0);
-    waiter.notify_before(99);
-    assert_eq!(notifier.take_notified(), 1);
-    let (other, notify) = waiter.take_over(&Arc::default(), 0);
-    notify();
-    assert!(waiter.look(seat).is_none() && waiter.look(other).is_some());
 }

@@ -3,7 +3,8 @@
 mod common;
 
 use common::{ends, ms, paused, running};
-use hontkhale_tokio::{delay_queue::Key, shared_queue::CallError, DelayQueue, EntryError, Handle, SharedDelayQueue};
+use hontkhale::delay_queue::KeyError;
+use hontkhale_tokio::{delay_queue::Key, DelayQueue, EntryError, Handle};
 use std::future::poll_fn;
 use std::sync::atomic::{AtomicBool, AtomicU64, Ordering::SeqCst};
 use std::sync::{mpsc, Arc, Mutex};
@@ -364,15 +365,15 @@ fn a_thread_calls_handles_of_many_queues_in_turns() {
     });
 }
 
-/// A thread that called both kinds of handle keeps callers, of queues that are dropped meanwhile by another thread.
+/// A thread that called both kinds of handle keeps callers, of queues that another thread drops meanwhile.
 #[test]
 fn a_thread_that_keeps_callers_extends_nothing_in_a_queue_that_has_gone() {
     ends(|| {
         running().block_on(async {
             let mut queue = DelayQueue::new();
             let (handle, key) = (queue.handle(), queue.insert("a", ms(60_000)));
-            let shared = SharedDelayQueue::new(2, 10).unwrap();
-            let (holder, lease) = (shared.handle().unwrap(), shared.insert(0, "b", ms(60_000)).unwrap());
+            let shared = hontkhale::DelayQueue::new();
+            let (holder, lease) = (shared.handle(), shared.insert("b", ms(60_000)).unwrap());
             let (called, has_called) = mpsc::channel();
             let (dropped, are_dropped) = mpsc::channel::<()>();
             let thread = thread::spawn(move || {
@@ -382,8 +383,8 @@ fn a_thread_that_keeps_callers_extends_nothing_in_a_queue_that_has_gone() {
                 for _ in 0..2 {
                     assert_eq!(handle.extend(&key, ms(80_000)), Err(EntryError::Ended));
                     assert_eq!(handle.cancel(&key), Err(EntryError::Ended));
-                    assert_eq!(holder.extend(&lease, ms(80_000)), Err(CallError::Unknown));
-                    assert_eq!(holder.cancel(&lease), Err(CallError::Unknown));
+                    assert_eq!(holder.extend(&lease, ms(80_000)), Err(KeyError::Closed));
+                    assert_eq!(holder.cancel(&lease), Err(KeyError::Closed));
                 }
             });
             has_called.recv().unwrap();

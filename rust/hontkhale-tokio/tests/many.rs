@@ -3,7 +3,7 @@
 mod common;
 
 use common::{ends, ms, paused};
-use hontkhale_tokio::{DelayQueue, SharedDelayQueue};
+use hontkhale_tokio::DelayQueue;
 use std::alloc::{GlobalAlloc, Layout, System};
 use std::cell::Cell;
 
@@ -36,26 +36,6 @@ static ALLOCATOR: Counting = Counting;
 
 fn held() -> isize {
     HELD.with(Cell::get)
-}
-
-#[test]
-fn a_shared_queue_gives_handles_to_any_number_of_connections() {
-    ends(|| {
-        paused().block_on(async {
-            let queue = SharedDelayQueue::new(4, 100).unwrap();
-            let key = queue.insert(3, "a", ms(1_000)).unwrap();
-            let handles: Vec<_> = (0..5_000).map(|_| queue.handle().expect("a handle")).collect();
-            for (at, handle) in handles.iter().enumerate() {
-                let deadline = handle.extend(&key, ms(2_000 + at as u64)).unwrap();
-                assert_eq!(queue.deadline(&key), Ok(deadline));
-            }
-            for _ in 0..5_000 {
-                queue.handle().expect("a handle");
-            }
-            drop(queue);
-            assert!(handles.iter().all(|handle| handle.extend(&key, ms(9_000)).is_err()));
-        });
-    });
 }
 
 /// A thread's first call in a queue looks at that queue alone. Where it looked at all in which the thread had called before, this

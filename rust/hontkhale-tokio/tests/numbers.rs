@@ -3,7 +3,7 @@
 mod common;
 
 use common::{ends, ms, paused, Dice, Wakes};
-use hontkhale_tokio::{delay_queue::Key, DelayQueue, SharedDelayQueue};
+use hontkhale_tokio::{delay_queue::Key, DelayQueue};
 use std::sync::Arc;
 use std::task::{Context, Poll, Waker};
 use std::time::Duration;
@@ -51,26 +51,6 @@ fn the_longest_is_by_the_clock_once_it_is_asked_for() {
                 let latest = queue.numbers().latest;
                 assert!(latest <= ms(891) && (!is_asked_for || latest == ms(891)), "{latest:?}");
             }
-        });
-    });
-}
-
-#[test]
-fn the_longest_of_a_stream_is_by_the_clock_once_it_is_asked_for() {
-    ends(|| {
-        paused().block_on(async {
-            let queue = SharedDelayQueue::new(2, 100).unwrap();
-            let mut stream = queue.stream();
-            assert_eq!(queue.numbers().latest, ms(0));
-            for at in 0..100 {
-                queue.insert(at, at, ms(10)).unwrap();
-            }
-            advance(ms(10)).await;
-            for _ in 0..100 {
-                assert!(stream.poll_expired(&mut Context::from_waker(&waker())).is_ready());
-                advance(ms(10)).await;
-            }
-            assert_eq!(queue.numbers().latest, ms(990));
         });
     });
 }
@@ -196,34 +176,5 @@ fn what_is_freed_without_a_poll_counts_no_more() {
             let shown = "500 waiting, 0 cancelled, 0 slots worn, 1 handles, 0.000 s late, at most 0.000 s";
             assert_eq!(counted_after(free), (shown.to_string(), 0));
         }
-    });
-}
-
-/// Of a shared queue no entry is later than is told, and where a stream has taken out what was due nothing is late.
-#[test]
-fn the_numbers_of_a_shared_queue_bound_what_is_late() {
-    ends(|| {
-        paused().block_on(async {
-            let mut dice = Dice(0x2545_f491_4f6c_dd1d);
-            let queue = SharedDelayQueue::new(4, 1_000).unwrap();
-            let (handle, mut stream) = (queue.handle().unwrap(), queue.stream());
-            stream.set_budget(u32::MAX);
-            let mut live = Vec::new();
-            for route in 0..20_000 {
-                let key = queue.insert(route, (), drawn(&mut dice)).unwrap();
-                live.push((key, queue.deadline(&key).unwrap()));
-                let at = dice.below(live.len() as u64) as usize;
-                live[at].1 = handle.extend(&live[at].0, drawn(&mut dice)).unwrap();
-                advance(ms(dice.below(200))).await;
-                let (numbers, late) = (queue.numbers(), late(live.iter().map(|entry| entry.1)));
-                assert!(numbers.waiting == live.len() && numbers.late >= late && numbers.latest >= late);
-                if dice.below(20) == 0 {
-                    while let Poll::Ready(Some(out)) = stream.poll_expired(&mut Context::from_waker(&waker())) {
-                        live.retain(|(key, _)| *key != out.key());
-                    }
-                    assert_eq!(queue.numbers().late, ms(0), "nothing is due");
-                }
-            }
-        });
     });
 }

@@ -3,7 +3,7 @@
 mod common;
 
 use common::{ends, ms, paused, Dice};
-use hontkhale_tokio::{DelayQueue, SharedDelayQueue};
+use hontkhale_tokio::{builder, DelayQueue, QueueExt};
 use std::collections::BTreeMap;
 use std::future::poll_fn;
 use tokio::runtime::Runtime;
@@ -78,26 +78,26 @@ fn a_queue_that_waits_goes_on_in_the_next_runtime() {
 fn a_stream_outlives_its_runtime() {
     ends(|| {
         let first = paused();
-        let queue = first.block_on(async { SharedDelayQueue::new(2, 10).unwrap() });
+        let queue = first.block_on(async { builder().build() });
         let mut stream = queue.stream();
         first.block_on(async {
-            queue.insert(0, "a", ms(10)).unwrap();
-            queue.insert(1, "waits", ms(60_000)).unwrap();
-            assert_eq!(stream.next().await.unwrap().into_inner(), "a");
+            queue.insert("a", ms(10)).unwrap();
+            queue.insert("waits", ms(60_000)).unwrap();
+            assert_eq!(stream.next().await.unwrap().value, "a");
             assert!(timeout(ms(1_000), stream.next()).await.is_err());
         });
         drop(first);
         for runtime in [paused(), Runtime::new().unwrap()] {
             runtime.block_on(async {
-                queue.insert(0, "b", ms(10)).unwrap();
-                assert_eq!(stream.next().await.unwrap().into_inner(), "b");
+                queue.insert("b", ms(10)).unwrap();
+                assert_eq!(stream.next().await.unwrap().value, "b");
             });
         }
         paused().block_on(async {
-            assert_eq!(stream.next().await.unwrap().into_inner(), "waits");
-            queue.insert(1, "c", ms(10)).unwrap();
-            drop(queue);
-            assert_eq!(stream.next().await.unwrap().into_inner(), "c");
+            assert_eq!(stream.next().await.unwrap().value, "waits");
+            queue.insert("c", ms(10)).unwrap();
+            assert_eq!(stream.next().await.unwrap().value, "c");
+            queue.close();
             assert!(stream.next().await.is_none());
         });
     });
@@ -168,17 +168,17 @@ fn a_stream_goes_on_in_a_second_runtime_while_the_first_is_not_driven() {
     for has_waited in [false, true] {
         ends(move || {
             let (first, second) = (paused(), paused());
-            let queue = first.block_on(async { SharedDelayQueue::new(2, 10).unwrap() });
+            let queue = first.block_on(async { builder().build() });
             let mut stream = queue.stream();
             first.block_on(async {
-                queue.insert(0, "a", ms(10)).unwrap();
-                queue.insert(1, "c", ms(300)).unwrap();
-                assert_eq!(stream.next().await.unwrap().into_inner(), "a");
+                queue.insert("a", ms(10)).unwrap();
+                queue.insert("c", ms(300)).unwrap();
+                assert_eq!(stream.next().await.unwrap().value, "a");
                 assert!(!has_waited || timeout(ms(5), stream.next()).await.is_err());
             });
-            second.block_on(async { assert_eq!(stream.next().await.unwrap().into_inner(), "c") });
-            first.block_on(async { queue.insert(0, "d", ms(10)).unwrap() });
-            first.block_on(async { assert_eq!(stream.next().await.unwrap().into_inner(), "d") });
+            second.block_on(async { assert_eq!(stream.next().await.unwrap().value, "c") });
+            first.block_on(async { queue.insert("d", ms(10)).unwrap() });
+            first.block_on(async { assert_eq!(stream.next().await.unwrap().value, "d") });
             drop(second);
         });
     }
@@ -276,16 +276,16 @@ fn a_clock_beyond_the_last_tick_is_taken_as_the_last() {
         paused().block_on(async {
             let mut queue = DelayQueue::new();
             queue.insert("a", ms(10));
-            let (shared, years) = (SharedDelayQueue::new(2, 10).unwrap(), std::time::Duration::from_secs(365 * 86_400));
+            let (shared, years) = (builder().build(), std::time::Duration::from_secs(365 * 86_400));
             let mut stream = shared.stream();
-            shared.insert(0, "b", ms(10)).unwrap();
+            shared.insert("b", ms(10)).unwrap();
             for _ in 0..8 {
                 tokio::time::advance(20 * years).await;
             }
             assert_eq!(poll_fn(|cx| queue.poll_expired(cx)).await.map(|out| out.into_inner()), Some("a"));
             assert!(poll_fn(|cx| queue.poll_expired(cx)).await.is_none());
-            assert_eq!(stream.next().await.map(|out| out.into_inner()), Some("b"));
-            drop(shared);
+            assert_eq!(stream.next().await.map(|out| out.value), Some("b"));
+            shared.close();
             assert!(stream.next().await.is_none());
         });
     });

@@ -9,10 +9,12 @@
 mod common;
 
 use common::{ms, Dice};
-use hontkhale_tokio::{delay_queue, shared_queue, DelayQueue, ExpiredStream, Handle, SharedDelayQueue, SharedHandle};
+use futures_core::Stream;
+use hontkhale_tokio::{delay_queue, DelayQueue, Handle, QueueExt, QueueStream};
 use std::collections::HashMap;
 use std::future::poll_fn;
 use std::panic::{catch_unwind, resume_unwind, AssertUnwindSafe};
+use std::pin::Pin;
 use std::sync::atomic::{AtomicBool, AtomicU64, Ordering::SeqCst};
 use std::sync::mpsc::channel;
 use std::sync::{Arc, Mutex, MutexGuard, PoisonError};
@@ -251,18 +253,16 @@ fn cancel(handle: &Handle, key: &delay_queue::Key, told: &Told) -> Option<Instan
 
 /// A queue that all fill, and its streams.
 struct Filled {
-    queue: SharedDelayQueue<Value>,
-    handle: SharedHandle,
-    known: Mutex<Vec<(shared_queue::Key, Arc<Told>)>>,
+    queue: hontkhale::DelayQueue<Value>,
+    known: Mutex<Vec<(hontkhale::delay_queue::Key, Arc<Told>)>>,
     start: Instant,
     ledger: Arc<Ledger>,
 }
 
 impl Filled {
     fn new(ledger: &Arc<Ledger>) -> Filled {
-        let queue = SharedDelayQueue::new(4, MOST / 4).expect("a queue");
-        let handle = queue.handle().expect("a handle");
-        Filled { queue, handle, known: Mutex::default(), start: Instant::now(), ledger: ledger.clone() }
+        let queue = hontkhale::DelayQueue::builder().max_entries(MOST).build();
+        Filled { queue, known: Mutex::default(), start: Instant::now(), ledger: ledger.clone() }
     }
 
     fn call(&self, dice: &mut Dice) {
@@ -273,19 +273,19 @@ impl Filled {
             (0..=4, _) => {
                 let told = Arc::<Told>::default();
                 told.until.store(millis(self.start, when), SeqCst);
-                let (handle, queue) = (self.handle.clone(), self.queue.clone());
+                let queue = self.queue.clone();
                 let (other, removes) = (lock(&self.known).get(at / 2).cloned(), dice.below(2) == 0);
                 let ends: Option<Ends> = other.map(|(key, _)| -> Ends {
                     Box::new(move || match removes {
                         true => drop(queue.remove(&key)),
-                        false => drop(handle.extend(&key, ms(50))),
+                        false => drop(queue.extend(&key, ms(50))),
                     })
                 });
                 self.ledger.made.fetch_add(1, SeqCst);
                 let (told_too, ledger) = (told.clone(), self.ledger.clone());
                 let value = Value { told: told_too, ledger, ends, panics: dice.below(50) == 0 };
-                // An insert into a full shard drops what handles cancelled.
-                match guarded(|| self.queue.insert_at(dice.below(4), value, when)) {
+                // An insert that finds no room drops what was cancelled.
+                match guarded(|| self.queue.insert_at(value, when.into_std())) {
                     Some(Ok(key)) => {
                         let mut known = lock(&self.known);
                         if at < known.len() {
@@ -294,7 +294,7 @@ impl Filled {
                             known.push((key, told));
                         }
                     }
-                    Some(Err(full)) => drop(guarded(|| drop(full.value))),
+                    Some(Err(full)) => drop(guarded(|| drop(full.into_inner()))),
                     None => {}
                 }
             }
@@ -304,26 +304,25 @@ impl Filled {
                 }
             }
             (6, Some((key, told))) => {
-                let is_cancelled = self.handle.cancel(&key).is_ok();
+                let is_cancelled = self.queue.cancel(&key).is_ok();
                 if is_cancelled {
                     told.until.store(CANCELLED, SeqCst);
                 }
             }
             (_, Some((key, _))) => {
-                let _ = self.handle.extend(&key, ms(dice.below(300)));
+                let _ = self.queue.extend(&key, ms(dice.below(300)));
             }
             _ => {}
         }
     }
 
-    async fn serve(&self, stream: &mut ExpiredStream<Value>) {
-        let polled = poll_fn(|cx| match guarded(|| stream.poll_expired(cx)) {
+    async fn serve(&self, stream: &mut QueueStream<Value>) {
+        let polled = poll_fn(|cx| match guarded(|| Pin::new(&mut *stream).poll_next(cx)) {
             Some(polled) => polled.map(Some),
             None => Poll::Ready(None),
         });
         if let Ok(Some(Some(out))) = tokio::time::timeout(ms(20), polled).await {
-            let deadline = out.deadline();
-            check_out(self.start, deadline, out.into_inner());
+            check_out(self.start, out.deadline.into(), out.value);
         }
     }
 
@@ -331,25 +330,21 @@ impl Filled {
     fn end(self) {
         let runtime = Runtime::new().expect("a runtime");
         let mut stream = self.queue.stream();
-        drop(self.queue);
+        let stream = &mut stream;
         runtime.block_on(async {
-            loop {
-                let polled = poll_fn(|cx| match guarded(|| stream.poll_expired(cx)) {
+            while !self.queue.is_empty() {
+                let polled = poll_fn(|cx| match guarded(|| Pin::new(&mut *stream).poll_next(cx)) {
                     Some(polled) => polled.map(Some),
                     None => Poll::Ready(None),
                 });
-                match polled.await {
-                    Some(Some(out)) => {
-                        let deadline = out.deadline();
-                        check_out(self.start, deadline, out.into_inner());
-                    }
-                    Some(None) => break,
-                    // A value's drop panicked amid the poll.
-                    None => {}
+                // None where a value's drop panicked amid the poll.
+                if let Some(Some(out)) = polled.await {
+                    check_out(self.start, out.deadline.into(), out.value);
                 }
             }
         });
-        drop(stream);
+        // What was cancelled and nobody freed goes with the last hold of the queue, and a panic there with the others.
+        while guarded(|| self.queue.try_recv().is_none()).is_none() {}
         let all = self.known.into_inner().unwrap_or_else(PoisonError::into_inner);
         assert!(all.iter().all(|(_, told)| told.is_dropped.load(SeqCst)), "a value is lost");
     }
@@ -366,7 +361,7 @@ fn run_tasks(owned: &Arc<Owned>, filled: &Arc<Filled>, ledger: &Arc<Ledger>, ste
             let (owned, filled, steps) = (owned.clone(), filled.clone(), steps.clone());
             let mut dice = Dice(0x9e37_79b9_7f4a_7c15 ^ (lives * TASKS + task) << 9);
             runtime.spawn(async move {
-                let mut stream = if task < 4 { filled.queue.stream_of(task as usize).ok() } else { None };
+                let mut stream = if task < 4 { Some(filled.queue.stream()) } else { None };
                 loop {
                     steps.fetch_add(1, SeqCst);
                     match &mut stream {

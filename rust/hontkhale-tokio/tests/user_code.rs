@@ -3,9 +3,11 @@
 mod common;
 
 use common::{ends, ms, paused, Wakes};
-use hontkhale_tokio::{delay_queue::Key, DelayQueue, Handle, SharedDelayQueue};
+use futures_core::Stream;
+use hontkhale_tokio::{builder, delay_queue::Key, DelayQueue, Handle, QueueExt};
 use std::future::poll_fn;
 use std::panic::{catch_unwind, AssertUnwindSafe};
+use std::pin::Pin;
 use std::sync::atomic::{AtomicUsize, Ordering::SeqCst};
 use std::sync::{Arc, Mutex, PoisonError};
 use std::task::{Context, RawWaker, RawWakerVTable, Waker};
@@ -172,40 +174,6 @@ fn a_panic_in_a_cancelled_values_drop_loses_no_other_entry() {
     }
 }
 
-/// A session of which each that ends has the queue drop the others that were cancelled, and how deep their drops go.
-struct Sweeping {
-    queue: SharedDelayQueue<Sweeping>,
-    depths: Arc<(AtomicUsize, AtomicUsize)>,
-}
-
-impl Drop for Sweeping {
-    fn drop(&mut self) {
-        let (depth, most) = &*self.depths;
-        most.fetch_max(depth.fetch_add(1, SeqCst) + 1, SeqCst);
-        self.queue.sweep();
-        depth.fetch_sub(1, SeqCst);
-    }
-}
-
-/// One drop within another for each value would overflow the stack, and end the process.
-#[test]
-fn drops_that_sweep_are_made_one_after_the_other() {
-    ends(|| {
-        paused().block_on(async {
-            let queue = SharedDelayQueue::new(2, 10_000).unwrap();
-            let (handle, depths) = (queue.handle().unwrap(), Arc::<(AtomicUsize, AtomicUsize)>::default());
-            let keys: Vec<_> = (0..1_000)
-                .map(|at| {
-                    queue.insert(at, Sweeping { queue: queue.clone(), depths: depths.clone() }, ms(10_000)).unwrap()
-                })
-                .collect();
-            keys.iter().for_each(|key| assert!(handle.cancel(key).is_ok()));
-            queue.sweep();
-            assert_eq!((Arc::strong_count(&depths), depths.1.load(SeqCst)), (1, 1));
-        });
-    });
-}
-
 /// What a waker does when it is cloned, dropped and woken.
 type Call = dyn Fn() + Send + Sync;
 
@@ -241,81 +209,52 @@ fn calling(call: Arc<Call>) -> Waker {
 fn a_streams_waker_calls_the_queue() {
     ends(|| {
         paused().block_on(async {
-            let (queue, start) = (SharedDelayQueue::new(2, 10_000).unwrap(), tokio::time::Instant::now());
+            let (queue, start) = (builder().build(), tokio::time::Instant::now().into_std());
             let mut stream = queue.stream();
             let (filled, calls) = (queue.clone(), Arc::new(AtomicUsize::new(0)));
             let left = calls.clone();
             let call: Arc<Call> = Arc::new(move || {
                 if left.load(SeqCst) > 0 {
                     left.fetch_sub(1, SeqCst);
-                    filled.insert_at(left.load(SeqCst) as u64, 7, start).unwrap();
+                    filled.insert_at(7, start).unwrap();
                 }
             });
             for round in 0..60 {
                 let (first, second) = (calling(call.clone()), calling(call.clone()));
-                assert!(stream.poll_expired(&mut Context::from_waker(&first)).is_pending());
+                assert!(Pin::new(&mut stream).poll_next(&mut Context::from_waker(&first)).is_pending());
                 // The next calls are made where the stream waits for nothing else: by a clone, a drop, or a wake.
                 calls.store(1 + round % 3, SeqCst);
                 let mut outs = 0;
-                while stream.poll_expired(&mut Context::from_waker(&second)).is_ready() {
+                while Pin::new(&mut stream).poll_next(&mut Context::from_waker(&second)).is_ready() {
                     outs += 1;
                 }
                 drop((first, second));
                 assert!(outs > 0);
                 calls.store(0, SeqCst);
                 let third = calling(call.clone());
-                while stream.poll_expired(&mut Context::from_waker(&third)).is_ready() {}
+                while Pin::new(&mut stream).poll_next(&mut Context::from_waker(&third)).is_ready() {}
             }
-            queue.insert(0, 1, ms(5)).unwrap();
+            queue.insert(1, ms(5)).unwrap();
             assert!(stream.next().await.is_some());
         });
     });
 }
 
-/// The crate below drops a cancelled value while it holds the shard's lock. So what stands in a shard only lays it aside there.
 #[test]
-fn the_drop_of_a_cancelled_value_calls_the_shared_queue() {
-    struct Inserts(SharedDelayQueue<Option<Inserts>>);
+fn the_drop_of_a_cancelled_value_calls_the_queue_of_the_stream() {
+    struct Inserts(hontkhale::DelayQueue<Option<Inserts>>);
     impl Drop for Inserts {
         fn drop(&mut self) {
-            let _ = self.0.insert(0, None, ms(1));
+            let _ = self.0.insert(None, ms(1));
         }
     }
     ends(|| {
         paused().block_on(async {
-            let queue = SharedDelayQueue::new(2, 10).unwrap();
+            let queue = builder().build();
             let mut stream = queue.stream();
-            let key = queue.insert(0, Some(Inserts(queue.clone())), ms(5)).unwrap();
-            queue.handle().unwrap().cancel(&key).unwrap();
+            let key = queue.insert(Some(Inserts(queue.clone())), ms(5)).unwrap();
+            queue.cancel(&key).unwrap();
             assert!(stream.next().await.is_some());
-        });
-    });
-}
-
-/// An insert into a full shard may drop what a handle cancelled there, whose drop puts in and sweeps too.
-#[test]
-fn an_insert_into_full_shards_drops_cancelled_values_that_call_the_queue() {
-    struct Inserts(SharedDelayQueue<Option<Inserts>>, Arc<AtomicUsize>);
-    impl Drop for Inserts {
-        fn drop(&mut self) {
-            self.1.fetch_add(1, SeqCst);
-            let _ = self.0.insert(0, None, ms(1));
-            let _ = self.0.sweep();
-        }
-    }
-    ends(|| {
-        paused().block_on(async {
-            let (queue, drops) = (SharedDelayQueue::new(2, 4).unwrap(), Arc::<AtomicUsize>::default());
-            let handle = queue.handle().unwrap();
-            for route in 0..8 {
-                let key = queue.insert(route, Some(Inserts(queue.clone(), drops.clone())), ms(5)).unwrap();
-                handle.cancel(&key).unwrap();
-            }
-            while drops.load(SeqCst) < 8 {
-                let _ = queue.insert(0, None, ms(1));
-                queue.sweep();
-            }
-            assert_eq!(drops.load(SeqCst), 8, "each value is dropped once");
         });
     });
 }

@@ -3,7 +3,7 @@
 //! The replay is the proved one. What is read of the command line is this file's.
 
 use std::env;
-use std::io::{self, BufReader, BufWriter, Write};
+use std::io::{self, BufReader, BufWriter, IsTerminal, Write};
 use std::process::ExitCode;
 
 use hontkhale::replay::{report, run, ReplayFault};
@@ -19,6 +19,19 @@ Usage: delay-replay [OPTIONS]
 Options:
       --capacity <N>  The most names that may be live, 1 to 65536 [default: 1024]
   -h, --help          Print help
+
+A script begins with the line `delay 1`. Each later line is a command. Here each has its answers beside it:
+
+  delay 1
+  insert a 5          a at 5
+  insert b 3          b at 3
+  extend a 7          a at 7
+  tick 4              b expired 3
+                      tick 4
+
+Without that first line the script ends with `line 1: bad header`. A line ends with a line feed alone:
+a carriage return before it counts as part of the last word, so `delay 1` is then a bad header too.
+docs/SCRIPT.md has every command. Ctrl-D ends a script that is typed in a terminal.
 ";
 
 /// What a command line asks for.
@@ -52,11 +65,16 @@ fn asked(words: impl Iterator<Item = String>) -> Result<Asked, String> {
     Ok(Asked::Replay(capacity))
 }
 
-/// Replays standard input. What was answered is handed on before this returns.
+/// Replays standard input. What was answered is handed on before this returns, and line by line if it is typed.
 fn replay(capacity: usize) -> Result<(), ReplayFault> {
+    let is_typed = io::stdin().is_terminal();
     let mut reader = BufReader::new(io::stdin().lock());
-    let mut writer = BufWriter::new(io::stdout().lock());
-    run(&mut reader, &mut writer, capacity)
+    let mut output = io::stdout().lock();
+    if is_typed {
+        run(&mut reader, &mut output, capacity)
+    } else {
+        run(&mut reader, &mut BufWriter::new(output), capacity)
+    }
 }
 
 fn main() -> ExitCode {

@@ -98,9 +98,9 @@ impl<T> Debug for PlainQueue<T> {
 mod with_std {
     use super::{Debug, Formatter, Result};
     use crate::apps::{CountedCache, IdleSessions, Name, Seen, TtlCache};
-    use crate::lasting::{LastingHandle, LastingPacedStream, LastingQueue, LastingStream, LockedLasting};
+    use crate::lasting::{LastingHandle, LastingPacedStream, LastingQueue, LastingStream};
     use crate::parking::{MillisecondTicks, Parked};
-    use crate::shards::{Handle, LockedShard, ShardState, SharedDelayQueue};
+    use crate::shards::{Handle, ShardState, SharedDelayQueue};
     use crate::stream::{ExpiredStream, PacedStream};
     use std::hash::{BuildHasher, Hash};
 
@@ -122,12 +122,6 @@ mod with_std {
                 .field("next_wake", &self.next_wake())
                 .field("parked", &self.parked())
                 .finish_non_exhaustive()
-        }
-    }
-
-    impl<T> Debug for LockedShard<'_, T> {
-        fn fmt(&self, f: &mut Formatter<'_>) -> Result {
-            f.debug_tuple("LockedShard").field(&**self).finish()
         }
     }
 
@@ -186,19 +180,6 @@ mod with_std {
         fn fmt(&self, f: &mut Formatter<'_>) -> Result {
             f.debug_struct("LastingHandle")
                 .field("cancels", &self.cancels())
-                .finish_non_exhaustive()
-        }
-    }
-
-    impl<T> Debug for LockedLasting<'_, T> {
-        fn fmt(&self, f: &mut Formatter<'_>) -> Result {
-            f.debug_struct("LockedLasting")
-                .field("number", &self.number())
-                .field("takes", &self.takes())
-                .field("len", &self.len())
-                .field("capacity", &self.capacity())
-                .field("next_wake", &self.next_wake())
-                .field("parked", &self.parked())
                 .finish_non_exhaustive()
         }
     }

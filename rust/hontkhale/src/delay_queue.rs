@@ -4,6 +4,7 @@
 //! receivers are woken in time. The shards that it stands over are proved, as the crate's front page tells; what is here, by
 //! which threads share them, wait, and find their entries, is written by hand and tested.
 
+mod asynchronous;
 mod builder;
 mod callers;
 mod dropping;
@@ -18,6 +19,7 @@ mod stats;
 mod time;
 mod waking;
 
+pub use asynchronous::AsyncReceiver;
 pub use builder::Builder;
 pub use errors::{InsertError, InsertErrorKind, KeyError};
 pub use handle::{Handle, Timeout};
@@ -75,6 +77,11 @@ use waking::NEVER;
 /// lock meanwhile, so a drop may call the queue. What these calls let go in their turn is dropped after it, so that the stack
 /// holds one drop at a time. A drop that panics passes through the call that made it; no entry but the
 /// dropped one is lost, though a value that was handed to [`insert`](DelayQueue::insert) is dropped with the call.
+///
+/// # A suspended machine, and `fork`
+/// The clock is [`Instant`], which stands while Linux is suspended (`CLOCK_MONOTONIC`, and not `CLOCK_BOOTTIME`): what is due
+/// meanwhile comes out that much later. A child of `fork` may not use a queue that was made before it: a lock that another
+/// thread held at that moment stays held there, and a call hangs. `exec` is fine.
 ///
 /// # The end
 /// [`close`](DelayQueue::close) ends the receivers. The queue is dropped with its last clone; a [`Handle`] says
@@ -306,6 +313,11 @@ impl<T> DelayQueue<T> {
     /// What is due now, one entry after the other: each step is a [`try_recv`](DelayQueue::try_recv).
     pub fn try_iter(&self) -> TryIter<'_, T> {
         TryIter::new(self)
+    }
+
+    /// What receives in a task: see [`AsyncReceiver`]. Under tokio the crate hontkhale-tokio makes a `Stream` of it, with a timer.
+    pub fn receiver(&self) -> AsyncReceiver<T> {
+        AsyncReceiver::new(self)
     }
 
     /// The number of entries that wait, or are due and didn't come out yet.

@@ -7,38 +7,32 @@
 //!
 //! Whoever polls a shard does it by hand, at its next wake, or as a task that is parked there and woken.
 
-mod aside;
 mod audit;
 mod calls;
 mod config;
+mod dropping;
 mod ended;
-mod entered;
 mod errors;
 mod handle;
 mod keeping;
-mod many;
 mod names;
 mod numbered;
 mod opening;
 mod paced;
-mod pieces;
+mod parts;
 mod poller;
 mod queue;
-mod quiet;
-mod reaping;
-mod seen;
 mod shard;
 mod state;
 mod stream;
-mod through;
 
 pub use config::{BadLastingNumber, LastingConfig};
 pub use ended::{Ended, LastingTally, LastingTotals};
-pub use entered::LockedLasting;
 pub use errors::{HandleError, HandleRenewError, LastingError, ReopenError};
 pub use handle::LastingHandle;
 pub use keeping::Kept;
 pub use paced::LastingPacedStream;
+pub use poller::ParkedPoller;
 pub use queue::LastingQueue;
 pub(crate) use shard::{with_ended, LastingShard};
 pub use state::PlaceState;

@@ -160,8 +160,8 @@ pub mod sessions {
     pub use crate::apps::{IdleSessions, Name};
 }
 
-// The project's own tests, erased: each line stands where it stands in its source. Those of tests/owned were erased
-// once, and are written by hand since.
+// Tests of the proved parts, which keep the shape of the tests in Rattle from which they were erased once
+// and which are written by hand since.
 #[cfg(all(test, feature = "std"))]
 #[rustfmt::skip]
 // The tests keep the shape of their source, and ask for a newer Rust than the crate.

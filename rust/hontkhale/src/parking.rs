@@ -7,6 +7,7 @@ mod dropping;
 mod fault;
 mod parked;
 mod registering;
+mod row;
 mod source;
 mod waiting;
 
@@ -14,5 +15,6 @@ pub use attended::{keep_or_leave, Attended};
 pub use fault::StreamFault;
 pub use parked::{let_sleep, ring, take, Leaver, Parked};
 pub use registering::{forget, register};
+pub use row::{unlock, Dropper, Row, Shard};
 pub use source::{MillisecondTicks, TickSource};
 pub use waiting::{waiting_row, Waiting};

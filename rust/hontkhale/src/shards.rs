@@ -1,26 +1,21 @@
 //! Delay queues behind locks, one a shard, whose entries are extended and cancelled without them.
 
-mod aside;
 mod audit;
 mod callers;
 mod calls;
+mod drops;
 mod errors;
 mod handle;
-mod locked;
-mod many;
 mod poller;
 mod queue;
-mod quiet;
-mod read_shard;
 mod readers;
+mod shard;
 mod state;
-mod through;
 mod totals;
 
 pub use crate::parking::Parked;
 pub use errors::{BadQueueNumber, QueueConfig, QueueError, SHARD_LIMIT};
 pub use handle::Handle;
-pub use locked::LockedShard;
 pub use queue::SharedDelayQueue;
 pub use state::ShardState;
 pub use totals::{HandlesOut, Totals};

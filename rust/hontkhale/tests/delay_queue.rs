@@ -22,6 +22,8 @@ mod moves;
 mod receivers;
 #[path = "delay_queue/servers.rs"]
 mod servers;
+#[path = "delay_queue/tasks.rs"]
+mod tasks;
 #[path = "delay_queue/threads.rs"]
 mod threads;
 #[path = "delay_queue/user_code.rs"]

@@ -315,3 +315,36 @@ fn shards_sweep_and_reap_in_pieces() {
     let too_large = QueueError::Core(CoreError::TickTooLarge { limit: LAST_TICK });
     assert_eq!(queue.poll_some(1, LAST_TICK + 1, 0).unwrap_err(), too_large);
 }
+
+/// All that a shard shows of itself.
+fn shown(queue: &SharedDelayQueue<String>, shard: usize) -> String {
+    format!("{:?}", queue.enter(shard).unwrap())
+}
+
+// promise: shards.deadline-next-wake
+#[test]
+fn what_only_tells_changes_nothing() {
+    let queue = queue(2, 10);
+    let keys = [(7, "one"), (7, "two"), (90, "three")]
+        .map(|(when, name)| queue.insert_or_drop(0, name.to_owned(), when).unwrap());
+    let mut handle = queue.handle().unwrap();
+    assert_eq!(handle.cancel(&keys[0]), Ok(7));
+    handle.give_back();
+    assert!(matches!(queue.poll(0, 5), Ok(Turn::Waiting { next: 7 })));
+    queue.lend(0, |shard| shard.park(7, Waker::noop().clone())).unwrap();
+    let before = shown(&queue, 0);
+    assert!(
+        before.contains("len: 3") && before.contains("parked: Some(7)"),
+        "{before}"
+    );
+    assert_eq!(queue.deadline(&keys[1].entry()), Ok(7));
+    assert_eq!(
+        queue.deadline(&keys[0].entry()),
+        Err(QueueError::Core(CoreError::WasCancelled))
+    );
+    assert_eq!(queue.next_wake(0), Ok(Some(7)));
+    assert_eq!(queue.tally(0).map(|tally| (tally.linked, tally.cancelled)), Ok((3, 0)));
+    assert_eq!(queue.parked(0), Ok(Some(7)));
+    assert_eq!(queue.audit().map(|totals| (totals.live, totals.cancelled)), Ok((2, 1)));
+    assert_eq!(shown(&queue, 0), before);
+}

@@ -16,6 +16,7 @@ use std::fmt::Debug;
 use std::num::NonZeroU32;
 use std::sync::atomic::{AtomicBool, Ordering::SeqCst};
 use std::thread;
+use std::time::{Duration, Instant};
 
 /// The tick at whose poll a slot opens, and a deadline in it: the slots there have 4,096 ticks.
 const OPENS: u64 = 4_096 * 16;
@@ -48,7 +49,7 @@ trait Queue: Sync {
 }
 
 macro_rules! queue {
-    ($queue:ty, $config:ty, $refusal:ident, $present:expr) => {
+    ($queue:ty, $config:ty, $refusal:ident, $present:expr, $noted_and_wake:expr) => {
         impl Queue for $queue {
             type Refusal = $refusal;
 
@@ -83,8 +84,7 @@ macro_rules! queue {
             }
 
             fn noted_and_wake(&self) -> (u64, Option<u64>) {
-                let shard = self.enter(0).expect("a shard");
-                (shard.noted(), shard.next_wake())
+                $noted_and_wake(self)
             }
 
             fn counts(&self) -> (u64, u64, u64) {
@@ -98,12 +98,19 @@ macro_rules! queue {
 type Shared = SharedDelayQueue<u64>;
 type Lasting = LastingQueue<u64>;
 
-queue!(Shared, QueueConfig, QueueError, |tally| tally);
+queue!(Shared, QueueConfig, QueueError, |tally| tally, |queue: &Shared| {
+    let shard = queue.enter(0).expect("a shard");
+    (shard.noted(), shard.next_wake())
+});
 queue!(
     Lasting,
     LastingConfig,
     LastingError,
-    |tally: hontkhale::lasting::LastingTally| tally.present
+    |tally: hontkhale::lasting::LastingTally| tally.present,
+    |queue: &Lasting| {
+        let state = queue.state(0).expect("a shard");
+        (state.noted, state.next_wake)
+    }
 );
 
 fn steps(steps: u32) -> NonZeroU32 {
@@ -243,4 +250,34 @@ fn many_threads_call_beside_polls_through() {
 #[test]
 fn many_threads_call_beside_polls_through_of_a_lasting_queue() {
     let_many_threads_call::<Lasting>();
+}
+
+/// The least time of 50 calls of `give_way`: far less than a microsecond where nobody waits for the shard's lock, and a
+/// thousand looks where someone does.
+fn gives_way(queue: &Shared, shard: usize) -> bool {
+    let least = (0..50).map(|_| {
+        let start = Instant::now();
+        queue.give_way(shard);
+        start.elapsed()
+    });
+    least.min().is_some_and(|least| least > Duration::from_nanos(1_500))
+}
+
+// A lasting queue hands out no shard whose lock is held: its test of this stands in the crate.
+// promise: shards.poll-through-makes
+#[test]
+fn polls_through_give_way_to_who_waits_for_their_shard() {
+    let queue = <Shared as Queue>::of(8);
+    assert!(!gives_way(&queue, 0) && !gives_way(&queue, 1), "nobody waits yet");
+    thread::scope(|scope| {
+        let held = queue.enter(1).expect("a shard");
+        scope.spawn(|| queue.poll_through(1, 0, steps(1)).is_ok());
+        let start = Instant::now();
+        while !gives_way(&queue, 1) {
+            assert!(start.elapsed() < Duration::from_secs(20), "it gives way to nobody");
+        }
+        assert!(!gives_way(&queue, 0), "nobody waits for the other shard");
+        drop(held);
+    });
+    assert!(!gives_way(&queue, 0) && !gives_way(&queue, 1), "nobody waits any more");
 }

@@ -6,7 +6,7 @@ use super::steps::{Change, change_while_parked, play, play_over};
 use super::streams::Seen::{Ends, Fault, Out, Waits};
 use super::streams::{Letters, Task, TickOf, Told, fill, letters, letters_and_task, stream_of};
 use dq_core::Expired;
-use dq_shards::LockedShard;
+use dq_shards::ShardState;
 use dq_stream::StreamFault;
 use dq_stream::parking::park_with;
 use futures::StreamExt;
@@ -86,7 +86,7 @@ fn parked_then_removed(rt: HostRuntime) -> Result<(), Fail> {
     )
 }
 
-fn refuses_no_waker(rt: &impl Abort, shard: &mut LockedShard<'_, char>) -> Result<(), Fail> {
+fn refuses_no_waker(rt: &impl Abort, shard: &mut ShardState<char>) -> Result<(), Fail> {
     let Some(next) = shard.next_wake() else {
         return Err(Fail::new("no wake"));
     };

@@ -1,17 +1,12 @@
 //! Scripts as tables: behind a first line, each line beside its answer.
 
-use dq_replay::{FaultKind, ReplayFault, run};
+use dq_replay::{ReplayFault, run};
 use std::alloc::{AllocError, Global};
 use std::process::Abort;
 use std::str;
 
 /// A line and its answer, which has several lines where names expire.
 pub type Row<'t> = (&'t str, &'t str);
-
-/// How a script ends that has a fault at a line.
-pub fn fault_at(line: u32, kind: FaultKind) -> Result<(), ReplayFault> {
-    Err(ReplayFault::Script { line, kind })
-}
 
 fn push_line(text: &mut String, line: &str) -> Result<(), AllocError> {
     text.push_str(line)?;

@@ -23,9 +23,9 @@ impl Model for Gone {
 
     ghost Value = { Sat };
 
-    ghost view = { λ g. record { table = g.seat.table_id; view = g.seat.me.0 } };
+    ghost view = { λ g. record { table = g.seat.table_id; view = g.seat.me.0.view } };
 
-    ghost invariant = { λ g. (g.seat.me.0.gone ≡ true) × Knew g.seat.me.0 };
+    ghost invariant = { λ g. (g.seat.me.0.view.gone ≡ true) × Knew g.seat.me.0.view };
 }
 
 impl Gone {

@@ -1,77 +1,101 @@
 //! What each step on the table tells the seat that makes it.
+ghost use Rattle.std.specs.Prelude.{[]};
+ghost use Rattle.dq_words.specs.Places.{InPlace, standing, placed, carrier, carried, hearing, told_loaded};
 ghost use Rattle.dq_words.specs.Plays.{Knowing, caller_loaded, keeper_loaded, extend_made};
 ghost use Rattle.dq_words.specs.Plays.{cancel_made, begin_made, exchange_made, settling, renewing};
 ghost use Rattle.dq_words.specs.Plays.{finishing, issuing, newcomer, give_back_made, return_loaded};
 
-use crate::views::View;
-use atomic_table::{Play, Split};
+use crate::views::Place;
+use atomic_table::{Join, Play, Split};
 
 pub(crate) struct CallerLoad;
 
-impl Play<u64, View> for CallerLoad {
-    ghost then = { Knowing caller_loaded };
+impl Play<u64, Place> for CallerLoad {
+    ghost then = { InPlace (Knowing caller_loaded) };
 }
 
 pub(crate) struct KeeperLoad;
 
-impl Play<u64, View> for KeeperLoad {
-    ghost then = { Knowing keeper_loaded };
+impl Play<u64, Place> for KeeperLoad {
+    ghost then = { InPlace (Knowing keeper_loaded) };
 }
 
 pub(crate) struct Extend;
 
-impl Play<u64, View> for Extend {
-    ghost then = { Knowing extend_made };
+impl Play<u64, Place> for Extend {
+    ghost then = { InPlace (Knowing extend_made) };
 }
 
 pub(crate) struct Cancel;
 
-impl Play<u64, View> for Cancel {
-    ghost then = { Knowing cancel_made };
+impl Play<u64, Place> for Cancel {
+    ghost then = { InPlace (Knowing cancel_made) };
 }
 
 pub(crate) struct Begin;
 
-impl Play<u64, View> for Begin {
-    ghost then = { Knowing begin_made };
+impl Play<u64, Place> for Begin {
+    ghost then = { InPlace (Knowing begin_made) };
 }
 
 pub(crate) struct Settle;
 
-impl Play<u64, View> for Settle {
-    ghost then = { Knowing (exchange_made settling) };
+impl Play<u64, Place> for Settle {
+    ghost then = { InPlace (Knowing (exchange_made settling)) };
 }
 
 pub(crate) struct Renew;
 
-impl Play<u64, View> for Renew {
-    ghost then = { Knowing (exchange_made renewing) };
+impl Play<u64, Place> for Renew {
+    ghost then = { InPlace (Knowing (exchange_made renewing)) };
 }
 
 pub(crate) struct Finish;
 
-impl Play<u64, View> for Finish {
-    ghost then = { Knowing (exchange_made finishing) };
+impl Play<u64, Place> for Finish {
+    ghost then = { InPlace (Knowing (exchange_made finishing)) };
 }
 
 pub(crate) struct Issue;
 
-impl Split<View> for Issue {
-    ghost left = { issuing };
+impl Split<Place> for Issue {
+    ghost left = { λ p. standing p (issuing p.view) };
 
-    ghost right = { newcomer };
+    ghost right = { λ p. placed (newcomer p.view) };
 }
 
 // A caller that is given back.
 pub(crate) struct GiveBack;
 
-impl Play<u64, View> for GiveBack {
-    ghost then = { Knowing give_back_made };
+impl Play<u64, Place> for GiveBack {
+    ghost then = { InPlace (Knowing give_back_made) };
 }
 
 // The keeper's load of the return word.
 pub(crate) struct ReturnLoad;
 
-impl Play<u64, View> for ReturnLoad {
-    ghost then = { Knowing return_loaded };
+impl Play<u64, Place> for ReturnLoad {
+    ghost then = { InPlace (Knowing return_loaded) };
+}
+
+// The keeper's load that tells it what it and another seat know together.
+pub(crate) struct ToldLoad;
+
+impl Play<u64, Place> for ToldLoad {
+    ghost then = { told_loaded };
+}
+
+// A seat's calls go to another seat.
+pub(crate) struct Tell;
+
+impl Split<Place> for Tell {
+    ghost left = { λ p. p };
+
+    ghost right = { carried };
+}
+
+impl Join<Place> for Tell {
+    ghost both = { hearing };
+
+    ghost spent = { carrier [] };
 }

@@ -1,21 +1,26 @@
 """Measures the worker beside what people do without an index: how late jobs are, what is asked, and what it costs.
 
-    measure.py jobs [SECONDS]      lateness and statements, beside pollers
+    measure.py jobs [SECONDS]      lateness and statements, beside pollers, three times each in turns
     measure.py beats [SECONDS]     100,000 leases that each beat once a second, beside an UPDATE a beat
+
+Without SECONDS the tables of README.md are written, too.
 """
 import os
 import pathlib
+import re
+import statistics
 import subprocess
 import sys
 import threading
 import time
 
-from cluster import EFFECT, cluster, free_port, program, wait_for
+from cluster import EFFECT, HERE, cluster, end, free_port, program, wait_for
 from holder import packed
 from leases import metric
 
 HERTZ = os.sysconf("SC_CLK_TCK")
 WORKERS = 3
+TURNS = 3
 
 
 def times(pid):
@@ -81,28 +86,16 @@ def enqueue_ahead(it, rate, seconds):
     it.jobs("enqueue", str(rate * seconds), "--delay", "4000", "--spread", str(seconds * 1000))
 
 
+def pgbench(it, script, seconds, *words):
+    """What pgbench says of a script by 8 clients."""
+    command = [program("pgbench"), "-n", "-c", "8", "-j", "1", "-T", str(seconds), "-f", str(script), *words, it.url]
+    return subprocess.run(command, check=True, capture_output=True, text=True).stdout
+
+
 def enqueue_singly(it, rate, seconds):
     script = it.room / "insert.sql"
     script.write_text("INSERT INTO jobs (due) VALUES (clock_timestamp() + random() * interval '5 seconds');\n")
-    subprocess.run(
-        [
-            program("pgbench"),
-            "-n",
-            "-c",
-            "8",
-            "-j",
-            "1",
-            "-R",
-            str(rate),
-            "-T",
-            str(seconds),
-            "-f",
-            str(script),
-            it.url,
-        ],
-        check=True,
-        capture_output=True,
-    )
+    pgbench(it, script, seconds, "-R", str(rate))
 
 
 def load(it, mode, rate, seconds, enqueue):
@@ -110,60 +103,71 @@ def load(it, mode, rate, seconds, enqueue):
     it.sql("CHECKPOINT")
     cost = Cost(it, workers)
     enqueue(it, rate, seconds)
-
-    def all_done():
-        """each job is done"""
-        return it.number("SELECT count(*) FROM jobs WHERE state = 'waiting'") == 0
-
     time.sleep(seconds)
-    wait_for(all_done, 300, every=0.5)
+    it.wait_for_number("SELECT count(*) FROM jobs WHERE state = 'waiting'", 0, 300)
     worker, database = cost.cores()
     rows = it.sql(
         "SELECT count(*), array_to_string(percentile_disc(ARRAY[0.5, 0.99, 1]) WITHIN GROUP (ORDER BY late), ' ') "
         "FROM (SELECT round(1000 * extract(epoch FROM started - due), 1) AS late FROM jobs) it"
     )
-    for process in workers:
-        process.terminate()
-    for process in workers:
-        process.wait(30)
+    end(*workers)
     return [*rows[0][1].split(), f"{worker:.2f}", f"{database:.2f}"]
 
 
 NAMES = {"worker": "the index", "10": "polled every 10 ms", "100": "polled every 100 ms"}
 
 
-def jobs(seconds):
-    print(
-        f"machine: {os.cpu_count()} cores, load {os.getloadavg()[0]:.1f} at the start, {seconds} s a row, "
-        f"{time.strftime('%H:%M')}"
+def table(name, circumstances, rows, is_stored):
+    """Prints a table, and writes it to README.md."""
+    text = "\n".join([circumstances, "", *(f"| {' | '.join(row)} |" for row in rows)])
+    print(text, flush=True)
+    if is_stored:
+        page = HERE / "README.md"
+        mark = re.compile(f"(<!-- table {name} -->\n).*?(\n<!-- end -->)", re.S)
+        page.write_text(mark.sub(lambda it: it[1] + text + it[2], page.read_text(), count=1))
+
+
+def circumstances(before, seconds, what):
+    return (
+        f"On {time.strftime('%Y-%m-%d')}, {os.cpu_count()} cores, {seconds} s a row, at a load of {before:.1f} at the "
+        f"start and {os.getloadavg()[0]:.1f} at the end. {what}"
     )
-    print(
-        "| 3 workers | load | p50 ms | p99 ms | max ms | cores of workers | of database "
-        "|\n|---|---|---|---|---|---|---|"
-    )
+
+
+def spread(turns):
+    """The median of each figure of some turns, and the least and the most of each p99."""
+    cells = [f"{statistics.median(map(float, it)):g}" for it in zip(*turns)]
+    p99 = [float(it[1]) for it in turns]
+    cells[1] += f" ({min(p99):g} to {max(p99):g})"
+    return cells
+
+
+def jobs(seconds, is_stored):
+    before = os.getloadavg()[0]
+    head = ["p50 ms", "p99 ms", "max ms", "cores of workers", "of database"]
+    rows = [["A second", "Way", *head], ["---", "---", *["--:"] * 5]]
+    idle_rows = [["Way", "statements a second and a worker", *head[3:]], ["---", *["--:"] * 3]]
     with cluster() as it:
         for rate, name, enqueue in [
-            (1000, "1,000 a second", enqueue_ahead),
-            (10000, "10,000 a second", enqueue_ahead),
-            (1000, "1,000 a second, each by an INSERT of its own", enqueue_singly),
+            (1000, "1,000", enqueue_ahead),
+            (10000, "10,000", enqueue_ahead),
+            (1000, "1,000, each by an INSERT", enqueue_singly),
         ]:
-            for mode in ("worker", "10", "100"):
-                cells = load(it, mode, rate, seconds, enqueue)
-                print(f"| {NAMES[mode]} | {name} | {' | '.join(cells)} |", flush=True)
-        print(
-            "\n| 3 workers, no jobs | statements a second and a worker | cores of workers | of database "
-            "|\n|---|---|---|---|"
-        )
-        for mode in ("worker", "10", "100"):
+            turns = {mode: [] for mode in NAMES}
+            for mode in [*NAMES] * TURNS:
+                turns[mode].append(load(it, mode, rate, seconds, enqueue))
+                print(name, NAMES[mode], *turns[mode][-1], f"load {os.getloadavg()[0]:.1f}", flush=True)
+            rows += [[name, NAMES[mode], *spread(turns[mode])] for mode in NAMES]
+        for mode in NAMES:
             workers = start(it, mode)
             cost = Cost(it, workers)
             asked = idle(it, seconds)
             worker, database = cost.cores()
-            for process in workers:
-                process.terminate()
-                process.wait(30)
-            print(f"| {NAMES[mode]} | {asked:.1f} | {worker:.3f} | {database:.3f} |", flush=True)
-    print(f"load {os.getloadavg()[0]:.1f} at the end")
+            end(*workers)
+            idle_rows.append([NAMES[mode], f"{asked:.1f}", f"{worker:.3f}", f"{database:.3f}"])
+    said = "Medians of three turns, and the least and the most p99."
+    table("jobs", circumstances(before, seconds, said), rows, is_stored)
+    table("idle", "Without jobs:", idle_rows, is_stored)
 
 
 LEASES, CONNECTIONS, PIECE = 100_000, 4, 500
@@ -214,17 +218,8 @@ def hold(it, seconds, write_every):
         f"interval '25 seconds' FROM generate_series(1, {LEASES}); VACUUM ANALYZE jobs; CHECKPOINT"
     )
     port, metrics = free_port(), free_port()
-    worker = it.spawn(
-        "worker",
-        "--listen",
-        f"127.0.0.1:{port}",
-        "--metrics",
-        f"127.0.0.1:{metrics}",
-        "--lease",
-        "30000",
-        "--write-every",
-        str(write_every * 1000),
-    )
+    words = ["--listen", f"127.0.0.1:{port}", "--metrics", f"127.0.0.1:{metrics}"]
+    worker = it.spawn("worker", *words, "--lease", "30000", "--write-every", str(write_every * 1000))
     it.wait_for_owners(1)
     wait_for(lambda: metric(metrics, "jobs_leases") == LEASES, 60)
     ids = list(range(1, LEASES + 1))
@@ -273,22 +268,7 @@ def update_a_beat(it, seconds):
         "WHERE id = :id AND attempt = 1 AND state = 'running';\n"
     )
     cost = Cost(it, [])
-    command = [
-        program("pgbench"),
-        "-n",
-        "-M",
-        "prepared",
-        "-c",
-        "8",
-        "-j",
-        "1",
-        "-T",
-        str(seconds),
-        "-f",
-        str(script),
-        it.url,
-    ]
-    said = subprocess.run(command, check=True, capture_output=True, text=True).stdout
+    said = pgbench(it, script, seconds, "-M", "prepared")
     rate = float(next(line.split()[2] for line in said.splitlines() if line.startswith("tps")))
     return rate, cost.cores()[1]
 
@@ -302,33 +282,31 @@ def update_all(it, times):
     return LEASES * times / took, cost.cores()[1]
 
 
-def beats(seconds):
-    print(
-        f"machine: {os.cpu_count()} cores, load {os.getloadavg()[0]:.1f} at the start, {seconds} s, "
-        f"{time.strftime('%H:%M')}"
-    )
+def beats(seconds, is_stored):
+    before = os.getloadavg()[0]
     with cluster() as it:
         rate, (worker, database), longest, early, wal, hot, late = hold(it, seconds, 5)
-        print(
-            f"held {LEASES} leases for {seconds} s: {rate:.0f} beats a second, {worker:.2f} cores of the worker, "
-            f"{database:.2f} of the "
-            f"database, both {worker + database:.2f}; a write of the leases every 5 s took {longest:.2f} s at "
-            f"most, {wal:.1f} MB of log a "
-            f"second, {hot:.0f}% of the rows stayed on their page; after a SIGKILL the earliest lease is "
-            f"{early:.2f} s shorter than a whole one, as its holder was told; "
-            f"the beaters were {late:.2f} s late at most",
-            flush=True,
-        )
+        rows = [
+            [f"{LEASES:,} leases", "extended a second", "cores of worker", "of database"],
+            ["---", "--:", "--:", "--:"],
+            ["in memory, written every 5 s", f"{rate:,.0f}", f"{worker:.2f}", f"{database:.2f}"],
+        ]
         rate, cores = update_a_beat(it, 20)
-        print(f"an UPDATE a beat: {rate:.0f} a second by 8 clients, {cores:.2f} cores of the database", flush=True)
+        rows.append(["an UPDATE a beat, 8 clients", f"{rate:,.0f}", "", f"{cores:.2f}"])
         rate, cores = update_all(it, 10)
-        print(f"one UPDATE for all: {rate:.0f} rows a second, {cores:.2f} cores of the database", flush=True)
-    print(f"load {os.getloadavg()[0]:.1f} at the end")
+        rows.append(["one UPDATE for all, as fast as it goes", f"{rate:,.0f}", "", f"{cores:.2f}"])
+    said = (
+        f"No beat was refused, and all leases were held at the end. Their write took {longest:.2f} s at most, and "
+        f"{wal:.1f} MB of log a second; {hot:.0f} % of the rows stayed on their page. After a SIGKILL the earliest "
+        f"lease in the table was {early:.2f} s shorter than a whole one, as its holder was told. The beaters were "
+        f"{late:.2f} s late at most."
+    )
+    table("beats", circumstances(before, seconds, said), rows, is_stored)
 
 
 if __name__ == "__main__":
     seconds = int(sys.argv[2]) if len(sys.argv) > 2 else None
     if sys.argv[1] == "jobs":
-        jobs(seconds or 20)
+        jobs(seconds or 20, not seconds)
     else:
-        beats(seconds or 600)
+        beats(seconds or 600, not seconds)

@@ -10,9 +10,9 @@ import subprocess
 import threading
 import time
 
-from cluster import EFFECT, cluster, free_port, wait_for
-from holder import Connection, Holder, Refusal
-from hostile import empty, end, exactly_once
+from cluster import EFFECT, cluster, end, free_port, wait_for
+from holder import Connection, Holder
+from hostile import empty, exactly_once
 
 
 class Wire:
@@ -137,15 +137,10 @@ def cut_link(it, seconds=30):
         time.sleep(seconds)
         apart.mend()
         mended = time.monotonic()
-
-        def all_done():
-            """each job is done"""
-            return done(it) == 500
-
-        wait_for(all_done, 60)
+        it.wait_for_number("SELECT count(*) FROM jobs WHERE state = 'done'", 500)
         took = time.monotonic() - mended
         exactly_once(it, 500)
-        assert took < 5, f"the worker served {took:.1f} s after its link was mended"
+        assert took < 3, f"the worker served {took:.1f} s after its link was mended"
         end(worker)
     print(f"stalls: a link was cut for {seconds} s; all jobs were done, once, {took:.1f} s after it", flush=True)
 
@@ -199,6 +194,7 @@ def vanished_host(it):
     begun = time.monotonic()
     given = len(Holder([f"127.0.0.1:{ports[1]}"]).take(100, seconds=25))
     took = time.monotonic() - begun
+    assert took < 8, f"the partitions of a host that vanished were served {took:.1f} s later"
     lost.kill()
     end(other)
     wire.mend()
@@ -295,12 +291,8 @@ def two_schemas(it):
         it.jobs("setup", "--schema", schema, url=url)
         workers.append(it.spawn("worker", "--schema", schema, "--effect", EFFECT, url=url))
         it.jobs("enqueue", "1000", "--schema", schema, url=url)
-
-    def all_done():
-        """each job of both is done"""
-        return all(it.number(f"SELECT count(*) FROM {schema}.jobs WHERE state = 'done'") == 1000 for schema in "ab")
-
-    wait_for(all_done, 20)
+    for schema in "ab":
+        it.wait_for_number(f"SELECT count(*) FROM {schema}.jobs WHERE state = 'done'", 1000, 20)
     end(*workers)
     print("stalls: the workers of two schemas did 1,000 jobs each", flush=True)
 
@@ -314,6 +306,8 @@ def old_snapshot(it):
     with held(it, "SET TRANSACTION ISOLATION LEVEL REPEATABLE READ", "SELECT count(*) FROM jobs"):
         it.jobs("enqueue", "150000")
         wait_for(lambda: done(it) == 150000, 120, every=0.5)
+        # What was due within two seconds is read again, and a session tells some seconds later what it has read.
+        time.sleep(10)
         it.sql("SELECT pg_stat_reset()")
         buffers = (
             "SELECT sum(idx_blks_hit + idx_blks_read) FROM pg_statio_user_indexes WHERE indexrelname = 'jobs_waiting'"
@@ -328,6 +322,23 @@ def old_snapshot(it):
         "second",
         flush=True,
     )
+
+
+def old_statistics(it):
+    """A table that was filled since it was analyzed: jobs are taken by their ids, and not out of all that is due."""
+    empty(it)
+    it.sql("ALTER TABLE jobs SET (autovacuum_enabled = off); VACUUM ANALYZE jobs")
+    worker = it.spawn("worker", "--effect", EFFECT)
+    it.wait_for_owners(1)
+    it.jobs("enqueue", "60000", "--delay", "2000", "--spread", "12000")
+    it.sql("SELECT pg_stat_reset()")
+    exactly_once(it, 60000)
+    time.sleep(1)
+    read = it.number("SELECT sum(idx_tup_read) FROM pg_stat_user_indexes WHERE indexrelname = 'jobs_waiting'") / 60000
+    end(worker)
+    it.sql("ALTER TABLE jobs RESET (autovacuum_enabled)")
+    assert read < 20, f"{read:.0f} entries of the index of what waits were read for each job"
+    print(f"stalls: with old statistics {read:.1f} entries of the index of what waits are read for each job", flush=True)
 
 
 def expiry_behind_a_lock(it):
@@ -357,7 +368,7 @@ def main(quick):
             print(f"stalls: {case.__name__} isn't run, since only root makes network namespaces", flush=True)
         for case in [
             *[vanished_host, locked_rows, locked_lease, told_deadline, two_schemas, expiry_behind_a_lock, old_snapshot],
-            *[cut_link, slow_effect],
+            *[old_statistics, cut_link, slow_effect],
         ]:
             if case not in apart:
                 case(it)

@@ -1,14 +1,15 @@
-"""The ways to the database and to a worker: TLS and its certificates, a standby that is promoted, a password."""
+"""The ways to the database and to a worker: TLS and its certificates, a standby that is promoted, passwords, a pooler,
+and many workers over many partitions."""
 import contextlib
 import os
-import pathlib
 import shutil
 import subprocess
 import time
 
-from cluster import EFFECT, JOBS, Cluster, cluster, free_port, program, wait_for
+from cluster import EFFECT, JOBS, Cluster, cluster, end, free_port, program, run, wait_for
 from holder import Connection, Holder, Refusal
-from hostile import empty, end, exactly_once
+from hostile import empty, exactly_once
+from measure import Cost
 
 
 def certificate(room, name, host):
@@ -45,10 +46,10 @@ def tls(it):
         (f"{here}?sslmode=verify-full&sslrootcert={trusted}", "certificate verify failed"),
         (f"localhost:{it.port}/postgres?sslmode=verify-full&sslrootcert={trusted}", None),
         (f"{here}?sslmode=verify-full&sslrootcert={it.room}/none", "none"),
-        (f"{here}?sslmode=allow", "sslmode=allow isn't"),
+        (f"{here}?sslmode=allow", "sslmode isn't"),
     ]:
         url = f"postgres://jobs@{words}"
-        done = subprocess.run([JOBS, "status", "--database", url], capture_output=True, text=True)
+        done = run("status", url=url)
         assert bool(done.returncode) == bool(said) and (said or "") in done.stderr, (words, done)
     empty(it)
     worker = it.spawn(
@@ -90,6 +91,115 @@ def password(it):
     assert "sesame" not in it.logged()
     end(worker)
     print("ways: a holder that didn't say the password was refused each word", flush=True)
+
+
+def secret(it):
+    """The database wants a password, which stands in the environment: nobody else reads it."""
+    rules = (it.data / "pg_hba.conf").read_text()
+    it.sql("CREATE ROLE guest SUPERUSER LOGIN PASSWORD 'hush7'")
+    (it.data / "pg_hba.conf").write_text(f"host all guest 127.0.0.1/32 scram-sha-256\n{rules}")
+    it.sql("SELECT pg_reload_conf()")
+    url = it.url.replace("jobs@", "guest:hush7@")
+    empty(it)
+    environment = {**os.environ, "JOBS_DATABASE": url}
+    worker = it.spawn("worker", "--effect", EFFECT, env=environment, url="")
+    it.wait_for_owners(1)
+    it.jobs("enqueue", "10")
+    exactly_once(it, 10)
+    said = subprocess.run(["ps", "-ww", "-eo", "args"], capture_output=True, text=True, check=True).stdout
+    it.stop("immediate")
+    time.sleep(2)
+    it.start()
+    it.wait_for_owners(1)
+    end(worker)
+    for bad, why in [
+        (url.replace("hush7", "hush71"), "password authentication failed"),
+        (url.replace("/postgres", "/nowhere"), "nowhere"),
+        (f"{url}?sslmode=hush7", "sslmode"),
+        (url.replace("postgres://", "postgre://"), "names no database"),
+        (url.replace("127.0.0.1", "hush7.invalid"), ""),
+        (f"{url}?port=x", "names no database"),
+    ]:
+        done = run("status", env={**environment, "JOBS_DATABASE": bad})
+        assert done.returncode and why in done.stderr, (bad, done)
+        said += done.stdout + done.stderr.replace("hush7.invalid", "")
+    shown = run("status", url=url)
+    assert shown.returncode == 2 and "JOBS_DATABASE" in shown.stderr, shown
+    seen = [line for line in (said + shown.stderr + it.logged()).splitlines() if "hush7" in line]
+    assert not seen, f"the password is seen: {seen}"
+    (it.data / "pg_hba.conf").write_text(rules)
+    it.sql("SELECT pg_reload_conf()")
+    print("ways: the database's password stood in no log, error nor list of processes", flush=True)
+
+
+def pooler(it):
+    """Debian's pgbouncer: in session mode it serves the workers, in transaction mode it is refused by name."""
+    empty(it)
+    for mode in ("session", "transaction"):
+        port, room = free_port(), it.room / mode
+        room.mkdir()
+        (room / "users").write_text('"jobs" ""\n')
+        (room / "ini").write_text(
+            f"[databases]\npostgres = host=127.0.0.1 port={it.port}\n[pgbouncer]\nlisten_addr = 127.0.0.1\n"
+            f"listen_port = {port}\nunix_socket_dir =\nauth_type = trust\nauth_file = {room}/users\n"
+            f"pool_mode = {mode}\n"
+        )
+        if it.user:
+            shutil.chown(room, "postgres")
+        with open(room / "log", "wb") as log:
+            between = subprocess.Popen([*it.user, shutil.which("pgbouncer"), room / "ini"], stdout=log, stderr=log)
+        it.processes.append(between)
+        url = f"postgres://jobs@127.0.0.1:{port}/postgres"
+        if mode == "session":
+            wait_for(lambda: run("status", url=url).returncode == 0, 10)
+            worker = it.spawn("worker", "--effect", EFFECT, url=url)
+            it.wait_for_owners(1)
+            it.jobs("enqueue", "2000", "--spread", "2000", url=url)
+            exactly_once(it, 2000)
+            end(worker)
+        else:
+            time.sleep(1)
+            for verb in (["setup"], ["worker", "--effect", EFFECT]):
+                done = run(*verb, url=url)
+                assert done.returncode == 1 and "pooler in transaction mode" in done.stderr, done
+        between.terminate()
+        between.wait(30)
+    print("ways: 2,000 jobs were done through a pooler in session mode; in transaction mode it was refused", flush=True)
+
+
+def many(it):
+    """200 partitions over 64 workers of two sessions each, a quarter of which is killed."""
+    it.jobs("setup", "--schema", "many", "--partitions", "200")
+    refused = run("setup", "--schema", "many", "--partitions", "64", url=it.url)
+    assert refused.returncode == 1 and "200 partitions" in refused.stderr, refused
+    it.sql("TRUNCATE effects")
+    words = ["worker", "--schema", "many", "--sessions", "2", "--effect", EFFECT, "--name"]
+    begun = time.monotonic()
+    workers = [it.spawn(*words, f"w{number}") for number in range(64)]
+    it.wait_for_owners(64, 120, 200, "many")
+    took = time.monotonic() - begun
+    cost = Cost(it, workers)
+    time.sleep(5)
+    rest = cost.cores()
+    it.jobs("enqueue", "20000", "--spread", "10000", "--schema", "many")
+    sessions = it.number("SELECT count(*) FROM pg_stat_activity WHERE application_name LIKE 'jobs%'")
+    assert sessions <= 128, sessions
+    time.sleep(3)
+    for worker in workers[:16]:
+        worker.kill()
+    begun = time.monotonic()
+    it.wait_for_owners(48, 60, 200, "many")
+    moved = time.monotonic() - begun
+    it.wait_for_number("SELECT count(*) FROM many.jobs WHERE state <> 'done'", 0, 120)
+    counts = it.sql("SELECT count(*), count(DISTINCT job) FROM effects")
+    assert counts == [["20000", "20000"]], counts
+    end(*workers[16:])
+    print(
+        f"ways: 200 partitions had fair shares of 64 workers by {sessions:.0f} sessions after {took:.1f} s, at rest by "
+        f"{rest[0]:.2f} cores of theirs and {rest[1]:.2f} of the database; those of 16 killed ones after {moved:.1f} s; "
+        "20,000 effects once",
+        flush=True,
+    )
 
 
 def standby(first, room):
@@ -145,7 +255,11 @@ def failover(it):
 def main():
     with cluster() as it:
         password(it)
+        secret(it)
+        pooler(it)
         tls(it)
+    with cluster(["max_connections=150"]) as it:
+        many(it)
     with cluster(["wal_level=replica", "max_wal_senders=4"]) as it:
         failover(it)
 

@@ -5,16 +5,14 @@ use std::sync::atomic::{AtomicI64, Ordering::SeqCst};
 use std::sync::{Mutex, PoisonError};
 use std::time::{Duration, Instant};
 
-/// A tick of one millisecond: the milliseconds since 1970 by the database's clock.
-pub type Tick = u64;
-
 /// How many of the last answers are weighed. What the database said before, if its clock was set, is forgotten then.
 const ANSWERS: usize = 8;
 
-/// A clock that is behind the database's by the way of the fastest of its last answers, and not ahead of it.
+/// A clock that is behind the database's by the way of the fastest of its last answers, and not ahead of it. It counts
+/// microseconds since 1970.
 pub struct Clock {
     begun: Instant,
-    /// The microseconds since 1970 when it began, at least and at most.
+    /// What the database's clock showed when it began, at least and at most.
     since: AtomicI64,
     since_at_most: AtomicI64,
     answers: Mutex<VecDeque<(i64, i64)>>,
@@ -48,60 +46,49 @@ impl Clock {
         self.begun.elapsed()
     }
 
-    /// The microseconds since 1970.
-    pub fn micros(&self) -> i64 {
-        self.since.load(SeqCst) + self.uptime().as_micros() as i64
+    pub fn now(&self) -> i64 {
+        self.at(Instant::now())
     }
 
-    pub fn now(&self) -> Tick {
-        tick_before(self.micros())
+    /// What this clock shows at a moment.
+    pub fn at(&self, moment: Instant) -> i64 {
+        self.since.load(SeqCst) + moment.saturating_duration_since(self.begun).as_micros() as i64
     }
 
-    /// How long it is until a tick at least, in milliseconds: whatever the way of the answers was.
-    pub fn left_until(&self, tick: Tick) -> i64 {
+    /// The moment at which this clock shows a microsecond, or shortly after it began where that was before.
+    pub fn moment(&self, micros: i64) -> Instant {
+        self.begun + Duration::from_micros(micros.saturating_sub(self.since.load(SeqCst)).max(0) as u64)
+    }
+
+    /// How many whole milliseconds it is until a microsecond at least: whatever the way of the answers was.
+    pub fn left_until(&self, micros: i64) -> i64 {
         let at_most = self.since_at_most.load(SeqCst) + self.uptime().as_micros() as i64;
-        tick as i64 - tick_after(at_most) as i64
+        (micros - at_most).div_euclid(1_000)
     }
-
-    /// How long it is until a tick begins.
-    pub fn until(&self, tick: Tick) -> Duration {
-        let micros = (tick.min(i64::MAX as u64 / 1_000) as i64 * 1_000).saturating_sub(self.micros());
-        Duration::from_micros(micros.max(0) as u64)
-    }
-}
-
-/// The tick that has begun at a microsecond.
-pub fn tick_before(micros: i64) -> Tick {
-    (micros.max(0) / 1_000) as Tick
-}
-
-/// The first tick that begins at a microsecond or later.
-pub fn tick_after(micros: i64) -> Tick {
-    tick_before(micros.max(0).saturating_add(999))
 }
 
 #[cfg(test)]
 mod tests {
     use super::*;
 
+    const NOW: i64 = 1_700_000_000_000_000;
+
     #[test]
     fn a_slow_answer_does_not_set_the_clock_back() {
         let clock = Clock::new();
-        let now = 1_700_000_000_000_000;
-        clock.note(clock.uptime(), now);
-        clock.note(clock.uptime(), now - 40_000);
-        assert!(clock.micros() >= now);
+        clock.note(clock.uptime(), NOW);
+        clock.note(clock.uptime(), NOW - 40_000);
+        assert!(clock.now() >= NOW);
     }
 
     #[test]
     fn a_clock_that_was_set_back_is_followed_after_some_answers() {
         let clock = Clock::new();
-        let now = 1_700_000_000_000_000;
-        clock.note(clock.uptime(), now);
+        clock.note(clock.uptime(), NOW);
         for _ in 0..ANSWERS {
-            clock.note(clock.uptime(), now - 3_600_000_000);
+            clock.note(clock.uptime(), NOW - 3_600_000_000);
         }
-        assert!(clock.micros() < now - 3_000_000_000);
+        assert!(clock.now() < NOW - 3_000_000_000);
     }
 
     #[test]
@@ -109,14 +96,18 @@ mod tests {
         let clock = Clock::new();
         let asked = clock.uptime();
         std::thread::sleep(Duration::from_millis(30));
-        clock.note(asked, 1_700_000_000_000_000);
-        assert!(clock.left_until(1_700_000_000_500) <= 470);
-        assert!(clock.until(1_700_000_000_500) > Duration::from_millis(470));
+        clock.note(asked, NOW);
+        assert!(clock.left_until(NOW + 500_000) <= 470);
+        assert!(clock.moment(NOW + 500_000) > Instant::now() + Duration::from_millis(470));
     }
 
     #[test]
-    fn a_deadline_is_not_before_its_microsecond() {
-        assert_eq!((tick_after(1_000), tick_after(1_001), tick_before(1_999)), (1, 2, 1));
-        assert_eq!(tick_after(-5), 0);
+    fn a_moment_is_where_the_clock_shows_its_microsecond() {
+        let clock = Clock::new();
+        clock.note(clock.uptime(), NOW);
+        assert_eq!(clock.at(clock.moment(NOW + 1_234_567)), NOW + 1_234_567);
+        assert_eq!(clock.moment(i64::MIN), clock.begun);
+        assert!(clock.moment(i64::MAX) > Instant::now());
+        assert_eq!((clock.left_until(0) < 0, clock.left_until(i64::MAX / 2) > 0), (true, true));
     }
 }

@@ -14,7 +14,7 @@ use tokio::task::JoinHandle;
 use tokio::time::timeout;
 use tokio_postgres::error::SqlState;
 use tokio_postgres::types::ToSql;
-use tokio_postgres::{AsyncMessage, Client, Config, Connection, Row, Socket, Statement};
+use tokio_postgres::{AsyncMessage, Client, Config, Connection, Row, SimpleQueryMessage, Socket, Statement};
 
 pub type Param<'p> = &'p (dyn ToSql + Sync);
 
@@ -24,6 +24,10 @@ pub const CONNECT: Duration = Duration::from_secs(2);
 const SLACK: Duration = Duration::from_secs(1);
 /// How long the database leaves what it sends unacknowledged before it ends a session, and with it what it has locked.
 const UNACKNOWLEDGED: Duration = Duration::from_secs(5);
+
+/// What a statement meets that another session has prepared, or has not.
+const POOLED: [SqlState; 2] = [SqlState::DUPLICATE_PSTATEMENT, SqlState::INVALID_SQL_STATEMENT_NAME];
+const POOLER: &str = ": a pooler in transaction mode stands between, and jobs wants one in session mode";
 
 /// Why a statement has no answer.
 #[derive(Debug)]
@@ -45,7 +49,10 @@ impl fmt::Display for Error {
         match self {
             Error::Silent(limit) => write!(f, "the database didn't answer within {limit:?}"),
             Error::Database(error) => match (error.as_db_error(), std::error::Error::source(error)) {
-                (Some(db), _) => write!(f, "{} ({})", db.message(), db.code().code()),
+                (Some(db), _) => {
+                    let why = if POOLED.contains(db.code()) { POOLER } else { "" };
+                    write!(f, "{} ({}){why}", db.message(), db.code().code())
+                }
                 (None, Some(source)) => write!(f, "{error}: {source}"),
                 (None, None) => write!(f, "{error}"),
             },
@@ -124,8 +131,9 @@ impl Database {
                  nullif(current_setting('search_path'), '')), false);"
             ),
         };
+        // A plan that was made for any ids would look for them among all that is due, which takes a second.
         format!(
-            "SET statement_timeout = {}; SET lock_timeout = {}; SET tcp_user_timeout = {}; \
+            "SET plan_cache_mode = force_custom_plan; SET statement_timeout = {}; SET lock_timeout = {}; SET tcp_user_timeout = {}; \
              SET tcp_keepalives_idle = 10; SET tcp_keepalives_interval = 5; SET tcp_keepalives_count = 3; {path}",
             self.statement_timeout.as_millis(),
             self.lock_timeout.as_millis(),
@@ -134,15 +142,27 @@ impl Database {
     }
 }
 
-/// What the database says that it is, before it is told anything.
-pub async fn version(database: &Database) -> Result<String, Error> {
+/// What the database says that it is before it is told anything, and by which of its processes, to two sessions that are
+/// open at the same time.
+pub async fn meet(database: &Database) -> Result<[(String, String); 2], Error> {
     let limit = database.time_to_open();
     let ask = async {
-        let (client, connection) = database.config.connect(database.tls.clone()).await?;
-        tokio::spawn(connection);
-        Ok(client.query_one("SELECT version()", &[]).await?.get(0))
+        let (one, other) = (greet(database).await?, greet(database).await?);
+        Ok([one.1, other.1])
     };
-    timeout(limit, ask).await.unwrap_or(Err(Error::Silent(limit)))
+    timeout(2 * limit, ask).await.unwrap_or(Err(Error::Silent(2 * limit)))
+}
+
+async fn greet(database: &Database) -> Result<(Client, (String, String)), Error> {
+    let (client, connection) = database.config.connect(database.tls.clone()).await?;
+    tokio::spawn(connection);
+    let said = client.simple_query("SELECT version(), pg_backend_pid()").await?;
+    let text = |column| match said.first() {
+        Some(SimpleQueryMessage::Row(row)) => row.get(column).unwrap_or_default().to_owned(),
+        _ => String::new(),
+    };
+    let answer = (text(0), text(1));
+    Ok((client, answer))
 }
 
 /// A session, with the statements that it has prepared.

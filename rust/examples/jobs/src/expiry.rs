@@ -1,7 +1,6 @@
 //! Leases that have ended: their jobs are given out again, or are dead after the last attempt.
 
 use crate::db::tell;
-use crate::index::partition_of;
 use crate::partitions::{Running, Waiting};
 use crate::sql;
 use crate::worker::Worker;
@@ -59,7 +58,7 @@ async fn expire(worker: &Worker, leases: &[(i64, i32)]) {
     let is_again =
         |lease: &&(i64, i32)| worker.partitions.end(lease.0, lease.1, is_given && again.contains_key(&lease.0));
     if !is_given {
-        again.keys().for_each(|id| worker.partitions.read_whole(partition_of(*id)));
+        again.keys().for_each(|id| worker.partitions.read_whole(worker.partitions.of(*id)));
     }
     let ready: Vec<Waiting> = leases.iter().filter(is_again).filter_map(|it| again.get(&it.0).cloned()).collect();
     worker.ready.push(ready);
@@ -71,9 +70,8 @@ async fn expire(worker: &Worker, leases: &[(i64, i32)]) {
 /// Leases that the table doesn't have as this worker did: those that stand there are taken over. What has ended and
 /// couldn't be written, since another has locked the row, is looked at again a moment later.
 pub async fn adopt(worker: &Worker, ids: &[i64]) {
-    let later = worker.clock.now() + LOCKED.as_millis() as u64;
     match worker.links.insist(sql::LEASES_OF, &[&ids]).await {
-        Ok(rows) => rows.iter().for_each(|row| worker.partitions.note_running(&running(row), later)),
+        Ok(rows) => rows.iter().for_each(|row| worker.partitions.note_running(&running(row), LOCKED)),
         Err(error) => tell(format_args!("leases aren't read: {error}")),
     }
 }
@@ -89,8 +87,8 @@ pub fn running(row: &Row) -> Running {
 }
 
 /// The time so many microseconds after 1970 began.
-pub fn time(micros: u64) -> SystemTime {
-    SystemTime::UNIX_EPOCH + Duration::from_micros(micros)
+pub fn time(micros: i64) -> SystemTime {
+    SystemTime::UNIX_EPOCH + Duration::from_micros(micros.max(0) as u64)
 }
 
 /// The microseconds since 1970.

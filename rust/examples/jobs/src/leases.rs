@@ -1,96 +1,16 @@
-//! The leases of holders: extended in memory without a lock, and written to the table from time to time.
+//! The write of leases to the table: holders have extended them in memory.
 
 use crate::db::{tell, Error};
 use crate::expiry::time;
-use crate::index::{partition_of, Handle};
-use crate::partitions::Lease;
+use crate::partitions::Extended;
 use crate::sql;
 use crate::worker::Worker;
-use std::collections::{HashMap, HashSet};
-use std::sync::atomic::Ordering::SeqCst;
-use std::sync::{Arc, PoisonError};
+use std::collections::HashSet;
+use std::sync::Arc;
 use std::time::{Instant, SystemTime};
 
 /// The most leases of a statement.
 const BATCH: usize = 10_000;
-/// The most leases that a connection remembers.
-const REMEMBERED: usize = 100_000;
-
-/// What a holder is told.
-#[derive(Clone, Copy, Debug, PartialEq, Eq)]
-pub enum Beat {
-    /// Its lease stands in the table for so many milliseconds from now on, whatever becomes of this worker.
-    Extended(i64),
-    /// It isn't known here, and may stand in the table.
-    Unknown,
-    /// Its lease ended, or another attempt has it.
-    Fenced,
-    /// Another worker owns the partition.
-    Foreign,
-    /// It is extended in memory, but this worker can't know whether it still owns the partition.
-    Doubtful,
-    /// It is extended in memory, but what the table has of it is over: the row couldn't be written.
-    Unwritten,
-}
-
-/// Extends leases for one connection. A lease that it knows is extended without a lock.
-pub struct Beats {
-    handle: Handle,
-    known: HashMap<i64, Arc<Lease>>,
-}
-
-impl Beats {
-    /// None where all handles are out.
-    pub fn new(worker: &Worker) -> Option<Beats> {
-        Some(Beats { handle: worker.handle()?, known: HashMap::new() })
-    }
-
-    pub fn put_back(self, worker: &Worker) {
-        worker.put_back(self.handle);
-    }
-
-    /// Extends the lease of an attempt from now on.
-    pub fn beat(&mut self, worker: &Worker, id: i64, attempt: i32) -> Beat {
-        let until = worker.clock.now() + worker.options.lease.as_millis() as u64;
-        if let Some(lease) = self.known.get(&id) {
-            if lease.attempt == attempt && self.handle.extend(&lease.key, until).is_ok() {
-                return extended(worker, lease);
-            }
-            self.known.remove(&id);
-        }
-        let lease = match worker.partitions.lease(id) {
-            Some(lease) => lease,
-            None if worker.partitions.term(partition_of(id)).is_some() => return Beat::Unknown,
-            None => return Beat::Foreign,
-        };
-        if lease.attempt != attempt {
-            return Beat::Fenced;
-        }
-        match self.handle.extend(&lease.key, until) {
-            Ok(_) => {
-                if self.known.len() >= REMEMBERED {
-                    self.known.clear();
-                }
-                let beat = extended(worker, &lease);
-                self.known.insert(id, lease);
-                beat
-            }
-            Err(_) => Beat::Fenced,
-        }
-    }
-}
-
-/// What a holder is told whose lease goes on in memory: what the table has of it, which no crash undoes.
-fn extended(worker: &Worker, lease: &Lease) -> Beat {
-    worker.metrics.beats.add(1);
-    if !worker.partitions.is_surely_owned(partition_of(lease.id), worker.clock.uptime()) {
-        return Beat::Doubtful;
-    }
-    match worker.clock.left_until(lease.written.load(SeqCst)) {
-        left if left > 0 => Beat::Extended(left),
-        _ => Beat::Unwritten,
-    }
-}
 
 /// Writes the leases at every interval, until the worker ends.
 pub async fn write_on(worker: Arc<Worker>) {
@@ -105,13 +25,10 @@ pub async fn write_on(worker: Arc<Worker>) {
 /// Writes the leases of some partitions that were extended since they were written last.
 pub async fn write(worker: &Worker, partitions: &[usize]) {
     let begun = Instant::now();
-    let mut unwritten = {
-        let mut handle = worker.writer.lock().unwrap_or_else(PoisonError::into_inner);
-        worker.partitions.unwritten(partitions, &mut handle)
-    };
-    let mut left = unwritten.len();
-    unwritten.sort_unstable_by_key(|(lease, _)| lease.id);
-    for piece in unwritten.chunks(BATCH) {
+    let mut extended = worker.partitions.extended(partitions);
+    let mut left = extended.len();
+    extended.sort_unstable_by_key(|it| it.id);
+    for piece in extended.chunks(BATCH) {
         match write_some(worker, piece).await {
             Ok(written) => left -= written,
             Err(error) => {
@@ -125,16 +42,17 @@ pub async fn write(worker: &Worker, partitions: &[usize]) {
 }
 
 /// Leases that aren't written, since others have locked their rows, are tried again at the next interval.
-async fn write_some(worker: &Worker, leases: &[(Arc<Lease>, u64)]) -> Result<usize, Error> {
-    let ids: Vec<i64> = leases.iter().map(|(lease, _)| lease.id).collect();
-    let attempts: Vec<i32> = leases.iter().map(|(lease, _)| lease.attempt).collect();
-    let untils: Vec<SystemTime> = leases.iter().map(|(_, until)| time(*until * 1_000)).collect();
+async fn write_some(worker: &Worker, leases: &[Extended]) -> Result<usize, Error> {
+    let (ids, attempts): (Vec<i64>, Vec<i32>) = leases.iter().map(|it| (it.id, it.attempt)).unzip();
+    // Whole milliseconds, as holders are told.
+    let untils: Vec<i64> = leases.iter().map(|it| worker.clock.at(it.until) / 1_000 * 1_000).collect();
+    let times: Vec<SystemTime> = untils.iter().map(|it| time(*it)).collect();
     let terms = worker.partitions.terms();
-    let rows = worker.links.query(sql::WRITE_LEASES, &[&worker.number, &terms, &ids, &attempts, &untils]).await?;
+    let rows = worker.links.query(sql::WRITE_LEASES, &[&worker.number, &terms, &ids, &attempts, &times]).await?;
     worker.metrics.leases_written.add(rows.len() as u64);
     let written: HashSet<i64> = rows.iter().map(|row| row.get(0)).collect();
-    for (lease, until) in leases.iter().filter(|it| written.contains(&it.0.id)) {
-        lease.written.store(*until, SeqCst);
+    for (lease, until) in leases.iter().zip(untils).filter(|it| written.contains(&it.0.id)) {
+        worker.partitions.note_written(lease, until);
     }
     Ok(written.len())
 }

@@ -7,7 +7,6 @@ mod db;
 mod effect;
 mod enqueue;
 mod expiry;
-mod index;
 mod leases;
 mod metrics;
 mod options;

@@ -57,7 +57,7 @@ pub struct Lateness {
 }
 
 /// The seconds of a piece, and how many are kept: ten minutes.
-const PIECE: u64 = 10;
+pub const PIECE: u64 = 10;
 const PIECES: usize = 60;
 
 impl Lateness {

@@ -7,9 +7,13 @@ use std::time::Duration;
 use tokio_postgres::config::TargetSessionAttrs;
 use tokio_postgres::Config;
 
+/// More would make each statement slower, which names all terms.
+const MOST_PARTITIONS: usize = 1_024;
+
 pub const HELP: &str = "jobs VERB [OPTION..]: delayed jobs and leases in PostgreSQL
 
   jobs setup               makes the tables where they are missing, and changes those of an older program
+    --partitions N           into how many parts new tables are divided among the workers, 64 where none is given
   jobs worker              runs a worker until SIGTERM, which drains it
     --listen IP:PORT         where holders take jobs over the Redis protocol, 127.0.0.1:6500 where none is given
     --announce HOST:PORT     the address that holders are sent to, the one it listens at where none is given
@@ -74,6 +78,12 @@ pub struct WorkerOptions {
     pub http: Option<SocketAddr>,
 }
 
+pub struct SetupOptions {
+    pub database: Database,
+    /// Of new tables. Others keep theirs.
+    pub partitions: Option<usize>,
+}
+
 pub struct EnqueueOptions {
     pub database: Database,
     pub count: u64,
@@ -97,7 +107,7 @@ pub struct PollerOptions {
 
 pub enum Verb {
     Help,
-    Setup(Database),
+    Setup(SetupOptions),
     Worker(Box<WorkerOptions>),
     Enqueue(EnqueueOptions),
     Status(Database),
@@ -143,7 +153,9 @@ impl Given {
     }
 
     fn database(&mut self) -> Result<Database, String> {
-        let url = self.text("--database").or_else(|| std::env::var("JOBS_DATABASE").ok());
+        let given = self.text("--database");
+        let is_shown = given.is_some();
+        let url = given.or_else(|| std::env::var("JOBS_DATABASE").ok());
         let url = url.ok_or("--database or JOBS_DATABASE has to name the database")?;
         // Neither the text nor what the library says of it is shown, since a password may stand in it.
         let (url, wish) = tls::split(&url)?;
@@ -151,6 +163,11 @@ impl Given {
         let mut config: Config = url.parse().map_err(|_| {
             "--database or JOBS_DATABASE names no database: it is postgres://user@host/name or host=.. dbname=.."
         })?;
+        if is_shown && config.get_password().is_some() {
+            return Err(
+                "--database has a password, which whoever lists processes reads: JOBS_DATABASE hides it".to_owned()
+            );
+        }
         if config.get_connect_timeout().is_none() {
             config.connect_timeout(CONNECT);
         }
@@ -209,7 +226,14 @@ pub fn verb(words: impl Iterator<Item = String>) -> Result<Verb, String> {
     }
     let mut given = Given::of(rest.into_iter())?;
     let verb = match &verb[..] {
-        "setup" => Verb::Setup(given.database()?),
+        "setup" => Verb::Setup(SetupOptions {
+            database: given.database()?,
+            partitions: match given.value("--partitions", 0)? {
+                0 => None,
+                count if count <= MOST_PARTITIONS => Some(count),
+                _ => return Err(format!("--partitions is 1 to {MOST_PARTITIONS}")),
+            },
+        }),
         "status" => Verb::Status(given.database()?),
         "worker" => Verb::Worker(Box::new(worker(&mut given)?)),
         "enqueue" => Verb::Enqueue(enqueue(count, &mut given)?),
@@ -341,6 +365,8 @@ mod tests {
             ("worker --database host=x --listen 0.0.0.0:6500", "--announce"),
             ("enqueue many --database host=x", "many"),
             ("enqueue 5 --database", "--database"),
+            ("setup --database host=x --partitions 1025", "--partitions"),
+            ("status --database postgres://me:secret@x/y", "JOBS_DATABASE"),
             ("status status", "status"),
             ("retry some --database host=x", "some"),
             ("retry all --database host=x --attempts 0", "--attempts"),

@@ -1,10 +1,8 @@
 //! Which partitions a worker owns, by rows of a table: it renews its terms, takes partitions up to a fair share,
 //! reads what is due soon, and is told the rest.
 
-use crate::clock::tick_before;
 use crate::db::{tell, Delay, Error, Param, Session, Told};
 use crate::expiry::{micros, running, time};
-use crate::index::PARTITIONS;
 use crate::partitions::{Running, Waiting, WAITING_ROOM};
 use crate::sql;
 use crate::worker::Worker;
@@ -112,7 +110,7 @@ impl Owner<'_> {
             return Ok(());
         }
         let worker = self.worker;
-        let (term, sent) = (TERM.as_secs_f64(), worker.clock.uptime());
+        let (term, sent) = (TERM.as_secs_f64(), Instant::now());
         let ready = worker.ready.kinds();
         let params: [Param<'_>; 5] = [&worker.number, &worker.options.name, &worker.address, &term, &ready];
         for row in self.session.query(sql::RENEW, &params).await? {
@@ -125,7 +123,7 @@ impl Owner<'_> {
 
     /// Takes those of some partitions that are free.
     async fn take(&mut self, partitions: &[usize]) -> Result<(), Error> {
-        let (wanted, sent) = (numbers(partitions), self.worker.clock.uptime());
+        let (wanted, sent) = (numbers(partitions), Instant::now());
         let params: [Param<'_>; 4] = [&self.worker.number, &wanted, &TERM.as_secs_f64(), &left_over()];
         let rows = self.session.query(sql::TAKE_PARTITIONS, &params).await?;
         let taken: Vec<(usize, i64)> = rows.iter().map(|row| (partition(row), row.get(1))).collect();
@@ -158,12 +156,12 @@ impl Owner<'_> {
         let worker = self.worker;
         // Each partition is read whole from time to time: nothing depends on a notification.
         self.readings += 1;
-        (0..PARTITIONS)
+        (0..worker.partitions.count())
             .filter(|it| it % WHOLE == self.readings % WHOLE)
             .for_each(|it| worker.partitions.read_whole(it));
         let (asked, since) = worker.partitions.to_read();
         let partitions = numbers(&asked);
-        let since: Vec<SystemTime> = since.into_iter().map(|it| time(it as u64)).collect();
+        let since: Vec<SystemTime> = since.into_iter().map(time).collect();
         let (horizon, most, sent) = (HORIZON.as_secs_f64(), self.most as i64, worker.clock.uptime());
         let params: [Param<'_>; 6] = [&worker.number, &partitions, &horizon, &most, &left_over(), &since];
         let answer = self.session.query(sql::READ, &params).await;
@@ -184,8 +182,9 @@ impl Owner<'_> {
         worker.metrics.indexed.set(waiting as u64);
         worker.metrics.leases.set(leases as u64);
         self.agree(&rows[0].get::<_, Vec<i64>>(3)).await?;
-        let (is_new, workers, free): (bool, i64, Vec<i16>) = (rows[0].get(0), rows[0].get(1), rows[0].get(2));
-        self.balance(is_new, workers.max(1) as usize, free).await
+        let (is_new, workers, free): (bool, Vec<i64>, Vec<i16>) = (rows[0].get(0), rows[0].get(1), rows[0].get(2));
+        let share = fair_share(worker.partitions.count(), workers[0].max(1) as usize, workers[1] as usize);
+        self.balance(is_new, share, free).await
     }
 
     /// Comes to the terms that the table has: what others have taken is lost, and what was taken by a statement whose
@@ -205,9 +204,8 @@ impl Owner<'_> {
 
     /// Lets go what is above its share, and takes what is free below it. Where the database has just started, what is
     /// free is left to those who had it before.
-    async fn balance(&mut self, is_new: bool, workers: usize, free: Vec<i16>) -> Result<(), Error> {
+    async fn balance(&mut self, is_new: bool, share: usize, free: Vec<i16>) -> Result<(), Error> {
         let mut owned = self.worker.partitions.owned();
-        let share = fair_share(workers);
         if self.worker.is_ending() {
             return Ok(());
         }
@@ -216,8 +214,8 @@ impl Owner<'_> {
             self.let_go(&given).await?;
         } else if owned.len() < share && !is_new && Instant::now() > self.modest_until {
             let mut free: Vec<usize> = free.iter().map(|it| *it as usize).filter(|it| !owned.contains(it)).collect();
-            // Two workers that look at the same moment begin at other places.
-            let start = tick_before(self.worker.clock.micros()) as usize % free.len().max(1);
+            // Workers that look at the same moment begin at other places.
+            let start = self.worker.number as usize % free.len().max(1);
             free.rotate_left(start);
             free.truncate(share - owned.len());
             if !free.is_empty() {
@@ -249,7 +247,7 @@ impl Owner<'_> {
         if self.searched.elapsed() > SEARCH_EVERY {
             self.searched = Instant::now();
             let ended = self.leases(&self.worker.partitions.owned(), false).await?;
-            ended.iter().for_each(|it| self.worker.partitions.note_running(it, 0));
+            ended.iter().for_each(|it| self.worker.partitions.note_running(it, Duration::ZERO));
         }
         Ok(())
     }
@@ -276,10 +274,10 @@ impl Owner<'_> {
     fn file(&self, notice: &str) -> bool {
         if notice == "*" {
             // They may have been due for long.
-            (0..PARTITIONS).for_each(|it| self.worker.partitions.read_whole(it));
+            (0..self.worker.partitions.count()).for_each(|it| self.worker.partitions.read_whole(it));
             return false;
         }
-        let soon = self.worker.clock.micros() + HORIZON.as_micros() as i64;
+        let soon = self.worker.clock.now() + HORIZON.as_micros() as i64;
         for job in notice.split(',') {
             match notified(job) {
                 Some(job) if job.due <= soon => self.worker.partitions.note_waiting(job),
@@ -292,9 +290,9 @@ impl Owner<'_> {
     }
 }
 
-/// The most partitions that one of so many workers has.
-fn fair_share(workers: usize) -> usize {
-    (PARTITIONS + workers - 1) / workers
+/// How many partitions one of so many workers has, before whom there are some others.
+fn fair_share(partitions: usize, workers: usize, before: usize) -> usize {
+    partitions / workers + usize::from(before < partitions % workers)
 }
 
 /// The seconds that are left of a term when its owner was silent for long enough.
@@ -327,4 +325,18 @@ fn partition(row: &Row) -> usize {
 
 fn numbers(partitions: &[usize]) -> Vec<i16> {
     partitions.iter().map(|it| *it as i16).collect()
+}
+
+#[cfg(test)]
+mod tests {
+    use super::*;
+
+    #[test]
+    fn shares_differ_by_one_at_most_and_none_is_left() {
+        for (partitions, workers) in [(64, 1), (64, 3), (200, 64), (64, 100), (1, 2)] {
+            let shares: Vec<usize> = (0..workers).map(|it| fair_share(partitions, workers, it)).collect();
+            assert_eq!(shares.iter().sum::<usize>(), partitions);
+            assert!(shares[0] - shares[workers - 1] <= 1, "{shares:?}");
+        }
+    }
 }

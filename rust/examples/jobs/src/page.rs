@@ -1,6 +1,7 @@
 //! A page for an operator: who owns which partitions, how late jobs were, and the dead ones, each with a button.
 
 use crate::db::Error;
+use crate::metrics::PIECE;
 use crate::retry::RETRY;
 use crate::status::{counts, ranges, OWNERS};
 use crate::worker::Worker;
@@ -16,15 +17,22 @@ WHERE state = 'dead' ORDER BY ended DESC LIMIT 50";
 /// How many attempts more a job has by the button.
 const MORE: i32 = 5;
 /// The plot: its width and height, and the latenesses at its bottom and top, in microseconds.
-const WIDTH: f64 = 600.0;
+const WIDTH: f64 = 480.0;
 const HEIGHT: f64 = 150.0;
 const BOTTOM: f64 = 100.0;
 const TOP: f64 = 1e8;
 
-const HEAD: &str = "<!DOCTYPE html><html lang=en><meta charset=utf-8><title>jobs</title><style>
-body{font:14px sans-serif;margin:2em;max-width:60em}table{border-collapse:collapse}td,th{padding:.2em .8em;
-text-align:left;border-bottom:1px solid #ccc;overflow-wrap:anywhere}svg{border:1px solid #ccc}form{margin:0}
-h2{font-size:1.1em}
+const HEAD: &str = "<!DOCTYPE html><html lang=en><meta charset=utf-8><title>jobs</title>
+<meta name=viewport content='width=device-width,initial-scale=1'><style>
+body{font:15px/1.4 sans-serif;color:#222;margin:1.5em auto;padding:0 1em;max-width:64em}
+h1{font-size:1.5em;margin:0}h2{font-size:1.1em;margin:2em 0 .4em}
+table{border-collapse:collapse;width:100%}td,th{padding:.35em .8em .35em 0;text-align:left;vertical-align:top;
+border-bottom:1px solid #ddd}th{color:#666;font-weight:normal}.n{white-space:nowrap}
+.w{overflow-wrap:anywhere;width:60%}svg{width:100%;max-width:44em;height:auto;border:1px solid #ddd;background:#fff}
+form{margin:0}button{font:inherit;white-space:nowrap}b{font-weight:normal;padding-left:1.2em}
+.h{color:#06c}.a{color:#c60}
+@media(max-width:640px){b{display:block;padding:0}.d tr:first-child{display:none}.d tr{display:block;border-bottom:1px solid #ddd;padding:.5em 0}
+.d td{border:0;padding:0 .8em 0 0;display:inline-block}.d .w{display:block;width:auto;padding:.2em 0}}
 </style><h1>jobs</h1>";
 
 pub struct Page {
@@ -69,13 +77,17 @@ impl Page {
             push(&mut text, format_args!("<tr><td>{name}<td>{address}<td>{}: {}", owned.len(), ranges(&owned)));
         }
         text +=
-            "</table><h2>How late this worker's jobs were, by the half and by all but one of 100, in 10 minutes</h2>";
+            "</table><h2>How late this worker's jobs were<b class=h>half of them, at most</b><b class=a>99 of 100, at \
+                 most</b></h2>";
         text += &plot(&worker.metrics.lateness.recent(worker.clock.uptime().as_secs()));
-        text += "<h2>Dead</h2><table><tr><th>job<th>kind<th>attempts<th>ended<th>why<th>";
+        text += "<h2>Dead, the last 50</h2><table class=d><tr><th>job<th>kind<th>attempts<th>ended<th>why<th>";
         for row in worker.links.query(DEAD, &[]).await? {
             let (id, kind, attempt): (i64, &str, i32) = (row.get(0), row.get(1), row.get(2));
             let (kind, ended, error) = (escaped(kind), escaped(row.get(3)), escaped(row.get(4)));
-            push(&mut text, format_args!("<tr><td>{id}<td>{kind}<td>{attempt}<td>{ended}<td>{error}<td>"));
+            push(
+                &mut text,
+                format_args!("<tr><td>{id}<td>{kind}<td>{attempt}<td class=n>{ended}<td class=w>{error}<td>"),
+            );
             let token = &self.token;
             push(
                 &mut text,
@@ -99,21 +111,36 @@ fn escaped(text: &str) -> String {
     text.replace('&', "&amp;").replace('<', "&lt;").replace('>', "&gt;").replace('"', "&quot;")
 }
 
-/// Two lines over time, upwards by the logarithm: the middle, and the 99th of a hundred.
+/// Two lines over ten minutes, upwards by the logarithm: the middle, and the 99th of a hundred. A piece of time without
+/// jobs breaks them off.
 fn plot(recent: &[(u64, f64, f64)]) -> String {
     let height = |micros: f64| HEIGHT * (1.0 - (micros.max(BOTTOM) / BOTTOM).ln() / (TOP / BOTTOM).ln());
-    let line = |color: &str, of: &dyn Fn(&(u64, f64, f64)) -> f64| {
-        let at = |it: &(u64, f64, f64)| format!("{:.1},{:.1}", WIDTH * (1.0 - it.0 as f64 / 600.0), height(of(it)));
-        let points: Vec<String> = recent.iter().map(at).collect();
-        format!("<polyline fill=none stroke={color} points=\"{}\"/>", points.join(" "))
-    };
-    let mut text = format!("<svg width={WIDTH} height={HEIGHT} viewBox=\"0 0 {WIDTH} {HEIGHT}\">");
+    let across = |seconds: f64| WIDTH * (1.0 - seconds / 600.0);
+    let mut text = format!("<svg viewBox=\"0 0 {WIDTH} {HEIGHT}\" font-size=11 fill=#888>");
     for (micros, name) in [(1e3, "1 ms"), (1e4, "10 ms"), (1e5, "100 ms"), (1e6, "1 s"), (1e7, "10 s")] {
         let y = height(micros);
-        push(&mut text, format_args!("<line x1=0 x2={WIDTH} y1={y:.1} y2={y:.1} stroke=#ddd /><text x=2 y={y:.1} "));
-        push(&mut text, format_args!("font-size=10 fill=#888>{name}</text>"));
+        let line = format_args!("<path d=\"M0 {y:.1}H{WIDTH}\" stroke=#eee /><text x=3 y={:.1}>{name}</text>", y - 2.0);
+        push(&mut text, line);
     }
-    text + &line("#06c", &|it| it.1) + &line("#c60", &|it| it.2) + "</svg>"
+    for minutes in [2, 4, 6, 8] {
+        let x = across(f64::from(minutes) * 60.0);
+        let name = format_args!("<path d=\"M{x:.1} 0V{HEIGHT}\" stroke=#eee />");
+        push(&mut text, name);
+        push(&mut text, format_args!("<text x={:.1} y={:.1}>{minutes} min ago</text>", x + 3.0, HEIGHT - 3.0));
+    }
+    let lines: [(&str, fn(&(u64, f64, f64)) -> f64); 2] = [("#06c", |it| it.1), ("#c60", |it| it.2)];
+    for (color, of) in lines {
+        let mut path = String::new();
+        let mut before = None;
+        for it in recent {
+            let is_next = before.map_or(false, |before: u64| before - it.0 <= PIECE);
+            let letter = if is_next { 'L' } else { 'M' };
+            push(&mut path, format_args!("{letter}{:.1} {:.1}h1", across(it.0 as f64), height(of(it))));
+            before = Some(it.0);
+        }
+        push(&mut text, format_args!("<path fill=none stroke={color} stroke-width=1.5 d=\"{path}\"/>"));
+    }
+    text + "</svg>"
 }
 
 #[cfg(test)]

@@ -1,27 +1,25 @@
-//! What a worker holds of each partition: which jobs stand in its index, which are out, and which leases it keeps.
+//! What a worker holds of each partition: which jobs wait in its queue, which are out, and which leases it keeps.
 
-use crate::clock::{tick_after, tick_before, Tick};
-use crate::index::{deadline, partition_of, Due, Handle, Index, Key, PARTITIONS};
+use crate::clock::Clock;
+use hontkhale::delay_queue::Key;
+use hontkhale::DelayQueue;
 use std::collections::HashMap;
-use std::sync::atomic::{AtomicU64, Ordering::SeqCst};
-use std::sync::{Arc, Mutex, MutexGuard, PoisonError};
-use std::time::Duration;
+use std::sync::{Arc, Mutex, MutexGuard, OnceLock, PoisonError};
+use std::time::{Duration, Instant};
 
 /// The most jobs that wait in memory of a partition; the others wait in the table until there is room.
 pub const WAITING_ROOM: usize = 2_048;
-/// The most leases of a partition that are given out.
-pub const LEASE_ROOM: usize = 4_096;
 /// How long a transaction may be open that enqueues a job which is due already, in microseconds, for the next reading
 /// to find it: later ones are told by a notification, or found by the next reading of the whole partition.
 const LATE: i64 = 2_000_000;
 
-/// A lease of an attempt, whose deadline in force stands in the index.
-pub struct Lease {
-    pub id: i64,
-    pub attempt: i32,
-    pub key: Key,
-    /// The deadline that the table is known to have.
-    pub written: AtomicU64,
+/// What may be due.
+#[derive(Clone, Copy, Debug, PartialEq, Eq)]
+pub enum Due {
+    /// A job that waits.
+    Job(i64),
+    /// The lease of an attempt of a job.
+    Lease { id: i64, attempt: i32 },
 }
 
 /// A job that waits, as the table or a notification has it.
@@ -43,21 +41,57 @@ pub struct Running {
     pub lease_until: i64,
 }
 
+/// What a holder is told of its lease.
+#[derive(Clone, Copy, Debug, PartialEq, Eq)]
+pub enum Beat {
+    /// It stands in the table for so many milliseconds from now on, whatever becomes of this worker.
+    Extended(i64),
+    /// It isn't known here, and may stand in the table.
+    Unknown,
+    /// It ended, or another attempt has it.
+    Fenced,
+    /// Another worker owns the partition.
+    Foreign,
+    /// It is extended in memory, but this worker can't know whether it still owns the partition.
+    Doubtful,
+    /// It is extended in memory, but what the table has of it is over: the row couldn't be written.
+    Unwritten,
+}
+
+/// A lease that was extended in memory, to a moment.
+#[derive(Clone, Copy)]
+pub struct Extended {
+    pub id: i64,
+    pub attempt: i32,
+    pub until: Instant,
+}
+
 enum Held {
-    /// It waits in the index for its due time.
+    /// It waits in the queue for its due time.
     Waiting {
         key: Key,
         job: Waiting,
     },
     /// It came out, and is about to be looked at in the table.
     Out,
-    Running(Arc<Lease>),
+    Running(Lease),
+}
+
+/// A lease of an attempt, whose deadline in force stands in the queue.
+struct Lease {
+    attempt: i32,
+    key: Key,
+    /// What the table is known to have, in microseconds since 1970, and which deadline that was.
+    written: i64,
+    was: Instant,
 }
 
 #[derive(Default)]
 struct Partition {
     /// The term by which this worker owns it.
     term: Option<i64>,
+    /// Until when no other worker can own it.
+    surely_until: Option<Instant>,
     held: HashMap<i64, Held>,
     /// How many of those wait or are out.
     waiting: usize,
@@ -67,87 +101,93 @@ struct Partition {
     is_whole: bool,
 }
 
-impl Partition {
-    fn leases(&self) -> usize {
-        self.held.len() - self.waiting
-    }
+pub struct Partitions {
+    pub queue: DelayQueue<Due>,
+    clock: Arc<Clock>,
+    /// Once the table has told how many there are.
+    partitions: OnceLock<Vec<Mutex<Partition>>>,
 }
 
-pub struct Partitions {
-    index: Arc<Index>,
-    partitions: Vec<Mutex<Partition>>,
-    /// Until when no other worker can own each, in microseconds of this worker's uptime.
-    surely_until: Vec<AtomicU64>,
+fn enter(partition: &Mutex<Partition>) -> MutexGuard<'_, Partition> {
+    partition.lock().unwrap_or_else(PoisonError::into_inner)
 }
 
 impl Partitions {
-    pub fn new(index: Arc<Index>) -> Partitions {
-        let partition = || Mutex::new(Partition::default());
-        Partitions {
-            index,
-            partitions: (0..PARTITIONS).map(|_| partition()).collect(),
-            surely_until: (0..PARTITIONS).map(|_| AtomicU64::new(0)).collect(),
-        }
+    pub fn new(clock: Arc<Clock>) -> Partitions {
+        Partitions { queue: DelayQueue::new(), clock, partitions: OnceLock::new() }
     }
 
-    fn enter(&self, partition: usize) -> MutexGuard<'_, Partition> {
-        self.partitions[partition].lock().unwrap_or_else(PoisonError::into_inner)
+    /// So many there are.
+    pub fn divide(&self, count: usize) {
+        self.partitions.get_or_init(|| (0..count).map(|_| Mutex::default()).collect());
+    }
+
+    fn all(&self) -> &[Mutex<Partition>] {
+        self.partitions.get().map_or(&[], Vec::as_slice)
+    }
+
+    pub fn count(&self) -> usize {
+        self.all().len()
+    }
+
+    /// The partition of a job, as the table has it.
+    pub fn of(&self, id: i64) -> usize {
+        id.rem_euclid(self.count().max(1) as i64) as usize
+    }
+
+    fn of_job(&self, id: i64) -> MutexGuard<'_, Partition> {
+        enter(&self.all()[self.of(id)])
     }
 
     /// The term by which this worker owns a partition. Another may have taken it since.
     pub fn term(&self, partition: usize) -> Option<i64> {
-        self.enter(partition).term
+        enter(&self.all()[partition]).term
     }
 
     /// The terms as the statements want them: 0 for what isn't owned.
     pub fn terms(&self) -> Vec<i64> {
-        (0..PARTITIONS).map(|it| self.term(it).unwrap_or(0)).collect()
+        self.all().iter().map(|it| enter(it).term.unwrap_or(0)).collect()
     }
 
     /// The partitions that are owned.
     pub fn owned(&self) -> Vec<usize> {
-        (0..PARTITIONS).filter(|it| self.term(*it).is_some()).collect()
+        (0..self.count()).filter(|it| self.term(*it).is_some()).collect()
     }
 
-    /// Whether no other worker can own a partition at an uptime.
-    pub fn is_surely_owned(&self, partition: usize, uptime: Duration) -> bool {
-        (uptime.as_micros() as u64) < self.surely_until[partition].load(SeqCst)
-    }
-
-    /// The database has renewed a term: until an uptime nobody else takes the partition.
-    pub fn renew(&self, partition: usize, term: i64, until: Duration) {
-        let held = self.enter(partition);
+    /// The database has renewed a term: until a moment nobody else takes the partition.
+    pub fn renew(&self, partition: usize, term: i64, until: Instant) {
+        let mut held = enter(&self.all()[partition]);
         if held.term == Some(term) {
-            self.surely_until[partition].store(until.as_micros() as u64, SeqCst);
+            held.surely_until = Some(until);
         }
     }
 
     /// The owned partitions that have room for what waits, each with the time since which its jobs are to be read: what
     /// was due before is over, and the dead rows that it left aren't read again and again.
     pub fn to_read(&self) -> (Vec<usize>, Vec<i64>) {
-        let to_read = |it: usize| {
-            let mut partition = self.enter(it);
+        let to_read = |(number, partition)| {
+            let mut partition = enter(partition);
             if partition.term.is_none() || partition.waiting > WAITING_ROOM / 2 {
                 return None;
             }
             if std::mem::take(&mut partition.is_whole) {
                 partition.since = 0;
             }
-            Some((it, partition.since))
+            Some((number, partition.since))
         };
-        (0..PARTITIONS).filter_map(to_read).unzip()
+        self.all().iter().enumerate().filter_map(to_read).unzip()
     }
 
     /// Some partitions were read at a time of the database, with these jobs.
     pub fn note_read(&self, partitions: &[usize], jobs: Vec<Waiting>, now: i64) {
-        let mut first = [now; PARTITIONS];
+        let mut first = vec![now; self.count()];
         for job in jobs {
-            let first = &mut first[partition_of(job.id)];
+            let first = &mut first[self.of(job.id)];
             *first = job.due.min(*first);
             self.note_waiting(job);
         }
         for it in partitions {
-            let mut partition = self.enter(*it);
+            let mut partition = enter(&self.all()[*it]);
             if !partition.is_whole {
                 partition.since = first[*it] - LATE;
             }
@@ -156,58 +196,59 @@ impl Partitions {
 
     /// The next reading of a partition is of all that waits in it.
     pub fn read_whole(&self, partition: usize) {
-        self.enter(partition).is_whole = true;
+        enter(&self.all()[partition]).is_whole = true;
     }
 
     /// How many jobs wait in memory, and how many leases there are.
     pub fn counts(&self) -> (usize, usize) {
-        let count = |it: usize| {
-            let partition = self.enter(it);
-            (partition.waiting, partition.leases())
+        let count = |it| {
+            let partition = enter(it);
+            (partition.waiting, partition.held.len() - partition.waiting)
         };
-        (0..PARTITIONS).map(count).fold((0, 0), |sum, it| (sum.0 + it.0, sum.1 + it.1))
+        self.all().iter().map(count).fold((0, 0), |sum, it| (sum.0 + it.0, sum.1 + it.1))
     }
 
     /// It is owned from now on by a term, with the leases that the table has.
     pub fn own(&self, partition: usize, term: i64, leases: &[Running]) {
         self.lose(partition);
-        let mut held = self.enter(partition);
+        let mut held = enter(&self.all()[partition]);
         (held.term, held.is_whole) = (Some(term), true);
         drop(held);
-        leases.iter().filter(|it| partition_of(it.id) == partition).for_each(|it| self.note_running(it, 0));
-        self.index.alarm().ring_before(0);
+        let theirs = leases.iter().filter(|it| self.of(it.id) == partition);
+        theirs.for_each(|it| self.note_running(it, Duration::ZERO));
     }
 
     /// It is another's. What it held is forgotten, and a holder's next word is answered by the new owner's address.
     pub fn lose(&self, partition: usize) {
-        let mut held = self.enter(partition);
-        held.term = None;
-        self.surely_until[partition].store(0, SeqCst);
-        for it in std::mem::take(&mut held.held).into_values() {
-            match it {
-                Held::Waiting { key, .. } => self.index.remove(&key),
-                Held::Running(lease) => self.index.remove(&lease.key),
-                Held::Out => false,
-            };
+        let mut held = enter(&self.all()[partition]);
+        for it in std::mem::take(&mut *held).held.values() {
+            self.forget(it);
         }
-        held.waiting = 0;
+    }
+
+    /// Takes out of the queue what isn't held any more.
+    fn forget(&self, held: &Held) {
+        if let Held::Waiting { key, .. } | Held::Running(Lease { key, .. }) = held {
+            // It may be out already: whoever has it finds that nobody waits for it.
+            let _ = self.queue.remove(key);
+        }
     }
 
     /// A job waits, as the table or a notification said.
     pub fn note_waiting(&self, job: Waiting) {
-        let (number, id, due) = (partition_of(job.id), job.id, tick_after(job.due));
-        let mut partition = self.enter(number);
+        let (id, due) = (job.id, self.clock.moment(job.due));
+        let mut partition = self.of_job(id);
         let has_room = partition.term.is_some() && partition.waiting < WAITING_ROOM;
         match partition.held.get_mut(&id) {
             Some(Held::Waiting { key, job: known }) if known.due != job.due => {
-                if let Some(reset) = self.index.reset(key, due) {
+                if let Ok(reset) = self.queue.reset_at(key, due) {
                     (*key, *known) = (reset, job);
                 }
             }
             Some(_) => {}
             None if !has_room => {}
             None => {
-                if let Some(key) = self.index.insert(number, Due::Job(id), due) {
+                if let Ok(key) = self.queue.insert_at(Due::Job(id), due) {
                     partition.held.insert(id, Held::Waiting { key, job });
                     partition.waiting += 1;
                 }
@@ -215,9 +256,9 @@ impl Partitions {
         }
     }
 
-    /// A job came out of the index. None where nobody waits for it any more.
+    /// A job came out of the queue. None where nobody waits for it any more.
     pub fn note_out(&self, id: i64) -> Option<Waiting> {
-        let mut partition = self.enter(partition_of(id));
+        let mut partition = self.of_job(id);
         let held = partition.held.get_mut(&id).filter(|it| matches!(it, Held::Waiting { .. }))?;
         match std::mem::replace(held, Held::Out) {
             Held::Waiting { job, .. } => Some(job),
@@ -226,21 +267,16 @@ impl Partitions {
     }
 
     /// Whether a job that is out may be given to a holder.
-    pub fn may_be_given(&self, id: i64) -> Given {
-        let partition = self.enter(partition_of(id));
-        match partition.held.get(&id) {
-            Some(Held::Out) if partition.term.is_none() => Given::Never,
-            Some(Held::Out) if partition.leases() >= LEASE_ROOM => Given::Later,
-            Some(Held::Out) => Given::Now,
-            _ => Given::Never,
-        }
+    pub fn may_be_given(&self, id: i64) -> bool {
+        let partition = self.of_job(id);
+        partition.term.is_some() && matches!(partition.held.get(&id), Some(Held::Out))
     }
 
     /// The table has been asked about jobs that were out: they aren't held any more. Where one still waits, since not
     /// all were taken, the next reading tells.
     pub fn note_asked(&self, ids: &[i64], taken: usize) {
         for id in ids {
-            let mut partition = self.enter(partition_of(*id));
+            let mut partition = self.of_job(*id);
             partition.is_whole |= taken < ids.len();
             if let Some(Held::Out) = partition.held.get(id) {
                 partition.held.remove(id);
@@ -249,48 +285,56 @@ impl Partitions {
         }
     }
 
-    /// A job runs, by a lease of the table's, which this worker doesn't end before a tick. It is held where this worker
-    /// owns it and has room.
-    pub fn note_running(&self, running: &Running, not_before: Tick) {
+    /// A job runs, by a lease of the table's, which this worker doesn't end before so long from now. It is held where
+    /// this worker owns it.
+    pub fn note_running(&self, running: &Running, not_before: Duration) {
         let Running { id, attempt, lease_until } = *running;
-        let number = partition_of(id);
-        let mut partition = self.enter(number);
+        let mut partition = self.of_job(id);
         if partition.term.is_none() {
             return;
         }
         match partition.held.get(&id) {
             Some(Held::Running(lease)) if lease.attempt >= attempt => return,
             Some(held) => {
-                match held {
-                    Held::Waiting { key, .. } => drop(self.index.remove(key)),
-                    Held::Running(old) => drop(self.index.remove(&old.key)),
-                    Held::Out => {}
-                }
-                partition.waiting -= usize::from(!matches!(held, Held::Running(_)));
+                self.forget(held);
+                let waited = !matches!(held, Held::Running(_));
+                partition.waiting -= usize::from(waited);
                 partition.held.remove(&id);
             }
             None => {}
         }
-        if let Some(key) =
-            self.index.insert(number, Due::Lease { id, attempt }, tick_after(lease_until).max(not_before))
-        {
-            let lease = Arc::new(Lease { id, attempt, key, written: AtomicU64::new(tick_before(lease_until)) });
-            partition.held.insert(id, Held::Running(lease));
+        let until = self.clock.moment(lease_until).max(Instant::now() + not_before);
+        if let Ok(key) = self.queue.insert_at(Due::Lease { id, attempt }, until) {
+            let was = self.queue.deadline(&key).unwrap_or(until);
+            partition.held.insert(id, Held::Running(Lease { attempt, key, written: lease_until, was }));
         }
     }
 
-    pub fn lease(&self, id: i64) -> Option<Arc<Lease>> {
-        match self.enter(partition_of(id)).held.get(&id) {
-            Some(Held::Running(lease)) => Some(lease.clone()),
-            _ => None,
+    /// Extends the lease of an attempt to so long from now on.
+    pub fn beat(&self, id: i64, attempt: i32, by: Duration) -> Beat {
+        let partition = self.of_job(id);
+        let lease = match partition.held.get(&id) {
+            _ if partition.term.is_none() => return Beat::Foreign,
+            Some(Held::Running(lease)) => lease,
+            _ => return Beat::Unknown,
+        };
+        if lease.attempt != attempt || self.queue.extend(&lease.key, by).is_err() {
+            return Beat::Fenced;
+        }
+        if partition.surely_until.map_or(true, |it| it <= Instant::now()) {
+            return Beat::Doubtful;
+        }
+        match self.clock.left_until(lease.written) {
+            left if left > 0 => Beat::Extended(left),
+            _ => Beat::Unwritten,
         }
     }
 
     /// An attempt has ended. What it held is let go; `waits_on` where the job waits again and is to be given out.
     pub fn end(&self, id: i64, attempt: i32, waits_on: bool) -> bool {
-        let mut partition = self.enter(partition_of(id));
+        let mut partition = self.of_job(id);
         match partition.held.get(&id) {
-            Some(Held::Running(lease)) if lease.attempt == attempt => drop(self.index.remove(&lease.key)),
+            Some(held @ Held::Running(lease)) if lease.attempt == attempt => self.forget(held),
             _ => return false,
         }
         if !waits_on || partition.term.is_none() {
@@ -302,27 +346,80 @@ impl Partitions {
         true
     }
 
-    /// The leases of some partitions, whose deadline in force isn't the one that the table has.
-    pub fn unwritten(&self, partitions: &[usize], handle: &mut Handle) -> Vec<(Arc<Lease>, Tick)> {
-        let mut unwritten = Vec::new();
+    /// The leases of some partitions that were extended since the table was told of them.
+    pub fn extended(&self, partitions: &[usize]) -> Vec<Extended> {
+        let mut extended = Vec::new();
         for number in partitions {
-            let partition = self.enter(*number);
-            for held in partition.held.values() {
+            for (id, held) in &enter(&self.all()[*number]).held {
                 if let Held::Running(lease) = held {
-                    let until = deadline(handle, &lease.key);
-                    unwritten.extend(until.filter(|it| *it > lease.written.load(SeqCst)).map(|it| (lease.clone(), it)));
+                    let until = self.queue.deadline(&lease.key).ok().filter(|it| *it > lease.was);
+                    extended.extend(until.map(|until| Extended { id: *id, attempt: lease.attempt, until }));
                 }
             }
         }
-        unwritten
+        extended
+    }
+
+    /// The table has a lease until a microsecond since 1970.
+    pub fn note_written(&self, lease: &Extended, until: i64) {
+        if let Some(Held::Running(known)) = self.of_job(lease.id).held.get_mut(&lease.id) {
+            if known.attempt == lease.attempt {
+                (known.written, known.was) = (until, lease.until);
+            }
+        }
     }
 }
 
-/// What may be done with a job that is out.
-#[derive(Clone, Copy, Debug, PartialEq, Eq)]
-pub enum Given {
-    Now,
-    /// There are as many leases of its partition as there may be.
-    Later,
-    Never,
+#[cfg(test)]
+mod tests {
+    use super::*;
+
+    fn partitions(count: usize) -> Partitions {
+        let partitions = Partitions::new(Arc::new(Clock::new()));
+        partitions.divide(count);
+        partitions
+    }
+
+    fn running(id: i64) -> Running {
+        Running { id, attempt: 1, lease_until: 50_000 }
+    }
+
+    #[test]
+    fn ids_go_to_partitions_as_in_the_table() {
+        let of = |count, id| partitions(count).of(id);
+        assert_eq!((of(64, 0), of(64, 63), of(64, 64), of(64, 129), of(200, 399)), (0, 63, 0, 1, 199));
+    }
+
+    #[test]
+    fn a_lease_that_was_extended_comes_out_later_and_is_written_once() {
+        let it = partitions(2);
+        it.own(1, 7, &[running(1), running(3), running(2)]);
+        assert_eq!(it.counts(), (0, 2), "leases of another partition aren't held");
+        assert_eq!(it.beat(1, 1, Duration::from_secs(60)), Beat::Doubtful);
+        it.renew(1, 7, Instant::now() + Duration::from_secs(1));
+        assert_eq!(it.beat(1, 2, Duration::from_secs(60)), Beat::Fenced);
+        assert_eq!(it.beat(2, 1, Duration::from_secs(60)), Beat::Foreign);
+        assert_eq!(it.beat(5, 1, Duration::from_secs(60)), Beat::Unknown);
+        assert_eq!(it.queue.recv().unwrap().value, Due::Lease { id: 3, attempt: 1 });
+        let extended = it.extended(&[0, 1]);
+        assert_eq!((extended.len(), extended[0].id), (1, 1));
+        it.note_written(&extended[0], 60_000_000);
+        assert!(it.extended(&[1]).is_empty());
+        assert!(matches!(it.beat(1, 1, Duration::ZERO), Beat::Extended(50_000..=60_000)));
+        it.lose(1);
+        assert!(it.queue.is_empty());
+    }
+
+    #[test]
+    fn a_partition_holds_so_many_jobs_that_wait_and_others_hold_theirs() {
+        let it = partitions(2);
+        let job = |id: usize| Waiting { id: id as i64, due: 0, priority: 0, kind: "".into() };
+        (0..2).for_each(|partition| it.own(partition, 1, &[]));
+        (0..=WAITING_ROOM).for_each(|id| it.note_waiting(job(2 * id)));
+        it.note_waiting(job(1));
+        assert_eq!((it.counts(), it.queue.len()), ((WAITING_ROOM + 1, 0), WAITING_ROOM + 1));
+        assert!(it.note_out(1).is_some() && it.note_out(1).is_none() && it.may_be_given(1));
+        it.lose(1);
+        assert!(!it.may_be_given(1));
+    }
 }

@@ -1,17 +1,13 @@
 //! The jobs that are due and wait for a holder.
 
-use crate::partitions::{Given, Partitions, Waiting};
+use crate::partitions::{Partitions, Waiting};
 use crate::worker::Worker;
 use std::cmp::Reverse;
 use std::collections::{BTreeSet, HashMap};
 use std::sync::{Arc, Mutex, MutexGuard, PoisonError};
-use std::time::Duration;
 use tokio::sync::mpsc::UnboundedReceiver;
 use tokio::sync::Notify;
 use tokio::time::{timeout_at, Instant};
-
-/// How long jobs wait whose partition has no room for a lease before somebody looks again.
-const NO_ROOM: Duration = Duration::from_millis(100);
 
 /// The order in which jobs of a kind are given out: by priority, due time and id.
 type Place = (Reverse<i16>, i64, i64);
@@ -51,40 +47,33 @@ impl Ready {
         loop {
             // Before the look, so that what comes after the look is heard.
             let filled = if kinds.is_empty() { self.filled.notified() } else { self.filled_for_kinds.notified() };
-            let (taken, has_later) = self.pop(partitions, kinds, count);
+            let taken = self.pop(partitions, kinds, count);
             if !taken.is_empty() || Instant::now() >= until {
                 return taken;
             }
-            let until = if has_later { until.min(Instant::now() + NO_ROOM) } else { until };
             // Whether it was filled or the time is over is seen above.
             let _ = timeout_at(until, filled).await;
         }
     }
 
-    fn pop(&self, partitions: &Partitions, kinds: &[String], count: usize) -> (Vec<i64>, bool) {
+    fn pop(&self, partitions: &Partitions, kinds: &[String], count: usize) -> Vec<i64> {
         let mut ready = self.enter();
-        let (mut taken, mut later) = (Vec::new(), Vec::new());
+        let mut taken = Vec::new();
         while taken.len() < count {
             let (kind, place) = match first(&ready, kinds) {
                 Some(first) => first,
                 None => break,
             };
             remove(&mut ready, &kind, &place);
-            match partitions.may_be_given(place.2) {
-                Given::Now => taken.push(place.2),
-                Given::Later => later.push((kind, place)),
-                Given::Never => {}
+            if partitions.may_be_given(place.2) {
+                taken.push(place.2);
             }
-        }
-        let has_later = !later.is_empty();
-        for (kind, place) in later {
-            ready.entry(kind).or_default().insert(place);
         }
         if !ready.is_empty() && !taken.is_empty() {
             // One word may stand for many jobs: the next who waits is woken by who took some.
             self.filled.notify_one();
         }
-        (taken, has_later)
+        taken
     }
 }
 

@@ -1,28 +1,29 @@
 //! Sends a holder to the worker that owns a job.
 
 use crate::commands::try_again;
-use crate::index::PARTITIONS;
 use crate::resp::Reply;
 use crate::sql;
 use crate::worker::Worker;
-use std::sync::{Mutex, PoisonError};
+use std::collections::HashMap;
+use std::sync::{Mutex, MutexGuard, PoisonError};
 use std::time::{Duration, Instant};
 
 /// How long an answer of the database is good for.
 const GOOD_FOR: Duration = Duration::from_millis(250);
 
 /// The owners of partitions, as the database told last.
-pub struct Redirects(Vec<Mutex<Option<(Instant, String)>>>);
+#[derive(Default)]
+pub struct Redirects(Mutex<HashMap<usize, (Instant, String)>>);
 
-impl Default for Redirects {
-    fn default() -> Redirects {
-        Redirects((0..PARTITIONS).map(|_| Mutex::new(None)).collect())
+impl Redirects {
+    fn enter(&self) -> MutexGuard<'_, HashMap<usize, (Instant, String)>> {
+        self.0.lock().unwrap_or_else(PoisonError::into_inner)
     }
 }
 
 /// The reply to a word about a partition that this worker doesn't own.
 pub async fn redirect(worker: &Worker, partition: usize) -> Reply {
-    let known = worker.redirects.0[partition].lock().unwrap_or_else(PoisonError::into_inner).clone();
+    let known = worker.redirects.enter().get(&partition).cloned();
     if let Some((at, address)) = known {
         if at.elapsed() < GOOD_FOR {
             return moved(worker, partition, &address);
@@ -33,8 +34,7 @@ pub async fn redirect(worker: &Worker, partition: usize) -> Reply {
         Ok(rows) => rows.first().map(|row| row.get(0)).unwrap_or_default(),
         Err(error) => return try_again(&error.to_string()),
     };
-    *worker.redirects.0[partition].lock().unwrap_or_else(PoisonError::into_inner) =
-        Some((Instant::now(), address.clone()));
+    worker.redirects.enter().insert(partition, (Instant::now(), address.clone()));
     moved(worker, partition, &address)
 }
 

@@ -1,13 +1,10 @@
 //! Serves holders. What a client sends in one go is answered together: all that are done by one statement, say.
 
-use crate::clock::tick_before;
 use crate::commands::{fenced, try_again, Attempt, Command};
 use crate::db::{tell, Error, Param};
 use crate::effect::note_lateness;
 use crate::expiry::running;
-use crate::index::partition_of;
-use crate::leases::{Beat, Beats};
-use crate::partitions::Running;
+use crate::partitions::{Beat, Running};
 use crate::redirect::redirect;
 use crate::resp::{Input, Reply};
 use crate::sql;
@@ -45,15 +42,14 @@ pub async fn serve(worker: Arc<Worker>, listener: TcpListener) {
 async fn talk(worker: Arc<Worker>, mut stream: TcpStream, seat: Option<OwnedSemaphorePermit>) {
     // A reply that waits for a packet to fill would be late.
     let _ = stream.set_nodelay(true);
-    match seat.and_then(|_seat| Some((Beats::new(&worker)?, _seat))) {
+    match seat {
         None => drop(stream.write_all(b"-ERR max number of clients reached\r\n").await),
-        Some((beats, _seat)) => {
+        Some(_seat) => {
             let is_known = worker.options.password.is_none();
-            let mut holder = Holder { worker: &worker, beats, is_known, input: Input::default(), replies: Vec::new() };
+            let mut holder = Holder { worker: &worker, is_known, input: Input::default(), replies: Vec::new() };
             worker.metrics.clients.add(1);
             // Whoever is gone isn't answered.
             let _ = holder.converse(&mut stream).await;
-            holder.beats.put_back(&worker);
             worker.metrics.clients.subtract(1);
         }
     }
@@ -61,7 +57,6 @@ async fn talk(worker: Arc<Worker>, mut stream: TcpStream, seat: Option<OwnedSema
 
 struct Holder<'w> {
     worker: &'w Worker,
-    beats: Beats,
     /// It has said the password, or there is none.
     is_known: bool,
     input: Input,
@@ -190,23 +185,27 @@ impl Holder<'_> {
         if worker.is_ending() {
             return attempts.iter().for_each(|_| try_again("this worker drains").write(&mut self.replies));
         }
-        let mut beats: Vec<Beat> = attempts.iter().map(|it| self.beats.beat(worker, it.id, it.attempt)).collect();
+        let extend = |it: &Attempt| worker.partitions.beat(it.id, it.attempt, worker.options.lease);
+        let mut beats: Vec<Beat> = attempts.iter().map(extend).collect();
         let is_unknown = |it: &(&Beat, &Attempt)| *it.0 == Beat::Unknown;
         let unknown: Vec<i64> = beats.iter().zip(attempts).filter(is_unknown).map(|it| it.1.id).collect();
         if !unknown.is_empty() {
             crate::expiry::adopt(worker, &unknown).await;
             for (beat, it) in beats.iter_mut().zip(attempts).filter(|it| *it.0 == Beat::Unknown) {
-                *beat = self.beats.beat(worker, it.id, it.attempt);
+                *beat = extend(it);
             }
         }
         for (beat, it) in beats.into_iter().zip(attempts) {
             let reply = match beat {
-                Beat::Extended(millis) => Reply::Integer(millis),
+                Beat::Extended(millis) => {
+                    worker.metrics.beats.add(1);
+                    Reply::Integer(millis)
+                }
                 Beat::Doubtful => {
                     try_again("the database doesn't answer: whether this worker still has the job isn't known")
                 }
                 Beat::Unwritten => try_again("the lease can't be written: its row is locked"),
-                Beat::Foreign => redirect(worker, partition_of(it.id)).await,
+                Beat::Foreign => redirect(worker, worker.partitions.of(it.id)).await,
                 Beat::Fenced | Beat::Unknown => refuse(worker, *it),
             };
             reply.write(&mut self.replies);
@@ -252,7 +251,7 @@ impl Holder<'_> {
         for it in attempts {
             let reply = match ended.get(&it.id) {
                 Some(true) => Reply::Status("OK"),
-                Some(false) => redirect(self.worker, partition_of(it.id)).await,
+                Some(false) => redirect(self.worker, self.worker.partitions.of(it.id)).await,
                 None => refuse(self.worker, *it),
             };
             if ended.get(&it.id) != Some(&false) {
@@ -289,10 +288,10 @@ async fn give(worker: &Worker, ids: &Vec<i64>) -> Reply {
 /// What a holder is told of a job: its id, its attempt, the milliseconds of its lease, and its payload.
 fn given(worker: &Worker, row: &Row) -> Reply {
     let it: Running = running(row);
-    worker.partitions.note_running(&it, 0);
+    worker.partitions.note_running(&it, Duration::ZERO);
     worker.metrics.taken.add(1);
     note_lateness(worker, row.get(4), row.get(5), it.attempt);
-    let left = worker.clock.left_until(tick_before(it.lease_until));
+    let left = worker.clock.left_until(it.lease_until);
     let payload: String = row.get(3);
     let numbers = [it.id, it.attempt.into(), left].map(Reply::Integer);
     Reply::Array(numbers.into_iter().chain([Reply::Bulk(payload.into_bytes())]).collect())

@@ -1,14 +1,18 @@
 //! Makes the tables, and changes those of an older program: step by step, without keeping inserts waiting.
 
-use crate::db::{deaf, tell, version, Database, Delay, Error as DbError, Session};
+use crate::db::{deaf, meet, tell, Database, Delay, Error as DbError, Session};
+use crate::options::SetupOptions;
 use std::error::Error;
 use std::sync::Arc;
 use std::time::{Duration, Instant};
+use tokio_postgres::error::SqlState;
 
 /// What changes the tables of the version before into those of each version.
 const VERSIONS: [&str; 2] = [include_str!("schema/1.sql"), include_str!("schema/2.sql")];
 /// The least version of PostgreSQL that has all that the statements want.
 const LEAST: u32 = 14;
+/// How many partitions there are where nobody says another number: it stands for it in the steps.
+const USUAL: usize = 64;
 /// What begins a step.
 const STEP: &str = "\n-- STEP";
 /// How long a step waits for a lock each time: inserts that come meanwhile wait as long.
@@ -19,8 +23,9 @@ const PATIENCE: Duration = Duration::from_secs(60);
 const BEGIN: &str = "CREATE TABLE IF NOT EXISTS jobs_schema (version integer NOT NULL)";
 const VERSION: &str = "SELECT coalesce(max(version), 0) FROM jobs_schema";
 
-/// Refuses what speaks PostgreSQL's protocol and isn't it: its relatives lack what the statements want.
-fn fits(version: &str) -> Result<(), String> {
+/// Refuses what speaks PostgreSQL's protocol and isn't it: its relatives lack what the statements want. A pooler that
+/// gives one process to two sessions keeps neither what they have prepared nor what they listen to.
+fn fits([(version, process), (_, other)]: &[(String, String); 2]) -> Result<(), String> {
     let relative =
         ["CockroachDB", "-YB-", "Redshift", "Greenplum", "Materialize"].iter().find(|it| version.contains(**it));
     let number = version.strip_prefix("PostgreSQL ").and_then(|it| it.split(|it: char| !it.is_ascii_digit()).next());
@@ -28,12 +33,17 @@ fn fits(version: &str) -> Result<(), String> {
     if relative.is_some() || !is_known {
         return Err(format!("the database has to be PostgreSQL of version {LEAST} or later, and says: {version}"));
     }
+    if process == other {
+        return Err("two sessions have one process of the database: a pooler in transaction mode stands between, and \
+                    jobs wants one in session mode"
+            .to_owned());
+    }
     Ok(())
 }
 
 /// Makes or changes what `jobs setup` finds.
-pub async fn run(mut database: Database) -> Result<(), Box<dyn Error>> {
-    fits(&version(&database).await?)?;
+pub async fn run(SetupOptions { mut database, partitions }: SetupOptions) -> Result<(), Box<dyn Error>> {
+    fits(&meet(&database).await?)?;
     // An index over a great table takes its time.
     database.statement_timeout = Duration::from_secs(24 * 3_600);
     database.lock_timeout = LOCK;
@@ -62,14 +72,22 @@ pub async fn run(mut database: Database) -> Result<(), Box<dyn Error>> {
     if stands > known {
         return Err(format!("the tables have version {stands}, this program knows {known}").into());
     }
+    let count = match stands {
+        0 => partitions.unwrap_or(USUAL).to_string(),
+        1 => USUAL.to_string(),
+        _ => count(&session).await?.to_string(),
+    };
+    if partitions.map_or(false, |it| it.to_string() != count) {
+        return Err(format!("the tables have {count} partitions, and keep them").into());
+    }
     for (version, steps) in (1..).zip(VERSIONS).skip(stands as usize) {
         // What follows the mark on its line says why the step is there.
         for step in steps.split(STEP).filter_map(|it| it.split_once('\n')) {
-            insist(&session, step.1).await?;
+            insist(&session, &step.1.replace(&USUAL.to_string(), &count)).await?;
         }
         insist(&session, &format!("INSERT INTO jobs_schema VALUES ({version})")).await?;
     }
-    println!("the table jobs stands, with its indexes and its trigger, of version {known}");
+    println!("the table jobs stands, of version {known}, with {count} partitions");
     Ok(())
 }
 
@@ -84,24 +102,34 @@ async fn insist(session: &Session, step: &str) -> Result<(), DbError> {
     }
 }
 
-async fn stands(database: &Database) -> Result<Result<i32, String>, DbError> {
-    if let Err(refusal) = fits(&version(database).await?) {
+async fn count(session: &Session) -> Result<i64, DbError> {
+    Ok(session.query("SELECT count(*) FROM jobs_partitions", &[]).await?[0].get(0))
+}
+
+/// The version of the tables, and the number of their partitions.
+async fn stands(database: &Database) -> Result<Result<(i32, i64), String>, DbError> {
+    if let Err(refusal) = fits(&meet(database).await?) {
         return Ok(Err(refusal));
     }
     let session = Session::open(database, &Arc::default(), deaf()).await?;
-    Ok(Ok(session.query(VERSION, &[]).await?[0].get(0)))
+    let version = session.query(VERSION, &[]).await?[0].get(0);
+    let known = version == VERSIONS.len() as i32;
+    Ok(Ok((version, if known { count(&session).await? } else { 0 })))
 }
 
-/// Refuses tables that another version of this program has made. Where there is no database yet, it waits for it.
-pub async fn check(database: &Database) -> Result<(), Box<dyn Error>> {
+/// How many partitions the tables have. Those that another version of this program has made are refused. Where there is
+/// no database yet, it waits for it.
+pub async fn check(database: &Database) -> Result<usize, Box<dyn Error>> {
     let mut delay = Delay::new();
-    let stands = loop {
+    let (stands, count) = loop {
         match stands(database).await {
             Ok(stands) => break stands?,
             Err(error) if error.is_passing() => {
                 tell(format_args!("tried again after {:?}: {error}", delay.wait().await));
             }
-            Err(error) if error.is_of_statement() => return Err("there are no tables yet: jobs setup".into()),
+            Err(error) if error.code() == Some(&SqlState::UNDEFINED_TABLE) => {
+                return Err("there are no tables yet: jobs setup".into())
+            }
             Err(error) => return Err(error.into()),
         }
     };
@@ -109,12 +137,16 @@ pub async fn check(database: &Database) -> Result<(), Box<dyn Error>> {
     if stands as usize != wanted {
         return Err(format!("the tables have version {stands}, and this program wants {wanted}: jobs setup").into());
     }
-    Ok(())
+    Ok(count as usize)
 }
 
 #[cfg(test)]
 mod tests {
     use super::*;
+
+    fn said(version: &str, other: &str) -> [(String, String); 2] {
+        ["7", other].map(|process| (version.to_owned(), process.to_owned()))
+    }
 
     #[test]
     fn relatives_of_postgresql_are_refused_by_name() {
@@ -125,9 +157,14 @@ mod tests {
             "PostgreSQL 14.4 (Greenplum Database 8.0.0)",
             "PostgreSQL 13.14 on x86_64-pc-linux-gnu",
         ] {
-            assert!(fits(version).unwrap_err().contains(version));
+            assert!(fits(&said(version, "8")).unwrap_err().contains(version));
         }
-        assert_eq!(fits("PostgreSQL 15.18 (Debian 15.18-0+deb12u1) on x86_64-pc-linux-gnu"), Ok(()));
-        assert_eq!(fits("PostgreSQL 18beta1 on x86_64-pc-linux-gnu"), Ok(()));
+        assert_eq!(fits(&said("PostgreSQL 15.18 (Debian 15.18-0+deb12u1) on x86_64-pc-linux-gnu", "8")), Ok(()));
+        assert_eq!(fits(&said("PostgreSQL 18beta1 on x86_64-pc-linux-gnu", "8")), Ok(()));
+    }
+
+    #[test]
+    fn a_pooler_in_transaction_mode_is_refused_by_name() {
+        assert!(fits(&said("PostgreSQL 15.18", "7")).unwrap_err().contains("pooler in transaction mode"));
     }
 }

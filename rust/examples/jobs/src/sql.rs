@@ -1,6 +1,9 @@
 //! The statements. Each is one transaction, and each changes a job only where its row says that it may, in a partition
 //! that its worker owns: `$1` is the worker's number, and `$2` its terms by partition. Rows that others have locked are
 //! left out, so that nobody waits for them.
+//!
+//! Jobs that are named are looked for by their ids. Their state stands there as `state || ''`, which no partial index fits:
+//! where the statistics are old, or many are named, the planner would take such an index, and read all that is due or over.
 
 /// The partitions that the worker owns by the terms that it knows. It stands in each statement, since the database would
 /// plan a function of SQL again at each call.
@@ -27,12 +30,12 @@ macro_rules! free {
 }
 
 /// What waits in some partitions, is due since a time of each and within a horizon, with the clock, the number of
-/// workers, the partitions that nobody owns, the terms of this worker and the others that have jobs for holders, so
+/// workers and of those before this one, the partitions that nobody owns, the terms of this worker and the others that have jobs for holders, so
 /// that a worker with nothing to do asks for one thing alone.
 pub const READ: &str = concat!(
     "
 SELECT clock_timestamp() - pg_postmaster_start_time() < interval '3 seconds',
-    (SELECT count(*) FROM jobs_workers o WHERE NOT (",
+    (SELECT ARRAY[count(*), count(*) FILTER (WHERE o.worker < $1)] FROM jobs_workers o WHERE NOT (",
     free!("o.worker", "$5"),
     ")),
     (SELECT coalesce(array_agg(partition), '{}') FROM jobs_partitions
@@ -103,17 +106,17 @@ SELECT id, attempt, lease_until FROM jobs
 WHERE state = 'running' AND partition = ANY($1::smallint[]) AND ($2::bool OR lease_until <= now())";
 /// The leases of some jobs.
 pub const LEASES_OF: &str = "
-SELECT id, attempt, lease_until FROM jobs WHERE state = 'running' AND id = ANY($1::bigint[])";
+SELECT id, attempt, lease_until FROM jobs WHERE state || '' = 'running' AND id = ANY($1::bigint[])";
 
 /// Gives jobs out, each with a lease: as many as begin within the first 4 MiB of their payloads.
 pub const TAKE: &str = concat!(
     "
 WITH sized AS MATERIALIZED (
     SELECT id, sum(octet_length(payload)) OVER (ORDER BY due, id) - octet_length(payload) AS begins FROM jobs
-    WHERE id = ANY($3::bigint[]) AND state = 'waiting' AND due <= now()
+    WHERE id = ANY($3::bigint[]) AND state || '' = 'waiting' AND due <= now()
 ), free AS MATERIALIZED (
     SELECT id FROM jobs
-    WHERE id = ANY (ARRAY(SELECT id FROM sized WHERE begins < 4194304)) AND state = 'waiting' AND due <= now()
+    WHERE id = ANY (ARRAY(SELECT id FROM sized WHERE begins < 4194304)) AND state || '' = 'waiting' AND due <= now()
         AND partition = ",
     owned!(),
     "
@@ -130,7 +133,7 @@ pub const BEGIN_EFFECT: &str = concat!(
     "
 WITH jobs_free AS MATERIALIZED (
     SELECT id FROM jobs
-    WHERE id = ANY($3::bigint[]) AND state = 'waiting' AND due <= now()
+    WHERE id = ANY($3::bigint[]) AND state || '' = 'waiting' AND due <= now()
         AND partition = ",
     owned!(),
     "
@@ -151,7 +154,7 @@ pub const FAIL_WAITING: &str = concat!(
     "
 WITH free AS MATERIALIZED (
     SELECT id FROM jobs
-    WHERE id = $3::bigint AND state = 'waiting' AND due <= now()
+    WHERE id = $3::bigint AND state || '' = 'waiting' AND due <= now()
         AND partition = ",
     owned!(),
     "
@@ -171,7 +174,7 @@ pub const DONE: &str = concat!(
     "
 WITH free AS MATERIALIZED (
     SELECT j.id FROM unnest($3::bigint[], $4::int[]) AS v(id, attempt)
-    JOIN jobs j ON j.id = v.id AND j.attempt = v.attempt AND j.state = 'running'
+    JOIN jobs j ON j.id = v.id AND j.attempt = v.attempt AND j.state || '' = 'running'
     WHERE j.partition = ",
     owned!(),
     "
@@ -192,7 +195,7 @@ pub const FAIL: &str = concat!(
     "
 WITH free AS MATERIALIZED (
     SELECT j.id, v.error FROM unnest($3::bigint[], $4::int[], $5::text[]) AS v(id, attempt, error)
-    JOIN jobs j ON j.id = v.id AND j.attempt = v.attempt AND j.state = 'running'
+    JOIN jobs j ON j.id = v.id AND j.attempt = v.attempt AND j.state || '' = 'running'
     WHERE j.partition = ",
     owned!(),
     "
@@ -208,7 +211,7 @@ WITH free AS MATERIALIZED (
 SELECT id, state FROM failed
 UNION ALL
 SELECT j.id, j.state FROM unnest($3::bigint[], $4::int[]) AS v(id, attempt)
-JOIN jobs j ON j.id = v.id AND j.attempt = v.attempt AND j.state = 'running'"
+JOIN jobs j ON j.id = v.id AND j.attempt = v.attempt AND j.state || '' = 'running'"
 );
 
 /// Leases have ended: their jobs wait again, and after the last attempt they are dead.
@@ -216,7 +219,7 @@ pub const EXPIRE: &str = concat!(
     "
 WITH free AS MATERIALIZED (
     SELECT j.id FROM unnest($3::bigint[], $4::int[]) AS v(id, attempt)
-    JOIN jobs j ON j.id = v.id AND j.attempt = v.attempt AND j.state = 'running' AND j.lease_until <= now()
+    JOIN jobs j ON j.id = v.id AND j.attempt = v.attempt AND j.state || '' = 'running' AND j.lease_until <= now()
     WHERE j.partition = ",
     owned!(),
     "
@@ -234,7 +237,7 @@ pub const WRITE_LEASES: &str = concat!(
 WITH free AS MATERIALIZED (
     SELECT j.id, v.lease_until
     FROM unnest($3::bigint[], $4::int[], $5::timestamptz[]) AS v(id, attempt, lease_until)
-    JOIN jobs j ON j.id = v.id AND j.attempt = v.attempt AND j.state = 'running'
+    JOIN jobs j ON j.id = v.id AND j.attempt = v.attempt AND j.state || '' = 'running'
     WHERE j.partition = ",
     owned!(),
     "

@@ -2,7 +2,6 @@
 
 use crate::db::{Database, Error as DbError, Session};
 use crate::enqueue::connect;
-use crate::index::PARTITIONS;
 use std::error::Error;
 use tokio_postgres::Row;
 
@@ -12,24 +11,32 @@ FROM jobs_workers w LEFT JOIN jobs_partitions p ON p.owner = w.worker AND p.unti
 WHERE w.until > now() GROUP BY w.worker ORDER BY w.name, w.address";
 
 /// More done jobs than so many are estimated.
-const MANY: i64 = 100_001;
+const MANY: i64 = 10_001;
 
 pub const COUNTS: &str = "
 SELECT (SELECT count(*) FROM jobs WHERE state = 'waiting'),
     (SELECT count(*) FROM jobs WHERE state = 'waiting' AND due <= now()),
     (SELECT count(*) FROM jobs WHERE state = 'running'),
     -- Of very many the database's own estimate will do.
-    (SELECT count(*) FROM (SELECT FROM jobs WHERE state = 'done' LIMIT 100001) it),
+    (SELECT count(*) FROM (SELECT FROM jobs WHERE state = 'done' LIMIT 10001) it),
     (SELECT count(*) FROM jobs WHERE state = 'dead'),
     (SELECT greatest(reltuples, 0)::bigint FROM pg_class WHERE oid = 'jobs'::regclass)";
 
+/// Of each state the last jobs, which are found by an index however many there are.
 const LATENESS: &str = "
 SELECT count(*), coalesce(percentile_disc(ARRAY[0.5, 0.99, 1]) WITHIN GROUP (ORDER BY late), ARRAY[0, 0, 0]::float8[])
 FROM (
-    SELECT extract(epoch FROM started - due)::float8 * 1000 AS late FROM jobs
-    WHERE attempt = 1 AND started > now() - interval '5 minutes' AND started >= due AND (
-        state IN ('done', 'dead') AND ended > now() - interval '5 minutes' OR state = 'running'
-    )
+    SELECT extract(epoch FROM started - due)::float8 * 1000 AS late
+    FROM unnest(ARRAY['done', 'dead']) AS s(state) CROSS JOIN LATERAL (
+        SELECT started, due, attempt FROM jobs
+        WHERE jobs.state IN ('done', 'dead') AND jobs.state = s.state AND ended > now() - interval '5 minutes'
+        ORDER BY ended DESC LIMIT 4000
+    ) over
+    WHERE attempt = 1 AND started >= due
+    UNION ALL
+    SELECT extract(epoch FROM started - due)::float8 * 1000
+    FROM (SELECT started, due, attempt FROM jobs WHERE state = 'running' LIMIT 4000) running
+    WHERE attempt = 1 AND started >= due AND started > now() - interval '5 minutes'
 ) it";
 
 pub async fn run(database: &Database) -> Result<(), Box<dyn Error>> {
@@ -39,7 +46,7 @@ pub async fn run(database: &Database) -> Result<(), Box<dyn Error>> {
     let rows = session.query(LATENESS, &[]).await?;
     let (count, late): (i64, Vec<f64>) = (rows[0].get(0), rows[0].get(1));
     println!(
-        "late in the last 5 minutes, of {count} first attempts: p50 {:.1} ms, p99 {:.1} ms, max {:.1} ms",
+        "late in the last 5 minutes, of the last {count} first attempts: p50 {:.1} ms, p99 {:.1} ms, max {:.1} ms",
         late[0], late[1], late[2]
     );
     Ok(())
@@ -58,7 +65,8 @@ pub fn counts(row: &Row) -> String {
 
 /// A line for each worker, with the partitions that it owns.
 async fn owners(session: &Session) -> Result<(), DbError> {
-    let mut free: Vec<i16> = (0..PARTITIONS as i16).collect();
+    let partitions = session.query("SELECT partition FROM jobs_partitions ORDER BY partition", &[]).await?;
+    let mut free: Vec<i16> = partitions.iter().map(|row| row.get(0)).collect();
     println!("{:<24} {:<22} partitions", "worker", "address");
     for row in session.query(OWNERS, &[]).await? {
         let (name, address, owned): (&str, &str, Vec<i16>) = (row.get(0), row.get(1), row.get(2));

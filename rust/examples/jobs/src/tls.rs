@@ -57,7 +57,7 @@ pub fn split(url: &str) -> Result<(String, Wish), String> {
         "require" => Mode::Require,
         "verify-ca" => Mode::VerifyCa,
         "verify-full" => Mode::VerifyFull,
-        _ => return Err(format!("sslmode={mode} isn't disable, prefer, require, verify-ca or verify-full")),
+        _ => return Err("the URL's sslmode isn't disable, prefer, require, verify-ca or verify-full".to_owned()),
     };
     let url = match base {
         Some(base) if rest.is_empty() => base.to_owned(),

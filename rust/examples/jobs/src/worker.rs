@@ -4,12 +4,11 @@ use crate::clock::Clock;
 use crate::db::{tell, Links};
 use crate::effect;
 use crate::expiry;
-use crate::index::{Due, Handle, Index};
 use crate::metrics::Metrics;
 use crate::options::WorkerOptions;
 use crate::owner;
 use crate::page::Page;
-use crate::partitions::{Partitions, Waiting, LEASE_ROOM, WAITING_ROOM};
+use crate::partitions::{Due, Partitions, Waiting};
 use crate::ready::Ready;
 use crate::redirect::Redirects;
 use crate::{chores, leases, scrape, server, setup, sql};
@@ -25,6 +24,8 @@ use tokio::signal::unix::{signal, Signal, SignalKind};
 use tokio::sync::mpsc::{unbounded_channel, UnboundedSender};
 use tokio::sync::{watch, Notify};
 
+/// The most that are taken out in one go.
+const TOGETHER: usize = 2_048;
 /// A drain has no more time.
 const LEFT: &str = "what was under way when it was told to end isn't over: it is left to the other workers";
 
@@ -32,8 +33,7 @@ pub struct Worker {
     /// Drawn at its start: no other worker has it.
     pub number: i64,
     pub options: WorkerOptions,
-    pub clock: Clock,
-    pub index: Arc<Index>,
+    pub clock: Arc<Clock>,
     pub partitions: Partitions,
     pub ready: Ready,
     pub links: Links,
@@ -43,27 +43,21 @@ pub struct Worker {
     /// True from the moment that it ends.
     pub ending: watch::Receiver<bool>,
     elsewhere: Mutex<Vec<String>>,
-    handles: Mutex<Vec<Handle>>,
-    /// Whoever writes leases looks at them by it: no connection has it.
-    pub writer: Mutex<Handle>,
     /// Rung when the partitions are to be let go.
     pub is_released: Notify,
     released: AtomicBool,
 }
 
 impl Worker {
-    fn new(options: WorkerOptions, address: String, ending: watch::Receiver<bool>) -> Result<Worker, String> {
-        let index = Index::new(WAITING_ROOM + LEASE_ROOM).map_err(|error| format!("no index: {error}"))?;
-        let index = Arc::new(index);
-        let writer = Mutex::new(index.handle().ok_or("no handle to write leases by")?);
+    fn new(options: WorkerOptions, address: String, ending: watch::Receiver<bool>) -> Worker {
         let metrics = Arc::new(Metrics::default());
         let database = options.database.named(&format!("jobs-work {}", options.name));
-        Ok(Worker {
+        let clock = Arc::new(Clock::new());
+        Worker {
             // The standard library draws the keys of its hashes.
             number: (RandomState::new().build_hasher().finish() >> 1) as i64,
-            clock: Clock::new(),
-            partitions: Partitions::new(index.clone()),
-            index,
+            partitions: Partitions::new(clock.clone()),
+            clock,
             ready: Ready::default(),
             links: Links::new(database, metrics.clone(), options.sessions - 1),
             metrics,
@@ -71,12 +65,10 @@ impl Worker {
             address,
             ending,
             elsewhere: Mutex::new(Vec::new()),
-            handles: Mutex::new(Vec::new()),
-            writer,
             is_released: Notify::new(),
             released: AtomicBool::new(false),
             options,
-        })
+        }
     }
 
     pub fn is_ending(&self) -> bool {
@@ -108,32 +100,15 @@ impl Worker {
     pub fn note_elsewhere(&self, places: Vec<String>) {
         *self.elsewhere.lock().unwrap_or_else(PoisonError::into_inner) = places;
     }
-
-    /// A handle of the index, from those that others have put back where there is one.
-    pub fn handle(&self) -> Option<Handle> {
-        let known = self.handles.lock().unwrap_or_else(PoisonError::into_inner).pop();
-        known.or_else(|| self.index.handle())
-    }
-
-    pub fn put_back(&self, handle: Handle) {
-        self.handles.lock().unwrap_or_else(PoisonError::into_inner).push(handle);
-    }
 }
 
-/// Takes out what is due, and sleeps while nothing is. It ends with the worker.
+/// Takes out what is due, until the worker ends.
 fn keep(worker: &Worker, jobs: &UnboundedSender<Vec<Waiting>>, leases: &UnboundedSender<Vec<(i64, i32)>>) {
-    while !worker.is_ending() {
-        worker.index.alarm().begin();
-        let now = worker.clock.now();
-        let mut out = Vec::new();
-        let mut next = None;
-        for partition in worker.partitions.owned() {
-            let its_next = worker.index.take_out(partition, now, &mut out);
-            next = [next, its_next].into_iter().flatten().min();
-        }
+    let mut out = Vec::new();
+    while worker.partitions.queue.recv_many(&mut out, TOGETHER) > 0 {
         let (mut due, mut ended) = (Vec::new(), Vec::new());
-        for it in out {
-            match it {
+        for it in out.drain(..) {
+            match it.value {
                 Due::Job(id) => due.extend(worker.partitions.note_out(id)),
                 Due::Lease { id, attempt } => ended.push((id, attempt)),
             }
@@ -145,7 +120,6 @@ fn keep(worker: &Worker, jobs: &UnboundedSender<Vec<Waiting>>, leases: &Unbounde
         if !ended.is_empty() {
             let _ = leases.send(ended);
         }
-        worker.index.alarm().sleep(&worker.clock, next);
     }
 }
 
@@ -161,10 +135,10 @@ pub async fn run(options: WorkerOptions) -> Result<(), Box<dyn Error>> {
         (None, Some(listener)) => listener.local_addr()?.to_string(),
         (None, None) => "-".to_owned(),
     };
-    let worker = Arc::new(Worker::new(options, address, ending)?);
+    let worker = Arc::new(Worker::new(options, address, ending));
     tell(format_args!("worker {} at {}", worker.options.name, worker.address));
     watched(&worker).await?;
-    setup::check(&worker.options.database).await?;
+    worker.partitions.divide(setup::check(&worker.options.database).await?);
     let statement = match &worker.options.effect {
         Some(effect) => effect::statement(&worker.links, sql::BEGIN_EFFECT, effect).await?,
         None => String::new(),
@@ -174,7 +148,7 @@ pub async fn run(options: WorkerOptions) -> Result<(), Box<dyn Error>> {
     signals.next().await;
     tell(format_args!("worker {} drains", worker.options.name));
     end.send(true)?;
-    worker.index.alarm().ring_before(0);
+    worker.partitions.queue.close();
     tokio::select! {
         _ = tasks.finish(&worker) => {}
         _ = tokio::time::sleep(worker.options.drain) => return Err(LEFT.into()),
@@ -231,7 +205,6 @@ impl Tasks {
     /// Waits for what is under way. Then the leases are written, and the partitions let go.
     async fn finish(self, worker: &Worker) {
         worker.links.end();
-        worker.index.alarm().ring_before(0);
         // The channels end with the keeper, and the tasks with their channels.
         let _ = tokio::task::spawn_blocking(move || self.keeper.join()).await;
         let _ = self.jobs.await;

@@ -12,7 +12,7 @@ use crate::handle::Handle;
 use crate::keyspace::Keyspace;
 use crate::output::Output;
 use crate::resp::{Protocol, Reply};
-use crate::seats::Seats;
+use crate::seats::{Guest, Seats};
 use crate::settings::Settings;
 use hontkhale::owner::Key;
 use refusal::Refusal;
@@ -41,8 +41,7 @@ pub struct Desk {
 
 /// What a connection's client told of itself.
 pub struct Session {
-    id: u64,
-    name: Vec<u8>,
+    guest: Arc<Guest>,
     protocol: Protocol,
     is_admitted: bool,
     transaction: Transaction,
@@ -141,9 +140,9 @@ impl Desk {
     }
 
     /// The session of a connection that begins.
-    pub fn session(&self, id: u64) -> Session {
-        let (name, transaction) = Default::default();
-        Session { id, name, protocol: Protocol::Two, is_admitted: self.settings.password.is_none(), transaction }
+    pub fn session(&self, guest: &Arc<Guest>) -> Session {
+        let (guest, transaction) = (guest.clone(), Default::default());
+        Session { guest, protocol: Protocol::Two, is_admitted: self.settings.password.is_none(), transaction }
     }
 
     pub fn settings(&self) -> &Settings {
@@ -186,7 +185,7 @@ impl Session {
 
     /// The memory that it holds.
     pub fn held(&self) -> usize {
-        self.name.capacity() + self.transaction.held()
+        self.guest.name().capacity() + self.transaction.held()
     }
 }
 
@@ -236,7 +235,9 @@ impl Client<'_> {
     }
 
     fn run(&mut self, words: Words<'_>) -> Answer {
-        let command = COMMANDS.iter().find(|it| words[0].eq_ignore_ascii_case(it.0.as_bytes()));
+        let number = COMMANDS.iter().position(|it| words[0].eq_ignore_ascii_case(it.0.as_bytes()));
+        let command = number.map(|it| &COMMANDS[it]);
+        number.into_iter().for_each(|it| self.session.guest.note_command(it));
         let transaction = &mut self.session.transaction;
         let refusal = match command {
             None => Refusal::Unknown(told(words)),

@@ -65,8 +65,6 @@ pub struct Connection {
     is_readable: bool,
     /// The client sends nothing more.
     is_hung_up: bool,
-    /// When something came of the client last.
-    heard: Instant,
     /// Since when the client takes no reply.
     stuck: Option<Instant>,
     /// Since when it is told why it isn't served any more. What it sends is dropped: a socket that is closed with
@@ -92,11 +90,11 @@ struct Talk {
 impl Connection {
     pub fn new(socket: TcpStream, seat: Seat, desk: &Desk) -> Connection {
         let (parser, output) = Default::default();
-        let talk = Talk { parser, session: desk.session(seat.id), output, told: 0, is_over: false, is_refused: false };
+        let talk =
+            Talk { parser, session: desk.session(&seat.guest), output, told: 0, is_over: false, is_refused: false };
         let (input, stuck, lingers) = Default::default();
         let (has_more, is_readable, is_hung_up, is_queued) = Default::default();
-        let heard = Instant::now();
-        Connection { socket, seat, talk, input, has_more, is_readable, is_hung_up, heard, stuck, lingers, is_queued }
+        Connection { socket, seat, talk, input, has_more, is_readable, is_hung_up, stuck, lingers, is_queued }
     }
 
     pub fn socket(&mut self) -> &mut TcpStream {
@@ -119,6 +117,11 @@ impl Connection {
         self.stuck.is_some()
     }
 
+    /// Whether another client has it closed.
+    pub fn is_sent_away(&self) -> bool {
+        self.seat.guest.is_sent_away()
+    }
+
     /// Whether it waits for nothing but that its client closes it.
     pub fn is_lingering(&self) -> bool {
         self.lingers.is_some()
@@ -126,7 +129,7 @@ impl Connection {
 
     /// Whether nothing came of its client for so long, and nothing waits for it.
     pub fn is_silent(&self, timeout: Duration) -> bool {
-        self.talk.output.is_empty() && !self.has_more && self.heard.elapsed() >= timeout
+        self.talk.output.is_empty() && !self.has_more && self.seat.guest.idle() >= timeout
     }
 
     /// Whether its client left its replies unread for too long, or sends on for too long.
@@ -193,7 +196,7 @@ impl Connection {
 
     /// How much it holds, for which one is closed where all hold too much: unread replies before half a request.
     pub fn burden(&self) -> (bool, usize) {
-        (self.is_stuck(), self.seat.held())
+        (self.is_stuck(), self.seat.guest.held())
     }
 
     /// Tells its client that it is closed because it holds too much, where it hears it. False where it is to be closed
@@ -232,7 +235,7 @@ impl Connection {
             Err(error) if error.kind() == ErrorKind::Interrupted => return Ok(true),
             Err(error) => return Err(error),
         };
-        self.heard = Instant::now();
+        self.seat.guest.hear();
         // Less than was asked for: nothing is left, and what comes next is an event again.
         self.is_readable = count == most || self.is_hung_up;
         if self.input.is_empty() {

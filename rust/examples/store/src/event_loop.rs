@@ -25,7 +25,7 @@ const LAST_WAIT: Duration = Duration::from_secs(2);
 /// What is told to a thread from outside.
 pub struct Mailbox {
     arrivals: Mutex<Vec<(TcpStream, Seat)>>,
-    waker: Waker,
+    waker: Arc<Waker>,
     is_ending: AtomicBool,
     /// The connections that it has, or will have.
     count: AtomicUsize,
@@ -61,6 +61,8 @@ pub struct EventLoop {
     /// Those whose clients leave replies unread, or send on after the last one, and when they were looked at.
     stuck: Vec<usize>,
     looked: Instant,
+    /// How often somebody was sent away when this thread looked whether it was one of its own.
+    seen_away: u64,
     /// Until when the end waits.
     end: Option<Instant>,
 }
@@ -68,10 +70,11 @@ pub struct EventLoop {
 impl EventLoop {
     pub fn new(desk: Desk) -> io::Result<EventLoop> {
         let poll = Poll::new()?;
-        let waker = Waker::new(poll.registry(), WAKE)?;
+        let waker = Arc::new(Waker::new(poll.registry(), WAKE)?);
+        desk.seats().wakes(&waker);
         let (arrivals, is_ending, count) = Default::default();
         let mailbox = Arc::new(Mailbox { arrivals, waker, is_ending, count });
-        let (connections, free, queue, stuck, end) = Default::default();
+        let (connections, free, queue, stuck, seen_away, end) = Default::default();
         Ok(EventLoop {
             poll,
             mailbox,
@@ -81,6 +84,7 @@ impl EventLoop {
             queue,
             stuck,
             looked: Instant::now(),
+            seen_away,
             end,
         })
     }
@@ -146,6 +150,7 @@ impl EventLoop {
                 self.give_back(place);
             }
         }
+        self.close_sent_away();
         if self.mailbox.is_ending.load(SeqCst) && self.end.is_none() {
             self.end = Some(Instant::now() + LAST_WAIT);
             for place in 0..self.connections.len() {
@@ -156,6 +161,18 @@ impl EventLoop {
             }
         }
         Ok(())
+    }
+
+    fn close_sent_away(&mut self) {
+        let times = self.shop.desk.seats().times_sent_away();
+        if mem::replace(&mut self.seen_away, times) != times {
+            for place in 0..self.connections.len() {
+                // One that sent itself away was answered in its turn.
+                if self.connections[place].as_ref().is_some_and(Connection::is_sent_away) {
+                    self.close(place);
+                }
+            }
+        }
     }
 
     fn queue(&mut self, place: usize) {

@@ -1,8 +1,12 @@
 //! The places of connections, and the memory that all of them may hold together.
 
+use mio::Waker;
+use std::collections::BTreeMap;
 use std::fmt;
-use std::sync::atomic::{AtomicU64, AtomicUsize, Ordering::SeqCst};
-use std::sync::Arc;
+use std::net::SocketAddr;
+use std::sync::atomic::{AtomicBool, AtomicU64, AtomicUsize, Ordering::Relaxed, Ordering::SeqCst};
+use std::sync::{Arc, Mutex, MutexGuard, PoisonError};
+use std::time::{Duration, Instant};
 
 /// What a connection takes while it waits: its own fields, its place in a table, and what it may keep of its last
 /// request.
@@ -17,6 +21,71 @@ pub struct Seats {
     taken: AtomicUsize,
     bytes: AtomicUsize,
     last: AtomicU64,
+    /// Who sits on them, by number.
+    guests: Mutex<BTreeMap<u64, Arc<Guest>>>,
+    /// How often guests were sent away, and what wakes the threads to see whether one is theirs.
+    sent_away: AtomicU64,
+    wakers: Mutex<Vec<Arc<Waker>>>,
+}
+
+/// A connection, as others see it.
+pub struct Guest {
+    pub id: u64,
+    pub address: SocketAddr,
+    since: Instant,
+    /// The milliseconds of its age at which something came last, and the number of its last command. They are told, and
+    /// nothing is ordered by them.
+    heard: AtomicU64,
+    command: AtomicUsize,
+    bytes: AtomicUsize,
+    name: Mutex<Vec<u8>>,
+    is_sent_away: AtomicBool,
+}
+
+impl Guest {
+    pub fn new(id: u64, address: SocketAddr) -> Arc<Guest> {
+        let (heard, command, bytes, name, is_sent_away) = Default::default();
+        Arc::new(Guest { id, address, since: Instant::now(), heard, command, bytes, name, is_sent_away })
+    }
+
+    fn millis(&self) -> u64 {
+        self.since.elapsed().as_millis() as u64
+    }
+
+    /// Something came.
+    pub fn hear(&self) {
+        self.heard.store(self.millis(), Relaxed);
+    }
+
+    pub fn idle(&self) -> Duration {
+        Duration::from_millis(self.millis().saturating_sub(self.heard.load(Relaxed)))
+    }
+
+    pub fn age(&self) -> Duration {
+        self.since.elapsed()
+    }
+
+    pub fn note_command(&self, number: usize) {
+        self.command.store(number, Relaxed);
+    }
+
+    pub fn command(&self) -> usize {
+        self.command.load(Relaxed)
+    }
+
+    /// What it holds.
+    pub fn held(&self) -> usize {
+        self.bytes.load(SeqCst)
+    }
+
+    pub fn name(&self) -> MutexGuard<'_, Vec<u8>> {
+        self.name.lock().unwrap_or_else(PoisonError::into_inner)
+    }
+
+    /// Whether it is to be closed.
+    pub fn is_sent_away(&self) -> bool {
+        self.is_sent_away.load(SeqCst)
+    }
 }
 
 /// Why a connection isn't served.
@@ -37,8 +106,36 @@ impl fmt::Display for NoSeat {
 
 impl Seats {
     pub fn new(limit: usize, room: usize) -> Seats {
-        let (taken, bytes, last) = Default::default();
-        Seats { limit, room, taken, bytes, last }
+        let (taken, bytes, last, guests, sent_away, wakers) = Default::default();
+        Seats { limit, room, taken, bytes, last, guests, sent_away, wakers }
+    }
+
+    fn enter(&self) -> MutexGuard<'_, BTreeMap<u64, Arc<Guest>>> {
+        self.guests.lock().unwrap_or_else(PoisonError::into_inner)
+    }
+
+    /// Who is connected and isn't sent away, by number.
+    pub fn guests(&self) -> Vec<Arc<Guest>> {
+        self.enter().values().filter(|it| !it.is_sent_away()).cloned().collect()
+    }
+
+    /// This thread is woken where guests are sent away.
+    pub fn wakes(&self, waker: &Arc<Waker>) {
+        self.wakers.lock().unwrap_or_else(PoisonError::into_inner).push(waker.clone());
+    }
+
+    /// Has some guests closed by the threads that serve them.
+    pub fn send_away(&self, guests: &[Arc<Guest>]) {
+        guests.iter().for_each(|it| it.is_sent_away.store(true, SeqCst));
+        self.sent_away.fetch_add(1, SeqCst);
+        for waker in self.wakers.lock().unwrap_or_else(PoisonError::into_inner).iter() {
+            // A thread that can't be woken sees it at its next event.
+            let _ = waker.wake();
+        }
+    }
+
+    pub fn times_sent_away(&self) -> u64 {
+        self.sent_away.load(SeqCst)
     }
 
     pub fn limit(&self) -> usize {
@@ -67,14 +164,14 @@ impl Seats {
 /// The place of a connection. It is given back where it is dropped, with all that it holds.
 pub struct Seat {
     seats: Arc<Seats>,
-    /// The number of the connection: no other ever had it.
-    pub id: u64,
-    bytes: usize,
+    pub guest: Arc<Guest>,
 }
 
 impl Seat {
-    pub fn take(seats: &Arc<Seats>) -> Result<Seat, NoSeat> {
-        let mut seat = Seat { seats: seats.clone(), id: 0, bytes: 0 };
+    pub fn take(seats: &Arc<Seats>, address: SocketAddr) -> Result<Seat, NoSeat> {
+        // No other connection ever has the number.
+        let id = seats.last.fetch_add(1, SeqCst) + 1;
+        let seat = Seat { seats: seats.clone(), guest: Guest::new(id, address) };
         if seats.taken.fetch_add(1, SeqCst) >= seats.limit {
             return Err(NoSeat::Clients);
         }
@@ -82,28 +179,29 @@ impl Seat {
         if seats.is_crowded() {
             return Err(NoSeat::Memory);
         }
-        seat.id = seats.last.fetch_add(1, SeqCst) + 1;
+        seats.enter().insert(id, seat.guest.clone());
         Ok(seat)
     }
 
     /// Says how much the connection holds from now on.
-    pub fn hold(&mut self, bytes: usize) {
-        if bytes > self.bytes {
-            self.seats.bytes.fetch_add(bytes - self.bytes, SeqCst);
-        } else if bytes < self.bytes {
-            self.seats.bytes.fetch_sub(self.bytes - bytes, SeqCst);
+    pub fn hold(&self, bytes: usize) {
+        let held = self.guest.held();
+        if bytes == held {
+            return;
         }
-        self.bytes = bytes;
-    }
-
-    pub fn held(&self) -> usize {
-        self.bytes
+        if bytes > held {
+            self.seats.bytes.fetch_add(bytes - held, SeqCst);
+        } else {
+            self.seats.bytes.fetch_sub(held - bytes, SeqCst);
+        }
+        self.guest.bytes.store(bytes, SeqCst);
     }
 }
 
 impl Drop for Seat {
     fn drop(&mut self) {
-        self.seats.bytes.fetch_sub(self.bytes, SeqCst);
+        self.seats.enter().remove(&self.guest.id);
+        self.seats.bytes.fetch_sub(self.guest.held(), SeqCst);
         self.seats.taken.fetch_sub(1, SeqCst);
     }
 }

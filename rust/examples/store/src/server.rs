@@ -10,6 +10,7 @@ use mio::net::{TcpListener, TcpStream, UnixStream};
 use mio::{Events, Interest, Poll, Token};
 use signal_hook::consts::{SIGINT, SIGTERM};
 use std::io::{self, ErrorKind, Write};
+use std::net::SocketAddr;
 use std::sync::Arc;
 use std::thread::{self, JoinHandle};
 use std::time::Duration;
@@ -84,7 +85,7 @@ fn welcome_all(listener: std::net::TcpListener, seats: &Arc<Seats>, servers: &[S
         }
         patience = loop {
             match listener.accept() {
-                Ok((socket, _)) => welcome(socket, seats, servers)?,
+                Ok((socket, from)) => welcome(socket, from, seats, servers)?,
                 Err(error) if error.kind() == ErrorKind::WouldBlock => break None,
                 // The client has gone, or too many files are open: the next may fare better.
                 Err(_) => break Some(NO_FILE),
@@ -94,8 +95,8 @@ fn welcome_all(listener: std::net::TcpListener, seats: &Arc<Seats>, servers: &[S
 }
 
 /// Gives a connection to the thread that has the fewest, or refuses it by name.
-fn welcome(mut socket: TcpStream, seats: &Arc<Seats>, servers: &[Server]) -> io::Result<()> {
-    match Seat::take(seats) {
+fn welcome(mut socket: TcpStream, from: SocketAddr, seats: &Arc<Seats>, servers: &[Server]) -> io::Result<()> {
+    match Seat::take(seats, from) {
         Err(no_seat) => {
             refuse(&mut socket, no_seat);
             Ok(())

@@ -6,7 +6,7 @@ use crate::keyspace::{Keyspace, KEEPERS};
 use crate::output::Output;
 use crate::resp::{integer, Broken, Parser, Protocol, Reply};
 use crate::room::Room;
-use crate::seats::Seats;
+use crate::seats::{Guest, Seats};
 use crate::settings::Settings;
 use std::sync::atomic::{AtomicBool, Ordering::SeqCst};
 use std::sync::{mpsc, Arc};
@@ -32,7 +32,7 @@ fn client(keyspace: &Arc<Keyspace>) -> Asker {
 fn client_by(keyspace: &Arc<Keyspace>, settings: Settings) -> Asker {
     let seats = Arc::new(Seats::new(10, 1 << 20));
     let desk = Desk::new(keyspace.clone(), seats, Arc::new(settings), keyspace.handle().unwrap());
-    Asker { session: desk.session(7), desk }
+    Asker { session: desk.session(&Guest::new(7, ([127, 0, 0, 1], 7).into())), desk }
 }
 
 fn ask(Asker { desk, session }: &mut Asker, line: &str) -> Reply {

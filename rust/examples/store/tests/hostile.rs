@@ -463,6 +463,31 @@ fn a_silent_connection_is_closed_after_the_timeout() {
 
 /// A value of two MiB, which is sent whole before anything is read.
 #[test]
+fn whoever_is_sent_away_is_closed_by_the_thread_that_serves_it() {
+    let store = Store::new(&["--threads", "3"]);
+    let (mut asks, mut others) = (store.connect(), (0..9).map(|_| store.connect()).collect::<Vec<_>>());
+    let ids: Vec<String> = others.iter_mut().map(|it| ask(it, &[b"CLIENT", b"ID"])).collect();
+    // One of them has sent half a request, and one leaves its reply unread.
+    others[0].write_all(b"*2\r\n$3\r\nGET\r\n").unwrap();
+    others[1].write_all(&request(&[b"PING"])).unwrap();
+    assert_eq!(ask(&mut asks, &[b"CLIENT", b"KILL", b"ADDR", b"1.2.3.4:5"]), ":0\r\n");
+    for (other, id) in others.iter_mut().zip(&ids).take(4) {
+        let id = id.trim_start_matches(':').trim_end();
+        assert_eq!(ask(&mut asks, &[b"CLIENT", b"KILL", b"ID", id.as_bytes()]), ":1\r\n");
+        let mut rest = Vec::new();
+        // It ends, with what was answered before.
+        let _ = other.read_to_end(&mut rest);
+        assert!(rest.is_empty() || rest == b"+PONG\r\n", "{rest:?}");
+    }
+    assert_eq!(ask(&mut others[5], &[b"PING"]), "+PONG\r\n");
+    assert_eq!(ask(&mut asks, &[b"CLIENT", b"KILL", b"TYPE", b"normal"]), ":5\r\n");
+    // Whoever sends itself away is answered.
+    assert_eq!(ask(&mut asks, &[b"CLIENT", b"KILL", b"SKIPME", b"no"]), ":1\r\n");
+    assert_eq!(asks.read(&mut [0]).unwrap(), 0);
+    store.is_well();
+}
+
+#[test]
 fn whoever_sends_too_much_reads_why() {
     let store = Store::new(&["--threads", "1"]);
     let whole = request(&[b"SET", b"v", &[b'v'; 2 << 20]]);

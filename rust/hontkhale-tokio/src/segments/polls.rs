@@ -1,5 +1,6 @@
 //! What comes out, merged by the segments' wakes, and what comes out next.
 
+use super::room::drop_gone;
 use super::{Segments, NEVER};
 use crate::budget::{Budget, Limit};
 use crate::key::{Expired, Key};
@@ -150,7 +151,7 @@ impl<T> Segments<T> {
                 budget.give_back(most - reaped);
             }
         }
-        self.gone.clear();
+        drop_gone(&mut self.gone);
         mem::forget(again);
         true
     }
@@ -164,7 +165,7 @@ impl<T> Segments<T> {
             return known;
         }
         let first = self.segments().filter_map(Segment::first).min_by_key(|first| first.0);
-        *peeked = first.map(|(_, place)| self.relocations.key(place));
+        *peeked = first.map(|(_, place)| self.shared.states().relocations.key(&place).unwrap_or(place));
         self.peeked_at.store(first.map_or(0, |(deadline, _)| deadline), Ordering::Relaxed);
         *peeked
     }

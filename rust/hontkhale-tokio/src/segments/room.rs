@@ -4,14 +4,21 @@ use super::{Segments, NEVER, SEGMENTS_LIMIT};
 use crate::key::Key;
 use crate::segment::{Segment, FIRST_SLOTS};
 use hontkhale::owner::{CoreError, CAPACITY_LIMIT};
-use std::mem;
 use std::sync::Arc;
 
+/// Drops the values in the segments that went. Where a drop panics, those that are left are dropped by the next poll.
+pub(super) fn drop_gone<T>(gone: &mut Vec<Segment<T>>) {
+    while let Some(segment) = gone.last_mut() {
+        segment.sweep();
+        gone.pop();
+    }
+}
+
 impl<T> Segments<T> {
-    /// The segment that has the most room, or a new one.
-    pub(super) fn find_room(&mut self) -> usize {
-        let roomy = self.segments().filter(|segment| !segment.is_left).map(|segment| (segment.free(), segment.index));
-        match roomy.filter(|it| it.0 > 0).max() {
+    /// Of the segments that take entries as `takes` says, the one that has the most room, or else a new one.
+    pub(super) fn find_room(&mut self, takes: fn(&Segment<T>) -> bool) -> usize {
+        let roomy = self.segments().filter(|segment| !segment.is_left && takes(segment));
+        match roomy.map(|segment| (segment.free(), segment.index)).max() {
             Some((_, index)) => index,
             None if self.promised == 0 => self.add_segment(self.next_slots()),
             None => {
@@ -38,7 +45,7 @@ impl<T> Segments<T> {
         let first = slots.min(CAPACITY_LIMIT);
         if first < slots {
             // It is given back untouched: what the others will take can be had now.
-            Vec::<(T, [u64; 6])>::new().try_reserve_exact(slots).expect("memory for more entries");
+            Vec::<(Option<T>, [u64; 6])>::new().try_reserve_exact(slots).expect("memory for more entries");
         }
         if first > 0 {
             self.add_segment(first);
@@ -69,6 +76,9 @@ impl<T> Segments<T> {
         if self.has_handles {
             self.shared.close(index);
         }
+        if self.has_moved {
+            self.shared.states().relocations.leave(index);
+        }
         self.reaped_of_gone += segment.as_ref().map_or(0, |segment| segment.reaped() + segment.len());
         segment
     }
@@ -94,40 +104,38 @@ impl<T> Segments<T> {
                 // A handle may have cancelled it meanwhile.
                 let _ = self.carry(place, None);
             }
-            if let Some(segment) = self.take_segment(index).filter(|segment| segment.len() > 0) {
+            if let Some(segment) = self.take_segment(index).filter(Segment::has_values) {
                 self.gone.push(segment);
                 self.shared.tell();
             }
         }
     }
 
-    /// Drops the values in the segments that went. Where a drop panics, those that are left are dropped by the next poll.
-    pub(super) fn drop_gone(&mut self) {
-        while let Some(segment) = self.gone.last_mut() {
-            segment.sweep();
-            self.gone.pop();
-        }
+    /// Whether an entry that is moved may go into a segment: one that has a free slot, and into which entries were moved before.
+    fn takes_moved(&self, index: usize) -> bool {
+        matches!(self.row.get(index), Some(Some(segment)) if !segment.is_left && segment.free() > 0)
+            && self.shared.states().relocations.has_row(index)
     }
 
     /// Moves an entry to another slot, under the same user's key, and under another deadline where one is given.
     pub(super) fn carry(&mut self, place: Key, when: Option<u64>) -> Result<(), CoreError> {
-        self.open = self.find_room();
+        if !self.takes_moved(self.open) {
+            self.open = self.find_room(Segment::is_roomy);
+        }
         let shared = Arc::clone(&self.shared);
         // A handle that finds the entry moved waits until its new place is noted. No value is dropped meanwhile, since the room
         // was found before.
-        let mut states = if self.has_handles { Some(shared.states()) } else { None };
+        let mut states = shared.states();
         let segment = self.segment_mut(&place).ok_or(CoreError::Missing)?;
         segment.state.note_moved(&place);
         let mut taken = None;
         segment.remove(&place, &mut taken);
         let taken = taken.ok_or(CoreError::Missing)?;
-        let key = self.relocations.key(place);
+        let key = states.relocations.key(&place).unwrap_or(place);
         let deadline = when.unwrap_or(taken.tick);
         let new = self.put(self.open, &mut Some(taken.data), deadline).expect("a segment that has a free slot");
-        self.relocations.note(key, new);
-        if let Some(states) = &mut states {
-            states.moved.insert(key, new);
-        }
+        states.relocations.note(key, new);
+        self.has_moved = true;
         Ok(())
     }
 
@@ -151,7 +159,7 @@ impl<T> Segments<T> {
 
     /// Takes every entry out. Where a value's drop panics, the entries that are left stay as they are.
     pub fn clear(&mut self) {
-        self.drop_gone();
+        drop_gone(&mut self.gone);
         for index in 0..self.row.len() {
             let places: Vec<Key> = self.row[index].iter().flat_map(Segment::places).collect();
             for place in places {
@@ -171,45 +179,44 @@ impl<T> Segments<T> {
     pub fn shrink_to_fit(&mut self) {
         self.promised = 0;
         for index in 0..self.row.len() {
-            if self.row[index].as_ref().is_some_and(|segment| segment.len() == 0) {
+            if self.row[index].as_ref().is_some_and(|segment| segment.len() == 0 && !segment.has_values()) {
                 drop(self.take_segment(index));
             }
         }
         self.cut_row();
-        self.relocations.shrink_to_fit();
+        self.shared.states().relocations.shrink_to_fit();
     }
 
     /// Moves the entries of sparse segments to free slots of others, or to segments of no more slots than they need.
     pub fn compact(&mut self) {
         // The values of cancelled entries are dropped first, while nothing else is under way.
-        self.row.iter_mut().flatten().for_each(Segment::sweep);
+        if self.cancelled() > 0 {
+            self.row.iter_mut().flatten().for_each(Segment::sweep);
+        }
         self.promised = 0;
         let (left, stay): (Vec<&Segment<T>>, Vec<&Segment<T>>) =
             self.segments().partition(|segment| segment.is_sparse());
         let entries: usize = left.iter().map(|segment| segment.len()).sum();
-        let free: usize = stay.iter().map(|segment| segment.free()).sum();
+        let free: usize = stay.iter().filter(|segment| segment.is_roomy()).map(|segment| segment.free()).sum();
         let left: Vec<usize> = left.iter().map(|segment| segment.index).collect();
-        let mut wanted = entries.saturating_sub(free);
-        while wanted > 0 {
-            let slots = wanted.min(CAPACITY_LIMIT);
-            self.add_segment(slots);
-            wanted -= slots;
-        }
+        // Each further segment is added once one that is left has gone, so that there is seldom more than before.
+        self.promised = entries.saturating_sub(free);
         self.leave_segments(left);
+        self.promised = 0;
         self.cut_row();
         self.forget_the_ended();
-        self.drop_gone();
+        drop_gone(&mut self.gone);
     }
 
     /// Forgets the places of moved entries that handles cancelled.
     fn forget_the_ended(&mut self) {
-        let mut relocations = mem::take(&mut self.relocations);
-        relocations.retain(|place| self.segment(place).is_some_and(|segment| segment.deadline(place).is_some()));
-        relocations.shrink_to_fit();
+        let mut states = self.shared.states();
+        let is_live = |place: &Key| self.segment(place).is_some_and(|segment| segment.deadline(place).is_some());
         if self.has_handles {
-            self.shared.states().moved = relocations.iter().collect();
+            states.relocations.retain(is_live);
         }
-        self.relocations = relocations;
+        states.relocations.shrink_to_fit();
+        self.has_moved = !states.relocations.is_empty();
     }
 
     /// Lets the places at the end of the row go that no segment has.

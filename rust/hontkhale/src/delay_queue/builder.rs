@@ -2,7 +2,7 @@
 
 use crate::delay_queue::callers::Front;
 use crate::delay_queue::shared::{Limits, Shared};
-use crate::delay_queue::time::{ManualClock, Time};
+use crate::delay_queue::time::{ManualClock, Source, Time};
 use crate::delay_queue::DelayQueue;
 use crate::shards::SHARD_LIMIT;
 use crate::ticks::LAST_STAMP;
@@ -10,6 +10,7 @@ use std::fmt;
 use std::marker::PhantomData;
 use std::sync::Arc;
 use std::thread;
+use std::time::Instant;
 
 /// What a [`DelayQueue`] is made by, as [`DelayQueue::builder`] begins it.
 ///
@@ -22,7 +23,7 @@ use std::thread;
 #[must_use]
 pub struct Builder<T> {
     limits: Limits,
-    clock: Option<ManualClock>,
+    clock: Source,
     values: PhantomData<fn() -> T>,
 }
 
@@ -36,7 +37,7 @@ impl<T> Builder<T> {
         };
         Builder {
             limits,
-            clock: None,
+            clock: Source::System,
             values: PhantomData,
         }
     }
@@ -57,7 +58,22 @@ impl<T> Builder<T> {
 
     /// A clock that a test advances, in the place of the system's.
     pub fn clock(mut self, clock: &ManualClock) -> Builder<T> {
-        self.clock = Some(clock.clone());
+        self.clock = Source::Manual(clock.clone());
+        self
+    }
+
+    /// A function that tells the time, in the place of the system's clock: that of a runtime which has its own. What it tells
+    /// never falls.
+    ///
+    /// ```
+    /// use hontkhale::DelayQueue;
+    /// use std::time::Instant;
+    ///
+    /// let queue: DelayQueue<String> = DelayQueue::builder().read_clock(Instant::now).build();
+    /// assert!(queue.try_recv().is_none());
+    /// ```
+    pub fn read_clock(mut self, now: fn() -> Instant) -> Builder<T> {
+        self.clock = Source::Read(now);
         self
     }
 
@@ -72,7 +88,7 @@ impl<T> Builder<T> {
     #[must_use]
     pub fn build(self) -> DelayQueue<T> {
         let front = Arc::new(Front::new(Time::new(self.clock.clone()), self.limits.max_entries));
-        if let Some(clock) = &self.clock {
+        if let Source::Manual(clock) = &self.clock {
             let weak = Arc::downgrade(&front);
             clock.wakes(move || weak.upgrade().map(|front| front.wake_all()).is_some());
         }

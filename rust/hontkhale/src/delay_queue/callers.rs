@@ -1,5 +1,6 @@
 //! From where entries are extended and cancelled without a lock: each thread keeps callers of the queues that it used last.
 
+use crate::delay_queue::asynchronous::Tasks;
 use crate::delay_queue::time::Time;
 use crate::delay_queue::waking::Bell;
 use crate::lasting::LastingHandle;
@@ -51,6 +52,8 @@ pub(crate) struct Front {
     id: u64,
     pub time: Time,
     pub bell: Bell<Thread>,
+    /// The tasks that receive.
+    pub tasks: Tasks,
     /// Whether the queue was dropped.
     is_ended: AtomicBool,
     /// How many entries wait, of a queue that has a bound.
@@ -136,6 +139,7 @@ impl Front {
             id: NEXT_QUEUE.fetch_add(1, SeqCst),
             time,
             bell: Bell::new(),
+            tasks: Tasks::default(),
             is_ended: AtomicBool::new(false),
             bound: (most < usize::MAX).then_some(Bound { most, waiting }),
             lanes: Default::default(),
@@ -292,21 +296,24 @@ impl Front {
         })
     }
 
-    /// Wakes the leader where it sleeps beyond a tick.
+    /// Wakes the leader, and each task, that sleeps beyond a tick.
     #[inline]
     pub fn ring_before(&self, tick: u64) {
         if self.bell.sleeps_beyond(tick) {
             self.bell.ring().iter().for_each(Thread::unpark);
         }
+        self.tasks.ring_before(tick);
     }
 
     /// Wakes all who wait.
     pub fn wake_all(&self) {
         self.bell.all().iter().for_each(Thread::unpark);
+        self.tasks.wake_all();
     }
 
     pub fn close(&self) {
         self.bell.close().iter().for_each(Thread::unpark);
+        self.tasks.wake_all();
     }
 
     /// Ends a thread's wait in the line.

@@ -16,6 +16,15 @@ const STEPS: u32 = 256;
 /// How many entries are taken out under one lock.
 const TAKEN_AT_ONCE: usize = 64;
 
+/// What the steps under one lock came to.
+pub(crate) enum Step<T> {
+    Took(Expired<T>),
+    /// More may be due.
+    Works,
+    /// Nothing is due.
+    Rests,
+}
+
 /// A place in the line of those that wait.
 struct Seat<'q, T> {
     shared: &'q Shared<T>,
@@ -110,21 +119,32 @@ impl<T> Shared<T> {
         least.1
     }
 
+    /// Takes an entry out that is due, by as many steps as are made under one lock.
+    pub fn take_step(&self) -> Step<T> {
+        let now = self.front.time.tick();
+        let Some((at, place)) = self.most_due(now) else {
+            return Step::Rests;
+        };
+        let mut out = None;
+        self.poll(at, place, now, |expired| {
+            out = Some(expired);
+            false
+        });
+        out.map_or(Step::Works, |mut out| {
+            self.note_out(&mut out);
+            Step::Took(out)
+        })
+    }
+
     /// An entry that is due.
     pub fn take_one(&self) -> Option<Expired<T>> {
-        let now = self.front.time.tick();
-        while let Some((at, place)) = self.most_due(now) {
-            let mut out = None;
-            self.poll(at, place, now, |expired| {
-                out = Some(expired);
-                false
-            });
-            if let Some(mut out) = out {
-                self.note_out(&mut out);
-                return Some(out);
+        loop {
+            match self.take_step() {
+                Step::Took(out) => return Some(out),
+                Step::Works => {}
+                Step::Rests => return None,
             }
         }
-        None
     }
 
     /// Entries that are due, at most so many, and tells how many.

@@ -91,21 +91,40 @@ impl fmt::Debug for ManualClock {
 #[derive(Debug)]
 pub(crate) struct Time {
     start: Instant,
-    clock: Option<ManualClock>,
+    clock: Source,
+}
+
+/// What a queue's time is read from.
+#[derive(Clone, Debug)]
+pub(crate) enum Source {
+    System,
+    Manual(ManualClock),
+    /// A function of the program's, as the clock of a runtime.
+    Read(fn() -> Instant),
+}
+
+impl Source {
+    #[inline]
+    fn now(&self) -> Instant {
+        match self {
+            Source::System => Instant::now(),
+            Source::Manual(clock) => clock.now(),
+            Source::Read(now) => now(),
+        }
+    }
 }
 
 impl Time {
-    pub fn new(clock: Option<ManualClock>) -> Time {
-        let start = clock.as_ref().map_or_else(Instant::now, ManualClock::now);
-        Time { start, clock }
+    pub fn new(clock: Source) -> Time {
+        Time {
+            start: clock.now(),
+            clock,
+        }
     }
 
     #[inline]
     pub fn now(&self) -> Instant {
-        match &self.clock {
-            None => Instant::now(),
-            Some(clock) => clock.now(),
-        }
+        self.clock.now()
     }
 
     /// The present tick.
@@ -151,8 +170,8 @@ impl Time {
     /// How long a thread may sleep at most until a moment, none where it is woken as the time comes.
     pub fn sleep_until(&self, when: Instant) -> Option<Duration> {
         match &self.clock {
-            None => Some(when.saturating_duration_since(Instant::now())),
-            Some(_) => None,
+            Source::Manual(_) => None,
+            clock => Some(when.saturating_duration_since(clock.now())),
         }
     }
 }

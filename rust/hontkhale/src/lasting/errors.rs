@@ -35,6 +35,12 @@ impl std::error::Error for LastingError {
     }
 }
 
+impl From<CoreError> for LastingError {
+    fn from(error: CoreError) -> LastingError {
+        LastingError::Core(error)
+    }
+}
+
 /// Why a shard isn't opened again.
 #[derive(Clone, Copy, Debug, PartialEq, Eq)]
 #[non_exhaustive]

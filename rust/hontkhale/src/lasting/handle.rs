@@ -50,7 +50,8 @@ impl LastingHandle {
     /// gave up. Constant time.
     ///
     /// # Errors
-    /// As `extend`, but never TooFar.
+    /// Unknown where no slot has the key or it is of another generation than the caller, Stale where the slot has a later
+    /// stamp, and Ended where the entry isn't live.
     #[inline]
     pub fn cancel(&mut self, key: &Key) -> Result<u64, CallError> {
         let place = self.place_of(key.entry().shard());
@@ -60,7 +61,8 @@ impl LastingHandle {
     /// What the entry of a key is, as `NumberedCaller::look` of the key's shard tells. Constant time.
     ///
     /// # Errors
-    /// Unknown, and Stale.
+    /// Unknown where no slot has the key or it is of another generation than the caller, and Stale where the slot has a
+    /// later stamp.
     #[inline]
     pub fn look(&mut self, key: &Key) -> Result<Look, CallError> {
         let place = self.place_of(key.entry().shard());

@@ -1,8 +1,6 @@
-//! What keeps a queue going for years: a worn shard is closed, drains, and is opened again.
+//! What is due to keep a queue going for years: a worn shard is closed, drains, and is opened again.
 
-use crate::lasting::errors::{LastingError, ReopenError};
-use crate::lasting::queue::LastingQueue;
-use crate::lasting::quiet::unlock;
+use crate::lasting::queue::{unlock, LastingQueue};
 
 /// What a step of [`LastingQueue::keep_going`] did.
 #[derive(Clone, Copy, Debug, PartialEq, Eq)]
@@ -30,134 +28,168 @@ pub enum Kept {
     },
 }
 
-impl<T> LastingQueue<T> {
-    /// Closes the shard at a place to new entries, until it is opened again.
-    ///
-    /// # Errors
-    /// Unknown out of range.
-    pub fn close(&self, place: usize) -> Result<(), LastingError> {
-        if place >= self.shards() {
-            return Err(LastingError::Unknown);
-        }
-        let mut shard = self.lock(place);
-        let leaver = shard.close_quietly();
-        unlock(shard, leaver);
-        Ok(())
-    }
+// How far a shard is worn: at least so many of its slots are.
+#[derive(Clone, Copy, Debug, PartialEq, Eq)]
+pub(crate) enum Wear {
+    // Half of them.
+    Half,
+    // Three quarters.
+    Far,
+}
 
-    // Whether the shard at a place takes entries.
-    fn takes_at(&self, place: usize) -> bool {
-        // requires place < self.now.shards
-        self.lock(place).takes()
-    }
+// What a shard is seen to be.
+#[derive(Clone, Copy, Debug, PartialEq, Eq)]
+pub(crate) enum Seen {
+    // It can be opened again.
+    Drained,
+    // It is closed, and entries are linked.
+    Draining,
+    // It takes entries, and isn't worn by half.
+    Fresh,
+    // It takes entries, and is worn by half, but not by three quarters.
+    HalfWorn,
+    // It takes entries, and is worn by three quarters.
+    FarWorn,
+}
 
-    // The first place whose shard is closed; none where each takes entries.
-    fn closed_place(&self) -> Option<usize> {
-        for place in 0..self.shards() {
-            if !self.takes_at(place) {
-                return Some(place);
-            }
-        }
-        None
-    }
+// What was found by one look at each place, as long as none can be opened again.
+#[derive(Clone, Copy, Debug, PartialEq, Eq)]
+pub(crate) struct Round {
+    // The first that is closed.
+    closed: Option<usize>,
+    // The first that takes entries and is worn by half.
+    half_worn: Option<usize>,
+    // The first that takes entries and is worn by three quarters, and one beside it that takes entries too.
+    far_worn: Option<usize>,
+    beside: Option<usize>,
+}
 
-    // The first place from one on whose shard takes entries.
-    fn open_place(&self, from: usize) -> Option<usize> {
-        for place in from..self.shards() {
-            if self.takes_at(place) {
-                return Some(place);
-            }
-        }
-        None
-    }
-
-    // Whether the shard at a place can be opened again.
-    fn is_drained_at(&self, place: usize) -> bool {
-        // requires place < self.now.shards
-        self.lock(place).is_drained()
-    }
-
-    // The first place whose shard can be opened again.
-    fn drained_place(&self) -> Option<usize> {
-        for place in 0..self.shards() {
-            if self.is_drained_at(place) {
-                return Some(place);
-            }
-        }
-        None
-    }
-
-    // Closes the shard at a place, where it takes entries and three quarters of its slots are worn.
-    fn close_far_worn(&self, place: usize) -> bool {
-        // requires place < self.now.shards
-        let mut shard = self.lock(place);
-        let (is_closed, leaver) = shard.close_far_worn();
-        unlock(shard, leaver);
-        is_closed
-    }
-
-    // Closes the first shard that is worn by three quarters, where another takes entries, and tells its place.
-    fn close_beside(&self) -> Option<usize> {
-        let shards = self.shards();
-        let first = self.open_place(0)?;
-        let _second = self.open_place(first + 1)?;
-        for place in 0..shards {
-            if self.close_far_worn(place) {
-                return Some(place);
-            }
-        }
-        None
-    }
-
-    // Closes the shard at a place, where it takes entries and half of its slots are worn.
-    fn close_worn(&self, place: usize) -> bool {
-        // requires place < self.now.shards
-        let mut shard = self.lock(place);
-        let (is_closed, leaver) = shard.close_worn();
-        unlock(shard, leaver);
-        is_closed
+// The first place of two: the one that was found before, if one was.
+fn first(found: Option<usize>, place: usize) -> Option<usize> {
+    match found {
+        Some(before) => Some(before),
+        None => Some(place),
     }
 }
 
-impl<T> LastingQueue<T> {
-    // The step beside a shard that drains, where none could be opened.
-    fn drain_on(&self, place: usize) -> Result<Kept, ReopenError> {
-        // requires place < self.now.shards
-        // requires AtPlace {T = T} self.now.shards place TellsTakes false
-        // requires AtEach {T = T} self.now.shards self.now.shards TellsDrained false
-        if let Some(worn) = self.close_beside() {
-            return Ok(Kept::Closed { place: worn });
+impl Round {
+    // With one place more, which was seen so.
+    fn with(self, place: usize, seen: Seen) -> Round {
+        match seen {
+            Seen::Drained => self,
+            Seen::Draining => Round {
+                closed: first(self.closed, place),
+                ..self
+            },
+            Seen::Fresh => Round {
+                beside: Some(place),
+                ..self
+            },
+            Seen::HalfWorn => Round {
+                half_worn: first(self.half_worn, place),
+                beside: Some(place),
+                ..self
+            },
+            Seen::FarWorn => match self.far_worn {
+                Some(_) => Round {
+                    half_worn: first(self.half_worn, place),
+                    beside: Some(place),
+                    ..self
+                },
+                None => Round {
+                    half_worn: first(self.half_worn, place),
+                    far_worn: Some(place),
+                    ..self
+                },
+            },
         }
-        self.go_on(place)
+    }
+}
+
+// What is due.
+#[derive(Clone, Copy, Debug, PartialEq, Eq)]
+pub(crate) enum Due {
+    // The step was made, or none is due.
+    Made(Kept),
+    // The shard at this place is to be opened, or drains on.
+    At(usize),
+}
+
+impl<T> LastingQueue<T> {
+    // What the shard at a place is seen to be.
+    fn seen_at(&self, place: usize) -> Seen {
+        // requires place < self.now.shards
+        self.lock(place).seen()
     }
 
-    /// Does the one step that is due to keep the queue going, and tells which. Whoever polls calls it in a quiet
-    /// moment.
-    ///
-    /// The first shard where nothing is linked, and which is closed or worn by half, is opened again under its next
-    /// number. Where none is closed the first is closed of which half the slots are worn. While one drains, another
-    /// is closed once three quarters of its slots are worn, so that an entry with a far deadline holds up no shard
-    /// but its own. One that takes entries always stays, where one thread alone calls this. Else the next 256 slots
-    /// of the first closed shard are swept: what was cancelled there is reaped. An entry that is extended for ever
-    /// keeps its shard closed: `remove` and `insert` move it.
-    ///
-    /// It holds a lock for a step of constant time, or for 256 slots. Where it opens a shard it takes memory before
-    /// the lock and gives the old one back behind it.
-    ///
-    /// # Errors
-    /// NoMemory and NumbersSpent where a shard isn't opened again, which stays closed then.
-    pub fn keep_going(&self) -> Result<Kept, ReopenError> {
-        if let Some(place) = self.drained_place() {
-            return self.go_on(place);
+    // A look at one place more; none where its shard can be opened again.
+    fn look_at(&self, place: usize, found: Round) -> Option<Round> {
+        // requires place < self.now.shards
+        // requires IsRound T self.now.shards place found
+        let seen = self.seen_at(place);
+        match seen {
+            Seen::Drained => None,
+            _ => Some(found.with(place, seen)),
         }
-        if let Some(place) = self.closed_place() {
-            return self.drain_on(place);
-        }
-        for place in 0..self.shards() {
-            if self.close_worn(place) {
-                return Ok(Kept::Closed { place });
+    }
+
+    // Closes the shard at a place, where it takes entries and is worn so far.
+    fn close_worn(&self, place: usize, wear: Wear) -> bool {
+        // requires place < self.now.shards
+        let mut shard = self.lock(place);
+        let (is_closed, leaver) = shard.close_worn(wear);
+        unlock(shard, leaver);
+        is_closed
+    }
+
+    // Closes the first shard from a place on that is worn by half, where each takes entries.
+    fn close_from(&self, from: usize) -> Kept {
+        // requires from ≤ self.now.shards
+        // requires NoneIsDue T self.now.shards from
+        for place in from..self.shards() {
+            if self.close_worn(place, Wear::Half) {
+                return Kept::Closed { place };
             }
         }
-        Ok(Kept::Fine)
+        Kept::Fine
+    }
+
+    // While the shard at a place drains, one that is worn by three quarters is closed where another takes entries.
+    fn close_beside(&self, found: Round, closed: usize) -> Due {
+        // requires IsRound T self.now.shards self.now.shards found
+        // requires found.closed ≡ Some closed
+        let Some(worn) = found.far_worn else {
+            return Due::At(closed);
+        };
+        if found.beside.is_none() {
+            return Due::At(closed);
+        }
+        if self.close_worn(worn, Wear::Far) {
+            return Due::Made(Kept::Closed { place: worn });
+        }
+        Due::At(closed)
+    }
+
+    // What is due, by one look at each place. A shard to be closed is closed.
+    pub(crate) fn due(&self) -> Due {
+        let mut found = Round {
+            closed: None,
+            half_worn: None,
+            far_worn: None,
+            beside: None,
+        };
+        for place in 0..self.shards() {
+            match self.look_at(place, found) {
+                Some(more) => found = more,
+                None => return Due::At(place),
+            }
+        }
+        if let Some(closed) = found.closed {
+            return self.close_beside(found, closed);
+        }
+        match found.half_worn {
+            Some(worn) => Due::Made(self.close_from(worn)),
+            None => Due::Made(Kept::Fine),
+        }
     }
 }

@@ -21,7 +21,8 @@ impl NumberedCaller {
         self.number
     }
 
-    /// As [`Caller::extend`], for a key of its number.
+    /// Raises the deadline of a live entry to `when`, a tick of one millisecond, and returns the deadline that is then in
+    /// force. The key is one of its number. Constant time, without a lock.
     ///
     /// # Errors
     /// TooFar beyond the last tick, Unknown for a key of another number or one that no slot has, Stale and Ended.
@@ -36,7 +37,8 @@ impl NumberedCaller {
         Err(CallError::Unknown)
     }
 
-    /// As [`Caller::cancel`], for a key of its number.
+    /// Cancels a live entry, and returns the deadline that it gave up. The key is one of its number. Constant time, without
+    /// a lock.
     ///
     /// # Errors
     /// Unknown for a key of another number or one that no slot has, Stale and Ended.
@@ -48,7 +50,7 @@ impl NumberedCaller {
         Err(CallError::Unknown)
     }
 
-    /// As [`Caller::look`], for a key of its number.
+    /// What the entry of a key of its number is. Constant time, without a lock.
     ///
     /// # Errors
     /// Unknown for a key of another number or one that no slot has, and Stale.

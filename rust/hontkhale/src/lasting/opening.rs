@@ -6,8 +6,7 @@ use crate::core::{FreshRows, Slots};
 use crate::lasting::ended::Ended;
 use crate::lasting::errors::ReopenError;
 use crate::lasting::keeping::Kept;
-use crate::lasting::queue::LastingQueue;
-use crate::lasting::quiet::{nobody, unlock};
+use crate::lasting::queue::{goes_on_if, unlock, LastingQueue};
 use crate::lasting::shard::{with_ended, LastingShard};
 use crate::locks::MutexGuard;
 use crate::parking::{take, Leaver};
@@ -38,16 +37,28 @@ pub(crate) type Rows<T> = FreshRows<T, Keeper>;
 // What is dropped once the lock is free: the rows that a shard had, or those that it didn't want any more.
 pub(crate) type LeftOver<T> = Result<(Keeper, Slots<T>), Rows<T>>;
 
+// What the second lock came to, who is woken once it is free, and what is dropped then.
+pub(crate) struct Opened<K, T> {
+    pub(crate) answer: Result<K, ReopenError>,
+    pub(crate) woken: Leaver<Option<u64>>,
+    pub(crate) left: LeftOver<T>,
+}
+
 // Rows that were never used; none where memory is refused.
-fn fresh_rows<T>(size: ShardSize) -> Option<Rows<T>> {
+pub(crate) fn fresh_rows<T>(size: ShardSize) -> Option<Rows<T>> {
     let Ok(keeper) = Keeper::new(size.capacity) else {
         return None;
     };
     FreshRows::new(keeper, size.last_stamp).ok()
 }
 
+// An answer by which nobody leaves.
+fn nobody<K>(answer: K) -> (K, Leaver<Option<u64>>) {
+    (answer, Leaver { poller: None })
+}
+
 impl<T> LastingShard<T> {
-    // As `sweep`, at the next few slots.
+    // Frees the slots of entries that were cancelled among the next few slots. Their values are set aside.
     fn sweep_on(&mut self) -> (usize, Leaver<Option<u64>>) {
         let (swept, leaver) = self.attended.sweep_some(self.sweep_from, SWEPT_AT_ONCE);
         self.sweep_from = swept.next.unwrap_or(0);
@@ -97,57 +108,62 @@ impl<T> LastingShard<T> {
     }
 
     // Goes on over other rows under the number that is higher by so much.
-    fn open_over(&mut self, rows: Rows<T>, by: u32) -> (Result<(), ReopenError>, Leaver<Option<u64>>, LeftOver<T>) {
+    fn open_over(&mut self, rows: Rows<T>, by: u32) -> Opened<(), T> {
         // requires 0 < by
         // requires count_by is_held self.old.core.slots.rows ≡ 0
         // requires FitsShard self.old rows
         let Some((number, past)) = self.next_generation(by) else {
-            let (answer, leaver) = nobody(Err(ReopenError::NumbersSpent));
-            return (answer, leaver, Err(rows));
+            return Opened {
+                answer: Err(ReopenError::NumbersSpent),
+                woken: Leaver { poller: None },
+                left: Err(rows),
+            };
         };
         match self.attended.core.renew_with(number, rows) {
             Ok(old) => {
                 self.takes = true;
                 self.past = past;
                 self.sweep_from = 0;
-                let leaver = take(&mut self.attended.parked);
-                (Ok(()), leaver, Ok(old))
+                let woken = take(&mut self.attended.parked);
+                Opened {
+                    answer: Ok(()),
+                    woken,
+                    left: Ok(old),
+                }
             }
             Err(_refused) => unreachable!(),
         }
     }
 
     // Under the second lock: one that is still drained goes on over the rows. Any other makes its step, and wants none.
-    pub(crate) fn end(
-        &mut self,
-        rows: Rows<T>,
-        place: usize,
-        by: u32,
-    ) -> (Result<Kept, ReopenError>, Leaver<Option<u64>>, LeftOver<T>) {
+    pub(crate) fn end(&mut self, rows: Rows<T>, place: usize, by: u32) -> Opened<Kept, T> {
         // requires 0 < by
         // requires FitsShard self.old rows
         if !self.is_drained() {
-            let (kept, leaver) = self.drain_on(place);
-            return (Ok(kept), leaver, Err(rows));
+            let (kept, woken) = self.drain_on(place);
+            return Opened {
+                answer: Ok(kept),
+                woken,
+                left: Err(rows),
+            };
         }
-        let (answer, leaver, left) = self.open_over(rows, by);
-        match answer {
-            Ok(()) => (Ok(Kept::Reopened { place }), leaver, left),
-            Err(error) => (Err(error), leaver, left),
-        }
+        let Opened { answer, woken, left } = self.open_over(rows, by);
+        let answer = match answer {
+            Ok(()) => Ok(Kept::Reopened { place }),
+            Err(error) => Err(error),
+        };
+        Opened { answer, woken, left }
     }
 }
 
 impl<T> LastingQueue<T> {
-    // The first of the two locks.
-    fn begin_at(&self, place: usize) -> Begun {
+    // The first of the two locks. How many values are set aside is told too.
+    pub(crate) fn begin_at(&self, place: usize) -> (Begun, usize) {
         // requires place < self.now.shards
         let shards = self.shards() as u32;
         let mut shard = self.lock(place);
         let (begun, leaver) = shard.begin(place, shards);
-        let aside = unlock(shard, leaver);
-        self.drop_aside(place, aside);
-        begun
+        (begun, unlock(shard, leaver))
     }
 
     // As `lock`. The size is compared once: no call changes it.
@@ -155,36 +171,23 @@ impl<T> LastingQueue<T> {
         // requires place < self.now.shards
         let shard = self.lock(place);
         let found = shard.size();
-        if found.capacity != size.capacity || found.last_stamp != size.last_stamp {
-            panic!("a closure of `lend` put the state of another shard here");
-        }
+        goes_on_if(found.capacity == size.capacity);
+        goes_on_if(found.last_stamp == size.last_stamp);
         shard
     }
 
-    // The second of the two locks.
-    fn end_at(&self, place: usize, size: ShardSize, rows: Rows<T>) -> Result<Kept, ReopenError> {
+    // The second of the two locks. What is left over and how many values are set aside is told too.
+    pub(crate) fn end_at(
+        &self,
+        place: usize,
+        size: ShardSize,
+        rows: Rows<T>,
+    ) -> (Result<Kept, ReopenError>, LeftOver<T>, usize) {
         // requires place < self.now.shards
         // requires AreFreshRows size rows
         let shards = self.shards() as u32;
         let mut shard = self.lock_of_size(place, size);
-        let (answer, leaver, left) = shard.end(rows, place, shards);
-        let aside = unlock(shard, leaver);
-        drop(left);
-        self.drop_aside(place, aside);
-        answer
-    }
-}
-
-impl<T> LastingQueue<T> {
-    // Opens the shard at a place again where it is drained, and else sweeps the next few slots of a closed one.
-    pub(crate) fn go_on(&self, place: usize) -> Result<Kept, ReopenError> {
-        // requires place < self.now.shards
-        match self.begin_at(place) {
-            Begun::Answered(answer) => answer,
-            Begun::Opens(size) => match fresh_rows(size) {
-                Some(rows) => self.end_at(place, size, rows),
-                None => Err(ReopenError::NoMemory),
-            },
-        }
+        let Opened { answer, woken, left } = shard.end(rows, place, shards);
+        (answer, left, unlock(shard, woken))
     }
 }

@@ -1,21 +1,22 @@
 //! What expires at one place of a lasting queue, as a stream whose polls make at most so many steps.
 
-use crate::core::{Expired, Piece, Turn};
+use crate::core::{CoreError, Expired, Piece, Turn};
 use crate::lasting::errors::LastingError;
 use crate::lasting::queue::LastingQueue;
 use crate::lasting::shard::LastingShard;
 use crate::lasting::stream::{fault_of, LastingStream};
-use crate::parking::{forget, let_sleep, register, Parked, StreamFault, TickSource};
+use crate::parking::{Parked, StreamFault, TickSource};
 use core::num::NonZeroU32;
 use core::task::{Context, Poll, Waker};
 
 // What a poll gives where it has come to an end.
-type Polled<T> = Poll<Result<Expired<T>, LastingError>>;
+pub(crate) type Polled<T> = Poll<Result<Expired<T>, LastingError>>;
 
 impl<T> LastingShard<T> {
     // As `poll_or_park`, by at most `most` steps. None where more is to do, and then nothing is parked.
     fn poll_some_or_park(&mut self, tick: u64, most: u32, slot: &mut Option<Waker>) -> Option<Polled<T>> {
-        match self.poll_some(tick, most) {
+        // requires self.old.parked ≡ None
+        match self.poll_some_unparked(tick, most) {
             Ok(Piece::Working) => None,
             Ok(Piece::Answer(Turn::Out(expired))) => Some(Poll::Ready(Ok(expired))),
             Ok(Piece::Answer(Turn::Waiting { next })) => Some(self.wait(Some(next), slot)),
@@ -23,11 +24,17 @@ impl<T> LastingShard<T> {
             Err(error) => Some(Poll::Ready(Err(LastingError::Core(error)))),
         }
     }
+
+    // A poll by at most so many steps where none is parked, so nobody leaves.
+    fn poll_some_unparked(&mut self, tick: u64, most: u32) -> Result<Piece<T>, CoreError> {
+        // requires self.old.parked ≡ None
+        self.attended.core.poll_some_deferring(tick, most)
+    }
 }
 
 impl<T> LastingQueue<T> {
     // As `poll_or_park_at`, by at most `most` steps. No answer where more is to do.
-    fn poll_some_or_park_at(
+    pub(crate) fn poll_some_or_park_at(
         &self,
         place: usize,
         tick: u64,
@@ -40,39 +47,6 @@ impl<T> LastingQueue<T> {
         *before = shard.take_parked();
         let answer = shard.poll_some_or_park(tick, most, slot);
         (answer, shard.aside())
-    }
-
-    /// As [`LastingQueue::poll_or_park`], by at most `most` steps while the shard's lock is held, each in constant time
-    /// but for a value's drop. Where more is to do nothing is parked: the lock is let go, the polled task is woken, and
-    /// the answer is Pending. So others may take the lock before the task is polled again.
-    ///
-    /// # Errors
-    /// As `poll_or_park`.
-    pub fn poll_some_or_park(
-        &self,
-        place: usize,
-        tick: u64,
-        most: u32,
-        cx: &mut Context<'_>,
-    ) -> Poll<Result<Expired<T>, LastingError>> {
-        if place >= self.shards() {
-            return Poll::Ready(Err(LastingError::Unknown));
-        }
-        let mut before = None;
-        let mut slot = register(cx);
-        let (polled, aside) = self.poll_some_or_park_at(place, tick, most, &mut slot, &mut before);
-        let_sleep(before);
-        forget(slot);
-        let Some(answer) = polled else {
-            cx.waker().wake_by_ref();
-            self.drop_aside(place, aside);
-            return Poll::Pending;
-        };
-        // A drop that panics would lose what came out.
-        if answer.is_pending() {
-            self.drop_aside(place, aside);
-        }
-        answer
     }
 }
 

@@ -3,10 +3,11 @@
 use crate::core::{CoreConfig, CoreError};
 use crate::index::nth;
 use crate::lasting::config::LastingConfig;
+use crate::lasting::errors::LastingError;
 use crate::lasting::names;
 use crate::lasting::shard::LastingShard;
 use crate::locks::{Mutex, MutexGuard};
-use crate::parking::{waiting_row, Waiting};
+use crate::parking::{waiting_row, Leaver, Waiting};
 use crate::words::locked_shards;
 use alloc::vec::Vec;
 
@@ -56,11 +57,11 @@ impl<T> LastingQueue<T> {
         LastingQueue::named(config, names::next())
     }
 
-    /// As `new`, with a name that the queue keeps and that its handles have. A handle is renewed by a queue of that
-    /// name alone.
+    /// A queue of empty shards at tick 0, with a name that the queue keeps and that its handles have. A handle is renewed
+    /// by a queue of that name alone.
     ///
     /// # Errors
-    /// As `new`.
+    /// BadConfig where a number of the configuration is out of its range, and else NoMemory.
     fn named(config: LastingConfig, name: u64) -> Result<LastingQueue<T>, CoreError> {
         let Ok(()) = config.check() else {
             return Err(CoreError::BadConfig);
@@ -105,15 +106,48 @@ impl<T> LastingQueue<T> {
         }
     }
 
+    // Whether there is such a place. Refused as Unknown out of range.
+    #[inline]
+    pub(crate) fn in_range(&self, place: usize) -> Result<(), LastingError> {
+        if place < self.shards() {
+            Ok(())
+        } else {
+            Err(LastingError::Unknown)
+        }
+    }
+
     // The shard at a place, with its lock held. The number is compared once: no call makes it another place's.
     #[inline]
     pub(crate) fn lock(&self, place: usize) -> MutexGuard<'_, LastingShard<T>> {
         // requires place < self.now.shards
         let waiting = nth(&self.waiting, place);
         let shard = waiting.taken(nth(&self.shards, place));
-        if shard.number() as usize % self.shards.len() != place {
-            panic!("a closure of `lend` put the state of another shard here");
-        }
+        goes_on_if(shard.number() as usize % self.shards.len() == place);
         shard
     }
+
+    // The same of a place that may be out of range: refused as Unknown then.
+    #[inline]
+    pub(crate) fn entered(&self, place: usize) -> Result<MutexGuard<'_, LastingShard<T>>, LastingError> {
+        self.in_range(place)?;
+        Ok(self.lock(place))
+    }
+}
+
+// Goes on where it is so. No call makes it otherwise, but no contract of a lock says so.
+#[inline]
+pub(crate) fn goes_on_if(is_so: bool) {
+    if !is_so {
+        panic!("the state of another shard was put here");
+    }
+}
+
+// Lets the lock go, and then wakes who has left: whoever is woken may call the queue at once. Returns how many values are
+// set aside.
+#[inline]
+pub(crate) fn unlock<T>(shard: MutexGuard<'_, LastingShard<T>>, leaver: Leaver<Option<u64>>) -> usize {
+    let aside = shard.aside();
+    drop(shard);
+    leaver.wake();
+    aside
 }

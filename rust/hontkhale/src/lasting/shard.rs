@@ -1,10 +1,15 @@
 //! One shard: a queue that is closed, drained and opened again.
+//!
+//! Its calls are made while its lock is held, so they wake nobody and drop no value: who leaves is handed over, to be
+//! woken once the lock is free, and what is reaped or cleared is set aside.
 
-use crate::core::{CoreError, DelayCore, Removed, Tally, Turn};
+use crate::core::{CoreError, DelayCore, Tally};
 use crate::lasting::ended::{Ended, LastingTally};
 use crate::lasting::errors::LastingError;
+use crate::lasting::keeping::{Seen, Wear};
 use crate::lasting::numbered::NumberedCaller;
-use crate::parking::{Attended, Leaver};
+use crate::lasting::poller::ParkedPoller;
+use crate::parking::{keep_or_leave, ring, take, Attended, Leaver, Parked};
 use crate::ticks::{EntryId, Key};
 use crate::words::{Keeper, WordsError};
 
@@ -12,7 +17,7 @@ use crate::words::{Keeper, WordsError};
 /// its earlier generations, and the poller that is parked there.
 ///
 /// It always keeps the parked law: a poller that is parked waits for a tick that isn't after the next wake, or for an
-/// insert where nothing is linked. A call that would break the law takes the poller out and wakes it.
+/// insert where nothing is linked. A call that would break the law takes the poller out and hands it over.
 pub struct LastingShard<T> {
     pub(crate) attended: Attended<T, Option<u64>>,
     pub(crate) takes: bool,
@@ -50,6 +55,9 @@ impl<T> From<DelayCore<T, Keeper>> for LastingShard<T> {
         }
     }
 }
+
+// What an insert came to; refused, the value comes back.
+pub(crate) type Inserted<T> = Result<Key, (LastingError, T)>;
 
 impl<T> LastingShard<T> {
     /// The number of this generation, which its keys carry.
@@ -91,118 +99,140 @@ impl<T> LastingShard<T> {
         }
     }
 
-    /// As [`DelayCore::insert`], where the shard takes entries.
-    ///
-    /// # Errors
-    /// Closed exactly where it takes none, then TooFar beyond the last tick, and else Full where no slot is free. The
-    /// value comes back.
+    /// How many values are set aside: those of entries that were reaped or cleared, and that aren't dropped yet.
+    /// Constant time.
+    #[inline(always)]
+    pub fn aside(&self) -> usize {
+        self.attended.core.aside()
+    }
+
+    /// A linked entry that is filed least, possibly a cancelled one; none where nothing is linked. No live entry has a
+    /// deadline before the tick by which that one is filed.
+    pub fn peek(&self) -> Option<Key> {
+        self.attended.core.peek()
+    }
+
+    /// What the poller waits for that is parked here.
+    pub fn parked(&self) -> ParkedPoller {
+        let Some(poller) = &self.attended.parked else {
+            return ParkedPoller::Nobody;
+        };
+        match poller.next {
+            Some(tick) => ParkedPoller::UntilTick(tick),
+            None => ParkedPoller::UntilInsert,
+        }
+    }
+
+    // Takes out a value that is set aside where an insert, if one is taken, might have no place for it.
+    #[inline(always)]
+    pub(crate) fn take_crowded(&mut self) -> Option<T> {
+        if self.takes {
+            self.attended.core.take_crowded()
+        } else {
+            None
+        }
+    }
+
+    // Puts an entry in, where the shard takes entries. What waited for its drop where the entry is now is handed over.
+    #[inline(always)]
+    pub(crate) fn insert(&mut self, value: T, when: u64) -> (Inserted<T>, Leaver<Option<u64>>, Option<T>) {
+        if !self.takes {
+            return (Err((LastingError::Closed, value)), Leaver { poller: None }, None);
+        }
+        let (answer, leaver, crowded) = self.attended.insert(value, when);
+        match answer {
+            Ok(key) => (Ok(key), leaver, crowded),
+            Err((error, value)) => (Err((LastingError::Core(error), value)), leaver, crowded),
+        }
+    }
+
+    // The deadline of a live entry.
     #[inline]
-    pub fn insert(&mut self, value: T, when: u64) -> Result<Key, (LastingError, T)> {
-        drop(self.take_crowded());
-        let (answer, leaver, _crowded) = self.insert_quietly(value, when);
-        leaver.wake();
-        answer
+    pub(crate) fn deadline(&mut self, entry: &EntryId) -> (Result<u64, CoreError>, Leaver<Option<u64>>) {
+        let answer = self.attended.core.deadline(entry);
+        (answer, keep_or_leave(&self.attended.core, &mut self.attended.parked))
     }
 
-    /// As [`DelayCore::reset`].
-    #[inline]
-    pub fn reset(&mut self, entry: &EntryId, when: u64) -> Result<Key, CoreError> {
-        let (answer, leaver) = self.attended.reset(entry, when);
-        leaver.wake();
-        answer
+    // Takes no more entries until it is opened again. Those that are there stay until they end, and a reset still moves
+    // them. A poller that is parked leaves.
+    pub(crate) fn close(&mut self) -> Leaver<Option<u64>> {
+        self.takes = false;
+        take(&mut self.attended.parked)
     }
 
-    /// As [`DelayCore::remove`].
-    #[inline]
-    pub fn remove(&mut self, entry: &EntryId) -> Result<Removed<T>, CoreError> {
-        let (answer, leaver) = self.attended.remove(entry);
-        leaver.wake();
-        answer
+    // Takes out a poller that is parked at or before a tick, and tells whether there was one.
+    pub(crate) fn ring(&mut self, tick: u64) -> (bool, Leaver<Option<u64>>) {
+        let rung = ring(&mut self.attended.parked, tick);
+        (rung.is_some(), rung)
     }
 
-    /// As [`DelayCore::deadline`].
-    #[inline]
-    pub fn deadline(&mut self, entry: &EntryId) -> Result<u64, CoreError> {
-        let (answer, leaver) = self.deadline_quietly(entry);
-        leaver.wake();
-        answer
+    // Takes the parked poller out.
+    pub(crate) fn take_parked(&mut self) -> Option<Parked<Option<u64>>> {
+        self.attended.parked.take()
     }
 
-    /// As [`DelayCore::poll`].
-    #[inline]
-    pub fn poll(&mut self, tick: u64) -> Result<Turn<T>, CoreError> {
-        let (answer, leaver) = self.attended.poll(tick);
-        leaver.wake();
-        answer
-    }
-
-    /// As [`DelayCore::sweep`].
-    pub fn sweep(&mut self) -> usize {
-        let (reaped, leaver) = self.attended.sweep();
-        leaver.wake();
-        reaped
-    }
-
-    /// As [`DelayCore::clear`].
-    pub fn clear(&mut self) -> usize {
-        let (removed, leaver) = self.attended.clear();
-        leaver.wake();
-        removed
-    }
-
-    /// Takes no more entries until it is opened again. Those that are there stay until they end, and a reset still
-    /// moves them. A poller that is parked is woken.
-    pub fn close(&mut self) {
-        self.close_quietly().wake();
-    }
-
-    // Closes it where it takes entries and half of its slots at the least are worn, and tells whether it did.
-    pub(crate) fn close_worn(&mut self) -> (bool, Leaver<Option<u64>>) {
+    // Whether it is worn so far.
+    pub(crate) fn is_worn_by(&self, wear: Wear) -> bool {
         let worn = self.attended.core.worn();
         let capacity = self.attended.core.capacity();
+        match wear {
+            Wear::Half => {
+                if worn < capacity - capacity / 2 {
+                    return false;
+                }
+                true
+            }
+            Wear::Far => {
+                if worn < capacity - capacity / 4 {
+                    return false;
+                }
+                true
+            }
+        }
+    }
+
+    // Closes it where it takes entries and is worn so far, and tells whether it did.
+    pub(crate) fn close_worn(&mut self, wear: Wear) -> (bool, Leaver<Option<u64>>) {
         if !self.takes {
             return (false, Leaver { poller: None });
         }
-        if worn < capacity - capacity / 2 {
+        if !self.is_worn_by(wear) {
             return (false, Leaver { poller: None });
         }
-        (true, self.close_quietly())
+        (true, self.close())
     }
 
-    // Closes it where it takes entries and three quarters of its slots at the least are worn, and tells whether it did.
-    pub(crate) fn close_far_worn(&mut self) -> (bool, Leaver<Option<u64>>) {
-        let worn = self.attended.core.worn();
-        let capacity = self.attended.core.capacity();
-        if !self.takes {
-            return (false, Leaver { poller: None });
-        }
-        if worn < capacity - capacity / 4 {
-            return (false, Leaver { poller: None });
-        }
-        (true, self.close_quietly())
-    }
-
-    // Whether nothing is linked, and it is closed or half of its slots at the least are worn: it can be opened again.
+    // Whether nothing is linked, and it is closed or worn by half: it can be opened again.
     pub(crate) fn is_drained(&self) -> bool {
-        let worn = self.attended.core.worn();
-        let half = self.attended.core.capacity() / 2;
         if !self.attended.core.is_empty() {
             return false;
         }
         if !self.takes {
             return true;
         }
-        if worn < self.attended.core.capacity() - half {
-            return false;
-        }
-        true
+        self.is_worn_by(Wear::Half)
     }
 
-    /// One caller more of this generation.
-    ///
-    /// # Errors
-    /// TooManyHandles where 1,024 callers of this generation were issued, given back or not, and else NoMemory.
-    pub fn issue(&mut self) -> Result<NumberedCaller, WordsError> {
+    // What is due of it.
+    pub(crate) fn seen(&self) -> Seen {
+        if self.is_drained() {
+            return Seen::Drained;
+        }
+        if !self.takes {
+            return Seen::Draining;
+        }
+        if self.is_worn_by(Wear::Far) {
+            return Seen::FarWorn;
+        }
+        if self.is_worn_by(Wear::Half) {
+            return Seen::HalfWorn;
+        }
+        Seen::Fresh
+    }
+
+    // One caller more of this generation. Refused as TooManyHandles where 1,024 callers of this generation were issued,
+    // given back or not, and else as NoMemory.
+    pub(crate) fn issue(&mut self) -> Result<NumberedCaller, WordsError> {
         let number = self.attended.core.shard();
         match self.attended.core.issue() {
             Ok(caller) => Ok(NumberedCaller::of(number, caller)),

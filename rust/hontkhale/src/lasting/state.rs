@@ -20,6 +20,8 @@ pub struct PlaceState {
     pub linked: usize,
     /// The number of worn slots, which hold nothing and have no stamp left. It is closed once they are half.
     pub worn: usize,
+    /// The greatest tick of one millisecond that a poll of it accepted; at first 0.
+    pub noted: u64,
     /// The next wake: the tick of one millisecond at which it has something to do, none where nothing is linked. No
     /// live entry has a deadline before it. The least deadline may be later, since an entry that is far ahead moves
     /// to a lower level first, and one that was extended is found when it comes due.
@@ -37,6 +39,7 @@ impl<T> LastingShard<T> {
             capacity: self.capacity(),
             linked: self.len(),
             worn: self.worn(),
+            noted: self.attended.core.noted(),
             next_wake: self.next_wake(),
             tally: self.tally(),
         }
@@ -49,10 +52,7 @@ impl<T> LastingQueue<T> {
     /// # Errors
     /// Unknown out of range.
     pub fn state(&self, place: usize) -> Result<PlaceState, LastingError> {
-        if place >= self.shards() {
-            return Err(LastingError::Unknown);
-        }
-        let shard = self.lock(place);
+        let shard = self.entered(place)?;
         Ok(shard.state())
     }
 

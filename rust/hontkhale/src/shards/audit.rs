@@ -53,9 +53,7 @@ impl<T> SharedDelayQueue<T> {
     // The totals of one shard.
     fn audit_of(&self, shard: usize) -> Result<Totals, HandlesOut> {
         // requires shard < self.now
-        let Ok(mut shard) = self.read(shard) else {
-            unreachable!()
-        };
+        let mut shard = self.lock(shard);
         shard.audit()
     }
 

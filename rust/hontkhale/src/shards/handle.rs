@@ -122,7 +122,7 @@ impl<T> SharedDelayQueue<T> {
     /// is no room for the callers, and then, shard by shard, as TooManyHandles where 1,024 callers were issued, given
     /// back or not, and as NoMemory. The callers that were issued before are given back then, but stay counted.
     pub fn handle(&self) -> Result<Handle, QueueError> {
-        let Ok(mut callers) = self.room_for_callers() else {
+        let Ok(mut callers) = self.row.room_for_each() else {
             return Err(QueueError::Core(CoreError::NoMemory));
         };
         for shard in 0..self.shards() {

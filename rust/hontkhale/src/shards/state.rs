@@ -1,9 +1,10 @@
 //! The value behind a shard's lock: a queue over shared words, and the poller that waits for it.
 
-use crate::core::{CoreError, DelayCore, Piece, ReapError, Removed, Swept, Turn};
+use crate::core::{CoreError, DelayCore, Expired, Piece, ReapError, Removed, Swept, Turn};
 use crate::parking::{keep_or_leave, Attended};
 use crate::ticks::{EntryId, Key};
-use crate::words::Keeper;
+use crate::words::{Keeper, ManyTurn};
+use alloc::vec::Vec;
 
 /// The value behind a shard's lock: a queue over words that callers share, and the poller that is parked there.
 ///
@@ -23,19 +24,20 @@ impl<T> From<DelayCore<T, Keeper>> for ShardState<T> {
     }
 }
 
+// The one call of a state that may drop a value.
 impl<T> ShardState<T> {
     /// Puts an entry in that is live until `when`, a tick of one millisecond, or until the wheel's tick where `when`
     /// lies before it, and answers its key. Constant time. Refused as TooFar beyond the last tick, and else as Full
     /// where no slot is free; the value comes back then.
     #[inline(always)]
     pub fn insert(&mut self, value: T, when: u64) -> Result<Key, (CoreError, T)> {
-        // A drop that panics then loses no key.
-        drop(self.attended.core.take_crowded());
         let answer = self.attended.core.insert(value, when);
         keep_or_leave(&self.attended.core, &mut self.attended.parked).wake();
         answer
     }
+}
 
+impl<T> ShardState<T> {
     /// Gives a live entry another deadline, earlier or later, but not before the wheel's tick, and its slot's next
     /// stamp: the keys from before are stale for callers. Answers the new key. Constant time. Refused as TooFar
     /// beyond the last tick, then as Missing, as WasCancelled, and as Worn where the slot has no stamp left.
@@ -83,6 +85,20 @@ impl<T> ShardState<T> {
     pub fn poll_some(&mut self, tick: u64, most: u32) -> Result<Piece<T>, CoreError> {
         let answer = self.attended.core.poll_some_deferring(tick, most);
         keep_or_leave(&self.attended.core, &mut self.attended.parked).wake();
+        answer
+    }
+
+    /// Polls until the caller's own row is full, or nothing is due: what comes out is put behind what stands in the row, in
+    /// order, as many as it has free room for. `tick` is of one millisecond. Call again while it answers More. It takes no
+    /// memory.
+    ///
+    /// A full row takes nothing out, and no tick is noted then.
+    ///
+    /// # Errors
+    /// TickTooLarge beyond the last tick. Nothing changes then.
+    pub fn poll_many(&mut self, tick: u64, row: &mut Vec<Expired<T>>) -> Result<ManyTurn, CoreError> {
+        let (answer, leaver) = self.attended.poll_many(tick, row);
+        leaver.wake();
         answer
     }
 

@@ -2,9 +2,9 @@
 
 use crate::core::{CoreError, Expired, Piece, Turn};
 use crate::parking::{forget, let_sleep, register, Parked, StreamFault, TickSource};
-use crate::shards::LockedShard;
+use crate::shards::ShardState;
 use crate::stream::parking::wait;
-use crate::stream::stream::{drop_at_rest, ends, ExpiredStream, Polled};
+use crate::stream::stream::{dropped_behind, ends, ExpiredStream, Polled};
 use core::num::NonZeroU32;
 use core::task::{Context, Poll, Waker};
 
@@ -41,7 +41,7 @@ impl<'q, T, S: TickSource> ExpiredStream<'q, T, S> {
     /// polled task is woken, and the answer is Pending.
     pub fn poll_some_locked(
         &mut self,
-        shard: &mut LockedShard<'_, T>,
+        shard: &mut ShardState<T>,
         steps: NonZeroU32,
         cx: &mut Context<'_>,
     ) -> Poll<Option<Result<Expired<T>, StreamFault>>> {
@@ -100,7 +100,8 @@ impl<'q, T, S: TickSource> PacedStream<'q, T, S> {
                 self.stream.queue.drop_aside(self.stream.shard, aside);
                 return Poll::Pending;
             };
-            drop_at_rest(self.stream.queue, self.stream.shard, aside, &answer);
+            let aside = dropped_behind(&answer, aside);
+            self.stream.queue.drop_aside(self.stream.shard, aside);
             answer
         }
     }
@@ -117,7 +118,7 @@ fn has_ended<T>(polled: &Option<Polled<T>>) -> bool {
 // One poll in pieces of a stream, while the shard's lock is held and none is parked there, by a task that left its
 // waker. None where more is to do.
 fn piece<T, S: TickSource>(
-    shard: &mut LockedShard<'_, T>,
+    shard: &mut ShardState<T>,
     source: &mut S,
     slot: &mut Option<Waker>,
     steps: NonZeroU32,

@@ -2,7 +2,7 @@
 
 use crate::core::{CoreError, Expired, Turn};
 use crate::parking::{forget, let_sleep, register, Parked, StreamFault, TickSource};
-use crate::shards::{LockedShard, QueueError, SharedDelayQueue};
+use crate::shards::{QueueError, ShardState, SharedDelayQueue};
 use crate::stream::parking::wait;
 use core::task::{Context, Poll, Waker};
 
@@ -63,11 +63,11 @@ impl<'q, T, S: TickSource> ExpiredStream<'q, T, S> {
     /// out is given. Where the shard waits the polled task is parked at its next wake.
     ///
     /// The polled task's waker is made under the lock, and the one that was parked is let go there. Where letting it go may
-    /// call the queue, take it out before, by [`LockedShard::take_parked`], and let it go once the lock is free, as
+    /// call the queue, take it out before, by [`ShardState::take_parked`], and let it go once the lock is free, as
     /// `Stream::poll_next` does.
     pub fn poll_locked(
         &mut self,
-        shard: &mut LockedShard<'_, T>,
+        shard: &mut ShardState<T>,
         cx: &mut Context<'_>,
     ) -> Poll<Option<Result<Expired<T>, StreamFault>>> {
         if self.ended {
@@ -112,18 +112,19 @@ impl<'q, T, S: TickSource> ExpiredStream<'q, T, S> {
             let (answer, aside) = self.poll_entered(&mut slot, &mut before);
             let_sleep(before);
             forget(slot);
-            drop_at_rest(self.queue, self.shard, aside, &answer);
+            let aside = dropped_behind(&answer, aside);
+            self.queue.drop_aside(self.shard, aside);
             answer
         }
     }
 }
 
-// Drops so many values that are set aside in a shard, behind a poll that gave no entry. A drop that panics would lose the
-// entry that one gave.
-pub(crate) fn drop_at_rest<T>(queue: &SharedDelayQueue<T>, shard: usize, aside: usize, answer: &Polled<T>) {
-    let gives = matches!(answer, Poll::Ready(Some(Ok(_))));
-    if !gives {
-        queue.drop_aside(shard, aside);
+// How many of the values that are set aside are dropped behind a poll: none where it gave an entry, which a drop that panics
+// would lose.
+pub(crate) fn dropped_behind<T>(answer: &Polled<T>, aside: usize) -> usize {
+    match answer {
+        Poll::Ready(Some(Ok(_))) => 0,
+        _ => aside,
     }
 }
 
@@ -142,7 +143,7 @@ pub(crate) fn ends<T>(answer: &Polled<T>) -> bool {
 }
 
 // One poll of a stream, while the shard's lock is held and none is parked there, by a task that left its waker.
-fn turn<T, S: TickSource>(shard: &mut LockedShard<'_, T>, source: &mut S, slot: &mut Option<Waker>) -> Polled<T> {
+fn turn<T, S: TickSource>(shard: &mut ShardState<T>, source: &mut S, slot: &mut Option<Waker>) -> Polled<T> {
     match shard.poll(source.now()) {
         Ok(Turn::Out(expired)) => Poll::Ready(Some(Ok(expired))),
         Ok(Turn::Waiting { next }) => match wait(shard, next, slot) {

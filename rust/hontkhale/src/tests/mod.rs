@@ -1,5 +1,5 @@
-//! The project's own tests, erased by rust/erase-tests from those of crates/. What they are given stands in kit.rs.
-//! Those of owned/ were erased once, and are written by hand since.
+//! Tests of the proved parts, which were erased once from tests in Rattle and are written by hand since. What they are
+//! given stands in kit.rs.
 
 mod apps_checks;
 mod checks;

@@ -29,7 +29,7 @@ use crate::words::seated::Seated;
 /// dropped counts as out for good. It may outlive its queue: what was live when the queue was dropped is then refused
 /// as Ended, and a look shows it as removed.
 pub struct Caller {
-    seat: Seated,
+    pub(crate) seat: Seated,
     cancels: u64,
 }
 

@@ -46,7 +46,7 @@ impl std::error::Error for WordsError {}
 /// Where it is dropped, what is live by its words is ended as removed, and its callers are refused from then on. That
 /// takes a load a slot, and two atomic steps or more for each live one.
 pub struct Keeper {
-    seat: Seated,
+    pub(crate) seat: Seated,
     issued: u64,
 }
 

@@ -3,7 +3,7 @@
 use super::numbers::{insert, made, Numbers};
 use super::Fail;
 use hontkhale::owner::{CallError, CoreError, Key, Look, Turn};
-use hontkhale::shards::{Handle, LockedShard, QueueConfig, QueueError};
+use hontkhale::shards::{Handle, QueueConfig, QueueError, ShardState};
 
 // What a new entry is refused with where the one slot is worn.
 const FULL: QueueError = QueueError::Core(CoreError::Full { linked: 0, worn: 1 });
@@ -52,7 +52,7 @@ fn keys_of_a_worn_slot() -> Result<(), Fail> {
     wears_out(&queue, &mut handle)
 }
 
-fn resets(shard: &mut LockedShard<usize>, key: Key, times: u32) -> Result<Key, CoreError> {
+fn resets(shard: &mut ShardState<usize>, key: Key, times: u32) -> Result<Key, CoreError> {
     let entry = key.entry();
     let mut last = key;
     for _ in 0..times {
@@ -63,7 +63,8 @@ fn resets(shard: &mut LockedShard<usize>, key: Key, times: u32) -> Result<Key, C
 
 // Resets an entry to tick 10 again and again, under one lock. The last key.
 fn reset_often(queue: &Numbers, key: Key, times: u32) -> Result<Key, QueueError> {
-    Ok(resets(&mut queue.enter(0)?, key, times)?)
+    let mut shard = queue.enter(0)?;
+    Ok(resets(&mut shard, key, times)?)
 }
 
 // The key of the same entry at another stamp.

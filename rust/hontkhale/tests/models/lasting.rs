@@ -127,6 +127,7 @@ impl Place {
             capacity: self.model.capacity(),
             linked: self.model.len(),
             worn: self.model.worn(),
+            noted: self.model.noted,
             next_wake,
             tally: LastingTally {
                 past: self.past,

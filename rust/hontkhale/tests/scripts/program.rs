@@ -87,6 +87,19 @@ Usage: delay-replay [OPTIONS]
 Options:
       --capacity <N>  The most names that may be live, 1 to 65536 [default: 1024]
   -h, --help          Print help
+
+A script begins with the line `delay 1`. Each later line is a command. Here each has its answers beside it:
+
+  delay 1
+  insert a 5          a at 5
+  insert b 3          b at 3
+  extend a 7          a at 7
+  tick 4              b expired 3
+                      tick 4
+
+Without that first line the script ends with `line 1: bad header`. A line ends with a line feed alone:
+a carriage return before it counts as part of the last word, so `delay 1` is then a bad header too.
+docs/SCRIPT.md has every command. Ctrl-D ends a script that is typed in a terminal.
 ";
 
 // promise: replay.program-main

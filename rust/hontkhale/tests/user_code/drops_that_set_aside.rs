@@ -27,7 +27,7 @@ trait Calls: Send + Sync {
 }
 
 macro_rules! calls {
-    ($queue:ty, $closes:expr, $linked:expr) => {
+    ($queue:ty, $closes:expr, $aside:expr, $linked:expr) => {
         impl Calls for $queue {
             fn insert(&self, value: Node, when: u64) -> Key {
                 <$queue>::insert(self, 0, value, when).unwrap_or_else(|_| panic!("room"))
@@ -63,7 +63,7 @@ macro_rules! calls {
                 $closes(self)
             }
             fn aside(&self) -> usize {
-                self.enter(0).expect("a shard").aside()
+                $aside(self)
             }
             fn linked(&self) -> u64 {
                 $linked(self)
@@ -72,13 +72,16 @@ macro_rules! calls {
     };
 }
 
-calls!(SharedDelayQueue<Node>, |_: &Self| (), |queue: &Self| queue
-    .tally(0)
-    .expect("a shard")
-    .linked);
+calls!(
+    SharedDelayQueue<Node>,
+    |_: &Self| (),
+    |queue: &Self| queue.enter(0).expect("a shard").aside(),
+    |queue: &Self| queue.tally(0).expect("a shard").linked
+);
 calls!(
     LastingQueue<Node>,
     |queue: &Self| queue.close(0).expect("a shard"),
+    |queue: &Self| LastingQueue::aside(queue, 0).expect("a shard"),
     |queue: &Self| queue.tally(0).expect("a shard").present.linked
 );
 

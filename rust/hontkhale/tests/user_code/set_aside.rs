@@ -1,12 +1,14 @@
 //! Values that were let go under a lock and wait to be dropped: each is dropped once, behind the lock, and shows nowhere.
 
 use super::kit::{
-    adds_up, insert, insert_cancelled, insert_lasting_cancelled, is_whole, lasting, panics, queue, within_the_limit,
-    Drops, Queue, Value,
+    adds_up, insert, insert_cancelled, insert_lasting, insert_lasting_cancelled, is_whole, lasting, panics, queue,
+    within_the_limit, Drops, Lasting, Queue, Value,
 };
+use hontkhale::lasting::LastingStream;
 use hontkhale::owner::{CoreConfig, CoreError, DelayCore, Piece, Turn, VecWords, CAPACITY_LIMIT};
 use hontkhale::shards::{QueueConfig, SharedDelayQueue};
 use hontkhale::streams::ExpiredStream;
+use std::num::NonZeroU32;
 use std::sync::atomic::{AtomicUsize, Ordering};
 use std::sync::Arc;
 use std::task::{Context, Poll};
@@ -175,6 +177,111 @@ fn a_stream_drops_behind_its_lock() {
         };
         let mut cx = Context::from_waker(std::task::Waker::noop());
         assert!(matches!(stream.poll_next(&mut cx), Poll::Ready(None)));
+    });
+}
+
+// promise: shards.name-drops
+#[test]
+fn each_call_by_name_drops_what_it_reaps() {
+    let steps = NonZeroU32::new(100).expect("some");
+    lets_go_in_hand(|queue, _| assert!(matches!(queue.poll(0, 10), Ok(Turn::Idle))));
+    lets_go_in_hand(|queue, _| assert!(matches!(queue.poll_some(0, 10, 100), Ok(Piece::Answer(Turn::Idle)))));
+    lets_go_in_hand(move |queue, _| assert!(matches!(queue.poll_through(0, 10, steps), Ok(Turn::Idle))));
+    lets_go_in_hand(|queue, _| assert!(queue.poll_many(0, 10, &mut Vec::with_capacity(4)).is_ok()));
+    lets_go_in_hand(|queue, _| assert_eq!(queue.sweep(0), Ok(3)));
+    lets_go_in_hand(|queue, _| assert_eq!(queue.sweep_some(0, 0, 8).map(|swept| swept.reaped), Ok(3)));
+    lets_go_in_hand(|queue, _| assert_eq!(queue.clear(0), Ok(0)));
+}
+
+// Three cancelled values of a lasting queue, whose drops call it by name. Whatever reaps them drops each behind the lock.
+fn lets_go_at_a_place(call: impl FnOnce(&Lasting) + Send + 'static) {
+    within_the_limit(|| {
+        let (queue, drops) = (lasting(), Drops::default());
+        for when in 0..3 {
+            let by_drop = queue.clone();
+            insert_lasting_cancelled(
+                &queue,
+                drops.value_that(move || assert!(by_drop.tally(0).is_ok())),
+                when,
+            );
+        }
+        call(&queue);
+        assert_eq!((drops.count(), queue.aside(0)), (3, Ok(0)));
+    });
+}
+
+fn polls_a_stream(queue: &Lasting) {
+    let Ok(mut stream) = LastingStream::new(queue, 0, Late) else {
+        panic!("a stream")
+    };
+    assert!(stream
+        .poll_next(&mut Context::from_waker(std::task::Waker::noop()))
+        .is_pending());
+}
+
+fn polls_a_paced_stream(queue: &Lasting) {
+    let Ok(stream) = LastingStream::new(queue, 0, Late) else {
+        panic!("a stream")
+    };
+    let mut stream = stream.paced(NonZeroU32::new(100).expect("some"));
+    assert!(stream
+        .poll_next(&mut Context::from_waker(std::task::Waker::noop()))
+        .is_pending());
+}
+
+// promise: lasting.name-drops
+#[test]
+fn each_call_of_a_lasting_queue_drops_what_it_reaps() {
+    let steps = NonZeroU32::new(100).expect("some");
+    lets_go_at_a_place(polls_a_stream);
+    lets_go_at_a_place(polls_a_paced_stream);
+    lets_go_at_a_place(|queue| assert!(matches!(queue.poll(0, 10), Ok(Turn::Idle))));
+    lets_go_at_a_place(|queue| assert!(matches!(queue.poll_some(0, 10, 100), Ok(Piece::Answer(Turn::Idle)))));
+    lets_go_at_a_place(move |queue| assert!(matches!(queue.poll_through(0, 10, steps), Ok(Turn::Idle))));
+    lets_go_at_a_place(|queue| assert!(queue.poll_many(0, 10, &mut Vec::with_capacity(4)).is_ok()));
+    lets_go_at_a_place(|queue| assert_eq!(queue.sweep(0), Ok(3)));
+    lets_go_at_a_place(|queue| assert_eq!(queue.sweep_some(0, 0, 8).map(|swept| swept.reaped), Ok(3)));
+    lets_go_at_a_place(|queue| assert_eq!(queue.clear(0), Ok(0)));
+}
+
+// Seven values are set aside behind one whose drop panicked. An insert that finds no other slot drops one, and its drop
+// may call the queue: the lock is free.
+// promise: shards.name-drops
+#[test]
+fn an_insert_drops_behind_its_lock() {
+    within_the_limit(|| {
+        let (queue, drops) = (queue(), Drops::default());
+        insert_cancelled(&queue, drops.value_that_panics(), 10);
+        for _ in 0..7 {
+            let by_drop = queue.clone();
+            insert_cancelled(&queue, drops.value_that(move || assert!(by_drop.tally(0).is_ok())), 10);
+        }
+        assert_eq!(panics(|| queue.sweep(0)), "a value's drop");
+        let live = Drops::default();
+        for when in 0..8 {
+            insert(&queue, live.value(), 100 + when);
+        }
+        assert_eq!((drops.count(), live.count(), aside(&queue)), (8, 0, 0));
+        is_whole(&queue, &drops);
+    });
+}
+
+// promise: lasting.name-drops
+#[test]
+fn an_insert_into_a_lasting_queue_drops_behind_its_lock() {
+    within_the_limit(|| {
+        let (queue, drops) = (lasting(), Drops::default());
+        insert_lasting_cancelled(&queue, drops.value_that_panics(), 10);
+        for _ in 0..7 {
+            let by_drop = queue.clone();
+            insert_lasting_cancelled(&queue, drops.value_that(move || assert!(by_drop.tally(0).is_ok())), 10);
+        }
+        assert_eq!(panics(|| queue.sweep(0)), "a value's drop");
+        let live = Drops::default();
+        for when in 0..8 {
+            insert_lasting(&queue, live.value(), 100 + when);
+        }
+        assert_eq!((drops.count(), live.count(), queue.aside(0)), (8, 0, Ok(0)));
     });
 }
 
@@ -347,4 +454,40 @@ fn a_value_waits_in_a_worn_slot() {
     let (refused, crowded) = queue.insert_deferring(drops.value(), 9);
     assert!(crowded.is_none() && refused.is_err_and(|refused| refused.0 == full(4, 0)));
     assert_eq!((queue.clear(), drops.count()), (4, 10));
+}
+
+// What is set aside in the last slots of the greatest queue is found.
+#[test]
+fn values_in_the_last_slots_are_taken_out() {
+    let drops = Drops::default();
+    let mut queue: DelayCore<Value, VecWords> = DelayCore::with_capacity(CAPACITY_LIMIT).expect("a queue");
+    let inserted = |when| queue.insert(drops.value(), when).unwrap_or_else(|_| panic!("room"));
+    let keys: Vec<_> = (0..CAPACITY_LIMIT as u64).map(inserted).collect();
+    for key in keys.iter().rev().step_by(4_000) {
+        assert!(queue.cancel(key).is_ok() && queue.reap_deferring(&key.entry()).is_ok());
+    }
+    assert_eq!((queue.aside(), drops.count()), (17, 0));
+    for taken in 1..=17 {
+        assert!(queue.take_aside().is_some(), "each is found");
+        assert_eq!((queue.aside(), drops.count()), (17 - taken, taken as u64));
+    }
+}
+
+// Between slots that were filled again the others are found.
+#[test]
+fn values_between_filled_slots_are_taken_out() {
+    let (drops, live) = (Drops::default(), Drops::default());
+    let mut queue: DelayCore<Value, VecWords> = DelayCore::with_capacity(2_000).expect("a queue");
+    for when in 0..2_000 {
+        assert!(queue.insert(drops.value(), when).is_ok());
+    }
+    assert_eq!((queue.clear_deferring(), queue.aside()), (2_000, 2_000));
+    for when in 0..1_000 {
+        assert!(queue.insert(live.value(), 3_000 + when).is_ok());
+    }
+    assert_eq!((queue.aside(), drops.count()), (1_000, 1_000));
+    while queue.aside() > 0 {
+        assert!(queue.take_aside().is_some(), "each is found");
+    }
+    assert_eq!((drops.count(), live.count(), queue.len()), (2_000, 0, 1_000));
 }

@@ -21,7 +21,7 @@ pub fn serve(listener: TcpListener, idle: Duration) {
     }
 }
 
-/// The guard takes the entry out where the connection ends, whatever ends it.
+/// When the connection ends, whatever ends it, the guard removes the entry.
 fn echo(mut stream: TcpStream, queue: &DelayQueue<TcpStream>, idle: Duration) -> Result<(), Box<dyn Error>> {
     let timeout = queue.guard(stream.try_clone()?, idle)?;
     let mut buffer = [0; 4_096];

@@ -23,7 +23,7 @@ CREATE TABLE IF NOT EXISTS jobs_workers (
     until timestamptz NOT NULL
 ) WITH (fillfactor = 50);
 
--- STEP: who owns each partition. There are 64, as there are values of jobs.partition.
+-- STEP: who owns each partition. There is one for each value of jobs.partition.
 CREATE TABLE IF NOT EXISTS jobs_partitions (
     partition smallint PRIMARY KEY,
     owner bigint,
@@ -33,7 +33,7 @@ CREATE TABLE IF NOT EXISTS jobs_partitions (
     -- Nobody else takes it before.
     until timestamptz NOT NULL DEFAULT '-infinity'
 ) WITH (fillfactor = 10, autovacuum_vacuum_threshold = 1000);
-INSERT INTO jobs_partitions (partition) SELECT generate_series(0, 63) ON CONFLICT DO NOTHING;
+INSERT INTO jobs_partitions (partition) SELECT generate_series(0, 64 - 1) ON CONFLICT DO NOTHING;
 
 -- STEP: what a job is, beside its payload. A holder takes the kinds that it names.
 ALTER TABLE jobs ADD COLUMN IF NOT EXISTS kind text NOT NULL DEFAULT '';

@@ -4,6 +4,7 @@ use super::scan::is_match;
 use super::{count, repeated, Answer, Client, Refusal, Words, COMMANDS};
 use crate::keyspace::Held;
 use crate::resp::{integer, Protocol, Reply};
+use crate::seats::Guest;
 use std::time::SystemTime;
 
 /// The version of Redis whose replies these are. Clients ask for it to know which commands there are.
@@ -95,7 +96,7 @@ fn about(client: &Client<'_>) -> Reply {
         ("server", text("redis")),
         ("version", text(REDIS_VERSION)),
         ("proto", Reply::Integer(proto)),
-        ("id", Reply::Integer(client.session.id as i64)),
+        ("id", Reply::Integer(client.session.guest.id as i64)),
         ("mode", text("standalone")),
         ("role", text("master")),
         ("modules", Reply::Array(Vec::new())),
@@ -107,24 +108,110 @@ fn set_name(client: &mut Client<'_>, name: &[u8]) -> Result<(), Refusal> {
     if !is_plain(name) {
         return Err(Refusal::CLIENT_NAME);
     }
-    client.session.name = name.to_vec();
+    *client.session.guest.name() = name.to_vec();
     Ok(())
 }
 
 pub fn client(client: &mut Client<'_>, words: Words<'_>) -> Answer {
     let of = |part| Refusal::PartWordCount("client", part);
     match (&words[1].to_ascii_lowercase()[..], &words[2..]) {
-        (b"id", []) => Ok(Reply::Integer(client.session.id as i64)),
+        (b"id", []) => Ok(Reply::Integer(client.session.guest.id as i64)),
         (b"id", _) => Err(of("id")),
-        (b"getname", []) if client.session.name.is_empty() => Ok(Reply::Nil),
-        (b"getname", []) => Ok(Reply::bulk(&client.session.name)),
+        (b"getname", []) => match &client.session.guest.name()[..] {
+            [] => Ok(Reply::Nil),
+            name => Ok(Reply::bulk(name)),
+        },
         (b"getname", _) => Err(of("getname")),
         (b"setname", [name]) => set_name(client, name).map(|()| Reply::Status("OK")),
         (b"setname", _) => Err(of("setname")),
         (b"setinfo", [what, value]) => set_info(what, value),
         (b"setinfo", _) => Err(of("setinfo")),
+        (b"info", []) => Ok(Reply::Text(told_of(&client.session.guest))),
+        (b"info", _) => Err(of("info")),
+        (b"list", rest) => list(client, rest),
+        (b"kill", [address]) => kill_at(client, address),
+        (b"kill", [_, _, ..]) => kill(client, &words[2..]),
+        (b"kill", _) => Err(of("kill")),
         _ => Err(Refusal::UnknownPart("CLIENT", repeated(words[1]))),
     }
+}
+
+/// A connection in a line, by Redis's words, as far as there is something to say.
+fn told_of(guest: &Guest) -> String {
+    let (id, address, held) = (guest.id, guest.address, guest.held());
+    let (name, age, idle) = (String::from_utf8_lossy(&guest.name()).into_owned(), guest.age(), guest.idle());
+    let (age, idle, command) = (age.as_secs(), idle.as_secs(), COMMANDS[guest.command()].0);
+    format!(
+        "id={id} addr={address} name={name} age={age} idle={idle} flags=N db=0 sub=0 psub=0 tot-mem={held} \
+         cmd={command} user=default\n"
+    )
+}
+
+/// All connections, or those of some numbers. Each is of the one kind that there is.
+fn list(client: &Client<'_>, words: Words<'_>) -> Answer {
+    let is_asked: Box<dyn Fn(&Guest) -> bool> = match words {
+        [] => Box::new(|_| true),
+        [word, kind] if word.eq_ignore_ascii_case(b"type") => {
+            let is_normal = is_normal(kind)?;
+            Box::new(move |_| is_normal)
+        }
+        [word, ids @ ..] if word.eq_ignore_ascii_case(b"id") && !ids.is_empty() => {
+            let ids = ids.iter().map(|it| client_id(it, Refusal::CLIENT_ID)).collect::<Result<Vec<_>, _>>()?;
+            Box::new(move |guest| ids.contains(&guest.id))
+        }
+        _ => return Err(Refusal::SYNTAX),
+    };
+    let guests = client.desk.seats.guests();
+    Ok(Reply::Text(guests.iter().filter(|it| is_asked(it)).map(|it| told_of(it)).collect()))
+}
+
+fn client_id(word: &[u8], refusal: Refusal) -> Result<u64, Refusal> {
+    integer(word).filter(|it| *it > 0).map(|it| it as u64).ok_or(refusal)
+}
+
+fn is_normal(kind: &[u8]) -> Result<bool, Refusal> {
+    match &kind.to_ascii_lowercase()[..] {
+        b"normal" => Ok(true),
+        b"master" | b"replica" | b"slave" | b"pubsub" => Ok(false),
+        _ => Err(Refusal::ClientType(repeated(kind))),
+    }
+}
+
+/// Closes the connection of an address.
+fn kill_at(client: &Client<'_>, address: &[u8]) -> Answer {
+    let mut guests = client.desk.seats.guests();
+    guests.retain(|it| it.address.to_string().as_bytes() == address);
+    if guests.is_empty() {
+        return Err(Refusal::NO_CLIENT);
+    }
+    client.desk.seats.send_away(&guests);
+    Ok(Reply::Status("OK"))
+}
+
+/// Closes the connections that fit all that is said, but for its own where nothing else is said, and tells how many.
+fn kill(client: &Client<'_>, mut words: Words<'_>) -> Answer {
+    let (mut guests, mut spares_own) = (client.desk.seats.guests(), true);
+    while let [word, value, rest @ ..] = words {
+        match &word.to_ascii_lowercase()[..] {
+            b"id" => {
+                let id = client_id(value, Refusal::KILLED_ID)?;
+                guests.retain(|it| it.id == id);
+            }
+            b"addr" => guests.retain(|it| it.address.to_string().as_bytes() == *value),
+            b"type" if !is_normal(value)? => guests.clear(),
+            b"type" => {}
+            b"skipme" if value.eq_ignore_ascii_case(b"yes") => spares_own = true,
+            b"skipme" if value.eq_ignore_ascii_case(b"no") => spares_own = false,
+            _ => return Err(Refusal::SYNTAX),
+        }
+        words = rest;
+    }
+    if !words.is_empty() {
+        return Err(Refusal::SYNTAX);
+    }
+    guests.retain(|it| !spares_own || it.id != client.session.guest.id);
+    client.desk.seats.send_away(&guests);
+    Ok(count(guests.len()))
 }
 
 /// What a client tells of its library is looked at and left: nobody asks for it.

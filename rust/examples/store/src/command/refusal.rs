@@ -14,6 +14,7 @@ pub enum Refusal {
     ExpireTime(&'static str),
     Option(String),
     ClientOption(String),
+    ClientType(String),
     LibraryName(&'static str),
     HelloOption(String),
     WithoutMulti(&'static str),
@@ -34,6 +35,9 @@ impl Refusal {
     pub const DATABASE: Refusal = Refusal::Plain("ERR DB index is out of range");
     pub const CLIENT_NAME: Refusal =
         Refusal::Plain("ERR Client names cannot contain spaces, newlines or special characters.");
+    pub const CLIENT_ID: Refusal = Refusal::Plain("ERR Invalid client ID");
+    pub const KILLED_ID: Refusal = Refusal::Plain("ERR client-id should be greater than 0");
+    pub const NO_CLIENT: Refusal = Refusal::Plain("ERR No such client");
     pub const PROTOCOL_NUMBER: Refusal = Refusal::Plain("ERR Protocol version is not an integer or out of range");
     pub const PROTOCOL: Refusal = Refusal::Plain("NOPROTO unsupported protocol version");
     pub const PASSWORD: Refusal = Refusal::Plain("WRONGPASS invalid username-password pair or user is disabled.");
@@ -71,6 +75,7 @@ impl Refusal {
             }
             Refusal::ExpireTime(name) => format!("ERR invalid expire time in '{name}' command"),
             Refusal::Option(text) => format!("ERR Unsupported option {text}"),
+            Refusal::ClientType(text) => format!("ERR Unknown client type '{text}'"),
             Refusal::ClientOption(text) => format!("ERR Unrecognized option '{text}'"),
             Refusal::LibraryName(what) => format!("ERR {what} cannot contain spaces, newlines or special characters."),
             Refusal::HelloOption(text) => format!("ERR Syntax error in HELLO option '{text}'"),

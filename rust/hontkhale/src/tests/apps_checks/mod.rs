@@ -1,4 +1,4 @@
-//! The expiring cache and idle sessions: the worked rows, and refused memory.
+//! The expiring cache and idle sessions: the worked rows.
 
 pub mod calls;
 pub mod rows;

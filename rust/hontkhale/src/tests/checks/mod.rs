@@ -1,6 +1,5 @@
 //! Ticks, packed words and keys, and the laws of them; the worked cases of the queue over plain words and over shared
-//! ones, of its parts and of shared words alone; limits; what is sent to a thread; refused memory, and calls where no
-//! memory is left.
+//! ones, of its parts and of shared words alone; limits; what is sent to a thread.
 
 pub mod cases;
 pub mod digits;

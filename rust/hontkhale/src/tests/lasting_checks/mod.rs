@@ -1,4 +1,4 @@
-//! A lasting queue step by step, as a table of calls, and refused memory.
+//! A lasting queue step by step, as a table of calls.
 
 pub mod play;
 pub mod steps;

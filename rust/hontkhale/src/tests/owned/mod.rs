@@ -1,5 +1,4 @@
-//! Tests that were erased once from those of crates/, and are written by hand since: nothing is proved of them. They
-//! use what the erased tests beside this folder have.
+//! Tests of the same parts over what the modules beside this one have.
 
 mod apps_checks;
 mod checks;

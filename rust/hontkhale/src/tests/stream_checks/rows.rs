@@ -7,7 +7,7 @@ use super::steps::{Change, change_while_parked, play, play_over};
 use super::streams::Seen::{Ends, Fault, Out, Waits};
 use super::streams::{Letters, Task, TickOf, Told, fill, letters, letters_and_task, stream_of};
 use crate::core::Expired;
-use crate::shards::LockedShard;
+use crate::shards::ShardState;
 use crate::stream::StreamFault;
 use crate::stream::parking::park_with;
 
@@ -77,7 +77,7 @@ fn parked_then_removed() -> Result<(), Fail> {
     )
 }
 
-fn refuses_no_waker(shard: &mut LockedShard<'_, char>) -> Result<(), Fail> {
+fn refuses_no_waker(shard: &mut ShardState<char>) -> Result<(), Fail> {
     let Some(next) = shard.next_wake() else {
         return Err(Fail::from("no wake"));
     };

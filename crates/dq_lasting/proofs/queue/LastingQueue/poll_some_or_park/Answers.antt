@@ -1,7 +1,8 @@
-use Rattle.std.proofs.Common.{arith}
+use Rattle.std.proofs.Common.{rules, ◌<◌}
 use Rattle.dq_lasting.proofs.Piecewise.{worked_on}
 use Rattle.dq_lasting.proofs.queue.LastingQueue.poll_some_or_park.Goals as goal
 
-pub returns-in_default-clause-polls : goal.returns-in_default-clause-polls
-returns-in_default-clause-polls g c =
-    worked_on c.args.cx.now c.yield_now-woken.new.self c.args.self.now.shards c.args.place c.args.tick c.args.most c.register-slot.result c.poll_some_or_park_at-polled.result.0 c.in_default.not-Some (omega (arith, c.if-place-shards.false, c.shards.ensures.value)) c.yield_now-woken.ensures.woken c.poll_some_or_park_at-polled.ensures
+pub returns-in_default-polled-clause-polls : goal.returns-in_default-polled-clause-polls
+returns-in_default-polled-clause-polls g c =
+    let inside : c.args.place < c.args.self.now.shards = search rules in
+    worked_on c.args.cx.now c.yield_now-woken.new.self c.args.self.now.shards c.args.place c.args.tick c.args.most c.register-slot.result c.poll_some_or_park_at-polled.result.0 c.in_default-polled.not-Some inside c.yield_now-woken.ensures.woken c.poll_some_or_park_at-polled.ensures

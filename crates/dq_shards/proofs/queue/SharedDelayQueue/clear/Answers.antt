@@ -1,6 +1,10 @@
+use Rattle.std.proofs.Common.{refl, ◌∙◌}
+use Rattle.dq_shards.specs.Changes.{ShardClears}
+use Rattle.dq_shards.proofs.Locked.{on_numbered}
 use Rattle.dq_shards.proofs.queue.SharedDelayQueue.clear.Goals as goal
 
 pub returns-clause-answers : goal.returns-clause-answers
 returns-clause-answers g c =
     let entered = c.in_ok-locked.ensures.entered in
-    (entered.0, (_, _, entered.1, c.clear_and_unlock-cleared.ensures.1, (c.in_ok-locked.ensures.number, c.clear_and_unlock-cleared.ensures.2)))
+    let told = c.clear-cleared.ensures in
+    (entered.0, on_numbered c.args.shard (λ old r new. ShardClears old r new) c.clear-cleared.result.0 _ _ _ _ entered.1 c.in_ok-locked.ensures.number (c.behind-locked.view_is ∙ c.deref_mut.ensures.value) c.unlock-aside.ensures refl (told.clears, (told.attends.0, told.attends.1, told.attends.3, told.attends.2)))

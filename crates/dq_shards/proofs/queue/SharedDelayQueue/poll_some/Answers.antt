@@ -1,7 +1,11 @@
+use Rattle.std.proofs.Common.{refl, ◌∙◌, Ok}
+use Rattle.dq_shards.specs.Changes.{ShardPollsSome}
+use Rattle.dq_shards.proofs.Locked.{on_numbered}
 use Rattle.dq_shards.proofs.queue.SharedDelayQueue.poll_some.Goals as goal
 
 pub returns-clause-answers : goal.returns-clause-answers
 returns-clause-answers g c =
     let entered = c.in_ok-locked.ensures.entered in
-    let told = rw c.in_ok-answer.was at c.poll_some_and_unlock-answer.ensures in
-    (entered.0, (_, _, entered.1, told.1, (c.in_ok-locked.ensures.number, told.2)))
+    let told = c.poll_some-answer.ensures in
+    let does = rw c.in_ok-answer.was at told.polls in
+    (entered.0, on_numbered c.args.shard (λ old r new. ShardPollsSome old c.args.tick c.args.most r new) (Ok c.in_ok-answer.field-0) _ _ _ _ entered.1 c.in_ok-locked.ensures.number (c.behind-locked.view_is ∙ c.deref_mut.ensures.value) c.unlock-aside.ensures refl (does, (told.attends.0, told.attends.1, told.attends.3, told.attends.2)))

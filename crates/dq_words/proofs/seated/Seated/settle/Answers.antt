@@ -1,6 +1,8 @@
-use Rattle.std.proofs.Common.{ap, ◌∙◌, arith}
+use Rattle.std.proofs.Common.{refl, ap, ◌∙◌, arith}
+use Rattle.dq_words.specs.Plays.{settling}
 use Rattle.dq_words.specs.Seats.{Sat}
 use Rattle.dq_words.proofs.Seats.{fits}
+use Rattle.dq_words.proofs.Places.{exchanging}
 use Rattle.dq_words.proofs.Writes.{settles}
 use Rattle.dq_words.proofs.seated.Seated.settle.Goals as goal
 
@@ -9,4 +11,4 @@ compare_exchange-found-requires g c =
     let e = c.deref.ensures in
     let own = ap (λ (s : Sat). s.view) c.self.view_is in
     let f = fits _ _ _ _ _ _ c.self.invariant.0 (ap (λ b. b.shared.table_id) e) _ _ c.self.view_is c.requires.inside in
-    (f.0, f.1, rw (ap (λ b. b.shared.key) e ∙ c.self.invariant.0.keyed) (settles _ _ _ _ _ _ _ f.2 (rw own c.requires.keeper) c.requires.old.0 c.requires.old.1 c.requires.same.0 c.requires.expired c.requires.same.1 (omega arith)))
+    (f.0, f.1, rw (ap (λ b. b.shared.key) e ∙ c.self.invariant.0.keyed) (exchanging _ _ _ _ _ c.self.invariant.2 settling _ _ refl (λ k. settles _ _ _ _ _ _ _ f.2 (rw own c.requires.keeper) c.requires.old.0 c.requires.old.1 c.requires.same.0 c.requires.expired c.requires.same.1 (omega arith))))

@@ -20,7 +20,7 @@ fn closed(number: u32) -> Result<Shard, CoreError> {
         last_stamp: LAST_STAMP,
     };
     let mut shard = LastingShard::from(numbered_queue(config)?);
-    shard.close();
+    shard.close().wake();
     Ok(shard)
 }
 
@@ -31,7 +31,7 @@ fn reopens(number: u32, by: u32, answer: Result<u32, ReopenError>) -> Result<(),
     let Ok(rows) = FreshRows::new(keeper, LAST_STAMP) else {
         panic!("the rows are refused");
     };
-    let (answered, _, _) = shard.end(rows, 0, by);
+    let answered = shard.end(rows, 0, by).answer;
     same(number, answered, answer.map(|_| Kept::Reopened { place: 0 }));
     let left = (shard.number(), shard.takes());
     same(number, left, (answer.unwrap_or(number), answer.is_ok()));

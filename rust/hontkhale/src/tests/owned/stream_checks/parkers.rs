@@ -3,7 +3,7 @@
 use super::same;
 use super::streams::{fill, letters, Letters};
 use crate::core::Turn;
-use crate::shards::{LockedShard, Parked};
+use crate::shards::{Parked, ShardState};
 use crate::stream::parking::park_with;
 use crate::tests::kit::{Fail, MockTask};
 use std::task::{Context, Waker};
@@ -14,7 +14,7 @@ fn registered(cx: &mut Context<'_>) -> Option<Waker> {
 }
 
 // Parks a poller in the place of the one before.
-fn park_at_its_wake(shard: &mut LockedShard<'_, char>, slot: Option<Waker>) -> Result<(), Fail> {
+fn park_at_its_wake(shard: &mut ShardState<char>, slot: Option<Waker>) -> Result<(), Fail> {
     if let Turn::Waiting { next } = shard.poll(0)? {
         park_with(shard, next, slot)?;
     }

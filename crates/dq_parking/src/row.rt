@@ -1,0 +1,213 @@
+//! A row of shards behind locks, of either queue: the locks, who waits for them, and what is done once one is free.
+//!
+//! A front, as `SharedDelayQueue` and `LastingQueue`, has a `Row` of its own shards, and says in `impl Shard` what a call
+//! asks of one. A call by name of a front is then four lines:
+//!
+//! ```ignore
+//! let mut shard = self.row.lock(rt, place);
+//! let (answer, leaver) = shard.attended.poll(tick);
+//! let aside = unlock(shard, leaver);
+//! self.drop_aside(rt, place, aside);
+//! ```
+//!
+//! `lock` compares once whether the shard stands at the place, and waits for ever where another was put there. `unlock` lets
+//! the lock go, wakes who has left, and answers how many values are set aside. Nothing here drops a value: no impl says that
+//! one may be dropped, so whoever may drops what `Dropper::take_one` and the refusal of `lock_with_room` hand over.
+ghost use Rattle.std.specs.Prelude.{◌≡◌, ℕ, ◌<◌, ◌≤◌, IfOk, IsTrue, vec_len, vec_capacity};
+ghost use Rattle.std.specs.Sync.Mutex.{mutex_guard_value};
+
+use crate::parked::{Leaver, Until};
+use crate::waiting::Waiting;
+use std::alloc::{AllocError, Allocator, Global};
+use std::marker::Model;
+use std::sync::{Mutex, MutexGuard, Wait};
+
+/// What a call asks of a shard behind its lock.
+pub trait Shard {
+    /// The values of its entries.
+    type Value;
+
+    /// What its poller waits for.
+    type Next: Until;
+
+    /// What each such shard keeps.
+    ghost keeps: { Self → Type 0 };
+
+    /// Whether it stands at a place of so many.
+    ghost stands: { Self → ℕ → ℕ → Type 0 };
+
+    /// What it keeps. The call does nothing, and is for proofs.
+    fn law(&self)
+        ensures { keeps self.now };
+
+    /// Whether it stands at a place of so many.
+    fn stands_at(&self, place: usize, places: usize) -> bool
+        ensures { IsTrue result → stands self.now place places };
+
+    /// How many values are set aside: those that were let go and aren't dropped yet. Constant time.
+    fn aside(&self) -> usize;
+
+    /// Takes out the value that is set aside where the next insert's entry goes, if one is.
+    fn take_crowded(&mut self) -> Option<Self::Value>
+        ensures { self.new ≡ self.old };
+
+    /// Takes out a value for the thread that drops what is set aside, as `Attended::take_one`.
+    fn take_one(&mut self, is_mine: &mut bool) -> Option<Self::Value>
+        ensures { self.new ≡ self.old };
+
+    /// Ends the dropping before its time, as `Attended::end_dropping`.
+    fn end_dropping(&mut self, is_mine: &mut bool)
+        ensures { self.new ≡ self.old };
+}
+
+/// Shards behind locks. To a contract it is how many.
+#[derive(Drop)]
+pub struct Row<S, A: Allocator = Global> {
+    shards: Vec<Mutex<S>, A>,
+    // Of each shard, who waits for its lock.
+    waiting: Vec<Waiting, A>,
+}
+
+impl<S, A: Allocator> Model for Row<S, A> {
+    ghost use Rattle.std.specs.Prelude.{ℕ, ◌≡◌, vec_len};
+
+    ghost Value = { ℕ };
+
+    ghost view = { λ row. vec_len row.shards };
+
+    ghost invariant = { λ row. vec_len row.waiting ≡ vec_len row.shards };
+}
+
+impl<S, A: Allocator> Row<S, A> {
+    /// A row of these shards, with as many to count who waits.
+    pub fn new(shards: Vec<Mutex<S>, A>, waiting: Vec<Waiting, A>) -> Row<S, A>
+        requires { vec_len waiting ≡ vec_len shards }
+        ensures { result ≡ vec_len shards }
+    {
+        Row { shards, waiting }
+    }
+
+    /// How many there are.
+    #[inline]
+    pub fn len(&self) -> usize
+        ensures { result ≡ self.now }
+    {
+        self.shards.len()
+    }
+
+    /// Gives way to whoever waits for the lock of the shard at a place: it looks for a bounded while until nobody does, and
+    /// returns at once where nobody does. A place out of range has no lock.
+    pub fn give_way(&self, place: usize) {
+        if place < self.shards.len() {
+            let waiting = &self.waiting[place];
+            waiting.give_way();
+        }
+    }
+}
+
+impl<S, A: Allocator + Clone> Row<S, A> {
+    /// An empty row with room for one of each shard's.
+    pub fn room_for_each<X>(&self) -> Result<Vec<X, A>, AllocError>
+        ensures { IfOk result (λ room. (vec_len room ≡ 0) × (self.now ≤ vec_capacity room)) }
+    {
+        Vec::with_capacity(self.shards.allocator().clone()?, self.shards.len())
+    }
+}
+
+impl<S: Shard, A: Allocator> Row<S, A> {
+    /// The shard at a place, with its lock held. Whether it stands there is compared once.
+    #[inline(always)]
+    pub fn lock<R: Wait>(&self, rt: &R, place: usize) -> MutexGuard<'_, S>
+        requires { place < self.now }
+        ensures law { S.keeps (mutex_guard_value result) }
+        ensures place { S.stands (mutex_guard_value result) place self.now }
+    {
+        let waiting = &self.waiting[place];
+        let shard = waiting.taken(rt, &self.shards[place]);
+        if !shard.stands_at(place, self.shards.len()) {
+            // Whoever had the shard in hand put another here. This thread holds the lock, so it sleeps here.
+            for _ in rt.forever() {
+                let _again = self.shards[place].lock(rt);
+            }
+        }
+        shard.law();
+        shard
+    }
+
+    /// As `lock`, for an insert, which has a place for each value that is set aside. Refused where one has none: that one is
+    /// handed over, to be dropped before the insert is tried again.
+    #[inline(always)]
+    pub fn lock_with_room<R: Wait>(
+        &self,
+        rt: &R,
+        place: usize,
+    ) -> Result<MutexGuard<'_, S>, S::Value>
+        requires { place < self.now }
+        ensures law { IfOk result (λ shard. S.keeps (mutex_guard_value shard)) }
+        ensures place { IfOk result (λ shard. S.stands (mutex_guard_value shard) place self.now) }
+    {
+        let mut shard = self.lock(rt, place);
+        match shard.take_crowded() {
+            None => Ok(shard),
+            Some(crowded) => Err(crowded),
+        }
+    }
+}
+
+/// Lets a shard's lock go, and then wakes who has left: whoever is woken may call the queue at once. Answers how many values
+/// are set aside.
+#[inline(always)]
+pub fn unlock<S: Shard>(shard: MutexGuard<'_, S>, leaver: Leaver<S::Next>) -> usize
+    ensures { S.keeps (mutex_guard_value shard.entry) }
+{
+    shard.law();
+    let aside = shard.aside();
+    drop(shard);
+    leaver.wake();
+    aside
+}
+
+/// The thread that drops what is set aside in a shard, one value at a time, while the lock is free. Where a value's drop
+/// panics, others may do it from then on.
+pub struct Dropper<'q, S: Shard, R: Wait, A: Allocator = Global> {
+    row: &'q Row<S, A>,
+    rt: &'q R,
+    place: usize,
+    is_at_it: bool,
+}
+
+impl<'q, S: Shard, R: Wait, A: Allocator> Dropper<'q, S, R, A> {
+    /// One of the shard at a place, which hasn't begun. Out of range there is nothing to drop.
+    pub fn new(row: &'q Row<S, A>, rt: &'q R, place: usize) -> Dropper<'q, S, R, A> {
+        Dropper {
+            row,
+            rt,
+            place,
+            is_at_it: false,
+        }
+    }
+
+    /// Takes a value out, and lets the lock go. None where none was left to it.
+    pub fn take_one(&mut self) -> Option<S::Value> {
+        if self.place >= self.row.len() {
+            return None;
+        }
+        let mut shard = self.row.lock(self.rt, self.place);
+        shard.take_one(&mut self.is_at_it)
+    }
+}
+
+impl<S: Shard, R: Wait, A: Allocator> Drop for Dropper<'_, S, R, A> {
+    fn drop(self) {
+        let Dropper {
+            row,
+            rt,
+            place,
+            mut is_at_it,
+        } = self;
+        if is_at_it && place < row.len() {
+            let mut shard = row.lock(rt, place);
+            shard.end_dropping(&mut is_at_it);
+        }
+    }
+}

@@ -1,0 +1,44 @@
+-- What a caller was promised, of an entry that comes out of a shard of its own words.
+use Rattle.std.proofs.Common.{◌≤◌, refl, inl, ◌≡◌, ℕ, List, [], ◌∷◌, sym, ap, subst}
+use mathlib.Core.Option.{some, some-injective, some-ne-none}
+use lib.ListN.{get_elem?}
+use Rattle.dq_core.specs.declared.outcomes.Turn.{Turn}
+use Rattle.dq_core.specs.declared.outcomes.Turn.TheVariants.{Out, Waiting, Idle}
+use Rattle.dq_core.specs.declared.errors.CoreError.{CoreError}
+use Rattle.std.specs.Prelude.{Result, Ok, Err}
+use Rattle.dq_words.specs.declared.views.View.{View}
+use Rattle.dq_words.specs.declared.views.Write.{Write}
+use Rattle.dq_words.specs.declared.views.Call.{Call}
+use Rattle.dq_words.specs.declared.views.Call.TheVariants.{Extend}
+use Rattle.dq_words.specs.Files.{IsIn, ends_at, extends_at, keeper_writes}
+use Rattle.dq_words.specs.Plays.{Covers}
+use Rattle.dq_words.proofs.Gathers.{if_here}
+use Rattle.dq_words.specs.Seats.{Sat}
+use Rattle.dq_words.specs.Together.{IsBeside}
+use Rattle.dq_shards.specs.ForCallers.{KeepsFor}
+use Rattle.dq_shards.specs.Changes.{ShardPolls}
+use Rattle.dq_shards.specs.Endings.{OutsAreInForce}
+use Rattle.dq_shards.specs.Shard.{ShardView, IsShard, keeper_of}
+
+writes_first : (vs : List View) (v : View) → get_elem? vs 0 ≡ some v → keeper_writes vs ≡ v.writes
+writes_first [] v at = absurd (some-ne-none v (sym at))
+writes_first (u ∷ vs) v at = ap (λ (x : View). x.writes) (some-injective u v at)
+
+pub keeps_for : (T : Type 0) → OutsAreInForce T → (old new : ShardView T) (tick : ℕ) (result : Result (Turn T) CoreError) (c : Sat)
+    → IsShard new → ShardPolls old tick result new → IsBeside new.core.words c → KeepsFor c.view result
+keeps_for T outs old new tick (Ok (Out x)) c law polled beside =
+    let out = outs old new tick x law polled in
+    let stood = beside.1 in
+    let ended = (out.expires stood.0 stood.1 stood.2).0 in
+    let P : List Write → Type 0 = λ ws. IsIn (ends_at x.key.entry.index x.key.stamp ws) (2, x.deadline) in
+    beside.0 x.key.entry.index x.key.stamp (2, x.deadline) (subst P (writes_first stood.0.views (keeper_of new) stood.2) ended)
+keeps_for T outs old new tick (Ok (Waiting next)) c law polled beside = tt
+keeps_for T outs old new tick (Ok Idle) c law polled beside = tt
+keeps_for T outs old new tick (Err e) c law polled beside = tt
+
+-- what an accepted extend asked for is among what its caller was promised
+pub asked_for : (v w : View) (i s when d : ℕ) → w.calls ≡ Extend i s when ∷ v.calls → Covers w.calls i s d → when ≤ d
+asked_for v w i s when d calls covers =
+    let P : List Call → Type 0 = λ cs. IsIn (extends_at i s cs) when in
+    let Q : List ℕ → Type 0 = λ xs. IsIn xs when in
+    covers.0 when (subst P (sym calls) (subst Q (sym (if_here i s when (extends_at i s v.calls))) (inl refl)))

@@ -1,0 +1,53 @@
+//! What a queue's row asks of a shard behind its lock.
+ghost use Rattle.std.specs.Prelude.{◌≡◌};
+ghost use Rattle.dq_shards.specs.Shard.{IsShard};
+
+use crate::state::ShardState;
+use dq_parking::Shard;
+use std::alloc::Allocator;
+
+impl<T, A: Allocator> ShardState<T, A> {
+    /// How many values are set aside: those of entries that were reaped or cleared, and that aren't dropped yet.
+    /// Constant time.
+    #[inline(always)]
+    pub fn aside(&self) -> usize {
+        self.attended.core.aside()
+    }
+}
+
+impl<T, A: Allocator> Shard for ShardState<T, A> {
+    type Value = T;
+
+    type Next = u64;
+
+    ghost keeps = { λ s. IsShard s };
+
+    ghost stands = { λ s place places. s.core.shard ≡ place };
+
+    fn law(&self) {
+        ShardState::law(self);
+    }
+
+    #[inline(always)]
+    fn stands_at(&self, place: usize, _places: usize) -> bool {
+        self.shard() as usize == place
+    }
+
+    #[inline(always)]
+    fn aside(&self) -> usize {
+        self.attended.core.aside()
+    }
+
+    #[inline(always)]
+    fn take_crowded(&mut self) -> Option<T> {
+        self.attended.core.take_crowded()
+    }
+
+    fn take_one(&mut self, is_mine: &mut bool) -> Option<T> {
+        self.attended.take_one(is_mine)
+    }
+
+    fn end_dropping(&mut self, is_mine: &mut bool) {
+        self.attended.end_dropping(is_mine);
+    }
+}

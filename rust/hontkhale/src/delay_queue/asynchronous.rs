@@ -1,0 +1,239 @@
+//! How a task receives, in the place of a thread: a runtime polls it, and has a timer for when to poll it again.
+//!
+//! A task doesn't stand in the line of the threads: one that nobody polls would keep those behind it from what is due. Each
+//! says for itself until when it waits, and then looks at the hints once more; whoever puts something in lowers a hint first,
+//! and then asks the tasks. So one of the two sees the other, as with the leader of the line.
+
+use crate::delay_queue::receive::Step;
+use crate::delay_queue::shared::Shared;
+use crate::delay_queue::{DelayQueue, Expired};
+use std::fmt;
+use std::mem;
+use std::sync::atomic::{AtomicU64, Ordering::SeqCst};
+use std::sync::{Arc, Mutex, MutexGuard, PoisonError};
+use std::task::{Context, Poll, Waker};
+use std::time::Instant;
+
+/// How often a poll takes a shard's lock, at most.
+const TURNS: usize = 4;
+
+/// A task that waits, or doesn't.
+struct Task {
+    /// The tick until which it waits, 0 where it doesn't.
+    armed: AtomicU64,
+    waker: Mutex<Option<Waker>>,
+}
+
+impl Task {
+    fn waker(&self) -> MutexGuard<'_, Option<Waker>> {
+        self.waker.lock().unwrap_or_else(PoisonError::into_inner)
+    }
+
+    /// From now on that waker is called, once. No lock is held while one is cloned or dropped.
+    fn listen(&self, waker: &Waker) {
+        if matches!(&*self.waker(), Some(known) if known.will_wake(waker)) {
+            return;
+        }
+        let waker = waker.clone();
+        let before = self.waker().replace(waker);
+        drop(before);
+    }
+
+    fn wake(&self) {
+        let waker = self.waker().take();
+        if let Some(waker) = waker {
+            waker.wake();
+        }
+    }
+}
+
+/// The tasks that receive from a queue.
+#[derive(Default)]
+pub(crate) struct Tasks {
+    /// A tick that isn't before any until which a task waits.
+    armed: AtomicU64,
+    row: Mutex<Vec<Arc<Task>>>,
+}
+
+impl Tasks {
+    /// Nobody's code runs while it is locked.
+    fn row(&self) -> MutexGuard<'_, Vec<Arc<Task>>> {
+        self.row.lock().unwrap_or_else(PoisonError::into_inner)
+    }
+
+    /// Wakes those that wait for a later tick. Whoever lowered a hint to that tick asks.
+    #[inline]
+    pub fn ring_before(&self, tick: u64) {
+        if tick < self.armed.load(SeqCst) {
+            self.ring(tick);
+        }
+    }
+
+    #[cold]
+    fn ring(&self, tick: u64) {
+        let row = self.row();
+        // A task that waits from here on says so after this.
+        self.armed.store(0, SeqCst);
+        let (woken, others): (Vec<_>, Vec<_>) = row.iter().cloned().partition(|task| tick < task.armed.load(SeqCst));
+        let later = others.iter().map(|task| task.armed.load(SeqCst)).max();
+        self.armed.fetch_max(later.unwrap_or(0), SeqCst);
+        drop(row);
+        for task in woken {
+            task.armed.store(0, SeqCst);
+            task.wake();
+        }
+    }
+
+    /// Wakes all of them.
+    pub fn wake_all(&self) {
+        let all = self.row().clone();
+        all.iter().for_each(|task| task.wake());
+    }
+
+    fn arm(&self, task: &Task, until: u64) {
+        task.armed.store(until, SeqCst);
+        self.armed.fetch_max(until, SeqCst);
+    }
+}
+
+/// Receives from a [`DelayQueue`] in a task, under any runtime that has timers.
+///
+/// It keeps the queue alive as a clone does. Any number of tasks and threads may receive from one queue.
+///
+/// ```
+/// use hontkhale::DelayQueue;
+/// use std::sync::Arc;
+/// use std::task::{Context, Poll, Wake, Waker};
+/// use std::time::Duration;
+///
+/// struct Unparks(std::thread::Thread);
+/// impl Wake for Unparks {
+///     fn wake(self: Arc<Self>) {
+///         self.0.unpark();
+///     }
+/// }
+///
+/// let queue = DelayQueue::new();
+/// queue.insert("session", Duration::from_millis(5))?;
+/// let mut receiver = queue.receiver();
+/// let waker = Waker::from(Arc::new(Unparks(std::thread::current())));
+/// let session = loop {
+///     match receiver.poll_recv(&mut Context::from_waker(&waker)) {
+///         Poll::Ready(received) => break received,
+///         // A runtime's timer does this.
+///         Poll::Pending => match receiver.wake_at() {
+///             Some(when) => std::thread::park_timeout(when.saturating_duration_since(std::time::Instant::now())),
+///             None => std::thread::park(),
+///         },
+///     }
+/// };
+/// assert_eq!(session.map(|expired| expired.value), Some("session"));
+/// # Ok::<(), Box<dyn std::error::Error>>(())
+/// ```
+#[must_use = "a receiver does nothing until it is polled"]
+pub struct AsyncReceiver<T> {
+    queue: DelayQueue<T>,
+    task: Arc<Task>,
+    wake_at: Option<Instant>,
+}
+
+impl<T> AsyncReceiver<T> {
+    pub(crate) fn new(queue: &DelayQueue<T>) -> AsyncReceiver<T> {
+        let task = Arc::new(Task {
+            armed: AtomicU64::new(0),
+            waker: Mutex::default(),
+        });
+        queue.shared.front.tasks.row().push(Arc::clone(&task));
+        AsyncReceiver {
+            queue: queue.clone(),
+            task,
+            wake_at: None,
+        }
+    }
+
+    /// Takes an entry out that is due; none once the queue is closed and nothing is due.
+    ///
+    /// Where it is pending the task is woken by an insert or a reset that comes sooner than what it waits for, and by
+    /// [`close`](DelayQueue::close). The caller polls again at [`wake_at`](AsyncReceiver::wake_at), too: the queue has no timer.
+    /// A poll takes a shard's lock four times at most, each time for 256 steps; where more is to do it is pending, and wakes its
+    /// task at once.
+    ///
+    /// The values of cancelled entries are dropped here, before something is in hand, and while no lock is held.
+    pub fn poll_recv(&mut self, cx: &mut Context<'_>) -> Poll<Option<Expired<T>>> {
+        let shared = &self.queue.shared;
+        self.task.armed.store(0, SeqCst);
+        self.task.listen(cx.waker());
+        self.wake_at = None;
+        for _ in 0..TURNS {
+            shared.tidy();
+            // It is asked first: what was put in before a close comes out.
+            let is_closed = shared.front.bell.is_closed();
+            match shared.take_step() {
+                Step::Took(expired) => return Poll::Ready(Some(expired)),
+                Step::Works => {}
+                // What the step freed is dropped first.
+                Step::Rests if !shared.is_tidy() => {}
+                Step::Rests if is_closed => return Poll::Ready(None),
+                Step::Rests => {
+                    if let Some(tick) = self.waits_until() {
+                        self.wake_at = shared.front.time.moment_of(tick);
+                        return Poll::Pending;
+                    }
+                }
+            }
+        }
+        cx.waker().wake_by_ref();
+        Poll::Pending
+    }
+
+    /// The tick until which nothing is to do, once the task has said so; none where something came meanwhile.
+    fn waits_until(&self) -> Option<u64> {
+        let shared: &Shared<T> = &self.queue.shared;
+        shared.use_quiet_moment();
+        let front = &shared.front;
+        let until = shared.least_hint();
+        if until <= front.time.tick() {
+            return None;
+        }
+        front.tasks.arm(&self.task, until);
+        let is_sooner = shared.least_hint() < until || front.bell.is_closed();
+        if is_sooner {
+            self.task.armed.store(0, SeqCst);
+            return None;
+        }
+        Some(until)
+    }
+
+    /// When the task is to poll again, unless it is woken before; none where only an insert or a close is waited for, or the
+    /// task was woken already.
+    pub fn wake_at(&self) -> Option<Instant> {
+        self.wake_at
+    }
+
+    /// The queue that it receives from.
+    pub fn queue(&self) -> &DelayQueue<T> {
+        &self.queue
+    }
+}
+
+impl<T> Drop for AsyncReceiver<T> {
+    fn drop(&mut self) {
+        self.queue
+            .shared
+            .front
+            .tasks
+            .row()
+            .retain(|task| !Arc::ptr_eq(task, &self.task));
+        let waker = mem::take(&mut *self.task.waker());
+        drop(waker);
+    }
+}
+
+impl<T> fmt::Debug for AsyncReceiver<T> {
+    fn fmt(&self, f: &mut fmt::Formatter<'_>) -> fmt::Result {
+        f.debug_struct("AsyncReceiver")
+            .field("queue", &self.queue)
+            .field("wake_at", &self.wake_at)
+            .finish_non_exhaustive()
+    }
+}

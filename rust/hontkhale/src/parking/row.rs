@@ -1,0 +1,157 @@
+//! A row of shards behind locks, of either queue: the locks, who waits for them, and what is done once one is free.
+//!
+//! A front, as `SharedDelayQueue` and `LastingQueue`, has a `Row` of its own shards, and says in `impl Shard` what a call
+//! asks of one. A call by name of a front is then four lines:
+//!
+//! ```ignore
+//! let mut shard = self.row.lock(rt, place);
+//! let (answer, leaver) = shard.attended.poll(tick);
+//! let aside = unlock(shard, leaver);
+//! self.drop_aside(rt, place, aside);
+//! ```
+//!
+//! `lock` compares once whether the shard stands at the place, and waits for ever where another was put there. `unlock` lets
+//! the lock go, wakes who has left, and answers how many values are set aside. Nothing here drops a value: no impl says that
+//! one may be dropped, so whoever may drops what `Dropper::take_one` and the refusal of `lock_with_room` hand over.
+
+use crate::index::nth;
+use crate::locks::{Mutex, MutexGuard};
+use crate::memory::{room_for, AllocError};
+use crate::parking::parked::{Leaver, Until};
+use crate::parking::waiting::Waiting;
+use alloc::vec::Vec;
+
+/// What a call asks of a shard behind its lock.
+pub trait Shard {
+    /// The values of its entries.
+    type Value;
+
+    /// What its poller waits for.
+    type Next: Until;
+
+    /// Whether it stands at a place of so many.
+    fn stands_at(&self, place: usize, places: usize) -> bool;
+
+    /// How many values are set aside: those that were let go and aren't dropped yet. Constant time.
+    fn aside(&self) -> usize;
+
+    /// Takes out the value that is set aside where the next insert's entry goes, if one is.
+    fn take_crowded(&mut self) -> Option<Self::Value>;
+
+    /// Takes out a value for the thread that drops what is set aside, as `Attended::take_one`.
+    fn take_one(&mut self, is_mine: &mut bool) -> Option<Self::Value>;
+
+    /// Ends the dropping before its time, as `Attended::end_dropping`.
+    fn end_dropping(&mut self, is_mine: &mut bool);
+}
+
+/// Shards behind locks. To a contract it is how many.
+pub struct Row<S> {
+    shards: Vec<Mutex<S>>,
+    // Of each shard, who waits for its lock.
+    waiting: Vec<Waiting>,
+}
+
+impl<S> Row<S> {
+    /// A row of these shards, with as many to count who waits.
+    pub fn new(shards: Vec<Mutex<S>>, waiting: Vec<Waiting>) -> Row<S> {
+        // requires vec_len waiting ≡ vec_len shards
+        Row { shards, waiting }
+    }
+
+    /// How many there are.
+    #[inline]
+    pub fn len(&self) -> usize {
+        self.shards.len()
+    }
+
+    /// Gives way to whoever waits for the lock of the shard at a place: it looks for a bounded while until nobody does, and
+    /// returns at once where nobody does. A place out of range has no lock.
+    pub fn give_way(&self, place: usize) {
+        if place < self.shards.len() {
+            let waiting = nth(&self.waiting, place);
+            waiting.give_way();
+        }
+    }
+}
+
+impl<S> Row<S> {
+    /// An empty row with room for one of each shard's.
+    pub fn room_for_each<X>(&self) -> Result<Vec<X>, AllocError> {
+        room_for(self.shards.len())
+    }
+}
+
+impl<S: Shard> Row<S> {
+    /// The shard at a place, with its lock held. Whether it stands there is compared once.
+    #[inline(always)]
+    pub fn lock(&self, place: usize) -> MutexGuard<'_, S> {
+        // requires place < self.now
+        let waiting = nth(&self.waiting, place);
+        let shard = waiting.taken(nth(&self.shards, place));
+        if !shard.stands_at(place, self.shards.len()) {
+            // Whoever had the shard in hand put another here. This thread holds the lock, so it sleeps here.
+            panic!("the state of another shard was put here");
+        }
+        shard
+    }
+
+    /// As `lock`, for an insert, which has a place for each value that is set aside. Refused where one has none: that one is
+    /// handed over, to be dropped before the insert is tried again.
+    #[inline(always)]
+    pub fn lock_with_room(&self, place: usize) -> Result<MutexGuard<'_, S>, S::Value> {
+        // requires place < self.now
+        let mut shard = self.lock(place);
+        match shard.take_crowded() {
+            None => Ok(shard),
+            Some(crowded) => Err(crowded),
+        }
+    }
+}
+
+/// Lets a shard's lock go, and then wakes who has left: whoever is woken may call the queue at once. Answers how many values
+/// are set aside.
+#[inline(always)]
+pub fn unlock<S: Shard>(shard: MutexGuard<'_, S>, leaver: Leaver<S::Next>) -> usize {
+    let aside = shard.aside();
+    drop(shard);
+    leaver.wake();
+    aside
+}
+
+/// The thread that drops what is set aside in a shard, one value at a time, while the lock is free. Where a value's drop
+/// panics, others may do it from then on.
+pub struct Dropper<'q, S: Shard> {
+    row: &'q Row<S>,
+    place: usize,
+    is_at_it: bool,
+}
+
+impl<'q, S: Shard> Dropper<'q, S> {
+    /// One of the shard at a place, which hasn't begun. Out of range there is nothing to drop.
+    pub fn new(row: &'q Row<S>, place: usize) -> Dropper<'q, S> {
+        Dropper {
+            row,
+            place,
+            is_at_it: false,
+        }
+    }
+
+    /// Takes a value out, and lets the lock go. None where none was left to it.
+    pub fn take_one(&mut self) -> Option<S::Value> {
+        if self.place >= self.row.len() {
+            return None;
+        }
+        let mut shard = self.row.lock(self.place);
+        shard.take_one(&mut self.is_at_it)
+    }
+}
+
+impl<S: Shard> Drop for Dropper<'_, S> {
+    fn drop(&mut self) {
+        if self.is_at_it && self.place < self.row.len() {
+            let mut shard = self.row.lock(self.place);
+            shard.end_dropping(&mut self.is_at_it);
+        }
+    }
+}

@@ -1,0 +1,219 @@
+//! Tasks that receive, in the place of threads.
+
+use hontkhale::delay_queue::{AsyncReceiver, Expired, ManualClock};
+use hontkhale::DelayQueue;
+use std::sync::atomic::{AtomicUsize, Ordering::SeqCst};
+use std::sync::Arc;
+use std::task::{Context, Poll, RawWaker, RawWakerVTable, Wake, Waker};
+use std::thread::{self, Thread};
+use std::time::{Duration, Instant};
+
+/// How often a task was woken.
+#[derive(Default)]
+struct Wakes(AtomicUsize);
+
+impl Wake for Wakes {
+    fn wake(self: Arc<Self>) {
+        self.0.fetch_add(1, SeqCst);
+    }
+}
+
+impl Wakes {
+    fn take(&self) -> usize {
+        self.0.swap(0, SeqCst)
+    }
+}
+
+struct Unparks(Thread);
+
+impl Wake for Unparks {
+    fn wake(self: Arc<Self>) {
+        self.0.unpark();
+    }
+}
+
+fn poll<T>(receiver: &mut AsyncReceiver<T>, wakes: &Arc<Wakes>) -> Poll<Option<T>> {
+    let waker = Waker::from(Arc::clone(wakes));
+    receiver
+        .poll_recv(&mut Context::from_waker(&waker))
+        .map(|out| out.map(|it| it.value))
+}
+
+/// Receives in this thread as a runtime would.
+fn receive<T>(receiver: &mut AsyncReceiver<T>) -> Option<Expired<T>> {
+    let waker = Waker::from(Arc::new(Unparks(thread::current())));
+    loop {
+        if let Poll::Ready(received) = receiver.poll_recv(&mut Context::from_waker(&waker)) {
+            return received;
+        }
+        match receiver.wake_at() {
+            Some(when) => thread::park_timeout(when.saturating_duration_since(Instant::now())),
+            None => thread::park(),
+        }
+    }
+}
+
+const SECOND: Duration = Duration::from_secs(1);
+
+#[test]
+fn a_task_is_woken_by_what_comes_sooner_and_by_nothing_else() {
+    let (clock, wakes) = (ManualClock::new(), Arc::<Wakes>::default());
+    let queue = DelayQueue::builder().clock(&clock).build();
+    let mut receiver = queue.receiver();
+    assert!(poll(&mut receiver, &wakes).is_pending());
+    assert_eq!((receiver.wake_at(), wakes.take()), (None, 0));
+    let first = queue.insert("first", 10 * SECOND).expect("room");
+    assert_eq!(wakes.take(), 1);
+    assert!(poll(&mut receiver, &wakes).is_pending());
+    assert_eq!(receiver.wake_at(), Some(clock.now() + 10 * SECOND));
+    let late = queue.insert("late", 20 * SECOND).expect("room");
+    queue.extend(&first, 30 * SECOND).expect("it waits");
+    assert_eq!(wakes.take(), 0);
+    queue.insert("sooner", 5 * SECOND).expect("room");
+    assert_eq!(wakes.take(), 1);
+    assert!(poll(&mut receiver, &wakes).is_pending());
+    queue.reset(&late, 2 * SECOND).expect("it waits");
+    assert_eq!(wakes.take(), 1);
+    assert!(poll(&mut receiver, &wakes).is_pending());
+    assert_eq!(receiver.wake_at(), Some(clock.now() + 2 * SECOND));
+    let told: Vec<_> = [2, 3, 24]
+        .into_iter()
+        .map(|seconds| {
+            assert!(poll(&mut receiver, &wakes).is_pending());
+            clock.advance(seconds * SECOND - Duration::from_millis(1));
+            wakes.take();
+            assert!(poll(&mut receiver, &wakes).is_pending());
+            clock.advance(Duration::from_millis(1));
+            assert_eq!(wakes.take(), 1);
+            poll(&mut receiver, &wakes)
+        })
+        .collect();
+    // The first was extended to 30 s, of which 29 are over.
+    assert_eq!(told[..2], [Poll::Ready(Some("late")), Poll::Ready(Some("sooner"))]);
+    assert!(told[2].is_pending());
+    clock.advance(SECOND);
+    assert_eq!(poll(&mut receiver, &wakes), Poll::Ready(Some("first")));
+}
+
+#[test]
+fn a_close_ends_a_task_once_nothing_is_due() {
+    let (clock, wakes) = (ManualClock::new(), Arc::<Wakes>::default());
+    let queue = DelayQueue::builder().clock(&clock).build();
+    let (mut one, mut other) = (queue.receiver(), queue.receiver());
+    assert!(poll(&mut one, &wakes).is_pending() && poll(&mut other, &wakes).is_pending());
+    queue.insert("due", Duration::ZERO).expect("room");
+    queue.insert("waits", SECOND).expect("room");
+    assert_eq!(wakes.take(), 2);
+    queue.close();
+    assert_eq!(poll(&mut one, &wakes), Poll::Ready(Some("due")));
+    assert_eq!(
+        (poll(&mut one, &wakes), poll(&mut other, &wakes)),
+        (Poll::Ready(None), Poll::Ready(None))
+    );
+    assert_eq!(queue.len(), 1);
+}
+
+#[test]
+fn a_task_that_nobody_polls_keeps_nothing_from_the_others() {
+    let queue = DelayQueue::new();
+    let (mut idle, wakes) = (queue.receiver(), Arc::<Wakes>::default());
+    assert!(poll(&mut idle, &wakes).is_pending());
+    queue.insert(1, Duration::from_millis(5)).expect("room");
+    assert_eq!(queue.recv().map(|out| out.value), Some(1));
+    queue.insert(2, Duration::from_millis(5)).expect("room");
+    assert_eq!(receive(&mut queue.receiver()).map(|out| out.value), Some(2));
+    drop(idle);
+    queue.insert(3, Duration::ZERO).expect("room");
+    assert_eq!((queue.recv().map(|out| out.value), wakes.take() > 0), (Some(3), true));
+}
+
+#[test]
+fn tasks_and_threads_receive_all_that_others_put_in() {
+    const EACH: u64 = 20_000;
+    let queue = DelayQueue::new();
+    let sums: Vec<u64> = thread::scope(|scope| {
+        let by_task = |_| {
+            let mut receiver = queue.receiver();
+            scope.spawn(move || std::iter::from_fn(|| receive(&mut receiver)).map(|out| out.value).sum())
+        };
+        let mut receivers: Vec<_> = (0..2).map(by_task).collect();
+        receivers.push(scope.spawn(|| queue.iter().map(|out| out.value).sum()));
+        let put_in = |thread: u64| {
+            for at in 0..EACH {
+                queue
+                    .insert(1, Duration::from_micros((at * 7 + thread) % 2_500))
+                    .expect("room");
+            }
+        };
+        let senders: Vec<_> = (0..3).map(|thread| scope.spawn(move || put_in(thread))).collect();
+        senders.into_iter().for_each(|sender| sender.join().expect("it ends"));
+        while !queue.is_empty() {
+            thread::sleep(Duration::from_millis(1));
+        }
+        queue.close();
+        receivers
+            .into_iter()
+            .map(|receiver| receiver.join().expect("it ends"))
+            .collect()
+    });
+    assert_eq!(sums.iter().sum::<u64>(), 3 * EACH);
+}
+
+/// A waker that calls the queue as it is cloned, dropped and called.
+mod calling {
+    use super::*;
+
+    type Queue = DelayQueue<u64>;
+
+    const TABLE: RawWakerVTable = RawWakerVTable::new(clone, wake, wake_by_ref, dropped);
+
+    fn of(data: *const ()) -> Arc<Queue> {
+        // SAFETY: each waker has a count of this.
+        unsafe { Arc::from_raw(data.cast()) }
+    }
+
+    fn calls(queue: &Queue) {
+        let key = queue.insert(7, SECOND).expect("room");
+        assert!(queue.remove(&key).is_ok() && queue.next_deadline().is_some());
+    }
+
+    fn clone(data: *const ()) -> RawWaker {
+        let queue = of(data);
+        calls(&queue);
+        let _ = Arc::into_raw(Arc::clone(&queue));
+        RawWaker::new(Arc::into_raw(queue).cast(), &TABLE)
+    }
+
+    fn wake(data: *const ()) {
+        calls(&of(data));
+    }
+
+    fn wake_by_ref(data: *const ()) {
+        let queue = of(data);
+        calls(&queue);
+        let _ = Arc::into_raw(queue);
+    }
+
+    fn dropped(data: *const ()) {
+        calls(&of(data));
+    }
+
+    pub fn waker(queue: &Queue) -> Waker {
+        let data = Arc::into_raw(Arc::new(queue.clone()));
+        // SAFETY: the table's functions take what `into_raw` gave, each once.
+        unsafe { Waker::from_raw(RawWaker::new(data.cast(), &TABLE)) }
+    }
+}
+
+#[test]
+fn a_tasks_waker_calls_the_queue() {
+    let queue = DelayQueue::new();
+    queue.insert(1, 60 * SECOND).expect("room");
+    let mut receiver = queue.receiver();
+    for waker in [calling::waker(&queue), calling::waker(&queue)] {
+        assert!(receiver.poll_recv(&mut Context::from_waker(&waker)).is_pending());
+    }
+    queue.insert(2, Duration::ZERO).expect("room");
+    drop(receiver);
+    assert_eq!(queue.len(), 2);
+}

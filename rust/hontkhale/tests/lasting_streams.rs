@@ -1,0 +1,104 @@
+//! The streams of a lasting queue: each touches its own place alone, and does nothing there but poll.
+
+// The tests ask for a newer Rust than the crate, and an error is shown without the value that came back.
+#![allow(clippy::incompatible_msrv, clippy::ok_expect)]
+
+use hontkhale::lasting::{LastingConfig, LastingQueue, LastingStream, ParkedPoller, PlaceState};
+use hontkhale::owner::Expired;
+use hontkhale::streams::{StreamFault, TickSource};
+use std::cell::Cell;
+use std::num::NonZeroU32;
+use std::task::{Context, Poll, Waker};
+
+const PLACES: usize = 6;
+
+struct Told<'a>(&'a Cell<u64>);
+
+impl TickSource for Told<'_> {
+    fn now(&mut self) -> u64 {
+        self.0.get()
+    }
+}
+
+/// At each place entries at ticks 10 and 100, and a cancelled one at 50.
+fn queue() -> LastingQueue<u64> {
+    let queue = LastingQueue::new(LastingConfig::of(PLACES, 8)).expect("a queue");
+    let mut handle = queue.handle().expect("a handle");
+    for place in 0..PLACES {
+        for when in [10, 50, 100] {
+            let key = queue.insert_or_drop(place as u64, when, when).expect("room");
+            if when == 50 {
+                assert_eq!(handle.cancel(&key), Ok(50));
+            }
+        }
+    }
+    handle.give_back();
+    queue
+}
+
+type Item = Poll<Option<Result<Expired<u64>, StreamFault>>>;
+
+fn deadline(item: Item) -> Option<u64> {
+    match item {
+        Poll::Ready(Some(Ok(expired))) => Some(expired.deadline),
+        Poll::Pending => None,
+        _ => panic!("a stream never ends"),
+    }
+}
+
+/// What every place is, and until when its poller waits.
+fn seen(queue: &LastingQueue<u64>) -> Vec<(PlaceState, ParkedPoller)> {
+    let parked = (0..PLACES).map(|place| queue.parked(place).expect("a place"));
+    queue.states().expect("memory").into_iter().zip(parked).collect()
+}
+
+/// Tasks wait at all places. Then a stream of one of them is polled on.
+fn plays(place: usize, next: &mut dyn FnMut(&LastingQueue<u64>, u64) -> Option<u64>) {
+    let queue = queue();
+    let mut cx = Context::from_waker(Waker::noop());
+    for other in 0..PLACES {
+        let tick = Cell::new(0);
+        let mut stream = LastingStream::new(&queue, other, Told(&tick)).ok().expect("a stream");
+        assert_eq!(deadline(stream.poll_next(&mut cx)), None);
+    }
+    let before = seen(&queue);
+    for (tick, answer, linked) in [
+        (20, Some(10), 2),
+        (20, None, 2),
+        (99, None, 1),
+        (100, Some(100), 0),
+        (100, None, 0),
+    ] {
+        assert_eq!(next(&queue, tick), answer, "at tick {tick}");
+        let now = seen(&queue);
+        assert_eq!(now[place].0.linked, linked, "at tick {tick}");
+        for other in (0..PLACES).filter(|other| *other != place) {
+            assert_eq!(now[other], before[other], "place {other} of a stream of {place}");
+        }
+    }
+}
+
+// promise: lasting.six-places
+#[test]
+fn a_stream_leaves_the_other_places() {
+    for place in 0..PLACES {
+        plays(place, &mut |queue, tick| {
+            let tick = Cell::new(tick);
+            let mut stream = LastingStream::new(queue, place, Told(&tick)).ok().expect("a stream");
+            deadline(stream.poll_next(&mut Context::from_waker(Waker::noop())))
+        });
+    }
+}
+
+// promise: lasting.six-places
+#[test]
+fn a_paced_stream_leaves_the_other_places() {
+    for place in 0..PLACES {
+        plays(place, &mut |queue, tick| {
+            let tick = Cell::new(tick);
+            let stream = LastingStream::new(queue, place, Told(&tick)).ok().expect("a stream");
+            let mut stream = stream.paced(NonZeroU32::new(100).expect("some steps"));
+            deadline(stream.poll_next(&mut Context::from_waker(Waker::noop())))
+        });
+    }
+}
