@@ -79,6 +79,11 @@ use waking::NEVER;
 /// holds one drop at a time. A drop that panics passes through the call that made it; no entry but the
 /// dropped one is lost, though a value that was handed to [`insert`](DelayQueue::insert) is dropped with the call.
 ///
+/// # A suspended machine, and `fork`
+/// The clock is [`Instant`], which stands while Linux is suspended (`CLOCK_MONOTONIC`, and not `CLOCK_BOOTTIME`): what is due
+/// meanwhile comes out that much later. A child of `fork` may not use a queue that was made before it: a lock that another
+/// thread held at that moment stays held there, and a call hangs. `exec` is fine.
+///
 /// # The end
 /// [`close`](DelayQueue::close) ends the receivers. The queue is dropped with its last clone; a [`Handle`] says
 /// [`Closed`](KeyError::Closed) then.
