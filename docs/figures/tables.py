@@ -277,6 +277,12 @@ def adapter_stack():
                 ([name, f"{peer:,}", f"{here:,}", f"{here / peer:.1f}"] for name, peer, here in sorted(found, key=lambda it: (-it[2] / it[1], -it[2]))))
 
 
+def adapter_soak():
+    """What a soak of the adapter did."""
+    heads = ["Seconds", "Values made, each dropped once", "Entries that came out", "Calls of tasks and threads"]
+    return grid(heads, ([f"{int(it):,}" for it in figures] for figures in rows_of("adapter-soak")), 0)
+
+
 def adapter_memory():
     """What a compact of the adapter and of its peer makes of a million entries, the longest beside the peer's first."""
     found = {(it[2], it[3]): [int(figure) for figure in it[4:]] for it in rows_of("adapter-room") if it[:2] == ["compact", "release"]}
@@ -379,7 +385,7 @@ def lasts(*sizes):
                 ([f"{capacity:,}", shards, *(told(capacity * shards * stamps / it) for it in RATES)] for capacity, shards in shapes), 0)
 
 
-TABLES = (adapter, adapter_memory, adapter_stack, ahead, beside, beside_delay_queue, edit, evidence, fair, gate, headline, instructions, lasts, life_standing, longest,
+TABLES = (adapter, adapter_memory, adapter_soak, adapter_stack, ahead, beside, beside_delay_queue, edit, evidence, fair, gate, headline, instructions, lasts, life_standing, longest,
           pieces, renewing, shard_standing, shared_speed, sizes, speed, standing)
 
 

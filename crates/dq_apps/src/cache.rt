@@ -61,13 +61,15 @@ impl<K: Eq + Hash, V, A: Allocator, S: BuildHasher> Model for TtlCache<K, V, A, 
 }
 
 impl<K: Eq + Hash + Drop, V: Drop, A: Allocator + Clone> TtlCache<K, V, A> {
-    /// A cache for so many keys where nothing is kept, at moment 0. Time and memory as the capacity; the map takes
-    /// its own later, as puts fill it.
+    /// Makes an empty cache that keeps at most `capacity` keys, at moment 0. Each slot has `last_stamp` stamps, one
+    /// for each put and each renewal. Most programs take [`TtlCache::with_capacity`].
     ///
+    /// It takes time and memory in proportion to `capacity`. The map takes memory of its own later, as puts fill it.
     /// The map's hasher is std's, which is seeded; [`TtlCache::with_hasher`] takes another.
     ///
     /// # Errors
-    /// BadConfig where the capacity isn't 1 to 65536 or the last stamp isn't 1 to 1048575, and else NoMemory.
+    /// - `BadConfig` if `capacity` isn't 1 to 65,536, or `last_stamp` isn't 1 to 1,048,575.
+    /// - `NoMemory` if memory is refused.
     pub fn new(alloc: A, capacity: usize, last_stamp: u32) -> Result<TtlCache<K, V, A>, CoreError>
         ensures makes { MakesCache capacity last_stamp result }
         ensures empty { IfOk result (ShowsNothing K.eq) }
@@ -75,10 +77,15 @@ impl<K: Eq + Hash + Drop, V: Drop, A: Allocator + Clone> TtlCache<K, V, A> {
         TtlCache::made(alloc, capacity, last_stamp, BuildHasherDefault::new())
     }
 
-    /// As [`TtlCache::new`], with as many stamps a slot as there are.
+    /// Makes an empty cache that keeps at most `capacity` keys, at moment 0. Each slot has 1,048,575 stamps, the most
+    /// that it can have.
+    ///
+    /// It takes time and memory in proportion to `capacity`. The map takes memory of its own later, as puts fill it.
+    /// The map's hasher is std's, which is seeded; [`TtlCache::with_hasher`] takes another.
     ///
     /// # Errors
-    /// BadConfig where the capacity isn't 1 to 65536, and else NoMemory.
+    /// - `BadConfig` if `capacity` isn't 1 to 65,536.
+    /// - `NoMemory` if memory is refused.
     pub fn with_capacity(alloc: A, capacity: usize) -> Result<TtlCache<K, V, A>, CoreError>
         ensures makes { MakesCache capacity LAST_STAMP result }
         ensures empty { IfOk result (ShowsNothing K.eq) }
@@ -94,10 +101,23 @@ where
     A: Allocator + Clone,
     S: BuildHasher + Drop,
 {
-    /// As [`TtlCache::with_capacity`], with a hasher of the caller's.
+    /// Makes an empty cache that keeps at most `capacity` keys, at moment 0, and hashes them with `hasher`. Each slot
+    /// has 1,048,575 stamps, the most that it can have.
+    ///
+    /// It takes time and memory in proportion to `capacity`. The map takes memory of its own later, as puts fill it.
     ///
     /// # Errors
-    /// BadConfig where the capacity isn't 1 to 65536, and else NoMemory.
+    /// - `BadConfig` if `capacity` isn't 1 to 65,536.
+    /// - `NoMemory` if memory is refused.
+    ///
+    /// ```
+    /// use hontkhale::cache::TtlCache;
+    /// use std::collections::hash_map::RandomState;
+    ///
+    /// let mut cache = TtlCache::with_hasher(100, RandomState::new()).unwrap();
+    /// cache.set("key", 1, 500, 1_000).unwrap();
+    /// assert_eq!(cache.get(&"key", 1_499), Some(&1));
+    /// ```
     pub fn with_hasher(
         alloc: A,
         capacity: usize,
@@ -179,7 +199,8 @@ impl<K: Eq + Hash + Drop, V: Drop, A: Allocator, S: BuildHasher> TtlCache<K, V, 
         self.timers.worn()
     }
 
-    /// The value at a key, where its deadline is later than `now` and than the moment. Constant time.
+    /// Returns the value at `key` if its deadline is later than `now`, a tick of one millisecond, and later than the
+    /// cache's moment. Constant time.
     pub fn get(&self, key: &K, now: u64) -> Option<&V>
         ensures { option_copied result ≡ value_seen K.eq self.now key.now now }
     {
@@ -193,7 +214,7 @@ impl<K: Eq + Hash + Drop, V: Drop, A: Allocator, S: BuildHasher> TtlCache<K, V, 
         }
     }
 
-    /// Whether a value is seen at a key. Constant time.
+    /// Whether a value is seen at `key` at `now`, a tick of one millisecond. Constant time.
     pub fn contains(&self, key: &K, now: u64) -> bool
         ensures { result ≡ is_some (value_seen K.eq self.now key.now now) }
     {

@@ -12,21 +12,29 @@ use dq_ticks::LAST_TICK;
 use std::alloc::Allocator;
 use std::hash::{BuildHasher, Hash};
 
-/// What a put answers: the value that was seen at its key before; or why it is refused, with key and value.
+/// What a put returns: the value that was seen at its key before; or why it is refused, with key and value.
 pub type PutAnswer<K, V> = Result<Option<V>, (CoreError, K, V)>;
 
 impl<K: Eq + Hash + Drop, V: Drop, A: Allocator, S: BuildHasher> TtlCache<K, V, A, S> {
-    /// Puts a value at a key until `now + ttl`, or the moment's where that is later: the moment is set, and what is
-    /// due then is dropped. A key that is kept keeps its slot, and its old value is handed back. Constant time, but
-    /// for what is dropped and for a growth of the map.
+    /// Puts `value` at `key` until `now + ttl`, and returns the value that was seen there before. `ttl` and `now` are
+    /// ticks of one millisecond. If `now` is before the cache's moment, the moment is taken instead; else `now`
+    /// becomes the moment. What is due at that moment is dropped first. [`TtlCache::set`] does the same, and goes on
+    /// if a slot has no stamp left.
     ///
-    /// Refused as TickTooLarge for a `now` beyond the last tick and as TooFar for a deadline beyond it, and then
-    /// nothing changes; and, when the moment is set and what is due is dropped, as Worn for a key that is kept and
-    /// whose slot has no stamp left, as Full for one that isn't and for which no slot is free, and as NoMemory. Key
-    /// and value come back.
+    /// It takes constant time, except to drop what is due and to grow the map. It takes memory only to grow the map.
     ///
-    /// In Rust a key's hash, comparison or clone may panic here. The put is lost then, and what was kept goes on until
-    /// its deadline; but where the map moves its keys, std's map may lose some, which are dropped with their values.
+    /// # Errors
+    /// `key` and `value` come back. In this order:
+    /// - `TickTooLarge` if `now` is beyond the last tick. Nothing changes then.
+    /// - `TooFar` if the deadline is beyond the last tick. Nothing changes then.
+    /// - `Worn` if the key is kept, and its slot has no stamp left.
+    /// - `Full` if the key isn't kept, and no slot is free.
+    /// - `NoMemory` if the map is refused its memory.
+    ///
+    /// # Panics
+    /// In Rust a key's hash, comparison or clone may panic here. The put is lost then, and what was kept goes on
+    /// until its deadline. If the map moves its keys at that moment, std's map may lose some, which are dropped with
+    /// their values.
     pub fn put(&mut self, key: K, value: V, ttl: u64, now: u64) -> PutAnswer<K, V>
     where
         K: Clone,
@@ -63,7 +71,8 @@ impl<K: Eq + Hash + Drop, V: Drop, A: Allocator, S: BuildHasher> TtlCache<K, V, 
         }
     }
 
-    /// Takes out the value at a key that is seen at `now`. The moment stays. Constant time.
+    /// Takes out the value that is seen at `key` at `now`, a tick of one millisecond, and returns it. It returns none
+    /// if none is seen. The moment stays. Constant time.
     pub fn take(&mut self, key: &K, now: u64) -> Option<V>
         ensures takes { Takes K.eq self.old key.now (moment_at self.old now) result self.new }
 
@@ -89,11 +98,17 @@ impl<K: Eq + Hash + Drop, V: Drop, A: Allocator, S: BuildHasher> TtlCache<K, V, 
         Some(kept.value)
     }
 
-    /// Gives a key that is seen at `now` the deadline `now + ttl`, or the moment's where that is later, and answers
-    /// it; the moment is set. Constant time.
+    /// Gives the key that is seen at `now` the deadline `now + ttl`, sooner or later than the one that it has, and
+    /// returns the new deadline. `ttl` and `now` are ticks of one millisecond. If `now` is before the cache's moment,
+    /// the moment is taken instead; else `now` becomes the moment. [`TtlCache::touch`] does the same, and goes on if
+    /// the slot has no stamp left. Constant time.
     ///
-    /// Refused, and then nothing changes, as TickTooLarge for a `now` beyond the last tick, as TooFar for a deadline
-    /// beyond it, as Missing where the key isn't seen, and as Worn where its slot has no stamp left.
+    /// # Errors
+    /// Nothing changes then. In this order:
+    /// - `TickTooLarge` if `now` is beyond the last tick.
+    /// - `TooFar` if the new deadline is beyond the last tick.
+    /// - `Missing` if the key isn't seen.
+    /// - `Worn` if the key's slot has no stamp left.
     pub fn renew(&mut self, key: &K, ttl: u64, now: u64) -> Result<u64, CoreError>
         ensures renews { Renews K.eq self.old key.now ttl now result self.new }
 
@@ -127,11 +142,16 @@ impl<K: Eq + Hash + Drop, V: Drop, A: Allocator, S: BuildHasher> TtlCache<K, V, 
         Ok(when)
     }
 
-    /// Sets the moment, drops all that is due then, and answers how much. Time as what is dropped. Refused as
-    /// TickTooLarge beyond the last tick, and then nothing changes.
+    /// Drops what is due at `now`, a tick of one millisecond, and returns how many keys these were. If `now` is
+    /// before the cache's moment, the moment is taken instead; else `now` becomes the moment. It takes time in
+    /// proportion to what it drops.
     ///
-    /// In Rust a key's hash or comparison may panic here. The pair whose key it was is dropped then, and what else is
-    /// due is left for a later call.
+    /// # Errors
+    /// `TickTooLarge` if `now` is beyond the last tick. Nothing changes then.
+    ///
+    /// # Panics
+    /// In Rust a key's hash or comparison may panic here. The pair of that key is dropped then, and what else is due
+    /// is left for a later call.
     pub fn purge(&mut self, now: u64) -> Result<usize, CoreError>
         ensures purges { Purges self.old now result self.new }
 
@@ -149,12 +169,16 @@ impl<K: Eq + Hash + Drop, V: Drop, A: Allocator, S: BuildHasher> TtlCache<K, V, 
         Ok(self.drop_due())
     }
 
-    /// Sets the moment and takes out one key with its value that is due then, and none where nothing is due. So
-    /// whoever calls it until none comes gets each pair that a purge would drop. Time as a poll of the queue of
-    /// deadlines. Where a key's hash or comparison panics here, in Rust, its pair is dropped.
+    /// Takes out one key that is due at `now`, a tick of one millisecond, and returns it with its value. It returns
+    /// none if nothing is due. So whoever calls it until none comes gets each pair that a purge would drop. If `now`
+    /// is before the cache's moment, the moment is taken instead; else `now` becomes the moment. It takes as long as
+    /// one poll of a delay queue.
     ///
     /// # Errors
-    /// TickTooLarge beyond the last tick, and then nothing changes.
+    /// `TickTooLarge` if `now` is beyond the last tick. Nothing changes then.
+    ///
+    /// # Panics
+    /// In Rust a key's hash or comparison may panic here. The pair of that key is dropped then.
     pub fn take_expired(&mut self, now: u64) -> Result<Option<(K, V)>, CoreError>
         ensures takes { TakesExpired self.old now result self.new }
 

@@ -76,7 +76,7 @@ impl<K: Eq + Hash, V, A: Allocator, S: BuildHasher> CountedCache<K, V, A, S> {
 }
 
 impl<K: Eq + Hash + Drop, V: Drop, A: Allocator, S: BuildHasher> CountedCache<K, V, A, S> {
-    /// Whether a value is seen at a key, as [`TtlCache::contains`], counted.
+    /// Whether a value is seen at `key` at `now`, a tick of one millisecond; the look-up is counted. Constant time.
     pub fn sees(&mut self, key: &K, now: u64) -> bool
         ensures seen { result ≡ is_some (value_seen K.eq self.old.cache key.now now) }
         ensures counts { CountsOne result self.old.hits self.old.misses self.new.hits
@@ -88,10 +88,20 @@ impl<K: Eq + Hash + Drop, V: Drop, A: Allocator, S: BuildHasher> CountedCache<K,
         hit
     }
 
-    /// As [`TtlCache::get_or_insert_with`], counted: as a hit exactly where `make` isn't called.
+    /// Returns a copy of the value that is seen at `key`, and counts a hit. If none is seen, counts a miss, calls
+    /// `make`, puts a copy of what it made at `key` until `now + ttl`, and returns what it made. `ttl` and `now` are
+    /// ticks of one millisecond.
+    ///
+    /// It takes constant time, except for `make` and the copy, to drop what is due, to grow the map and to refresh
+    /// the cache. The last two take memory.
     ///
     /// # Errors
-    /// As [`TtlCache::get_or_insert_with`]; it is counted then too.
+    /// The look-up is counted, and with each comes what `make` made, if it was called. In this order:
+    /// - `TickTooLarge` if `now` is beyond the last tick.
+    /// - `TooFar` if the deadline is beyond the last tick.
+    /// - `Full` if as many keys are kept as the capacity.
+    /// - `NoMemory` if the map, a refresh or a copy is refused its memory.
+    /// - `Worn`, or `Full` with worn slots, only if the cache was made with a last stamp of 1.
     pub fn get_or_insert_with<F>(&mut self, key: K, ttl: u64, now: u64, make: F) -> MemoAnswer<V>
     where
         F: FnOnce() -> V + Drop,

@@ -54,8 +54,15 @@ impl<A: Allocator> Model for IdleSessions<A> {
 }
 
 impl<A: Allocator + Clone + Drop> IdleSessions<A> {
-    /// No sessions, of which each may be idle for so many ticks. Refused as BadConfig where a number of the
-    /// configuration is out of its range, and else as NoMemory.
+    /// Makes a table of sessions that is empty at tick 0. Each session may be idle for `idle` ticks of one
+    /// millisecond.
+    ///
+    /// It takes time and memory in proportion to the slots of all shards. Later only `login` takes memory, for the
+    /// name, and `handle`.
+    ///
+    /// # Errors
+    /// - `BadConfig` if a number of `config` is out of its range.
+    /// - `NoMemory` if memory is refused.
     pub fn new(alloc: A, config: QueueConfig, idle: u64) -> Result<IdleSessions<A>, QueueError>
         ensures { SessionsAreMade config idle result }
     {
@@ -68,11 +75,17 @@ impl<A: Allocator + Clone + Drop> IdleSessions<A> {
         }
     }
 
-    /// Begins a session at `now` in the shard `route` modulo the number of shards, and answers its key. It takes the
-    /// shard's lock, and memory for a copy of the name. Constant time, but for the copy.
+    /// Begins a session at `now`, a tick of one millisecond, and returns its key. The session ends at `now` and the
+    /// idle time, unless it is touched before. It goes to the shard `route` modulo the number of shards: spread the
+    /// routes evenly.
     ///
-    /// Refused, with nothing inserted, as TooFar where its deadline lies beyond the last tick, as NoMemory, and as
-    /// Full.
+    /// It takes the lock of that shard for constant time, and memory for a copy of `name`.
+    ///
+    /// # Errors
+    /// No session begins then. In this order:
+    /// - `TooFar` if the deadline is beyond the last tick.
+    /// - `NoMemory` if the copy of the name is refused its memory.
+    /// - `Full` if the shard has no free slot.
     pub fn login<R: Wait>(
         &self,
         rt: &R,
@@ -98,7 +111,15 @@ impl<A: Allocator + Clone + Drop> IdleSessions<A> {
         self.queue.insert_or_drop(rt, route, name, deadline)
     }
 
-    /// As [`SharedDelayQueue::handle`].
+    /// Makes a handle, by which one thread at a time touches sessions and logs them out without a lock. It has a
+    /// caller of each shard, so a queue makes at most 1,024 handles in all, given back or not.
+    ///
+    /// It takes the lock of each shard in turn, and memory for the callers.
+    ///
+    /// # Errors
+    /// The callers that were made before the refusal are given back, but stay counted. In this order:
+    /// - `NoMemory` if there is no room for the callers.
+    /// - `TooManyHandles` if a shard has made 1,024 callers; `NoMemory` if one is refused its memory.
     pub fn handle<R: Wait>(&self, rt: &R) -> Result<Handle<A>, QueueError>
         ensures { QueueHandles Text self.now.shards result }
     {
@@ -137,11 +158,30 @@ impl<A: Allocator> IdleSessions<A> {
         now.saturating_add(self.idle)
     }
 
-    /// Keeps a session for its idle time from `now` on, and answers the deadline that is then in force: this one, or
-    /// a later one that it had. As [`Handle::extend`]: one load, one atomic step, no lock and no memory.
+    /// Keeps a session alive: raises its deadline to `now` and the idle time, and returns the deadline that is then
+    /// in force. That is this deadline, or a later one that the session had. `now` is a tick of one millisecond.
+    /// `handle` is one that these sessions made.
     ///
-    /// Refused as TooFar where the deadline lies beyond the last tick, as Unknown, as Stale, and as Ended where the
-    /// session ended or was logged out.
+    /// It takes constant time, no lock and no memory.
+    ///
+    /// # Errors
+    /// In this order:
+    /// - `TooFar` if the deadline is beyond the last tick.
+    /// - `Unknown` if no slot has the key.
+    /// - `Stale` if the slot has had a later session, or the session a later key.
+    /// - `Ended` if the session expired or was logged out; it says how.
+    ///
+    /// ```
+    /// use hontkhale::sessions::IdleSessions;
+    /// use hontkhale::shards::QueueConfig;
+    ///
+    /// let sessions = IdleSessions::new(QueueConfig::of(1, 100), 30_000)?;
+    /// let mut handle = sessions.handle()?;
+    /// let key = sessions.login(0, "alice", 0)?;
+    /// assert_eq!(sessions.touch(&mut handle, &key, 20_000), Ok(50_000));
+    /// assert_eq!(sessions.touch(&mut handle, &key, 10_000), Ok(50_000));
+    /// # Ok::<(), hontkhale::shards::QueueError>(())
+    /// ```
     pub fn touch(&self, handle: &mut Handle<A>, key: &Key, now: u64) -> Result<u64, CallError>
         // It is kept for the idle time at least. It is too far exactly beyond the last tick.
         ensures kept { IfOk result (λ d. (deadline_from self.now now ≤ d) × (d ≤ LAST_TICK)) }
@@ -155,8 +195,29 @@ impl<A: Allocator> IdleSessions<A> {
         handle.extend(key, self.deadline_from(now))
     }
 
-    /// Ends a session, and answers the deadline that it gave up. As [`Handle::cancel`]: one load, one atomic step, no
-    /// lock and no memory. Its name is dropped by a later poll. Refused as `touch` is, but never as TooFar.
+    /// Ends a session, and returns the deadline that it gave up, a tick of one millisecond. The session won't come
+    /// out of [`IdleSessions::next_idle`]. A later poll of its shard frees its slot and drops its name. `handle` is
+    /// one that these sessions made.
+    ///
+    /// It takes constant time, no lock and no memory.
+    ///
+    /// # Errors
+    /// In this order:
+    /// - `Unknown` if no slot has the key.
+    /// - `Stale` if the slot has had a later session, or the session a later key.
+    /// - `Ended` if the session expired or was logged out; it says how.
+    ///
+    /// ```
+    /// use hontkhale::sessions::IdleSessions;
+    /// use hontkhale::shards::QueueConfig;
+    ///
+    /// let sessions = IdleSessions::new(QueueConfig::of(1, 100), 30_000)?;
+    /// let mut handle = sessions.handle()?;
+    /// let key = sessions.login(0, "alice", 0)?;
+    /// assert_eq!(sessions.logout(&mut handle, &key), Ok(30_000));
+    /// assert!(sessions.logout(&mut handle, &key).is_err());
+    /// # Ok::<(), hontkhale::shards::QueueError>(())
+    /// ```
     pub fn logout(&self, handle: &mut Handle<A>, key: &Key) -> Result<u64, CallError>
         ensures logs_out { HandleCancels handle.old key.now result handle.new }
     {
@@ -165,10 +226,32 @@ impl<A: Allocator> IdleSessions<A> {
 }
 
 impl<A: Allocator + Drop> IdleSessions<A> {
-    /// A session of a shard that was idle for long enough at `now`, with its name; or the tick to wait for; or Idle,
-    /// where the shard has no session. As [`SharedDelayQueue::poll`], under the shard's lock.
+    /// Takes a session out of `shard` that was idle for long enough at `now`, a tick of one millisecond. Call it
+    /// until it returns something else than `Out`:
+    /// - `Out` has the session's key, its deadline and its name.
+    /// - `Waiting` if no session has ended: the shard has nothing to do before the tick `next`.
+    /// - `Idle` if the shard has no session.
     ///
-    /// Refused as Unknown for a shard out of range, and as TickTooLarge beyond the last tick.
+    /// It takes the shard's lock, and no memory. A call takes constant time for each session that it moves down the
+    /// wheel or frees. A session moves at most five times after it began or was touched.
+    ///
+    /// # Errors
+    /// In this order:
+    /// - `Unknown` if there is no such shard.
+    /// - `TickTooLarge` if `now` is beyond the last tick.
+    ///
+    /// ```
+    /// use hontkhale::owner::Turn;
+    /// use hontkhale::sessions::IdleSessions;
+    /// use hontkhale::shards::QueueConfig;
+    ///
+    /// let sessions = IdleSessions::new(QueueConfig::of(1, 100), 30_000)?;
+    /// sessions.login(0, "alice", 0)?;
+    /// while let Turn::Out(ended) = sessions.next_idle(0, 30_000)? {
+    ///     assert_eq!(ended.value.text(), "alice");
+    /// }
+    /// # Ok::<(), hontkhale::shards::QueueError>(())
+    /// ```
     pub fn next_idle<R: Wait>(
         &self,
         rt: &R,

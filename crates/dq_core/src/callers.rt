@@ -10,7 +10,7 @@ use std::alloc::Allocator;
 impl<T, W: SharedWords, A: Allocator> DelayCore<T, W, A> {
     ghost use Rattle.dq_core.specs.Readers.{with_words};
 
-    /// Issues a caller of the words.
+    /// Makes one caller of the words, which may go to any thread. It takes memory for the caller.
     pub fn issue(&mut self) -> Result<W::Caller, W::Fault>
         ensures issued { W.issues self.old.words result self.new.words }
         ensures same { self.new ≡ with_words self.old self.new.words }
@@ -20,7 +20,7 @@ impl<T, W: SharedWords, A: Allocator> DelayCore<T, W, A> {
         self.words.issue()
     }
 
-    /// The issued callers that are not given back.
+    /// Returns the number of callers that were made and not given back.
     pub fn out(&mut self) -> u64
         ensures told { W.tells self.old.words result self.new.words }
         ensures same { self.new ≡ with_words self.old self.new.words }

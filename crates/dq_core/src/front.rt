@@ -49,11 +49,13 @@ impl<T, A: Allocator + Clone + Drop> DelayCore<T, VecWords<A>, A> {
     ghost use Rattle.dq_core.specs.Words.{AreFresh};
     ghost use Rattle.dq_core.specs.Calls.{NewRefused};
 
-    /// A queue of one owner for that many entries, over plain words, at tick 0 with nothing linked. All of its memory
-    /// is taken here.
+    /// Makes a queue of one owner for `capacity` entries, at tick 0, with nothing in it. Its entries are extended and
+    /// cancelled by the owner alone. It takes time and memory in proportion to `capacity`. No later call takes
+    /// memory.
     ///
     /// # Errors
-    /// BadConfig where the capacity isn't 1 to [`CAPACITY_LIMIT`], and else NoMemory.
+    /// - `BadConfig` if `capacity` isn't 1 to [`CAPACITY_LIMIT`].
+    /// - `NoMemory` if memory is refused.
     pub fn with_capacity(
         alloc: A,
         capacity: usize,

@@ -31,10 +31,15 @@ impl<T, A: Allocator> DelayCore<T, VecWords<A>, A> {
         key.entry().shard() == self.shard
     }
 
-    /// Raises the deadline of a live entry to `when`, a tick of one millisecond, and answers the deadline that is
-    /// then in force: `when`, or a later one that it had. Refused as TooFar beyond the last tick, as Unknown where
-    /// the key is of another shard or names no stamp that its slot was given, as Stale where the slot has a later
-    /// stamp, as Ended where the entry isn't live.
+    /// Raises the deadline of a live entry to `when`, a tick of one millisecond, and returns the deadline that is
+    /// then in force: `when`, or a later one that the entry had. No deadline gets sooner by it. Constant time.
+    ///
+    /// # Errors
+    /// In this order:
+    /// - `TooFar` if `when` is beyond the last tick, 2^42 - 1.
+    /// - `Unknown` if the key is of another shard, or no slot has it.
+    /// - `Stale` if the slot has a later stamp: the entry was reset, or the slot has another entry.
+    /// - `Ended` if the entry came out, was removed or was cancelled. It tells which.
     pub fn extend(&mut self, key: &Key, when: u64) -> Result<u64, CallError>
         // The entry is live until the deadline that is told: `when`, or a later one that it had.
         ensures live { IfOk result (λ d. IsKeyLive self.new key.now d) }
@@ -59,8 +64,15 @@ impl<T, A: Allocator> DelayCore<T, VecWords<A>, A> {
         self.words.extend(key, when)
     }
 
-    /// Cancels a live entry, which stays linked until it is reaped, and answers the deadline that it gives up.
-    /// Refused as `extend` is, but never as TooFar.
+    /// Cancels a live entry, so that it won't come out, and returns the deadline that it gave up, a tick of one
+    /// millisecond. The entry keeps its slot and its value until it is freed: by a poll at which it would have been
+    /// due, a sweep, a reap or a clear. Constant time.
+    ///
+    /// # Errors
+    /// In this order:
+    /// - `Unknown` if the key is of another shard, or no slot has it.
+    /// - `Stale` if the slot has a later stamp: the entry was reset, or the slot has another entry.
+    /// - `Ended` if the entry came out, was removed or was cancelled. It tells which.
     pub fn cancel(&mut self, key: &Key) -> Result<u64, CallError>
         // The entry was live until the deadline that is told, and is cancelled.
         ensures was_live { IfOk result (λ d. IsKeyLive self.old key.now d) }
@@ -80,8 +92,12 @@ impl<T, A: Allocator> DelayCore<T, VecWords<A>, A> {
         self.words.cancel(key)
     }
 
-    /// What the word that a key names shows: that the entry is live, or how it ended. Refused as Unknown or as Stale,
-    /// as `extend` is.
+    /// Returns what the entry of `key` is: live, with its deadline, or how it ended. Constant time.
+    ///
+    /// # Errors
+    /// In this order:
+    /// - `Unknown` if the key is of another shard, or no slot has it.
+    /// - `Stale` if the slot has a later stamp: the entry was reset, or the slot has another entry.
     pub fn look(&self, key: &Key) -> Result<Look, CallError>
         // A live entry is shown with its deadline in force, and a cancelled one as cancelled.
         ensures live { (d : ℕ) → IsOkAnd result (λ look. look ≡ StillLive d)

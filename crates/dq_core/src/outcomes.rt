@@ -18,7 +18,7 @@ pub struct Expired<T> {
     pub ghost reached: { deadline ≤ noted },
 }
 
-/// What a sweep of some slots answers.
+/// What a sweep of some slots returns.
 #[derive(Clone, Copy, Debug, PartialEq, Eq)]
 pub struct Swept {
     /// How many cancelled entries it reaped.
@@ -38,7 +38,7 @@ pub struct Removed<T> {
     pub value: T,
 }
 
-/// What a poll answers.
+/// What a poll returns.
 #[derive(Debug, Drop)]
 pub enum Turn<T> {
     /// An entry whose deadline in force is reached.
@@ -52,7 +52,7 @@ pub enum Turn<T> {
     Idle,
 }
 
-/// What a poll in pieces answers.
+/// What a poll in pieces returns.
 #[derive(Debug, Drop)]
 pub enum Piece<T> {
     /// The answer of the poll.

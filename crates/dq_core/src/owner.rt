@@ -25,13 +25,13 @@ use dq_ticks::{EntryId, Key, LAST_TICK};
 use std::alloc::Allocator;
 
 impl<T, W: Words, A: Allocator> DelayCore<T, W, A> {
-    /// How many values were let go and wait for their drop. Constant time.
+    /// Returns how many freed values wait for their drop. Constant time.
     #[inline(always)]
     pub fn aside(&self) -> usize {
         self.slots.aside()
     }
 
-    /// Takes out a value that was let go and waits for its drop; none where none does. Constant time.
+    /// Takes out a freed value that waits for its drop. It returns none if no value waits. Constant time.
     ///
     /// ```ignore
     /// for _ in 0..queue.aside() {
@@ -55,8 +55,8 @@ impl<T, W: Words, A: Allocator> DelayCore<T, W, A> {
 }
 
 impl<T: Drop, W: Words, A: Allocator> DelayCore<T, W, A> {
-    /// Drops the values that were let go and wait for their drop. Where a drop panics the others wait for the next
-    /// call that drops.
+    /// Drops the freed values that wait for their drop. If a drop panics, the others wait for the next call that
+    /// drops.
     #[inline]
     pub fn drop_aside(&mut self)
         ensures { self.new ≡ self.old }
@@ -66,9 +66,22 @@ impl<T: Drop, W: Words, A: Allocator> DelayCore<T, W, A> {
         }
     }
 
-    /// Puts an entry in that is live until `when`, a tick of one millisecond, or until the wheel's tick where `when`
-    /// lies before it, and answers its key. Constant time. Refused as TooFar beyond the last tick, and else as Full
-    /// where no slot is free; the value comes back then.
+    /// Puts `value` in, to come out at the tick `when` of one millisecond, and returns its key. If `when` is before
+    /// the queue's tick, the entry is due at once. Constant time, and no memory is taken.
+    ///
+    /// # Errors
+    /// `value` comes back, and nothing changes. In this order:
+    /// - `TooFar` if `when` is beyond the last tick, 2^42 - 1.
+    /// - `Full` if no slot is free. It tells how many entries are linked and how many slots are worn.
+    ///
+    /// ```
+    /// use hontkhale::owner::{CoreError, DelayCore};
+    ///
+    /// let mut queue = DelayCore::with_capacity(1).unwrap();
+    /// queue.insert("value", 100).unwrap();
+    /// let (error, value) = queue.insert("other", 100).unwrap_err();
+    /// assert_eq!((error, value), (CoreError::Full { linked: 1, worn: 0 }, "other"));
+    /// ```
     #[inline(always)]
     pub fn insert(&mut self, value: T, when: u64) -> Result<Key, (CoreError, T)>
         // The entry is live from now on, and no other entry changes.
@@ -101,10 +114,14 @@ impl<T: Drop, W: Words, A: Allocator> DelayCore<T, W, A> {
         self.insert_deferring(value, when).0
     }
 
-    /// As [`DelayCore::insert`], for callers that answer a refusal with `?`: the value is dropped then.
+    /// Puts `value` in, to come out at the tick `when` of one millisecond, and returns its key. If the entry is
+    /// refused, `value` is dropped, and the error can be returned with `?`. [`DelayCore::insert`] gives the value
+    /// back instead. Constant time, and no memory is taken.
     ///
     /// # Errors
-    /// TooFar beyond the last tick, and else Full where no slot is free.
+    /// In this order:
+    /// - `TooFar` if `when` is beyond the last tick, 2^42 - 1.
+    /// - `Full` if no slot is free.
     #[inline]
     pub fn insert_or_drop(&mut self, value: T, when: u64) -> Result<Key, CoreError>
         ensures inserts { Inserts self.old value when (with_value_back value result) self.new }
@@ -117,13 +134,33 @@ impl<T: Drop, W: Words, A: Allocator> DelayCore<T, W, A> {
         }
     }
 
-    /// Notes a tick of one millisecond, and takes out one entry whose deadline in force is reached by the greatest
-    /// tick noted: call again until the answer is Waiting (nothing is due; `next` is the next tick at which there is
-    /// something to do) or Idle (nothing is linked). Refused as TickTooLarge beyond the last tick, which is not noted
-    /// then.
+    /// Notes `tick`, of one millisecond, and takes one entry out that is due at the greatest tick noted. Call it
+    /// until it returns something else than `Out`:
+    /// - `Out` has the entry's key, its deadline and its value. No live entry has an earlier deadline.
+    /// - `Waiting` if no live entry is due: there is nothing to do before the tick `next`.
+    /// - `Idle` if the queue holds no entry.
     ///
-    /// The values of cancelled entries that it reaps are dropped by it where it gives no entry, and else by a later
-    /// call.
+    /// It takes constant time for each entry that it moves down the wheel, schedules again or frees; an entry moves
+    /// at most five times after it was scheduled. It takes no memory. [`DelayCore::poll_some`] bounds the steps of
+    /// one call. The values of the cancelled entries that it frees are dropped by it, or by a later call if it
+    /// returns an entry.
+    ///
+    /// # Errors
+    /// `TickTooLarge` if `tick` is beyond the last tick. It isn't noted then.
+    ///
+    /// ```
+    /// use hontkhale::owner::{DelayCore, Turn};
+    ///
+    /// let mut queue = DelayCore::with_capacity(100)?;
+    /// queue.insert_or_drop("late", 20)?;
+    /// queue.insert_or_drop("early", 10)?;
+    /// let mut out = Vec::new();
+    /// while let Turn::Out(expired) = queue.poll(20)? {
+    ///     out.push(expired.value);
+    /// }
+    /// assert_eq!(out, ["early", "late"]);
+    /// # Ok::<(), hontkhale::owner::CoreError>(())
+    /// ```
     #[inline(always)]
     pub fn poll(&mut self, tick: u64) -> Result<Turn<T>, CoreError>
         // The greater of the two ticks is noted. A tick is refused, and nothing changes, exactly
@@ -158,15 +195,22 @@ impl<T: Drop, W: Words, A: Allocator> DelayCore<T, W, A> {
         Ok(answer)
     }
 
-    /// Does of a [`Self::poll`] at most `most` steps, each in constant time but for a value's drop. Call again while
-    /// it answers Working: each such call leaves at least so many steps fewer. Between the calls every other call may
-    /// be made.
+    /// Notes `tick`, of one millisecond, and does at most `most` steps of a poll. It returns `Working` if more steps
+    /// may be left, and else the poll's answer:
+    /// - `Out` has the key, the deadline and the value of an entry that is due.
+    /// - `Waiting` if no live entry is due: there is nothing to do before the tick `next`.
+    /// - `Idle` if the queue holds no entry.
     ///
-    /// Over shared words an entry that is due may take two of these steps, a look and one that ends it.
+    /// Call it again while it returns `Working`. Each such call leaves at least `most` steps fewer than there were
+    /// when its tick was noted. A call of no steps that returns `Working` tells nothing. Between two calls every
+    /// other call may be made.
     ///
-    /// Who is told Working by a call of no step at all learns nothing. Refused as TickTooLarge beyond the last tick.
-    /// The values of cancelled entries that it reaps are dropped by it where it gives no entry, and else by a later
-    /// call.
+    /// A step takes constant time. If callers share the words, an entry that is due may take two steps: a look, and
+    /// one that ends it. Dropped values aren't counted: they are dropped by this call, or by a later one if it
+    /// returns an entry. It takes no memory.
+    ///
+    /// # Errors
+    /// `TickTooLarge` if `tick` is beyond the last tick. It isn't noted then.
     pub fn poll_some(&mut self, tick: u64, most: u32) -> Result<Piece<T>, CoreError>
         // The greater of the two ticks is noted. A tick is refused, and nothing changes, exactly
         // beyond the last one.
@@ -206,8 +250,8 @@ impl<T: Drop, W: Words, A: Allocator> DelayCore<T, W, A> {
         Ok(answer)
     }
 
-    /// Reaps each linked entry that is found cancelled, and answers how many: their values are dropped, and their
-    /// slots are free for others, or worn. It looks at every slot.
+    /// Frees the slots of all cancelled entries, drops their values, and returns how many these were. A slot without
+    /// stamps left is worn then. It looks at every slot, and takes no memory.
     pub fn sweep(&mut self) -> usize
         // No entry is left that is known as cancelled, and so many are fewer.
         ensures reaped { NoneCancelled (machine self.new) }
@@ -229,9 +273,9 @@ impl<T: Drop, W: Words, A: Allocator> DelayCore<T, W, A> {
         reaped
     }
 
-    /// Reaps each linked entry that is found cancelled at `count` slots from `from` on, as `sweep` does at all of
-    /// them, and tells the slot to go on from. So many calls go round a queue as it has pieces, and each takes no
-    /// longer than its piece.
+    /// Frees the slots of the cancelled entries among the `count` slots from the slot `from` on, and drops their
+    /// values. It returns how many these were, and the slot to go on from, which is none after the last slot. It
+    /// takes time in proportion to `count`, and no memory.
     pub fn sweep_some(&mut self, from: usize, count: usize) -> Swept
         // No entry is left there that is known as cancelled, so many are fewer, and no other slot changes.
         ensures reaped { (i : ℕ) → from ≤ i → i < from + count → NotCancelled (machine self.new) i }
@@ -262,11 +306,13 @@ impl<T: Drop, W: Words, A: Allocator> DelayCore<T, W, A> {
         swept
     }
 
-    /// Reaps the entry of that name where it is found cancelled: its value is dropped, and its slot is free for
-    /// another, or worn. Constant time.
+    /// Frees the slot of `entry` if the entry was cancelled, and drops its value. A slot without stamps left is worn
+    /// then. Constant time, and no memory is taken.
     ///
     /// # Errors
-    /// `Missing` where no entry is linked with that shard, index and birth stamp; `Live` where it is found live.
+    /// In this order:
+    /// - `Missing` if the entry isn't in the queue any more, or never was.
+    /// - `Live` if the entry wasn't cancelled. It stays.
     pub fn reap(&mut self, entry: &EntryId) -> Result<(), ReapError>
         // It has left, and no other changes.
         ensures reaped { OnOk result (NotCancelled (machine self.new) entry.now.index) }
@@ -295,8 +341,8 @@ impl<T: Drop, W: Words, A: Allocator> DelayCore<T, W, A> {
         Ok(())
     }
 
-    /// Ends every linked entry, and drops its value: each live one as removed, and those that were cancelled are
-    /// reaped. It answers how many it ended as removed, and goes over every slot.
+    /// Takes all entries out, drops their values and those of cancelled entries, and returns how many live ones were
+    /// removed. It looks at every slot, and takes no memory.
     pub fn clear(&mut self) -> usize
         // Nothing is linked any more. So many removals are counted, and no other ending.
         ensures empty { NoneLinked (machine self.new) }

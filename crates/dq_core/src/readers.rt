@@ -14,14 +14,14 @@ use std::alloc::Allocator;
 impl<T, W: Words, A: Allocator> DelayCore<T, W, A> {
     ghost use Rattle.dq_core.specs.Readers.{IsTally, TellsLeast, TellsPlace, TellsFiled};
 
-    /// The number of the shard, which the queue's keys carry.
+    /// Returns the number of the queue, which its keys carry.
     pub fn shard(&self) -> u32
         ensures { result ≡ self.now.shard }
     {
         self.shard
     }
 
-    /// The number of worn slots, which hold nothing and have no stamp left.
+    /// Returns the number of worn slots, which hold no entry and have no stamp left.
     pub fn worn(&self) -> usize
         ensures { result ≡ count_by (is_worn self.now.slots.last_stamp) self.now.slots.rows }
     {
@@ -35,7 +35,8 @@ impl<T, W: Words, A: Allocator> DelayCore<T, W, A> {
         self.slots.last()
     }
 
-    /// How many entries came and went.
+    /// Returns how many entries came and went, and how many the queue holds. A cancelled entry counts as cancelled
+    /// only once its slot is freed. Constant time.
     pub fn tally(&self) -> Tally
         ensures { IsTally self.now result }
     {

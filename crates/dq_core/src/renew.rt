@@ -107,19 +107,21 @@ impl<T, W: Words, A: Allocator> DelayCore<T, W, A> {
     ghost use Rattle.dq_core.specs.Machine.{NoneLinked};
     ghost use Rattle.dq_core.specs.Renewals.{fresh_machine, OldAreMissing, RenewsQueue, RenewsQueueWith};
 
-    /// Goes on over fresh words, under the number `shard`, and answers the words that it had. No slot is worn then,
-    /// and each has all its stamps again. The ticks go on. Every key from before has a lower number, so the queue's
-    /// calls refuse it for good. Callers of the old words stay at those, and reach nothing new. A caller of the new
-    /// words reads no number: it is to be given none of the old keys.
+    /// Goes on with fresh `words`, under the number `shard`, and returns the words that it had. No slot is worn then,
+    /// and each has all its stamps again. The noted tick stays. Every key from before has a lower number, so the
+    /// queue refuses it for good. Callers of the old words stay at those, and reach nothing new. A caller of the new
+    /// words reads no number: give it none of the old keys.
     ///
     /// It takes no memory, and goes over every slot once.
     ///
     /// # Errors
-    /// StillLinked where an entry is linked, then UsedNumber where the number isn't higher than the queue's, and then
-    /// WrongRows where the words aren't as many as the slots. The words come back then, and nothing changes.
+    /// The words come back, and nothing changes. In this order:
+    /// - `StillLinked` if an entry is in the queue, even a cancelled one.
+    /// - `UsedNumber` if `shard` isn't higher than the queue's number.
+    /// - `WrongRows` if the words aren't as many as the slots.
     ///
     /// # Panics
-    /// Where the words were in use before.
+    /// If the words were in use before.
     ///
     /// ```
     /// use hontkhale::owner::{CoreConfig, CoreError, DelayCore, VecWords};
@@ -180,16 +182,19 @@ impl<T, W: Words, A: Allocator> DelayCore<T, W, A> {
         Ok(mem::replace(&mut self.words, words))
     }
 
-    /// As [`DelayCore::renew`], with slots that were never used in the place of the queue's own, too. It answers the
-    /// words and the slots that it had, which hold nothing.
+    /// Goes on with fresh words and slots, under the number `shard`, and returns the words and the slots that it had,
+    /// which hold no entry. No slot is worn then, and each has all its stamps again. The noted tick stays. Every key
+    /// from before has a lower number, so the queue refuses it for good. Callers of the old words stay at those, and
+    /// reach nothing new.
     ///
-    /// It takes no memory and gives none back, and is of constant time. The values that wait for their drop go with the
-    /// old slots.
+    /// It takes no memory and gives none back, in constant time. Values that wait for their drop go with the old
+    /// slots.
     ///
     /// # Errors
-    /// StillLinked where an entry is linked, then UsedNumber where the number isn't higher than the queue's, and then
-    /// WrongRows where the rows aren't as many as the slots, or have another last stamp. The rows come back then, and
-    /// nothing changes.
+    /// The rows come back, and nothing changes. In this order:
+    /// - `StillLinked` if an entry is in the queue, even a cancelled one.
+    /// - `UsedNumber` if `shard` isn't higher than the queue's number.
+    /// - `WrongRows` if the rows aren't as many as the slots, or have another last stamp.
     pub fn renew_with(
         &mut self,
         shard: u32,

@@ -34,8 +34,9 @@ fn one_more(totals: LastingTotals, tally: LastingTally) -> LastingTotals
 }
 
 impl<T, A: Allocator> LastingQueue<T, A> {
-    /// The totals of all shards over all of their generations: one tally of each place, taken in turn under its lock.
-    /// It takes no memory, and handles may be out. What callers cancelled counts as linked until it is reaped.
+    /// Returns what became of all entries that were ever inserted, over all shards and all their generations. A
+    /// cancelled entry that isn't freed counts as linked. Handles may be out. It takes the lock of each shard in turn
+    /// for constant time, and no memory.
     pub fn audit<R: Wait>(&self, rt: &R) -> LastingTotals
         // All that was ever inserted is accounted for.
         ensures adds_up { AllAddUp result }

@@ -26,14 +26,31 @@ impl<T, A: Allocator> LastingQueue<T, A> {
         number as usize % self.shards()
     }
 
-    /// Gives a live entry another deadline, sooner or later, and returns its new key: the entry is live until `when`, a
-    /// tick of one millisecond, or until the tick of its shard where `when` lies before it. Its key from before is
-    /// stale. The entry is one of the shard of its number, in whatever generation that is. Constant time, under that
-    /// shard's lock.
+    /// Gives a live entry the deadline `when`, a tick of one millisecond, sooner or later than the one that it has,
+    /// and returns its new key. If `when` is before the shard's tick, the entry is due at once. A handle refuses the
+    /// old key from then on. The entry is looked for in the shard of its number, whatever generation that shard has.
+    ///
+    /// It takes that shard's lock for constant time, and no memory. If a task is parked there until a later tick, the
+    /// call wakes it after it has released the lock.
     ///
     /// # Errors
-    /// TooFar beyond the last tick; Missing where no such entry is linked, also for one of an earlier generation;
-    /// WasCancelled where it is found cancelled; and Worn where its slot has had its last stamp.
+    /// In this order:
+    /// - `TooFar` if `when` is beyond the last tick, 2^42 - 1.
+    /// - `Missing` if the entry isn't in the queue any more, or never was.
+    /// - `WasCancelled` if a handle cancelled the entry.
+    /// - `Worn` if the entry's slot has no stamp left for another key.
+    ///
+    /// ```
+    /// use hontkhale::lasting::{LastingConfig, LastingQueue};
+    ///
+    /// # fn main() -> Result<(), Box<dyn std::error::Error>> {
+    /// let queue = LastingQueue::new(LastingConfig::of(2, 100))?;
+    /// let key = queue.insert_or_drop(0, "value", 100)?;
+    /// let sooner = queue.reset(&key.entry(), 50)?;
+    /// assert_eq!(queue.deadline(&sooner.entry()), Ok(50));
+    /// # Ok(())
+    /// # }
+    /// ```
     pub fn reset<R: Wait>(&self, rt: &R, entry: &EntryId, when: u64) -> Result<Key, CoreError>
         ensures { AtPlace {T = T} self.now.shards (entry.now.shard % self.now.shards)
             (λ old r new. LastingResets old entry.now when r new) result }
@@ -44,12 +61,28 @@ impl<T, A: Allocator> LastingQueue<T, A> {
         answer
     }
 
-    /// Takes a live entry out, and returns it with its key and its deadline in force. The entry is one of the shard of
-    /// its number, in whatever generation that is. Constant time, under that shard's lock.
+    /// Takes a live entry out, and returns its value with its key and its current deadline, a tick of one
+    /// millisecond. The entry is looked for in the shard of its number, whatever generation that shard has.
+    ///
+    /// It takes that shard's lock for constant time, and no memory. If the shard holds no entry then, a task that is
+    /// parked until a tick is woken after the lock is released.
     ///
     /// # Errors
-    /// Missing where no such entry is linked, also for one of an earlier generation, and WasCancelled where it is found
-    /// cancelled.
+    /// In this order:
+    /// - `Missing` if the entry isn't in the queue any more, or never was.
+    /// - `WasCancelled` if a handle cancelled the entry.
+    ///
+    /// ```
+    /// use hontkhale::lasting::{LastingConfig, LastingQueue};
+    ///
+    /// # fn main() -> Result<(), Box<dyn std::error::Error>> {
+    /// let queue = LastingQueue::new(LastingConfig::of(2, 100))?;
+    /// let key = queue.insert_or_drop(0, "value", 100)?;
+    /// let removed = queue.remove(&key.entry())?;
+    /// assert_eq!((removed.value, removed.deadline), ("value", 100));
+    /// # Ok(())
+    /// # }
+    /// ```
     pub fn remove<R: Wait>(&self, rt: &R, entry: &EntryId) -> Result<Removed<T>, CoreError>
         ensures { AtPlace {T = T} self.now.shards (entry.now.shard % self.now.shards)
             (λ old r new. LastingRemoves old entry.now r new) result }
@@ -60,12 +93,14 @@ impl<T, A: Allocator> LastingQueue<T, A> {
         answer
     }
 
-    /// The deadline in force of a live entry, a tick of one millisecond. The entry is one of the shard of its number, in
-    /// whatever generation that is. Constant time, under that shard's lock.
+    /// Returns the current deadline of a live entry, a tick of one millisecond: the one that was set last, or a later
+    /// one to which a handle has extended it. The entry is looked for in the shard of its number, whatever generation
+    /// that shard has. It takes that shard's lock for constant time, and no memory.
     ///
     /// # Errors
-    /// Missing where no such entry is linked, also for one of an earlier generation, and WasCancelled where it is found
-    /// cancelled.
+    /// In this order:
+    /// - `Missing` if the entry isn't in the queue any more, or never was.
+    /// - `WasCancelled` if a handle cancelled the entry.
     pub fn deadline<R: Wait>(&self, rt: &R, entry: &EntryId) -> Result<u64, CoreError>
         ensures { AtPlace {T = T} self.now.shards (entry.now.shard % self.now.shards)
             (λ old r new. LastingDeadline old entry.now r new) result }
@@ -76,11 +111,13 @@ impl<T, A: Allocator> LastingQueue<T, A> {
         answer
     }
 
-    /// The next wake of the shard at a place: the tick of one millisecond at which it has something to do, none where
-    /// nothing is linked.
+    /// Returns the tick, of one millisecond, at which the shard at `place` has something to do next. It returns none
+    /// if the shard holds no entry. No live entry has a deadline before that tick; the least deadline may be later.
+    ///
+    /// It takes the shard's lock for constant time, and no memory.
     ///
     /// # Errors
-    /// Unknown out of range.
+    /// `Unknown` if there is no such place.
     pub fn next_wake<R: Wait>(&self, rt: &R, place: usize) -> Result<Option<u64>, LastingError>
         ensures { AtPlaceAll {T = T} self.now.shards place
             (λ old r new. TellsWake new.core r × (new ≡ old)) result }
@@ -89,10 +126,12 @@ impl<T, A: Allocator> LastingQueue<T, A> {
         Ok(shard.next_wake())
     }
 
-    /// What came and went in the shard at a place, over all its generations.
+    /// Returns how many entries came to the shard at `place` and went, in all its generations, and how many it holds.
+    /// A cancelled entry counts as cancelled only once its slot is freed. It takes the shard's lock for constant
+    /// time, and no memory.
     ///
     /// # Errors
-    /// Unknown out of range.
+    /// `Unknown` if there is no such place.
     pub fn tally<R: Wait>(&self, rt: &R, place: usize) -> Result<LastingTally, LastingError>
         ensures { AtPlaceAll {T = T} self.now.shards place
             (λ old r new. LastingTells old r new) result }
@@ -114,11 +153,12 @@ impl<T, A: Allocator> LastingQueue<T, A> {
         Ok(shard.peek())
     }
 
-    /// How many values are set aside in the shard at a place: those of entries that were reaped or cleared, and that
-    /// aren't dropped yet. There are some only where a drop panicked, or where a poll gave an entry.
+    /// Returns how many values are set aside in the shard at `place`: those of freed entries that aren't dropped yet.
+    /// There are some only if a drop panicked, if a poll returned an entry, or while another thread drops them. It
+    /// takes the shard's lock for constant time, and no memory.
     ///
     /// # Errors
-    /// Unknown out of range.
+    /// `Unknown` if there is no such place.
     pub fn aside<R: Wait>(&self, rt: &R, place: usize) -> Result<usize, LastingError>
         ensures { IsErrOf result Unknown ↔ (self.now.shards ≤ place) }
     {
@@ -126,11 +166,14 @@ impl<T, A: Allocator> LastingQueue<T, A> {
         Ok(shard.aside())
     }
 
-    /// Closes the shard at a place to new entries, until it is opened again. Those that are there stay until they end, and a
-    /// reset still moves them. A poller that is parked there is woken.
+    /// Closes the shard at `place` to new entries, until [`LastingQueue::keep_going`] opens it again. The entries
+    /// that are there stay until they end, and a reset still moves them. A parked task is woken after the lock is
+    /// released.
+    ///
+    /// It takes the shard's lock for constant time, and no memory.
     ///
     /// # Errors
-    /// Unknown out of range.
+    /// `Unknown` if there is no such place.
     pub fn close<R: Wait>(&self, rt: &R, place: usize) -> Result<(), LastingError>
         ensures { AtPlaceAll {T = T} self.now.shards place (λ old r new. Closes old new) result }
     {

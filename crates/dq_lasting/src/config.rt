@@ -9,7 +9,7 @@ use thiserror::Error;
 /// The most shards of a queue. Two is the least: while one is being renewed another takes the entries.
 pub const SHARD_LIMIT: usize = 64;
 
-/// What a lasting queue is made by.
+/// The sizes of a lasting queue.
 #[derive(Clone, Copy, Debug, PartialEq, Eq)]
 pub struct LastingConfig {
     /// The number of shards, from 2 to [`SHARD_LIMIT`].
@@ -35,7 +35,7 @@ pub enum BadLastingNumber {
 }
 
 impl LastingConfig {
-    /// So many shards of that capacity, whose slots are worn as late as may be.
+    /// `shards` shards of `capacity` slots each, and the most stamps a slot, 1,048,575.
     pub const fn of(shards: usize, capacity: usize) -> LastingConfig
         ensures { result
             ≡ record { shards = shards; capacity = capacity; last_stamp = LAST_STAMP } }
@@ -47,8 +47,8 @@ impl LastingConfig {
         }
     }
 
-    /// Whether a queue can be made by these numbers. A `BadConfig` tells no number, so ask here first where the
-    /// numbers come from outside.
+    /// Whether a queue can be made by these numbers. `BadConfig` doesn't tell which number is bad, so call this first
+    /// if the numbers come from outside.
     ///
     /// # Errors
     /// The first number that is out of its range: the shards, the capacity, and then the last stamp.

@@ -39,11 +39,15 @@ impl<A: Allocator> NumberedCaller<A> {
         self.number
     }
 
-    /// Raises the deadline of a live entry to `when`, a tick of one millisecond, and returns the deadline that is then in
-    /// force. The key is one of its number. Constant time, without a lock.
+    /// Raises the deadline of a live entry to `when`, a tick of one millisecond, and returns the deadline that is
+    /// then in force: `when`, or a later one that the entry had. It takes constant time and no lock.
     ///
     /// # Errors
-    /// TooFar beyond the last tick, Unknown for a key of another number or one that no slot has, Stale and Ended.
+    /// In this order:
+    /// - `TooFar` if `when` is beyond the last tick.
+    /// - `Unknown` if the key is of another number, or no slot has it.
+    /// - `Stale` if the slot has a later stamp.
+    /// - `Ended` if the entry isn't live.
     #[inline]
     pub fn extend(&mut self, key: &Key, when: u64) -> Result<u64, CallError>
         // A key of another number is refused, and changes nothing.
@@ -62,11 +66,14 @@ impl<A: Allocator> NumberedCaller<A> {
         Err(CallError::Unknown)
     }
 
-    /// Cancels a live entry, and returns the deadline that it gave up. The key is one of its number. Constant time, without
-    /// a lock.
+    /// Cancels a live entry, and returns the deadline that it gave up, a tick of one millisecond. It takes constant
+    /// time and no lock.
     ///
     /// # Errors
-    /// Unknown for a key of another number or one that no slot has, Stale and Ended.
+    /// In this order:
+    /// - `Unknown` if the key is of another number, or no slot has it.
+    /// - `Stale` if the slot has a later stamp.
+    /// - `Ended` if the entry isn't live.
     #[inline]
     pub fn cancel(&mut self, key: &Key) -> Result<u64, CallError>
         // A key of another number is refused, and changes nothing.
@@ -82,10 +89,13 @@ impl<A: Allocator> NumberedCaller<A> {
         Err(CallError::Unknown)
     }
 
-    /// What the entry of a key of its number is. Constant time, without a lock.
+    /// Returns what the entry of `key` is: live, with its deadline, or how it ended. It takes constant time and no
+    /// lock.
     ///
     /// # Errors
-    /// Unknown for a key of another number or one that no slot has, and Stale.
+    /// In this order:
+    /// - `Unknown` if the key is of another number, or no slot has it.
+    /// - `Stale` if the slot has a later stamp.
     #[inline]
     pub fn look(&mut self, key: &Key) -> Result<Look, CallError>
         ensures looks { NumberedLooks self.old key.now result self.new }
@@ -105,7 +115,7 @@ impl<A: Allocator> NumberedCaller<A> {
         self.caller.cancels()
     }
 
-    /// Gives the caller back, and answers the number of its accepted cancels.
+    /// Gives the caller back, and returns the number of its cancels that were accepted.
     pub fn give_back(self) -> u64
         ensures cancels { result ≡ cancels_in self.seat.view.calls }
         ensures few { result ≤ most_begins }

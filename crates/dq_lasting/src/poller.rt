@@ -105,10 +105,11 @@ impl<T, A: Allocator> LastingQueue<T, A> {
         (answer, shard.aside())
     }
 
-    /// What the poller waits for that is parked in the shard at a place.
+    /// Returns what the task waits for that is parked in the shard at `place`. It takes the shard's lock for constant
+    /// time, and no memory.
     ///
     /// # Errors
-    /// Unknown out of range.
+    /// `Unknown` if there is no such place.
     pub fn parked<R: Wait>(&self, rt: &R, place: usize) -> Result<ParkedPoller, LastingError>
         ensures { AtPlaceAll {T = T} self.now.shards place
             (λ old r new. TellsParked old.parked r × (new ≡ old)) result }
@@ -117,11 +118,11 @@ impl<T, A: Allocator> LastingQueue<T, A> {
         Ok(shard.parked())
     }
 
-    /// Takes the parked poller of the shard at a place out and doesn't wake it, as one does whose task is dropped. True
-    /// where there was one.
+    /// Takes the parked task of the shard at `place` out, and doesn't wake it. It returns whether there was one. A
+    /// task that is dropped calls this. It takes the shard's lock for constant time, and no memory.
     ///
     /// # Errors
-    /// Unknown out of range.
+    /// `Unknown` if there is no such place.
     pub fn unpark<R: Wait>(&self, rt: &R, place: usize) -> Result<bool, LastingError>
         ensures { AtPlaceAll {T = T} self.now.shards place
             (λ old r new. LastingUnparks old r new) result }
@@ -133,11 +134,14 @@ impl<T, A: Allocator> LastingQueue<T, A> {
         Ok(let_sleep(taken))
     }
 
-    /// Wakes the poller of the shard at a place, where it is parked at or before `tick`, of one millisecond, and tells
-    /// whether it was. Whoever keeps the time calls it.
+    /// Tells the shard at `place` that `tick`, of one millisecond, is reached: a task that is parked there until
+    /// `tick` or before is taken out, and woken after the lock is released. It returns whether there was one. The
+    /// queue reads no clock, so whoever keeps the time calls this.
+    ///
+    /// It takes the shard's lock for constant time, and no memory.
     ///
     /// # Errors
-    /// Unknown out of range.
+    /// `Unknown` if there is no such place.
     pub fn ring<R: Wait>(&self, rt: &R, place: usize, tick: u64) -> Result<bool, LastingError>
         ensures { AtPlaceAll {T = T} self.now.shards place
             (λ old r new. RingsParked old tick r new) result }

@@ -55,10 +55,11 @@ impl<T, A: Allocator> LastingShard<T, A> {
 }
 
 impl<T, A: Allocator> LastingQueue<T, A> {
-    /// The state of the shard at a place: all of it is of one moment. Constant time.
+    /// Returns the state of the shard at `place`, all of it of one moment. It takes the shard's lock for constant
+    /// time, and no memory.
     ///
     /// # Errors
-    /// Unknown out of range.
+    /// `Unknown` if there is no such place.
     pub fn state<R: Wait>(&self, rt: &R, place: usize) -> Result<PlaceState, LastingError>
         ensures unknown { IsErrOf result Unknown ↔ (self.now.shards ≤ place) }
         ensures tells { AtPlaceAll {T = T} self.now.shards place TellsState result }
@@ -75,10 +76,11 @@ impl<T, A: Allocator> LastingQueue<T, A> {
         self.lock(rt, place).state()
     }
 
-    /// The states of all shards, in the order of their places, each under its own lock in turn.
+    /// Returns the states of all shards, in the order of their places. Each is taken under its own lock in turn, so
+    /// they are of different moments. It takes memory for the row.
     ///
     /// # Errors
-    /// Where memory for the row is refused.
+    /// `AllocError` if memory is refused.
     #[tactic(auto, using(crate::proofs::States::states_more))]
     pub fn states<R: Wait>(&self, rt: &R, alloc: A) -> Result<Vec<PlaceState, A>, AllocError>
         ensures { IfOk result (λ states. LastingQueueStates T self.now.shards states.items) }

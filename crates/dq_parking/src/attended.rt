@@ -72,8 +72,9 @@ impl<T, N, A: Allocator> Attended<T, N, A> {
 }
 
 impl<T, N: Until, A: Allocator> Attended<T, N, A> {
-    /// As [`DelayCore::insert`]. Refused, nothing changes. What waited for its drop where the entry is now is handed over,
-    /// to be dropped once the lock is free: none, where it was taken out before.
+    /// Puts `value` in, to come out at `when` or at the queue's tick, and returns its key. If it is refused, the
+    /// value comes back and nothing changes. Beside it comes who has left, and the value that waited for its drop in
+    /// the entry's slot, which is to be dropped once the lock is free: none if it was taken out before.
     #[inline(always)]
     pub fn insert(&mut self, value: T, when: u64) -> (Inserted<T>, Leaver<N>, Option<T>)
         requires { MayWait N.lasts self.old.core self.old.parked }
@@ -95,7 +96,7 @@ impl<T, N: Until, A: Allocator> Attended<T, N, A> {
         }
     }
 
-    /// As [`DelayCore::reset`].
+    /// Gives a live entry another deadline, and returns its new key, with who has left by it.
     #[inline(always)]
     pub fn reset(&mut self, entry: &EntryId, when: u64) -> (Result<Key, CoreError>, Leaver<N>)
         ensures resets { Resets true self.old.core entry.now when result.0 self.new.core }
@@ -106,7 +107,7 @@ impl<T, N: Until, A: Allocator> Attended<T, N, A> {
         (answer, keep_or_leave(&self.core, &mut self.parked))
     }
 
-    /// As [`DelayCore::remove`].
+    /// Takes a live entry out, and returns it, with who has left by it.
     #[inline(always)]
     pub fn remove(&mut self, entry: &EntryId) -> (Result<Removed<T>, CoreError>, Leaver<N>)
         ensures removes { Removes true self.old.core entry.now result.0 self.new.core }
@@ -117,7 +118,8 @@ impl<T, N: Until, A: Allocator> Attended<T, N, A> {
         (answer, keep_or_leave(&self.core, &mut self.parked))
     }
 
-    /// As [`DelayCore::poll`].
+    /// Notes a tick and takes one entry out that is due, or tells when to come again, with who has left by it. No
+    /// value is dropped.
     #[inline(always)]
     pub fn poll(&mut self, tick: u64) -> (Result<Turn<T>, CoreError>, Leaver<N>)
         ensures polls { Polls true self.old.core tick result.0 self.new.core }
@@ -128,7 +130,7 @@ impl<T, N: Until, A: Allocator> Attended<T, N, A> {
         (answer, keep_or_leave(&self.core, &mut self.parked))
     }
 
-    /// As [`DelayCore::poll_some`].
+    /// Notes a tick and does at most `most` steps of a poll, with who has left by it. No value is dropped.
     #[inline]
     pub fn poll_some(&mut self, tick: u64, most: u32) -> (Result<Piece<T>, CoreError>, Leaver<N>)
         ensures out { IfAnswer result.0 (λ turn. IfOut turn
@@ -144,7 +146,8 @@ impl<T, N: Until, A: Allocator> Attended<T, N, A> {
         (answer, keep_or_leave(&self.core, &mut self.parked))
     }
 
-    /// As [`poll_into`].
+    /// Notes a tick and appends what is due to `row`, as far as it has room, with who has left by it. No value is
+    /// dropped.
     #[inline]
     pub fn poll_many(
         &mut self,
@@ -163,7 +166,7 @@ impl<T, N: Until, A: Allocator> Attended<T, N, A> {
         (answer, keep_or_leave(&self.core, &mut self.parked))
     }
 
-    /// As [`DelayCore::sweep`].
+    /// Reaps all cancelled entries, and returns how many, with who has left by it. No value is dropped.
     pub fn sweep(&mut self) -> (usize, Leaver<N>)
         ensures sweeps { Sweeps true self.old.core result.0 self.new.core }
         ensures attends { Attends N.lasts self.old.core self.old.parked result.1.poller
@@ -173,7 +176,7 @@ impl<T, N: Until, A: Allocator> Attended<T, N, A> {
         (reaped, keep_or_leave(&self.core, &mut self.parked))
     }
 
-    /// As [`DelayCore::sweep_some`].
+    /// Reaps the cancelled entries at `count` slots from `from` on, with who has left by it. No value is dropped.
     pub fn sweep_some(&mut self, from: usize, count: usize) -> (Swept, Leaver<N>)
         ensures next { result.0.next ≡ (if nat_lt (from + count) (length self.old.core.slots.rows)
             then Some (from + count) else None) }
@@ -187,7 +190,7 @@ impl<T, N: Until, A: Allocator> Attended<T, N, A> {
         (swept, keep_or_leave(&self.core, &mut self.parked))
     }
 
-    /// As [`DelayCore::reap`].
+    /// Reaps an entry if it was cancelled, with who has left by it. No value is dropped.
     pub fn reap(&mut self, entry: &EntryId) -> (Result<(), ReapError>, Leaver<N>)
         ensures reaps { Reaps true self.old.core entry.now result.0 self.new.core }
         ensures attends { Attends N.lasts self.old.core self.old.parked result.1.poller
@@ -198,7 +201,8 @@ impl<T, N: Until, A: Allocator> Attended<T, N, A> {
         (answer, keep_or_leave(&self.core, &mut self.parked))
     }
 
-    /// As [`DelayCore::clear`].
+    /// Takes all entries out, and returns how many live ones were removed, with who has left by it. No value is
+    /// dropped.
     pub fn clear(&mut self) -> (usize, Leaver<N>)
         ensures clears { Clears true self.old.core result.0 self.new.core }
         ensures attends { Attends N.lasts self.old.core self.old.parked result.1.poller

@@ -134,8 +134,8 @@ impl<S: Shard, A: Allocator> Row<S, A> {
         shard
     }
 
-    /// As `lock`, for an insert, which has a place for each value that is set aside. Refused where one has none: that one is
-    /// handed over, to be dropped before the insert is tried again.
+    /// Takes a shard's lock for an insert, for which each value that is set aside has a place. If one has none, it is
+    /// returned as the error: drop it, and try again.
     #[inline(always)]
     pub fn lock_with_room<R: Wait>(
         &self,

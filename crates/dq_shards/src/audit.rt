@@ -51,8 +51,11 @@ fn totals_of(tally: &Tally, cancelled: u64) -> Totals
 }
 
 impl<T, A: Allocator> ShardState<T, A> {
-    /// The totals, where every caller is given back: what was inserted is what expired, was removed, was cancelled
-    /// (reaped or not) and is live. Refused with the number of callers that are out.
+    /// Returns what became of all entries of this shard that were ever inserted: what expired, was removed, was
+    /// cancelled (freed or not) and is live adds up to what was inserted. It takes constant time and no memory.
+    ///
+    /// # Errors
+    /// `HandlesOut` if some callers aren't given back, with their number: what they cancelled isn't known.
     pub fn audit(&mut self) -> Result<Totals, HandlesOut>
         // All that was ever inserted is accounted for, by what the true words say.
         ensures adds_up { IfOk result (λ t. AddUp t) }
@@ -86,10 +89,14 @@ impl<T, A: Allocator> SharedDelayQueue<T, A> {
         audited
     }
 
-    /// The totals of all shards, each taken in turn under its own lock, where every caller of every handle is given
-    /// back. Refused with the number that is out by the first shard that has one. It takes no memory.
+    /// Returns what became of all entries that were ever inserted, over all shards: what expired, was removed, was
+    /// cancelled (freed or not) and is live adds up to what was inserted. It takes the lock of each shard in turn for
+    /// constant time, and no memory.
     ///
-    /// A handle that was dropped and not given back is out for good: then no audit tells totals any more.
+    /// A handle that was dropped and not given back is out for good: then no audit returns totals any more.
+    ///
+    /// # Errors
+    /// `HandlesOut` if a handle isn't given back, with the number that is out by the first shard that has one.
     pub fn audit<R: Wait>(&self, rt: &R) -> Result<Totals, HandlesOut>
         // All that was ever inserted is accounted for, or some callers are out.
         ensures adds_up { IfOk result (λ t. AddUp t) }

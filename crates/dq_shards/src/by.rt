@@ -67,14 +67,29 @@ impl<J: Room, A: Allocator> Model for NamedCaller<J, A> {
 }
 
 impl<J: Room, A: Allocator> NamedCaller<J, A> {
-    /// As [`Caller::extend`]: no lock is taken.
+    /// Raises the deadline of a live entry to `when`, a tick of one millisecond, and returns the deadline that is
+    /// then in force: `when`, or a later one that the entry had. It takes constant time and no lock.
+    ///
+    /// # Errors
+    /// In this order:
+    /// - `TooFar` if `when` is beyond the last tick.
+    /// - `Unknown` if no slot has the key.
+    /// - `Stale` if the slot has a later stamp.
+    /// - `Ended` if the entry isn't live.
     pub fn extend(&mut self, key: &Key, when: u64) -> Result<u64, CallError>
         ensures { CallerExtends self.old.view key.now when result self.new.view }
     {
         self.caller.extend(key, when)
     }
 
-    /// As [`Caller::cancel`]: no lock is taken.
+    /// Cancels a live entry, and returns the deadline that it gave up, a tick of one millisecond. It takes constant
+    /// time and no lock.
+    ///
+    /// # Errors
+    /// In this order:
+    /// - `Unknown` if no slot has the key.
+    /// - `Stale` if the slot has a later stamp.
+    /// - `Ended` if the entry isn't live.
     pub fn cancel(&mut self, key: &Key) -> Result<u64, CallError>
         ensures { CallerCancels self.old.view key.now result self.new.view }
     {
@@ -102,7 +117,12 @@ impl<T: Drop, J: Room, A: Allocator> NamedShard<T, J, A> {
         }
     }
 
-    /// As [`ShardState::issue`]: one caller more.
+    /// Makes one caller more of the shard's words, which may go to any thread.
+    ///
+    /// # Errors
+    /// In this order:
+    /// - `TooManyHandles` if 1,024 callers were made, given back or not.
+    /// - `NoMemory` if memory is refused.
     pub fn issue(&mut self) -> Result<NamedCaller<J, A>, WordsError>
         ensures { ShardIssues self.old result self.new }
     {

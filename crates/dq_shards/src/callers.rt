@@ -9,8 +9,12 @@ use dq_words::{Caller, WordsError};
 use std::alloc::Allocator;
 
 impl<T, A: Allocator> ShardState<T, A> {
-    /// One caller more of this shard's words, which may go to any thread. Refused as TooManyHandles where 1,024
-    /// callers were issued, given back or not, and else as NoMemory.
+    /// Makes one caller more of this shard's words, which may go to any thread. It takes memory for the caller.
+    ///
+    /// # Errors
+    /// In this order:
+    /// - `TooManyHandles` if 1,024 callers were made, given back or not.
+    /// - `NoMemory` if memory is refused.
     #[tactic(auto, using(crate::proofs::Parking::parked_over))]
     pub fn issue(&mut self) -> Result<Caller<A>, WordsError>
         // One more, which sits at the table of this shard's keeper and knows nothing yet.
@@ -29,7 +33,8 @@ impl<T, A: Allocator> ShardState<T, A> {
         self.attended.core.issue()
     }
 
-    /// The issued callers that are not given back, by one load. One that was dropped is out for good.
+    /// Returns the number of callers that were made and not given back, by one load. A caller that was dropped stays
+    /// counted.
     #[tactic(auto, using(crate::proofs::Parking::parked_over))]
     pub fn out(&mut self) -> u64
         ensures at_most { result ≤ (keeper_of self.new).issued }

@@ -10,7 +10,7 @@ use thiserror::Error;
 /// The most shards of a queue.
 pub const SHARD_LIMIT: usize = 64;
 
-/// What a queue of shards is made by.
+/// The sizes of a queue of shards.
 #[derive(Clone, Copy, Debug, PartialEq, Eq)]
 pub struct QueueConfig {
     /// The number of shards, from 1 to [`SHARD_LIMIT`].
@@ -22,7 +22,7 @@ pub struct QueueConfig {
 }
 
 impl QueueConfig {
-    /// So many shards of that capacity, whose slots are worn as late as may be.
+    /// `shards` shards of `capacity` slots each, and the most stamps a slot, 1,048,575.
     pub const fn of(shards: usize, capacity: usize) -> QueueConfig
         ensures { result
             ≡ record { shards = shards; capacity = capacity; last_stamp = LAST_STAMP } }
@@ -34,8 +34,8 @@ impl QueueConfig {
         }
     }
 
-    /// Whether a queue can be made by these numbers. A `BadConfig` tells no number, so ask here first where the
-    /// numbers come from outside.
+    /// Whether a queue can be made by these numbers. `BadConfig` doesn't tell which number is bad, so call this first
+    /// if the numbers come from outside.
     ///
     /// # Errors
     /// The first number that is out of its range: the shards, the capacity, and then the last stamp.

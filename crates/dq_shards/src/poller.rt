@@ -30,22 +30,23 @@ impl<T, A: Allocator> ShardState<T, A> {
         self.attended.parked = Some(Parked { next, waker });
     }
 
-    /// Takes the parked poller out and does not wake it. True where there was one.
+    /// Takes the parked task out, and doesn't wake it. It returns whether there was one.
     pub fn unpark(&mut self) -> bool
         ensures { Unparks self.old result self.new }
     {
         let_sleep(self.take_parked())
     }
 
-    /// Takes the parked poller out and hands it over, unwoken. Whoever has its waker may wake it, or let it go, once the
-    /// shard's lock is free.
+    /// Takes the parked task out, and returns it unwoken. Whoever has its waker may wake it, or drop it, after the
+    /// shard's lock is released.
     pub fn take_parked(&mut self) -> Option<Parked>
         ensures { TakesParked self.old result self.new }
     {
         self.attended.parked.take()
     }
 
-    /// Takes out and wakes a poller that is parked at or before `tick`, of one millisecond. True where there was one.
+    /// Tells the shard that `tick`, of one millisecond, is reached: a task that is parked until `tick` or before is
+    /// taken out and woken. It returns whether there was one.
     pub fn ring(&mut self, tick: u64) -> bool
         ensures { Rings self.old tick result self.new }
     {

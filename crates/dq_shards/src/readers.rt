@@ -20,8 +20,8 @@ impl<T, A: Allocator> ShardState<T, A> {
         self.attended.core.shard()
     }
 
-    /// The next wake: the tick of one millisecond at which the queue has something to do, none where nothing is
-    /// linked.
+    /// Returns the tick, of one millisecond, at which the shard has something to do next. It returns none if nothing
+    /// is linked. No live entry has a deadline before that tick; the least deadline may be later. Constant time.
     pub fn next_wake(&self) -> Option<u64>
         ensures { TellsWake self.now.core result }
     {
@@ -63,8 +63,8 @@ impl<T, A: Allocator> ShardState<T, A> {
         self.attended.core.noted()
     }
 
-    /// How many entries came and went. Its `cancelled` counts those that were reaped, so it may be fewer than the
-    /// accepted cancels, which an audit tells.
+    /// Returns how many entries came and went, and how many are linked. A cancelled entry counts as cancelled only
+    /// once it is reaped, so there may have been more cancels; an audit tells them. Constant time.
     pub fn tally(&self) -> Tally
         ensures { IsTally self.now.core result }
     {

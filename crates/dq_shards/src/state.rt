@@ -22,11 +22,16 @@ use dq_words::{Keeper, ManyTurn};
 use std::alloc::{Allocator, Global};
 use std::marker::Model;
 
-/// The value behind a shard's lock: a queue over words that callers share, and the poller that is parked there.
+/// The state of a shard behind its lock: a queue over words that handles share, and the task that is parked there. A
+/// program gets it by [`SharedDelayQueue::enter`](crate::shards::SharedDelayQueue::enter) and
+/// [`SharedDelayQueue::lend`](crate::shards::SharedDelayQueue::lend).
 ///
-/// It always keeps the shard law of its queue, whatever the callers do meanwhile, and the parked law: where a poller is
-/// parked there is a next wake, and the parked tick is not after it. A call that would break the parked law takes the
-/// poller out and wakes it, at once: the lock is held meanwhile. A call of the queue by name wakes it once the lock is free.
+/// A task is parked until a tick that isn't after the shard's next wake. A call that makes the next wake come sooner,
+/// or after which nothing is left to wait for, takes the task out and wakes it at once, under the lock. A call of the
+/// queue by name wakes it after the lock is released.
+///
+/// An entry is *live* until it comes out, is removed or is cancelled. A cancelled entry stays *linked*, in its slot,
+/// until a call *reaps* it: its slot is free for another entry then, and its value is dropped.
 #[derive(Drop)]
 pub struct ShardState<T, A: Allocator = Global> {
     // What works under the lock has no line with the lock itself, which others look at while they wait for it.
@@ -65,9 +70,14 @@ impl<T, A: Allocator> From<DelayCore<T, Keeper<A>, A>> for ShardState<T, A> {
 
 // The one call of a state that may drop a value.
 impl<T: Drop, A: Allocator> ShardState<T, A> {
-    /// Puts an entry in that is live until `when`, a tick of one millisecond, or until the wheel's tick where `when`
-    /// lies before it, and answers its key. Constant time. Refused as TooFar beyond the last tick, and else as Full
-    /// where no slot is free; the value comes back then.
+    /// Puts `value` in, to come out at the tick `when` of one millisecond, and returns its key. If `when` is before
+    /// the shard's tick, the entry is due at once. If the only slot left has a value that waits for its drop, that
+    /// value is dropped first. Constant time, and no memory is taken.
+    ///
+    /// # Errors
+    /// `value` comes back. In this order:
+    /// - `TooFar` if `when` is beyond the last tick, 2^42 - 1.
+    /// - `Full` if no slot is free.
     #[inline(always)]
     pub fn insert(&mut self, value: T, when: u64) -> Result<Key, (CoreError, T)>
         // The entry is live from now on, and no other entry changes.
@@ -100,9 +110,16 @@ impl<T, A: Allocator> ShardState<T, A> {
         self.attended.core.law();
     }
 
-    /// Gives a live entry another deadline, earlier or later, but not before the wheel's tick, and its slot's next
-    /// stamp: the keys from before are stale for callers. Answers the new key. Constant time. Refused as TooFar
-    /// beyond the last tick, then as Missing, as WasCancelled, and as Worn where the slot has no stamp left.
+    /// Gives a live entry the deadline `when`, a tick of one millisecond, sooner or later than the one that it has,
+    /// and returns its new key. If `when` is before the shard's tick, the entry is due at once. Callers and handles
+    /// refuse the old key from then on. Constant time, and no memory is taken.
+    ///
+    /// # Errors
+    /// In this order:
+    /// - `TooFar` if `when` is beyond the last tick, 2^42 - 1.
+    /// - `Missing` if the entry isn't linked here.
+    /// - `WasCancelled` if the entry was cancelled.
+    /// - `Worn` if the entry's slot has no stamp left for another key.
     #[inline(always)]
     pub fn reset(&mut self, entry: &EntryId, when: u64) -> Result<Key, CoreError>
         // The same entry is live at its new base, and no other changes.
@@ -126,9 +143,13 @@ impl<T, A: Allocator> ShardState<T, A> {
         answer
     }
 
-    /// Takes a live entry out, with its key, its deadline in force and its value. Constant time. Refused as Missing
-    /// where no entry is linked with that shard, index and birth stamp, and as WasCancelled where a caller cancelled
-    /// it.
+    /// Takes a live entry out, and returns its value with its key and its current deadline, a tick of one
+    /// millisecond. Constant time, and no memory is taken.
+    ///
+    /// # Errors
+    /// In this order:
+    /// - `Missing` if the entry isn't linked here.
+    /// - `WasCancelled` if the entry was cancelled.
     #[inline(always)]
     pub fn remove(&mut self, entry: &EntryId) -> Result<Removed<T>, CoreError>
         // What was held under that shard, index and birth stamp comes out, and nothing else.
@@ -153,8 +174,13 @@ impl<T, A: Allocator> ShardState<T, A> {
         answer
     }
 
-    /// The deadline in force of a live entry, a tick of one millisecond, by one look at its word. Refused as `remove`
-    /// is. The poller stays.
+    /// Returns the current deadline of a live entry, a tick of one millisecond, by one look at its word. A parked
+    /// task stays parked. Constant time.
+    ///
+    /// # Errors
+    /// In this order:
+    /// - `Missing` if the entry isn't linked here.
+    /// - `WasCancelled` if the entry was cancelled.
     #[inline]
     pub fn deadline(&mut self, entry: &EntryId) -> Result<u64, CoreError>
         // The entry is live until the deadline that is told, or known as cancelled, or missing.
@@ -173,10 +199,18 @@ impl<T, A: Allocator> ShardState<T, A> {
         self.attended.core.deadline(entry)
     }
 
-    /// Notes a tick of one millisecond, and takes out one entry whose deadline in force is reached by the greatest
-    /// tick noted: call again until the answer is Waiting (nothing is due; `next` is the next tick at which there is
-    /// something to do) or Idle (nothing is linked). Refused as TickTooLarge beyond the last tick, which is not noted
-    /// then.
+    /// Notes `tick`, of one millisecond, and takes one entry out that is due at the greatest tick noted. Call it
+    /// until it returns something else than `Out`:
+    /// - `Out` has the entry's key, its deadline and its value. No live entry has an earlier deadline.
+    /// - `Waiting` if no live entry is due: there is nothing to do before the tick `next`.
+    /// - `Idle` if nothing is linked.
+    ///
+    /// It takes constant time for each entry that it moves down the wheel, schedules again or reaps; an entry moves
+    /// at most five times after it was scheduled. It takes no memory, and drops no value: the values of reaped
+    /// entries are set aside.
+    ///
+    /// # Errors
+    /// `TickTooLarge` if `tick` is beyond the last tick. It isn't noted then.
     #[inline(always)]
     pub fn poll(&mut self, tick: u64) -> Result<Turn<T>, CoreError>
         // The greater of the two ticks is noted. A tick is refused exactly beyond the last one.
@@ -207,12 +241,21 @@ impl<T, A: Allocator> ShardState<T, A> {
         answer
     }
 
-    /// Does of a [`ShardState::poll`] at most `most` steps, each in constant time but for a value's drop. Call again while
-    /// it answers Working: each such call leaves at least so many steps fewer. Between the calls the lock may be let go,
-    /// and every other call may be made.
+    /// Notes `tick`, of one millisecond, and does at most `most` steps of a poll. It returns `Working` if more steps
+    /// may be left, and else the poll's answer:
+    /// - `Out` has the key, the deadline and the value of an entry that is due.
+    /// - `Waiting` if no live entry is due: there is nothing to do before the tick `next`.
+    /// - `Idle` if nothing is linked.
     ///
-    /// Whoever is told Working by a call of no step at all learns nothing. Refused as TickTooLarge beyond the last tick,
-    /// which is not noted then.
+    /// Call it again while it returns `Working`. Each such call leaves at least `most` steps fewer than there were
+    /// when its tick was noted. A call of no steps that returns `Working` tells nothing. Between two calls the lock
+    /// may be released, and every other call may be made.
+    ///
+    /// A step takes constant time. The call takes no memory, and drops no value: the values of reaped entries are set
+    /// aside.
+    ///
+    /// # Errors
+    /// `TickTooLarge` if `tick` is beyond the last tick. It isn't noted then.
     pub fn poll_some(&mut self, tick: u64, most: u32) -> Result<Piece<T>, CoreError>
         // The greater of the two ticks is noted. A tick is refused exactly beyond the last one.
         ensures noted { OnOk result (self.new.core.noted ≡ max self.old.core.noted tick) }
@@ -246,14 +289,14 @@ impl<T, A: Allocator> ShardState<T, A> {
         answer
     }
 
-    /// Polls until the caller's own row is full, or nothing is due: what comes out is put behind what stands in the row, in
-    /// order, as many as it has free room for. `tick` is of one millisecond. Call again while it answers More. It takes no
-    /// memory.
-    ///
-    /// A full row takes nothing out, and no tick is noted then.
+    /// Notes `tick`, of one millisecond, and takes entries out that are due, until `row` is full or nothing is due.
+    /// They are appended to `row` in the order of their deadlines, as many as its capacity has room for. It returns
+    /// `More` if entries may still be due, and else what a poll returns then. Empty `row` and call it again while it
+    /// returns `More`. If `row` has no room, nothing comes out and `tick` isn't noted. It costs as much as so many
+    /// polls, and takes no memory.
     ///
     /// # Errors
-    /// TickTooLarge beyond the last tick. Nothing changes then.
+    /// `TickTooLarge` if `tick` is beyond the last tick. Nothing changes then.
     pub fn poll_many(
         &mut self,
         tick: u64,
@@ -278,7 +321,7 @@ impl<T, A: Allocator> ShardState<T, A> {
         answer
     }
 
-    /// Reaps each linked entry that is found cancelled, and answers how many. Their values are dropped. It looks at every
+    /// Reaps all cancelled entries, and returns how many these were. Their values are set aside. It looks at every
     /// slot.
     pub fn sweep(&mut self) -> usize
         // No entry is left that is known as cancelled, and so many are fewer. Nothing is ended by it.
@@ -297,9 +340,9 @@ impl<T, A: Allocator> ShardState<T, A> {
         reaped
     }
 
-    /// Reaps each linked entry that is found cancelled at `count` slots from `from` on, as `sweep` does at all of them, and
-    /// tells the slot to go on from. So many calls go round a shard as it has pieces, and each takes no longer than its piece:
-    /// the lock is free between them.
+    /// Reaps the cancelled entries among the `count` slots from the slot `from` on. It returns how many these were,
+    /// and the slot to go on from, which is none after the last slot. Their values are set aside. It takes time in
+    /// proportion to `count`. Between two calls the lock may be released.
     pub fn sweep_some(&mut self, from: usize, count: usize) -> Swept
         // No entry is left there that is known as cancelled, so many are fewer, and no other slot
         // changes. Nothing is ended by it.
@@ -324,9 +367,13 @@ impl<T, A: Allocator> ShardState<T, A> {
         swept
     }
 
-    /// Reaps the entry of that name where it is found cancelled: its value is dropped, and its slot is free for another, or
-    /// worn. Constant time. Refused as Missing where no entry is linked with that shard, index and birth stamp, and as
-    /// Live where it is found live.
+    /// Reaps `entry` if it was cancelled: its slot is free for another entry, or worn, and its value is set aside.
+    /// Constant time.
+    ///
+    /// # Errors
+    /// In this order:
+    /// - `Missing` if the entry isn't linked here.
+    /// - `Live` if the entry wasn't cancelled. It stays.
     pub fn reap(&mut self, entry: &EntryId) -> Result<(), ReapError>
         // It has left, and no other changes. Nothing is ended by it.
         ensures reaped { OnOk result (NotCancelled (machine self.new.core) entry.now.index) }
@@ -349,8 +396,8 @@ impl<T, A: Allocator> ShardState<T, A> {
         answer
     }
 
-    /// Ends every linked entry, and drops its value: each live one as removed, and those that were cancelled are
-    /// reaped. It answers how many it ended as removed, and goes over every slot. No poller is left parked.
+    /// Takes all entries out, and returns how many live ones were removed. Their values, and those of cancelled
+    /// entries, are set aside. A parked task is woken. It looks at every slot.
     #[tactic(auto, using(crate::proofs::Parking::none_waits))]
     pub fn clear(&mut self) -> usize
         // Nothing is linked any more, and so no poller is parked.

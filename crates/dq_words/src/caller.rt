@@ -37,9 +37,9 @@ use std::marker::Model;
 /// # Ok::<(), hontkhale::owner::CoreError>(())
 /// ```
 ///
-/// Each call takes one load and at most one atomic step, waits for nobody and takes no memory. A caller that is
-/// dropped counts as out for good. It may outlive its queue: what was live when the queue was dropped is then refused
-/// as Ended, and a look shows it as removed.
+/// Each call makes one load and at most one atomic step, waits for nobody and takes no memory. A caller that is
+/// dropped counts as out for good. It may outlive its queue: the entries that were live when the queue was dropped
+/// are then refused as `Ended`, and a look shows them as removed.
 #[derive(Drop)]
 pub struct Caller<A: Allocator = Global> {
     pub(crate) seat: Seated<A>,
@@ -111,9 +111,18 @@ impl<A: Allocator> Caller<A> {
         }
     }
 
-    /// Raises the deadline of a live entry to `when`, a tick of one millisecond, and answers the deadline that is
-    /// then in force: `when`, or a later one that it had. Refused as TooFar beyond the last tick, as Unknown where no
-    /// slot has the key, as Stale where the slot has a later stamp, and as Ended where the entry isn't live.
+    /// Raises the deadline of a live entry to `when`, a tick of one millisecond, and returns the deadline that is
+    /// then in force: `when`, or a later one that the entry had. No deadline gets sooner by it. The entry doesn't
+    /// come out before the returned deadline, unless the queue resets or removes it.
+    ///
+    /// It makes one load and at most one atomic step. It takes no lock and no memory.
+    ///
+    /// # Errors
+    /// In this order:
+    /// - `TooFar` if `when` is beyond the last tick, 2^42 - 1.
+    /// - `Unknown` if no slot has the key.
+    /// - `Stale` if the slot has a later stamp: the entry was reset, or the slot has another entry.
+    /// - `Ended` if the entry came out, was removed or was cancelled. It tells which.
     pub fn extend(&mut self, key: &Key, when: u64) -> Result<u64, CallError>
         // Accepted: the word that it left is live at the answer, which keeps what was promised before.
         ensures accepted { IfOk result (λ d. (when ≤ d) × SeesLive self.new key.now d) }
@@ -143,7 +152,16 @@ impl<A: Allocator> Caller<A> {
         Ok(before.max(when))
     }
 
-    /// Cancels a live entry, and answers the deadline that it gave up. Refused as `extend` is, but never as TooFar.
+    /// Cancels a live entry, so that it won't come out, and returns the deadline that it gave up, a tick of one
+    /// millisecond. The entry keeps its slot and its value until the queue frees it.
+    ///
+    /// It makes one load and at most one atomic step. It takes no lock and no memory.
+    ///
+    /// # Errors
+    /// In this order:
+    /// - `Unknown` if no slot has the key.
+    /// - `Stale` if the slot has a later stamp: the entry was reset, or the slot has another entry.
+    /// - `Ended` if the entry came out, was removed or was cancelled. It tells which.
     pub fn cancel(&mut self, key: &Key) -> Result<u64, CallError>
         // Accepted: the word that it left is cancelled, by this call, and the answer keeps what was promised before.
         ensures accepted { IfOk result (λ _. SeesCancelled self.new key.now) }
@@ -172,8 +190,13 @@ impl<A: Allocator> Caller<A> {
         Ok(given_up)
     }
 
-    /// What the entry of a key is. Refused as Unknown where no slot has the key, and as Stale where the slot has a
-    /// later stamp.
+    /// Returns what the entry of `key` is: live, with its deadline, or how it ended. It makes one load. It takes no
+    /// lock and no memory.
+    ///
+    /// # Errors
+    /// In this order:
+    /// - `Unknown` if no slot has the key.
+    /// - `Stale` if the slot has a later stamp: the entry was reset, or the slot has another entry.
     pub fn look(&mut self, key: &Key) -> Result<Look, CallError>
         // Shown: what the loaded word shows, which agrees with the caller's own accepted calls.
         ensures shown { IfOk result (λ how. SeesEntry self.new key.now how) }
@@ -201,14 +224,15 @@ impl<A: Allocator> Caller<A> {
         Ok(shown(seen.mark, seen.field))
     }
 
-    /// The number of its accepted cancels.
+    /// Returns the number of its cancels that were accepted.
     pub fn cancels(&self) -> u64
         ensures { result ≡ cancels_of self.now }
     {
         self.cancels
     }
 
-    /// Counts the caller as gone and its cancels with it, by one step on the return word, and answers its cancels.
+    /// Gives the caller back, and returns the number of its cancels that were accepted. It makes one atomic step,
+    /// which counts the caller as gone and its cancels with it.
     pub fn give_back(mut self) -> u64
         ensures cancels { result ≡ cancels_of self }
         ensures few { result ≤ most_begins }
@@ -218,8 +242,8 @@ impl<A: Allocator> Caller<A> {
         cancels
     }
 
-    /// As [`Caller::give_back`], with what shows that its step was made: whoever has it knows that this caller is
-    /// counted as gone, and its cancels with it.
+    /// Gives the caller back, and returns the number of its cancels that were accepted, with what shows that its step
+    /// was made. Whoever has that knows that this caller is counted as gone, and its cancels with it.
     pub fn leave(self) -> (u64, Gone)
         ensures cancels { result.0 ≡ cancels_of self }
         ensures few { result.0 ≤ most_begins }

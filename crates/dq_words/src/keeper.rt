@@ -76,8 +76,12 @@ impl From<AllocError> for WordsError {
 }
 
 impl<A: Allocator + Clone> Keeper<A> {
-    /// A keeper of that many slots which were never used. Refused as BadConfig for a capacity of 0 or beyond
-    /// [`CAPACITY_LIMIT`], and as NoMemory.
+    /// Makes a keeper of `capacity` slots that were never used. It takes time and memory in proportion to `capacity`.
+    ///
+    /// # Errors
+    /// In this order:
+    /// - `BadConfig` if `capacity` is 0 or beyond [`CAPACITY_LIMIT`].
+    /// - `NoMemory` if memory is refused.
     pub fn new(alloc: A, capacity: usize) -> Result<Keeper<A>, WordsError>
         // Made: each word was never used, and nothing is known, written or issued yet.
         ensures rows { IfOk result (λ k. length (known_of k) ≡ capacity) }
@@ -108,8 +112,12 @@ impl<A: Allocator> Keeper<A> {
         self.seat.law();
     }
 
-    /// One caller more, which may go to any thread. Refused as TooManyHandles where [`HANDLE_LIMIT`] callers were
-    /// issued, given back or not, and as NoMemory where the table can't be shared once more.
+    /// Makes one caller more, which may go to any thread. It takes memory for the caller.
+    ///
+    /// # Errors
+    /// In this order:
+    /// - `TooManyHandles` if [`HANDLE_LIMIT`] callers were made, given back or not.
+    /// - `NoMemory` if memory is refused.
     pub fn issue(&mut self) -> Result<Caller<A>, WordsError>
         // Issued: one more, which sits at this keeper's table and knows nothing yet.
         ensures counted { IfOk result (λ _. self.new.view.issued ≡ self.old.view.issued + 1) }
@@ -134,7 +142,8 @@ impl<A: Allocator> Keeper<A> {
         Ok(Caller::of(seat))
     }
 
-    /// The callers that were issued and are not given back, by one load. A caller that was dropped is out for good.
+    /// Returns the number of callers that were made and not given back, by one load. A caller that was dropped stays
+    /// counted.
     pub fn out(&mut self) -> u64
         ensures at_most { result ≤ self.new.view.issued }
         ensures one_step { StepsAtMost 1 self.old self.new }

@@ -11,7 +11,7 @@ use dq_core::{CoreError, DelayCore, Expired, Turn};
 use dq_ticks::LAST_TICK;
 use std::alloc::Allocator;
 
-/// What a poll for many entries answers.
+/// What a poll for many entries returns.
 #[derive(Clone, Copy, Debug, PartialEq, Eq)]
 pub enum ManyTurn {
     /// The row is full: more may be due.

@@ -30,7 +30,6 @@ pub use time::ManualClock;
 
 use shared::{Shared, Step};
 use std::fmt;
-use std::sync::atomic::Ordering::SeqCst;
 use std::sync::Arc;
 use std::time::{Duration, Instant};
 use waking::NEVER;
@@ -78,6 +77,11 @@ use waking::NEVER;
 /// lock meanwhile, so a drop may call the queue. What these calls let go in their turn is dropped after it, so that the stack
 /// holds one drop at a time. A drop that panics passes through the call that made it; no entry but the
 /// dropped one is lost, though a value that was handed to [`insert`](DelayQueue::insert) is dropped with the call.
+///
+/// # A suspended machine, and `fork`
+/// The clock is [`Instant`], which stands while Linux is suspended (`CLOCK_MONOTONIC`, and not `CLOCK_BOOTTIME`): what is due
+/// meanwhile comes out that much later. A child of `fork` may not use a queue that was made before it: a lock that another
+/// thread held at that moment stays held there, and a call hangs. `exec` is fine.
 ///
 /// # The end
 /// [`close`](DelayQueue::close) ends the receivers. The queue is dropped with its last clone; a [`Handle`] says
@@ -210,10 +214,12 @@ impl<T> DelayQueue<T> {
         self.extend_to(key, self.shared.front.time.tick_at(when))
     }
 
+    #[inline]
     fn extend_to(&self, key: &Key, tick: Option<u64>) -> Result<Instant, KeyError> {
         self.step(key, Step::to(tick))
     }
 
+    #[inline(always)]
     fn step(&self, key: &Key, step: Step) -> Result<Instant, KeyError> {
         let deadline = self.shared.step(key, step)?;
         Ok(self.shared.front.time.moment(deadline))
@@ -316,7 +322,7 @@ impl<T> DelayQueue<T> {
 
     /// The number of entries that wait, or are due and didn't come out yet.
     pub fn len(&self) -> usize {
-        self.shared.front.waiting.load(SeqCst)
+        self.shared.waiting()
     }
 
     /// Whether no entry waits.

@@ -1,5 +1,6 @@
-//! The delay queue that servers can trust: values that come out at their deadlines, and deadlines that any thread
-//! extends without a lock.
+//! A delay queue on a hierarchical timing wheel: a value goes in with a deadline, and comes out once the deadline is reached.
+//! Any thread extends and cancels entries without a lock. The core is proved: the wheel, the queue of one owner, the words that
+//! threads share, and the shards.
 //!
 #![cfg_attr(feature = "std", doc = "```")]
 #![cfg_attr(not(feature = "std"), doc = "```ignore")]
@@ -19,11 +20,11 @@
 //! # Ok::<(), Box<dyn std::error::Error>>(())
 //! ```
 //!
-//! [`DelayQueue`] is the queue that a server just uses. It stands over the queues below.
+//! [`DelayQueue`] is the queue for most servers. It is written by hand over the queues below, and tested.
 //!
-//! Of these a tick is one millisecond. They read no clock: they are told the tick, by a [`Clock`] or by whatever a program
-//! counts by. A queue's memory is taken when it is made; inserts, resets, removals and polls take none, and take constant
-//! time but for the slots that a poll opens.
+//! The other queues count time in ticks of one millisecond. They read no clock: the program passes the tick in, from a [`Clock`]
+//! or from whatever it counts by. A queue takes its memory when it is made. Inserts, resets and removals take constant time, and
+//! no memory. A poll takes no memory either, and constant time for each entry that it moves or takes out.
 //!
 //! # Which queue
 //!
@@ -40,13 +41,15 @@
 //! touches them. A stream has a call `poll_next` of its own, since the crate depends on no other; the crate hontkhale-streams
 //! makes a `Stream` of each, as `futures::stream::poll_fn(|cx| stream.poll_next(cx))` does.
 //!
-//! A call that takes a value answers a refusal as a pair, with the value that comes back; of it `?` makes a [`Refused`].
+//! If a call that takes a value is refused, its error is a pair that has the value; `?` makes a [`Refused`] of it.
 //!
 //! # What is proved
 //!
-//! The queues below are written in Rattle, which is Rust with contracts, and each function is proved before it is built.
-//! This crate is that source with its contracts erased, line by line, by a script that is compared with it at each change.
-//! So what is trusted is that script and rustc. The README has one function side by side, and what the script rewrites.
+//! All of these queues but [`DelayQueue`] are written in Rattle, which is Rust with contracts, and each of their functions is
+//! proved. This crate is that source with its contracts erased by a script. So the script and rustc are trusted, and so is the
+//! plain Rust by hand under the erased code, such as locks, memory and the shared words. The README has one function side by side,
+//! and what the script rewrites.
+//!
 //! [`DelayQueue`] shares proved shards among threads by code that is written by hand, and tested.
 //!
 //! # Features
@@ -60,9 +63,9 @@
 //!
 //! # Memory and panics
 //!
-//! Where memory is refused, a call answers NoMemory; std's `Arc` alone, of which a row of shared words takes one of few
-//! bytes when it is made, aborts. A lock isn't poisoned by a panic: whatever panics in a program's own code, a shard is
-//! whole.
+//! If memory is refused, a call returns `NoMemory`. There is one exception: a row of shared words takes an `Arc` of few bytes when
+//! it is made, and std aborts if that is refused. A panic doesn't poison a lock: whatever panics in a program's own code, a shard
+//! stays whole.
 #![cfg_attr(not(feature = "std"), no_std, allow(rustdoc::broken_intra_doc_links))]
 #![cfg_attr(not(feature = "proved-bounds"), forbid(unsafe_code))]
 #![cfg_attr(feature = "proved-bounds", deny(unsafe_code))]

@@ -128,7 +128,7 @@ const PROGRAMS: &[Program] = &[
         name: "lasting_shard",
         front: "",
         last: "use hontkhale::lasting::LastingShard;",
-        reason: NO_SUCH_ITEM,
+        reason: PRIVATE,
     },
     Program {
         name: "lasting_module",

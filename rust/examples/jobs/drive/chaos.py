@@ -10,7 +10,7 @@ import sys
 import threading
 import time
 
-from cluster import EFFECT, cluster, free_port, wait_for
+from cluster import EFFECT, cluster, end, free_port
 from holder import GONE, Connection, Refusal
 from hostile import exactly_once
 from stalls import Apart, Wire
@@ -160,12 +160,7 @@ def holders(it, hosts, seed):
         thread.start()
     happened = trouble(it, hosts, seed)
     over = time.monotonic()
-
-    def all_done():
-        """each job is done"""
-        return it.number("SELECT count(*) FROM jobs WHERE state <> 'done'") == 0
-
-    wait_for(all_done, 180, every=0.5)
+    it.wait_for_number("SELECT count(*) FROM jobs WHERE state <> 'done'", 0, 180)
     took = time.monotonic() - over
     for thread in holding:
         thread.ends = True
@@ -205,9 +200,7 @@ def main(quick):
                 hosts = [Host(it, stack, number, words) for number in range(3)]
                 it.wait_for_owners(3)
                 case(it, hosts, seed)
-                for host in hosts:
-                    host.process.terminate()
-                assert [host.process.wait(60) for host in hosts] == [0, 0, 0]
+                end(*(host.process for host in hosts))
 
 
 if __name__ == "__main__":

@@ -42,6 +42,20 @@ def wait_for(what, seconds, every=0.05):
         time.sleep(every)
 
 
+def end(*workers):
+    """Has workers drained, which each has to do well."""
+    for worker in workers:
+        worker.terminate()
+    codes = [worker.wait(60) for worker in workers]
+    assert codes == [0] * len(workers), codes
+
+
+def run(*words, url=None, env=None):
+    """What the program says, and how it ends."""
+    database = ["--database", url] if url else []
+    return subprocess.run([JOBS, *words, *database], capture_output=True, text=True, env=env, timeout=600)
+
+
 class Cluster:
     def __init__(self, settings=()):
         self.room = pathlib.Path(tempfile.mkdtemp(prefix="jobs-"))
@@ -108,8 +122,17 @@ class Cluster:
     def number(self, text):
         return float(self.sql(text)[0][0])
 
+    def wait_for_number(self, text, number, seconds=60):
+        """A query comes to a number."""
+
+        def is_so():
+            return self.number(text) == number
+
+        is_so.__doc__ = f"{text} is {number}"
+        wait_for(is_so, seconds, every=0.2)
+
     def jobs(self, *words, env=None, url=None):
-        done = subprocess.run([JOBS, *words, "--database", url or self.url], capture_output=True, text=True, env=env)
+        done = run(*words, url=url or self.url, env=env)
         if done.returncode:
             raise AssertionError(f"jobs {words}: {done.stderr}")
         return done.stdout

@@ -14,7 +14,7 @@ import sys
 import threading
 import time
 
-from cluster import EFFECT, cluster, free_port, wait_for
+from cluster import EFFECT, cluster, end, free_port, wait_for
 from holder import Connection, Holder, Refusal, packed
 
 MEBIBYTE = 1 << 20
@@ -24,19 +24,8 @@ def empty(it):
     it.sql("TRUNCATE jobs; TRUNCATE effects")
 
 
-def end(*workers):
-    for worker in workers:
-        worker.terminate()
-    codes = [worker.wait(60) for worker in workers]
-    assert codes == [0] * len(workers), codes
-
-
 def exactly_once(it, count):
-    def all_done():
-        """each job is done"""
-        return it.number("SELECT count(*) FROM jobs WHERE state = 'done'") == count
-
-    wait_for(all_done, 120, every=0.2)
+    it.wait_for_number("SELECT count(*) FROM jobs WHERE state = 'done'", count, 120)
     rows = it.sql(
         "SELECT count(*), count(DISTINCT job), (SELECT count(*) FROM effects e JOIN jobs j ON j.id = e.job WHERE "
         "e.at < j.due) "
@@ -276,7 +265,7 @@ def broken_effect(it):
     exactly_once(it, 100)
     it.sql("UPDATE jobs SET state = 'dead' WHERE id % 2 = 0")
     assert it.jobs("retry", "all", "--attempts", "1") == "50 dead jobs wait again\n"
-    wait_for(lambda: it.number("SELECT count(*) FROM effects") == 150, 20)
+    it.wait_for_number("SELECT count(*) FROM effects", 150, 20)
     assert it.number("SELECT count(*) FROM jobs WHERE state = 'done' AND attempt = 2") == 50
     end(worker)
     print("hostile: a slip in an effect costs no job an attempt; 50 dead jobs were brought back by a word", flush=True)
@@ -425,11 +414,7 @@ def full_table(it, count):
         rate = ""
         if "ago" in name:
 
-            def all_done():
-                """each job is done"""
-                return it.number("SELECT count(*) FROM effects") == count + 1
-
-            wait_for(all_done, 600, every=1)
+            it.wait_for_number("SELECT count(*) FROM effects", count + 1, 600)
             took = it.number("SELECT extract(epoch FROM max(at) - min(at)) FROM effects")
             assert it.number("SELECT count(DISTINCT job) FROM effects") == count + 1
             rate = f", all done once within {took:.0f} s, {count / took:.0f} a second"

@@ -11,10 +11,11 @@ import re
 import statistics
 import subprocess
 import sys
+import textwrap
 import threading
 import time
 
-from cluster import EFFECT, HERE, cluster, free_port, program, wait_for
+from cluster import EFFECT, HERE, cluster, end, free_port, program, wait_for
 from holder import packed
 from leases import metric
 
@@ -86,28 +87,16 @@ def enqueue_ahead(it, rate, seconds):
     it.jobs("enqueue", str(rate * seconds), "--delay", "4000", "--spread", str(seconds * 1000))
 
 
+def pgbench(it, script, seconds, *words):
+    """What pgbench says of a script by 8 clients."""
+    command = [program("pgbench"), "-n", "-c", "8", "-j", "1", "-T", str(seconds), "-f", str(script), *words, it.url]
+    return subprocess.run(command, check=True, capture_output=True, text=True).stdout
+
+
 def enqueue_singly(it, rate, seconds):
     script = it.room / "insert.sql"
     script.write_text("INSERT INTO jobs (due) VALUES (clock_timestamp() + random() * interval '5 seconds');\n")
-    subprocess.run(
-        [
-            program("pgbench"),
-            "-n",
-            "-c",
-            "8",
-            "-j",
-            "1",
-            "-R",
-            str(rate),
-            "-T",
-            str(seconds),
-            "-f",
-            str(script),
-            it.url,
-        ],
-        check=True,
-        capture_output=True,
-    )
+    pgbench(it, script, seconds, "-R", str(rate))
 
 
 def load(it, mode, rate, seconds, enqueue):
@@ -115,22 +104,14 @@ def load(it, mode, rate, seconds, enqueue):
     it.sql("CHECKPOINT")
     cost = Cost(it, workers)
     enqueue(it, rate, seconds)
-
-    def all_done():
-        """each job is done"""
-        return it.number("SELECT count(*) FROM jobs WHERE state = 'waiting'") == 0
-
     time.sleep(seconds)
-    wait_for(all_done, 300, every=0.5)
+    it.wait_for_number("SELECT count(*) FROM jobs WHERE state = 'waiting'", 0, 300)
     worker, database = cost.cores()
     rows = it.sql(
         "SELECT count(*), array_to_string(percentile_disc(ARRAY[0.5, 0.99, 1]) WITHIN GROUP (ORDER BY late), ' ') "
         "FROM (SELECT round(1000 * extract(epoch FROM started - due), 1) AS late FROM jobs) it"
     )
-    for process in workers:
-        process.terminate()
-    for process in workers:
-        process.wait(30)
+    end(*workers)
     return [*rows[0][1].split(), f"{worker:.2f}", f"{database:.2f}"]
 
 
@@ -139,7 +120,8 @@ NAMES = {"worker": "the index", "10": "polled every 10 ms", "100": "polled every
 
 def table(name, circumstances, rows, is_stored):
     """Prints a table, and writes it to README.md."""
-    text = "\n".join([circumstances, "", *(f"| {' | '.join(row)} |" for row in rows)])
+    lines = textwrap.wrap(circumstances, 120)
+    text = "\n".join([*lines, "", *(f"| {' | '.join(row)} |" for row in rows)])
     print(text, flush=True)
     if is_stored:
         page = HERE / "README.md"
@@ -183,9 +165,7 @@ def jobs(seconds, is_stored):
             cost = Cost(it, workers)
             asked = idle(it, seconds)
             worker, database = cost.cores()
-            for process in workers:
-                process.terminate()
-                process.wait(30)
+            end(*workers)
             idle_rows.append([NAMES[mode], f"{asked:.1f}", f"{worker:.3f}", f"{database:.3f}"])
     said = "Medians of three turns, and the least and the most p99."
     table("jobs", circumstances(before, seconds, said), rows, is_stored)
@@ -240,17 +220,8 @@ def hold(it, seconds, write_every):
         f"interval '25 seconds' FROM generate_series(1, {LEASES}); VACUUM ANALYZE jobs; CHECKPOINT"
     )
     port, metrics = free_port(), free_port()
-    worker = it.spawn(
-        "worker",
-        "--listen",
-        f"127.0.0.1:{port}",
-        "--metrics",
-        f"127.0.0.1:{metrics}",
-        "--lease",
-        "30000",
-        "--write-every",
-        str(write_every * 1000),
-    )
+    words = ["--listen", f"127.0.0.1:{port}", "--metrics", f"127.0.0.1:{metrics}"]
+    worker = it.spawn("worker", *words, "--lease", "30000", "--write-every", str(write_every * 1000))
     it.wait_for_owners(1)
     wait_for(lambda: metric(metrics, "jobs_leases") == LEASES, 60)
     ids = list(range(1, LEASES + 1))
@@ -299,22 +270,7 @@ def update_a_beat(it, seconds):
         "WHERE id = :id AND attempt = 1 AND state = 'running';\n"
     )
     cost = Cost(it, [])
-    command = [
-        program("pgbench"),
-        "-n",
-        "-M",
-        "prepared",
-        "-c",
-        "8",
-        "-j",
-        "1",
-        "-T",
-        str(seconds),
-        "-f",
-        str(script),
-        it.url,
-    ]
-    said = subprocess.run(command, check=True, capture_output=True, text=True).stdout
+    said = pgbench(it, script, seconds, "-M", "prepared")
     rate = float(next(line.split()[2] for line in said.splitlines() if line.startswith("tps")))
     return rate, cost.cores()[1]
 

@@ -10,8 +10,9 @@ import urllib.error
 import urllib.parse
 import urllib.request
 
-from cluster import EFFECT, HERE, JOBS, cluster, free_port, wait_for
+from cluster import EFFECT, HERE, JOBS, cluster, end, free_port, run, wait_for
 from holder import Connection
+from hostile import exactly_once
 from stalls import held
 
 
@@ -28,13 +29,11 @@ def refusals(it):
         (["enqueue", "5", "--database", dead], 1, "refused"),
         (["setup", "--database", it.url.replace("/postgres", "/nowhere")], 1, "nowhere"),
     ]:
-        done = subprocess.run([JOBS, *words], capture_output=True, text=True, env={"PATH": os.environ["PATH"]})
+        done = run(*words, env={"PATH": os.environ["PATH"]})
         assert done.returncode == code and said in done.stderr and done.stderr.startswith("jobs: "), (words, done)
         assert "panicked" not in done.stderr and "secret" not in done.stderr, done.stderr
-    done = subprocess.run([JOBS, "--help"], capture_output=True, text=True)
-    assert done.returncode == 0 and all(
-        it in done.stdout for it in ("setup", "worker", "enqueue", "status", "poller")
-    ), done
+    done = run("--help")
+    assert done.returncode == 0 and all(it in done.stdout for it in ("setup", "worker", "enqueue", "status")), done
     print("operator: 9 wrong lines are refused by name, and --help tells the verbs", flush=True)
 
 
@@ -103,14 +102,8 @@ def older_tables(it):
     assert longest < 10, f"an insert waited {longest:.1f} s for the setup"
     effect = "INSERT INTO public.effects (job) SELECT id FROM taken"
     worker = it.spawn("worker", "--schema", "older", "--effect", effect)
-
-    def all_done():
-        """each job is done"""
-        return it.number("SELECT count(*) FROM older.jobs WHERE state = 'done'") == 31
-
-    wait_for(all_done, 30)
-    worker.terminate()
-    assert worker.wait(30) == 0
+    it.wait_for_number("SELECT count(*) FROM older.jobs WHERE state = 'done'", 31)
+    end(worker)
     print(
         f"operator: tables of the first form were changed beside 30 inserts, of which none waited {longest:.1f} s, and "
         "all jobs were done",
@@ -149,12 +142,11 @@ def kinds(it):
     assert it.sql("SELECT DISTINCT state, attempt FROM jobs WHERE kind = 'mail'") == [["dead", "3"]]
     # What is due at once comes by its priority.
     it.sql("UPDATE jobs SET state = 'waiting', due = now(), attempts = 9 WHERE kind = 'mail'")
-    wait_for(lambda: it.number("SELECT count(*) FROM jobs WHERE state = 'waiting' AND due <= now()") == 31, 10)
+    it.wait_for_number("SELECT count(*) FROM jobs WHERE state = 'waiting' AND due <= now()", 31, 10)
     time.sleep(12)
     order = [job[3] for _ in range(3) for job in asks.call("JOBS.TAKE", 10, "KIND", "mail")]
     assert order == sorted(order, reverse=True) and len(order) == 30, order
-    worker.terminate()
-    assert worker.wait(30) == 0
+    end(worker)
     print("operator: kinds, priorities and retries by kind and by job do as they are told", flush=True)
 
 
@@ -204,17 +196,15 @@ def schedules(it):
             workers[0].kill()
             workers[0].wait()
             workers[0] = it.spawn("worker", "--effect", EFFECT, "--keep-done", "3600000")
-        wait_for(lambda: it.number("SELECT count(*) FROM effects") == number + 1, 20)
+        it.wait_for_number("SELECT count(*) FROM effects", number + 1, 20)
     time.sleep(2)
     assert it.number("SELECT count(*) FROM jobs WHERE payload = 'beat' AND due <= now()") == fired
     # Those that were done an hour ago are pruned, and no other.
     it.sql("UPDATE jobs SET ended = ended - interval '1 hour' WHERE id % 2 = 0; DELETE FROM jobs_schedules")
     old = it.number("SELECT count(*) FROM jobs WHERE ended < now() - interval '1 hour'")
-    wait_for(lambda: it.number("SELECT count(*) FROM jobs WHERE ended < now() - interval '1 hour'") == 0, 30)
+    it.wait_for_number("SELECT count(*) FROM jobs WHERE ended < now() - interval '1 hour'", 0, 30)
     assert old and it.number("SELECT count(*) FROM jobs WHERE state = 'done'") == fired - old
-    for worker in workers:
-        worker.terminate()
-    assert [worker.wait(30) for worker in workers] == [0, 0, 0]
+    end(*workers)
     print(
         f"operator: a schedule fired {fired} times, each once though workers were killed; old done jobs were pruned",
         flush=True,
@@ -250,7 +240,7 @@ def page(it):
     worker = it.spawn("worker", "--effect", EFFECT, "--attempts", "1", "--http", f"127.0.0.1:{port}")
     it.wait_for_owners(1)
     it.jobs("enqueue", "2000", "--spread", "2000")
-    wait_for(lambda: it.number("SELECT count(*) FROM effects") == 2000, 30)
+    it.wait_for_number("SELECT count(*) FROM effects", 2000, 30)
     it.sql("UPDATE jobs SET state = 'dead', error = '<script>1</script>' WHERE id % 400 = 0")
 
     def ask(path="/", data=None, host=f"127.0.0.1:{port}"):
@@ -278,10 +268,9 @@ def page(it):
     status, text = ask("/retry", f"token={token}&id={id}".encode())
     assert status == 200 and text.count("<form") == 4, (status, text)
     again = f"SELECT count(*) FROM jobs WHERE state = 'done' AND attempt = 2 AND id = {id}"
-    wait_for(lambda: it.number(again) == 1, 20)
+    it.wait_for_number(again, 1, 20)
     assert ask("/metrics")[0] == 200
-    worker.terminate()
-    assert worker.wait(30) == 0
+    end(worker)
     print(
         "operator: the page shows workers, lateness and dead jobs, and its button can't be pressed from elsewhere",
         flush=True,
@@ -315,14 +304,7 @@ def main(quick):
         assert re.search(r"waiting \d+ \(\d+ due\), running 0, done \d+, dead 0", status), status
         drain(it, workers)
 
-        def all_done():
-            """each job is done"""
-            return it.number("SELECT count(*) FROM jobs WHERE state = 'done'") == 20000
-
-        wait_for(all_done, 60, every=0.2)
-        assert (
-            it.number("SELECT count(DISTINCT job) FROM effects") == it.number("SELECT count(*) FROM effects") == 20000
-        )
+        exactly_once(it, 20000)
         text_form(ports[0])
         first = it.number("SELECT count(*) FROM jobs")
 
@@ -341,8 +323,7 @@ def main(quick):
             flush=True,
         )
         kill(it, workers)
-        workers[0].terminate()
-        assert workers[0].wait(30) == 0
+        end(workers[0])
         assert "nobody" in it.jobs("status"), "free partitions are shown"
 
 
@@ -360,8 +341,7 @@ def kill(it, workers):
 def drain(it, workers):
     """A worker that is told to end finishes what is under way, and the others have its partitions at once."""
     begun = time.monotonic()
-    workers[2].terminate()
-    assert workers[2].wait(30) == 0, "a drained worker ends well"
+    end(workers[2])
     took = time.monotonic() - begun
     it.wait_for_owners(2)
     print(

@@ -10,9 +10,9 @@ import subprocess
 import threading
 import time
 
-from cluster import EFFECT, cluster, free_port, wait_for
-from holder import Connection, Holder, Refusal
-from hostile import empty, end, exactly_once
+from cluster import EFFECT, cluster, end, free_port, wait_for
+from holder import Connection, Holder
+from hostile import empty, exactly_once
 
 
 class Wire:
@@ -137,12 +137,7 @@ def cut_link(it, seconds=30):
         time.sleep(seconds)
         apart.mend()
         mended = time.monotonic()
-
-        def all_done():
-            """each job is done"""
-            return done(it) == 500
-
-        wait_for(all_done, 60)
+        it.wait_for_number("SELECT count(*) FROM jobs WHERE state = 'done'", 500)
         took = time.monotonic() - mended
         exactly_once(it, 500)
         assert took < 3, f"the worker served {took:.1f} s after its link was mended"
@@ -296,12 +291,8 @@ def two_schemas(it):
         it.jobs("setup", "--schema", schema, url=url)
         workers.append(it.spawn("worker", "--schema", schema, "--effect", EFFECT, url=url))
         it.jobs("enqueue", "1000", "--schema", schema, url=url)
-
-    def all_done():
-        """each job of both is done"""
-        return all(it.number(f"SELECT count(*) FROM {schema}.jobs WHERE state = 'done'") == 1000 for schema in "ab")
-
-    wait_for(all_done, 20)
+    for schema in "ab":
+        it.wait_for_number(f"SELECT count(*) FROM {schema}.jobs WHERE state = 'done'", 1000, 20)
     end(*workers)
     print("stalls: the workers of two schemas did 1,000 jobs each", flush=True)
 
@@ -315,8 +306,8 @@ def old_snapshot(it):
     with held(it, "SET TRANSACTION ISOLATION LEVEL REPEATABLE READ", "SELECT count(*) FROM jobs"):
         it.jobs("enqueue", "150000")
         wait_for(lambda: done(it) == 150000, 120, every=0.5)
-        # What was due within two seconds is read again, since it may have been enqueued late.
-        time.sleep(3)
+        # What was due within two seconds is read again, and a session tells some seconds later what it has read.
+        time.sleep(10)
         it.sql("SELECT pg_stat_reset()")
         buffers = (
             "SELECT sum(idx_blks_hit + idx_blks_read) FROM pg_statio_user_indexes WHERE indexrelname = 'jobs_waiting'"

@@ -2,14 +2,13 @@
 and many workers over many partitions."""
 import contextlib
 import os
-import pathlib
 import shutil
 import subprocess
 import time
 
-from cluster import EFFECT, JOBS, Cluster, cluster, free_port, program, wait_for
+from cluster import EFFECT, JOBS, Cluster, cluster, end, free_port, program, run, wait_for
 from holder import Connection, Holder, Refusal
-from hostile import empty, end, exactly_once
+from hostile import empty, exactly_once
 from measure import Cost
 
 
@@ -50,7 +49,7 @@ def tls(it):
         (f"{here}?sslmode=allow", "sslmode isn't"),
     ]:
         url = f"postgres://jobs@{words}"
-        done = subprocess.run([JOBS, "status", "--database", url], capture_output=True, text=True)
+        done = run("status", url=url)
         assert bool(done.returncode) == bool(said) and (said or "") in done.stderr, (words, done)
     empty(it)
     worker = it.spawn(
@@ -121,10 +120,10 @@ def secret(it):
         (url.replace("127.0.0.1", "hush7.invalid"), ""),
         (f"{url}?port=x", "names no database"),
     ]:
-        done = subprocess.run([JOBS, "status"], capture_output=True, text=True, env={**environment, "JOBS_DATABASE": bad})
+        done = run("status", env={**environment, "JOBS_DATABASE": bad})
         assert done.returncode and why in done.stderr, (bad, done)
         said += done.stdout + done.stderr.replace("hush7.invalid", "")
-    shown = subprocess.run([JOBS, "status", "--database", url], capture_output=True, text=True)
+    shown = run("status", url=url)
     assert shown.returncode == 2 and "JOBS_DATABASE" in shown.stderr, shown
     seen = [line for line in (said + shown.stderr + it.logged()).splitlines() if "hush7" in line]
     assert not seen, f"the password is seen: {seen}"
@@ -152,7 +151,7 @@ def pooler(it):
         it.processes.append(between)
         url = f"postgres://jobs@127.0.0.1:{port}/postgres"
         if mode == "session":
-            wait_for(lambda: subprocess.run([JOBS, "status", "--database", url], capture_output=True).returncode == 0, 10)
+            wait_for(lambda: run("status", url=url).returncode == 0, 10)
             worker = it.spawn("worker", "--effect", EFFECT, url=url)
             it.wait_for_owners(1)
             it.jobs("enqueue", "2000", "--spread", "2000", url=url)
@@ -161,7 +160,7 @@ def pooler(it):
         else:
             time.sleep(1)
             for verb in (["setup"], ["worker", "--effect", EFFECT]):
-                done = subprocess.run([JOBS, *verb, "--database", url], capture_output=True, text=True, timeout=30)
+                done = run(*verb, url=url)
                 assert done.returncode == 1 and "pooler in transaction mode" in done.stderr, done
         between.terminate()
         between.wait(30)
@@ -171,9 +170,7 @@ def pooler(it):
 def many(it):
     """200 partitions over 64 workers of two sessions each, a quarter of which is killed."""
     it.jobs("setup", "--schema", "many", "--partitions", "200")
-    refused = subprocess.run(
-        [JOBS, "setup", "--schema", "many", "--partitions", "64", "--database", it.url], capture_output=True, text=True
-    )
+    refused = run("setup", "--schema", "many", "--partitions", "64", url=it.url)
     assert refused.returncode == 1 and "200 partitions" in refused.stderr, refused
     it.sql("TRUNCATE effects")
     words = ["worker", "--schema", "many", "--sessions", "2", "--effect", EFFECT, "--name"]
@@ -193,7 +190,7 @@ def many(it):
     begun = time.monotonic()
     it.wait_for_owners(48, 60, 200, "many")
     moved = time.monotonic() - begun
-    wait_for(lambda: it.number("SELECT count(*) FROM many.jobs WHERE state <> 'done'") == 0, 120, every=0.5)
+    it.wait_for_number("SELECT count(*) FROM many.jobs WHERE state <> 'done'", 0, 120)
     counts = it.sql("SELECT count(*), count(DISTINCT job) FROM effects")
     assert counts == [["20000", "20000"]], counts
     end(*workers[16:])

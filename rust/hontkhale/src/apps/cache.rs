@@ -34,21 +34,28 @@ pub struct TtlCache<K: Eq + Hash, V, S: BuildHasher = RandomState> {
 }
 
 impl<K: Eq + Hash, V> TtlCache<K, V> {
-    /// A cache for so many keys where nothing is kept, at moment 0. Time and memory as the capacity; the map takes
-    /// its own later, as puts fill it.
+    /// Makes an empty cache that keeps at most `capacity` keys, at moment 0. Each slot has `last_stamp` stamps, one
+    /// for each put and each renewal. Most programs take [`TtlCache::with_capacity`].
     ///
+    /// It takes time and memory in proportion to `capacity`. The map takes memory of its own later, as puts fill it.
     /// The map's hasher is std's, which is seeded; [`TtlCache::with_hasher`] takes another.
     ///
     /// # Errors
-    /// BadConfig where the capacity isn't 1 to 65536 or the last stamp isn't 1 to 1048575, and else NoMemory.
+    /// - `BadConfig` if `capacity` isn't 1 to 65,536, or `last_stamp` isn't 1 to 1,048,575.
+    /// - `NoMemory` if memory is refused.
     pub fn new(capacity: usize, last_stamp: u32) -> Result<TtlCache<K, V>, CoreError> {
         TtlCache::made(capacity, last_stamp, RandomState::new())
     }
 
-    /// As [`TtlCache::new`], with as many stamps a slot as there are.
+    /// Makes an empty cache that keeps at most `capacity` keys, at moment 0. Each slot has 1,048,575 stamps, the most
+    /// that it can have.
+    ///
+    /// It takes time and memory in proportion to `capacity`. The map takes memory of its own later, as puts fill it.
+    /// The map's hasher is std's, which is seeded; [`TtlCache::with_hasher`] takes another.
     ///
     /// # Errors
-    /// BadConfig where the capacity isn't 1 to 65536, and else NoMemory.
+    /// - `BadConfig` if `capacity` isn't 1 to 65,536.
+    /// - `NoMemory` if memory is refused.
     pub fn with_capacity(capacity: usize) -> Result<TtlCache<K, V>, CoreError> {
         TtlCache::made(capacity, LAST_STAMP, RandomState::new())
     }
@@ -59,10 +66,23 @@ where
     K: Eq + Hash,
     S: BuildHasher,
 {
-    /// As [`TtlCache::with_capacity`], with a hasher of the caller's.
+    /// Makes an empty cache that keeps at most `capacity` keys, at moment 0, and hashes them with `hasher`. Each slot
+    /// has 1,048,575 stamps, the most that it can have.
+    ///
+    /// It takes time and memory in proportion to `capacity`. The map takes memory of its own later, as puts fill it.
     ///
     /// # Errors
-    /// BadConfig where the capacity isn't 1 to 65536, and else NoMemory.
+    /// - `BadConfig` if `capacity` isn't 1 to 65,536.
+    /// - `NoMemory` if memory is refused.
+    ///
+    /// ```
+    /// use hontkhale::cache::TtlCache;
+    /// use std::collections::hash_map::RandomState;
+    ///
+    /// let mut cache = TtlCache::with_hasher(100, RandomState::new()).unwrap();
+    /// cache.set("key", 1, 500, 1_000).unwrap();
+    /// assert_eq!(cache.get(&"key", 1_499), Some(&1));
+    /// ```
     pub fn with_hasher(capacity: usize, hasher: S) -> Result<TtlCache<K, V, S>, CoreError> {
         TtlCache::made(capacity, LAST_STAMP, hasher)
     }
@@ -107,7 +127,8 @@ impl<K: Eq + Hash, V, S: BuildHasher> TtlCache<K, V, S> {
         self.timers.worn()
     }
 
-    /// The value at a key, where its deadline is later than `now` and than the moment. Constant time.
+    /// Returns the value at `key` if its deadline is later than `now`, a tick of one millisecond, and later than the
+    /// cache's moment. Constant time.
     pub fn get(&self, key: &K, now: u64) -> Option<&V> {
         let kept = self.stock.get(key)?;
         if now.max(self.moment) < kept.deadline {
@@ -117,7 +138,7 @@ impl<K: Eq + Hash, V, S: BuildHasher> TtlCache<K, V, S> {
         }
     }
 
-    /// Whether a value is seen at a key. Constant time.
+    /// Whether a value is seen at `key` at `now`, a tick of one millisecond. Constant time.
     pub fn contains(&self, key: &K, now: u64) -> bool {
         self.get(key, now).is_some()
     }

@@ -4,7 +4,7 @@ use crate::apps::cache::TtlCache;
 use crate::core::CoreError;
 use core::hash::{BuildHasher, Hash};
 
-/// What a memo answers: a copy of the value; or why none comes, with what was made.
+/// What a look-up that may make a value returns: a copy of the value; or why there is none, with what was made.
 pub type MemoAnswer<V> = Result<V, (CoreError, Option<V>)>;
 
 impl<K, V, S> TtlCache<K, V, S>
@@ -12,13 +12,30 @@ where
     K: Eq + Hash,
     S: BuildHasher,
 {
-    /// A copy of the value that is seen at a key. Where none is, the one that `make` makes, of which a copy is put
-    /// there until `now + ttl`, as [`TtlCache::set`] does. Where one is seen `make` isn't called, and nothing
-    /// changes.
+    /// Returns a copy of the value that is seen at `key`. If none is seen, calls `make`, puts a copy of what it made
+    /// at `key` until `now + ttl`, and returns what it made. `ttl` and `now` are ticks of one millisecond.
+    ///
+    /// If a value is seen, `make` isn't called and nothing changes. Else what is due at `now` is dropped, and the
+    /// cache is refreshed if the slot that the value needs has no stamp left ([`TtlCache::refresh`]). It takes
+    /// constant time, except for `make` and the copy, to drop what is due, to grow the map and to refresh. The last
+    /// two take memory.
     ///
     /// # Errors
-    /// As [`TtlCache::set`], and NoMemory where a copy is refused. What was made comes back; none was where a value
-    /// is seen.
+    /// With each comes what `make` made, if it was called. In this order:
+    /// - `TickTooLarge` if `now` is beyond the last tick.
+    /// - `TooFar` if the deadline is beyond the last tick.
+    /// - `Full` if as many keys are kept as the capacity.
+    /// - `NoMemory` if the map, a refresh or a copy is refused its memory.
+    /// - `Worn`, or `Full` with worn slots, only if the cache was made with a last stamp of 1.
+    ///
+    /// ```
+    /// use hontkhale::cache::TtlCache;
+    ///
+    /// let mut cache = TtlCache::with_capacity(100).unwrap();
+    /// assert_eq!(cache.get_or_insert_with("key", 500, 1_000, || 6 * 7), Ok(42));
+    /// assert_eq!(cache.get_or_insert_with("key", 500, 1_499, || unreachable!()), Ok(42));
+    /// assert_eq!(cache.get_or_insert_with("key", 500, 1_500, || 43), Ok(43));
+    /// ```
     pub fn get_or_insert_with<F>(&mut self, key: K, ttl: u64, now: u64, make: F) -> MemoAnswer<V>
     where
         F: FnOnce() -> V,

@@ -4,12 +4,12 @@ use crate::core::queue::DelayCore;
 use crate::core::words::SharedWords;
 
 impl<T, W: SharedWords> DelayCore<T, W> {
-    /// Issues a caller of the words.
+    /// Makes one caller of the words, which may go to any thread. It takes memory for the caller.
     pub fn issue(&mut self) -> Result<W::Caller, W::Fault> {
         self.words.issue()
     }
 
-    /// The issued callers that are not given back.
+    /// Returns the number of callers that were made and not given back.
     pub fn out(&mut self) -> u64 {
         self.words.out()
     }

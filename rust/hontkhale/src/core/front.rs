@@ -32,11 +32,13 @@ impl CoreConfig {
 }
 
 impl<T> DelayCore<T, VecWords> {
-    /// A queue of one owner for that many entries, over plain words, at tick 0 with nothing linked. All of its memory
-    /// is taken here.
+    /// Makes a queue of one owner for `capacity` entries, at tick 0, with nothing in it. Its entries are extended and
+    /// cancelled by the owner alone. It takes time and memory in proportion to `capacity`. No later call takes
+    /// memory.
     ///
     /// # Errors
-    /// BadConfig where the capacity isn't 1 to [`CAPACITY_LIMIT`], and else NoMemory.
+    /// - `BadConfig` if `capacity` isn't 1 to [`CAPACITY_LIMIT`].
+    /// - `NoMemory` if memory is refused.
     pub fn with_capacity(capacity: usize) -> Result<DelayCore<T, VecWords>, CoreError> {
         if capacity == 0 || capacity > CAPACITY_LIMIT {
             return Err(CoreError::BadConfig);

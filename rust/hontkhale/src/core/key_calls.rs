@@ -11,10 +11,15 @@ impl<T> DelayCore<T, VecWords> {
         key.entry().shard() == self.shard
     }
 
-    /// Raises the deadline of a live entry to `when`, a tick of one millisecond, and answers the deadline that is
-    /// then in force: `when`, or a later one that it had. Refused as TooFar beyond the last tick, as Unknown where
-    /// the key is of another shard or names no stamp that its slot was given, as Stale where the slot has a later
-    /// stamp, as Ended where the entry isn't live.
+    /// Raises the deadline of a live entry to `when`, a tick of one millisecond, and returns the deadline that is
+    /// then in force: `when`, or a later one that the entry had. No deadline gets sooner by it. Constant time.
+    ///
+    /// # Errors
+    /// In this order:
+    /// - `TooFar` if `when` is beyond the last tick, 2^42 - 1.
+    /// - `Unknown` if the key is of another shard, or no slot has it.
+    /// - `Stale` if the slot has a later stamp: the entry was reset, or the slot has another entry.
+    /// - `Ended` if the entry came out, was removed or was cancelled. It tells which.
     pub fn extend(&mut self, key: &Key, when: u64) -> Result<u64, CallError> {
         if when > LAST_TICK {
             return Err(CallError::TooFar { limit: LAST_TICK });
@@ -25,8 +30,15 @@ impl<T> DelayCore<T, VecWords> {
         self.words.extend(key, when)
     }
 
-    /// Cancels a live entry, which stays linked until it is reaped, and answers the deadline that it gives up.
-    /// Refused as `extend` is, but never as TooFar.
+    /// Cancels a live entry, so that it won't come out, and returns the deadline that it gave up, a tick of one
+    /// millisecond. The entry keeps its slot and its value until it is freed: by a poll at which it would have been
+    /// due, a sweep, a reap or a clear. Constant time.
+    ///
+    /// # Errors
+    /// In this order:
+    /// - `Unknown` if the key is of another shard, or no slot has it.
+    /// - `Stale` if the slot has a later stamp: the entry was reset, or the slot has another entry.
+    /// - `Ended` if the entry came out, was removed or was cancelled. It tells which.
     pub fn cancel(&mut self, key: &Key) -> Result<u64, CallError> {
         if !self.is_mine(key) {
             return Err(CallError::Unknown);
@@ -34,8 +46,12 @@ impl<T> DelayCore<T, VecWords> {
         self.words.cancel(key)
     }
 
-    /// What the word that a key names shows: that the entry is live, or how it ended. Refused as Unknown or as Stale,
-    /// as `extend` is.
+    /// Returns what the entry of `key` is: live, with its deadline, or how it ended. Constant time.
+    ///
+    /// # Errors
+    /// In this order:
+    /// - `Unknown` if the key is of another shard, or no slot has it.
+    /// - `Stale` if the slot has a later stamp: the entry was reset, or the slot has another entry.
     pub fn look(&self, key: &Key) -> Result<Look, CallError> {
         if !self.is_mine(key) {
             return Err(CallError::Unknown);

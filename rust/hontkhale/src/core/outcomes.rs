@@ -15,7 +15,7 @@ pub struct Expired<T> {
     pub value: T,
 }
 
-/// What a sweep of some slots answers.
+/// What a sweep of some slots returns.
 #[derive(Clone, Copy, Debug, PartialEq, Eq)]
 pub struct Swept {
     /// How many cancelled entries it reaped.
@@ -35,7 +35,7 @@ pub struct Removed<T> {
     pub value: T,
 }
 
-/// What a poll answers.
+/// What a poll returns.
 #[derive(Debug)]
 pub enum Turn<T> {
     /// An entry whose deadline in force is reached.
@@ -49,7 +49,7 @@ pub enum Turn<T> {
     Idle,
 }
 
-/// What a poll in pieces answers.
+/// What a poll in pieces returns.
 #[derive(Debug)]
 pub enum Piece<T> {
     /// The answer of the poll.

@@ -11,13 +11,13 @@ use crate::core::words::Words;
 use crate::ticks::{EntryId, Key, LAST_TICK};
 
 impl<T, W: Words> DelayCore<T, W> {
-    /// How many values were let go and wait for their drop. Constant time.
+    /// Returns how many freed values wait for their drop. Constant time.
     #[inline(always)]
     pub fn aside(&self) -> usize {
         self.slots.aside()
     }
 
-    /// Takes out a value that was let go and waits for its drop; none where none does. Constant time.
+    /// Takes out a freed value that waits for its drop. It returns none if no value waits. Constant time.
     ///
     /// ```ignore
     /// for _ in 0..queue.aside() {
@@ -37,8 +37,8 @@ impl<T, W: Words> DelayCore<T, W> {
 }
 
 impl<T, W: Words> DelayCore<T, W> {
-    /// Drops the values that were let go and wait for their drop. Where a drop panics the others wait for the next
-    /// call that drops.
+    /// Drops the freed values that wait for their drop. If a drop panics, the others wait for the next call that
+    /// drops.
     #[inline]
     pub fn drop_aside(&mut self) {
         for _turn in 0..self.aside() {
@@ -46,9 +46,22 @@ impl<T, W: Words> DelayCore<T, W> {
         }
     }
 
-    /// Puts an entry in that is live until `when`, a tick of one millisecond, or until the wheel's tick where `when`
-    /// lies before it, and answers its key. Constant time. Refused as TooFar beyond the last tick, and else as Full
-    /// where no slot is free; the value comes back then.
+    /// Puts `value` in, to come out at the tick `when` of one millisecond, and returns its key. If `when` is before
+    /// the queue's tick, the entry is due at once. Constant time, and no memory is taken.
+    ///
+    /// # Errors
+    /// `value` comes back, and nothing changes. In this order:
+    /// - `TooFar` if `when` is beyond the last tick, 2^42 - 1.
+    /// - `Full` if no slot is free. It tells how many entries are linked and how many slots are worn.
+    ///
+    /// ```
+    /// use hontkhale::owner::{CoreError, DelayCore};
+    ///
+    /// let mut queue = DelayCore::with_capacity(1).unwrap();
+    /// queue.insert("value", 100).unwrap();
+    /// let (error, value) = queue.insert("other", 100).unwrap_err();
+    /// assert_eq!((error, value), (CoreError::Full { linked: 1, worn: 0 }, "other"));
+    /// ```
     #[inline(always)]
     pub fn insert(&mut self, value: T, when: u64) -> Result<Key, (CoreError, T)> {
         if when > LAST_TICK {
@@ -59,10 +72,14 @@ impl<T, W: Words> DelayCore<T, W> {
         self.insert_deferring(value, when).0
     }
 
-    /// As [`DelayCore::insert`], for callers that answer a refusal with `?`: the value is dropped then.
+    /// Puts `value` in, to come out at the tick `when` of one millisecond, and returns its key. If the entry is
+    /// refused, `value` is dropped, and the error can be returned with `?`. [`DelayCore::insert`] gives the value
+    /// back instead. Constant time, and no memory is taken.
     ///
     /// # Errors
-    /// TooFar beyond the last tick, and else Full where no slot is free.
+    /// In this order:
+    /// - `TooFar` if `when` is beyond the last tick, 2^42 - 1.
+    /// - `Full` if no slot is free.
     #[inline]
     pub fn insert_or_drop(&mut self, value: T, when: u64) -> Result<Key, CoreError> {
         match self.insert(value, when) {
@@ -71,13 +88,33 @@ impl<T, W: Words> DelayCore<T, W> {
         }
     }
 
-    /// Notes a tick of one millisecond, and takes out one entry whose deadline in force is reached by the greatest
-    /// tick noted: call again until the answer is Waiting (nothing is due; `next` is the next tick at which there is
-    /// something to do) or Idle (nothing is linked). Refused as TickTooLarge beyond the last tick, which is not noted
-    /// then.
+    /// Notes `tick`, of one millisecond, and takes one entry out that is due at the greatest tick noted. Call it
+    /// until it returns something else than `Out`:
+    /// - `Out` has the entry's key, its deadline and its value. No live entry has an earlier deadline.
+    /// - `Waiting` if no live entry is due: there is nothing to do before the tick `next`.
+    /// - `Idle` if the queue holds no entry.
     ///
-    /// The values of cancelled entries that it reaps are dropped by it where it gives no entry, and else by a later
-    /// call.
+    /// It takes constant time for each entry that it moves down the wheel, schedules again or frees; an entry moves
+    /// at most five times after it was scheduled. It takes no memory. [`DelayCore::poll_some`] bounds the steps of
+    /// one call. The values of the cancelled entries that it frees are dropped by it, or by a later call if it
+    /// returns an entry.
+    ///
+    /// # Errors
+    /// `TickTooLarge` if `tick` is beyond the last tick. It isn't noted then.
+    ///
+    /// ```
+    /// use hontkhale::owner::{DelayCore, Turn};
+    ///
+    /// let mut queue = DelayCore::with_capacity(100)?;
+    /// queue.insert_or_drop("late", 20)?;
+    /// queue.insert_or_drop("early", 10)?;
+    /// let mut out = Vec::new();
+    /// while let Turn::Out(expired) = queue.poll(20)? {
+    ///     out.push(expired.value);
+    /// }
+    /// assert_eq!(out, ["early", "late"]);
+    /// # Ok::<(), hontkhale::owner::CoreError>(())
+    /// ```
     #[inline(always)]
     pub fn poll(&mut self, tick: u64) -> Result<Turn<T>, CoreError> {
         let answer = self.poll_deferring(tick)?;
@@ -89,15 +126,22 @@ impl<T, W: Words> DelayCore<T, W> {
         Ok(answer)
     }
 
-    /// Does of a [`Self::poll`] at most `most` steps, each in constant time but for a value's drop. Call again while
-    /// it answers Working: each such call leaves at least so many steps fewer. Between the calls every other call may
-    /// be made.
+    /// Notes `tick`, of one millisecond, and does at most `most` steps of a poll. It returns `Working` if more steps
+    /// may be left, and else the poll's answer:
+    /// - `Out` has the key, the deadline and the value of an entry that is due.
+    /// - `Waiting` if no live entry is due: there is nothing to do before the tick `next`.
+    /// - `Idle` if the queue holds no entry.
     ///
-    /// Over shared words an entry that is due may take two of these steps, a look and one that ends it.
+    /// Call it again while it returns `Working`. Each such call leaves at least `most` steps fewer than there were
+    /// when its tick was noted. A call of no steps that returns `Working` tells nothing. Between two calls every
+    /// other call may be made.
     ///
-    /// Who is told Working by a call of no step at all learns nothing. Refused as TickTooLarge beyond the last tick.
-    /// The values of cancelled entries that it reaps are dropped by it where it gives no entry, and else by a later
-    /// call.
+    /// A step takes constant time. If callers share the words, an entry that is due may take two steps: a look, and
+    /// one that ends it. Dropped values aren't counted: they are dropped by this call, or by a later one if it
+    /// returns an entry. It takes no memory.
+    ///
+    /// # Errors
+    /// `TickTooLarge` if `tick` is beyond the last tick. It isn't noted then.
     pub fn poll_some(&mut self, tick: u64, most: u32) -> Result<Piece<T>, CoreError> {
         let answer = self.poll_some_deferring(tick, most)?;
         if let Piece::Answer(Turn::Out(_)) = &answer {
@@ -107,36 +151,38 @@ impl<T, W: Words> DelayCore<T, W> {
         Ok(answer)
     }
 
-    /// Reaps each linked entry that is found cancelled, and answers how many: their values are dropped, and their
-    /// slots are free for others, or worn. It looks at every slot.
+    /// Frees the slots of all cancelled entries, drops their values, and returns how many these were. A slot without
+    /// stamps left is worn then. It looks at every slot, and takes no memory.
     pub fn sweep(&mut self) -> usize {
         let reaped = self.sweep_deferring();
         self.drop_aside();
         reaped
     }
 
-    /// Reaps each linked entry that is found cancelled at `count` slots from `from` on, as `sweep` does at all of
-    /// them, and tells the slot to go on from. So many calls go round a queue as it has pieces, and each takes no
-    /// longer than its piece.
+    /// Frees the slots of the cancelled entries among the `count` slots from the slot `from` on, and drops their
+    /// values. It returns how many these were, and the slot to go on from, which is none after the last slot. It
+    /// takes time in proportion to `count`, and no memory.
     pub fn sweep_some(&mut self, from: usize, count: usize) -> Swept {
         let swept = self.sweep_some_deferring(from, count);
         self.drop_aside();
         swept
     }
 
-    /// Reaps the entry of that name where it is found cancelled: its value is dropped, and its slot is free for
-    /// another, or worn. Constant time.
+    /// Frees the slot of `entry` if the entry was cancelled, and drops its value. A slot without stamps left is worn
+    /// then. Constant time, and no memory is taken.
     ///
     /// # Errors
-    /// `Missing` where no entry is linked with that shard, index and birth stamp; `Live` where it is found live.
+    /// In this order:
+    /// - `Missing` if the entry isn't in the queue any more, or never was.
+    /// - `Live` if the entry wasn't cancelled. It stays.
     pub fn reap(&mut self, entry: &EntryId) -> Result<(), ReapError> {
         self.reap_deferring(entry)?;
         self.drop_aside();
         Ok(())
     }
 
-    /// Ends every linked entry, and drops its value: each live one as removed, and those that were cancelled are
-    /// reaped. It answers how many it ended as removed, and goes over every slot.
+    /// Takes all entries out, drops their values and those of cancelled entries, and returns how many live ones were
+    /// removed. It looks at every slot, and takes no memory.
     pub fn clear(&mut self) -> usize {
         let removed = self.clear_deferring();
         self.drop_aside();

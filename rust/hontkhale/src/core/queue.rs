@@ -14,9 +14,8 @@ use crate::memory::AllocError;
 use crate::ticks::{EntryId, Key, Mark, CAPACITY_LIMIT, LAST_STAMP, LAST_TICK, REACH};
 use crate::wheels::Wheel;
 
-/// A delay queue of one owner: values of `T`, with their deadlines in the words `W`.
-///
-/// Ticks are of one millisecond and are handed in by the owner: no clock is read. All memory is taken by `new`.
+/// A delay queue of one owner: values of `T`, with their deadlines in the words `W`. Ticks are of one millisecond,
+/// and the owner passes them in: the queue reads no clock. It takes all of its memory when it is made.
 ///
 /// ```
 /// use hontkhale::owner::{DelayCore, Turn};
@@ -32,6 +31,11 @@ use crate::wheels::Wheel;
 /// assert!(matches!(queue.poll(300)?, Turn::Idle));
 /// # Ok::<(), hontkhale::owner::CoreError>(())
 /// ```
+///
+/// An entry is *live* until it comes out, is removed or is cancelled. A cancelled entry keeps its slot until a call
+/// frees it: a poll at which it would have been due, a sweep, a reap or a clear. Each insert and each reset takes one
+/// of a slot's 1,048,575 stamps. A free slot without a stamp left is *worn*, and isn't used again;
+/// [`DelayCore::renew`] begins the stamps again.
 pub struct DelayCore<T, W: Words> {
     pub(crate) shard: u32,
     pub(crate) noted: u64,
@@ -87,9 +91,14 @@ fn once_near<W: Words>(wheel: &Wheel, index: usize, stamp: u32) -> u32 {
 }
 
 impl<T, W: Words> DelayCore<T, W> {
-    /// A queue over fresh words, at tick 0, with nothing linked. Refused as BadConfig where the capacity isn't 1 to
-    /// [`CAPACITY_LIMIT`], the last stamp isn't 1 to [`LAST_STAMP`], or the words aren't as many as the slots, and
-    /// else as NoMemory; the words come back.
+    /// Makes a queue over fresh words, at tick 0, with nothing in it. It takes time and memory in proportion to the
+    /// capacity.
+    ///
+    /// # Errors
+    /// The words come back. In this order:
+    /// - `BadConfig` if the capacity isn't 1 to [`CAPACITY_LIMIT`], the last stamp isn't 1 to [`LAST_STAMP`], or the
+    ///   words aren't as many as the slots.
+    /// - `NoMemory` if memory is refused.
     pub fn new(config: CoreConfig, words: W) -> Result<DelayCore<T, W>, (CoreError, W)> {
         // requires AreFresh (W.known words) (W.counts words)
         let mut words = words;
@@ -117,22 +126,25 @@ impl<T, W: Words> DelayCore<T, W> {
 }
 
 impl<T, W: Words> DelayCore<T, W> {
-    /// The greatest accepted tick.
+    /// Returns the greatest tick of one millisecond that a poll accepted; at first 0.
     pub fn noted(&self) -> u64 {
         self.noted
     }
 
-    /// The wheel's tick.
+    /// Returns the queue's tick of one millisecond, up to which its wheel has gone. It isn't after the noted one.
+    /// Nothing is scheduled before it.
     pub fn tick(&self) -> u64 {
         self.wheel.tick()
     }
 
-    /// Puts an entry in that is live until `when`, a tick of one millisecond, or until the wheel's tick where `when`
-    /// lies before it, and returns its key. No value is dropped: one that waits for its drop in the slot that the
-    /// entry takes comes out beside the key. Constant time.
+    /// Puts `value` in, to come out at the tick `when` of one millisecond, and returns its key. If `when` is before
+    /// the queue's tick, the entry is due at once. No value is dropped: one that waits for its drop in the slot that
+    /// the entry takes comes out beside the key. Constant time, and no memory is taken.
     ///
     /// # Errors
-    /// TooFar beyond the last tick, and else Full where no slot is free. The value comes back then.
+    /// `value` comes back. In this order:
+    /// - `TooFar` if `when` is beyond the last tick.
+    /// - `Full` if no slot is free.
     #[inline(always)]
     pub fn insert_deferring(&mut self, value: T, when: u64) -> (Result<Key, (CoreError, T)>, Option<T>) {
         if when > LAST_TICK {
@@ -215,8 +227,9 @@ impl<T, W: Words> DelayCore<T, W> {
         Progress::Rests
     }
 
-    /// The next wake: the tick at which the queue has something to do, none where nothing is linked. It is after the
-    /// wheel's tick where nothing is filed there.
+    /// Returns the tick, of one millisecond, at which the queue has something to do next. It returns none if the
+    /// queue holds no entry. No live entry has a deadline before that tick; the least deadline may be later. Constant
+    /// time.
     pub fn next_wake(&self) -> Option<u64> {
         self.wheel.next_wake()
     }
@@ -252,17 +265,17 @@ impl<T, W: Words> DelayCore<T, W> {
         }
     }
 
-    /// The number of linked entries.
+    /// Returns the number of entries, live or cancelled and not yet freed.
     pub fn len(&self) -> usize {
         self.slots.linked()
     }
 
-    /// Whether nothing is linked.
+    /// Whether the queue holds no entry, live or cancelled and not yet freed.
     pub fn is_empty(&self) -> bool {
         self.slots.linked() == 0
     }
 
-    /// The number of slots.
+    /// Returns the number of slots.
     pub fn capacity(&self) -> usize {
         self.slots.capacity()
     }
@@ -284,8 +297,12 @@ impl<T, W: Words> DelayCore<T, W> {
         Some(index)
     }
 
-    /// The deadline in force of a live entry, a tick of one millisecond. Refused as Missing where no entry is linked
-    /// with that shard, index and birth stamp, and as WasCancelled where it is cancelled.
+    /// Returns the current deadline of a live entry, a tick of one millisecond. Constant time.
+    ///
+    /// # Errors
+    /// In this order:
+    /// - `Missing` if the entry isn't in the queue any more, or never was.
+    /// - `WasCancelled` if the entry was cancelled.
     pub fn deadline(&mut self, entry: &EntryId) -> Result<u64, CoreError> {
         let Some(index) = self.find(entry) else {
             return Err(CoreError::Missing);
@@ -297,8 +314,13 @@ impl<T, W: Words> DelayCore<T, W> {
         Err(CoreError::WasCancelled)
     }
 
-    /// Takes a live entry out, with its key, its deadline in force and its value. Constant time. Refused as
-    /// `deadline` is.
+    /// Takes a live entry out, and returns its value with its key and its current deadline, a tick of one
+    /// millisecond. Constant time, and no memory is taken.
+    ///
+    /// # Errors
+    /// In this order:
+    /// - `Missing` if the entry isn't in the queue any more, or never was.
+    /// - `WasCancelled` if the entry was cancelled.
     #[inline(always)]
     pub fn remove(&mut self, entry: &EntryId) -> Result<Removed<T>, CoreError> {
         let Some(index) = self.find(entry) else {
@@ -318,9 +340,16 @@ impl<T, W: Words> DelayCore<T, W> {
         })
     }
 
-    /// Gives a live entry another deadline, earlier or later, but not before the wheel's tick, and the slot's next
-    /// stamp: keys from before are stale for callers. Answers the new key. Constant time. Refused as TooFar beyond
-    /// the last tick, then as `deadline` is, then as Worn where the slot has no stamp left.
+    /// Gives a live entry the deadline `when`, a tick of one millisecond, sooner or later than the one that it has,
+    /// and returns its new key. If `when` is before the queue's tick, the entry is due at once. Callers refuse the
+    /// old key from then on. Constant time, and no memory is taken.
+    ///
+    /// # Errors
+    /// In this order:
+    /// - `TooFar` if `when` is beyond the last tick, 2^42 - 1.
+    /// - `Missing` if the entry isn't in the queue any more, or never was.
+    /// - `WasCancelled` if the entry was cancelled.
+    /// - `Worn` if the entry's slot has no stamp left for another key.
     #[inline(always)]
     pub fn reset(&mut self, entry: &EntryId, when: u64) -> Result<Key, CoreError> {
         if when > LAST_TICK {

@@ -7,12 +7,12 @@ use crate::ticks::{EntryId, Key};
 use crate::wheels::Place;
 
 impl<T, W: Words> DelayCore<T, W> {
-    /// The number of the shard, which the queue's keys carry.
+    /// Returns the number of the queue, which its keys carry.
     pub fn shard(&self) -> u32 {
         self.shard
     }
 
-    /// The number of worn slots, which hold nothing and have no stamp left.
+    /// Returns the number of worn slots, which hold no entry and have no stamp left.
     pub fn worn(&self) -> usize {
         self.slots.worn()
     }
@@ -22,7 +22,8 @@ impl<T, W: Words> DelayCore<T, W> {
         self.slots.last()
     }
 
-    /// How many entries came and went.
+    /// Returns how many entries came and went, and how many the queue holds. A cancelled entry counts as cancelled
+    /// only once its slot is freed. Constant time.
     pub fn tally(&self) -> Tally {
         let linked = self.slots.linked() as u64;
         Tally {

@@ -97,14 +97,32 @@ impl<T> LastingQueue<T> {
         self.insert_in_turn((route % shards as u64) as usize, value, when)
     }
 
-    /// Puts an entry in that is live until `when`, a tick of one millisecond, and answers its key. It goes to the
-    /// shard of `route` modulo the number of shards. Where that one is closed or full it goes on to others, drawn by
-    /// the route, so that the routes of a closed shard are spread over all that take entries. Constant time but for
-    /// closed and full shards. A refused insert takes up to two locks a shard and one more.
+    /// Puts `value` in, to come out at the tick `when` of one millisecond, and returns its key. The entry goes to the
+    /// shard `route` modulo the number of shards. If that shard is closed or full, the call tries others, which it
+    /// draws by `route`, so that the routes of a closed shard are spread over all that accept entries. If `when` is
+    /// before the shard's tick, the entry is due at once. Whoever has no reason to prefer a shard counts the routes
+    /// up.
+    ///
+    /// It takes the lock of each shard that it tries, one at a time and for constant time, and no memory. Mostly that
+    /// is one lock. An insert that is refused takes up to two locks a shard and one more. If a task is parked in the
+    /// shard until a later tick, the call wakes it after it has released the lock.
     ///
     /// # Errors
-    /// TooFar beyond the last tick, where the first that takes entries is asked; Closed where no shard takes entries;
-    /// and Full where those that do have no free slot, with the numbers of one of them. The value comes back.
+    /// `value` comes back. They are:
+    /// - `TooFar` if `when` is beyond the last tick, 2^42 - 1, and a shard accepts entries: the first such shard says
+    ///   so.
+    /// - `Closed` if no shard accepts entries.
+    /// - `Full` if no shard that accepts entries has a free slot. It has the numbers of one of them.
+    ///
+    /// ```
+    /// use hontkhale::lasting::{LastingConfig, LastingQueue};
+    ///
+    /// let queue = LastingQueue::new(LastingConfig::of(2, 100)).unwrap();
+    /// let key = queue.insert(3, "value", 100).unwrap();
+    /// assert_eq!(key.entry().shard(), 1);
+    /// let (_, value) = queue.insert(3, "other", u64::MAX).unwrap_err();
+    /// assert_eq!(value, "other");
+    /// ```
     pub fn insert(&self, route: u64, value: T, when: u64) -> Result<Key, (LastingError, T)> {
         let first = (route % self.shards() as u64) as usize;
         match self.insert_at(first, value, when) {
@@ -118,12 +136,19 @@ impl<T> LastingQueue<T> {
         }
     }
 
-    /// Puts an entry in that is live until `when`, a tick of one millisecond, and returns its key, for callers that pass a
-    /// refusal on with `?`: the value is dropped then, and else it is [`LastingQueue::insert`].
+    /// Puts `value` in, to come out at the tick `when` of one millisecond, and returns its key. If the entry is
+    /// refused, `value` is dropped, and the error can be returned with `?`. [`LastingQueue::insert`] gives the value
+    /// back instead.
+    ///
+    /// The entry goes to the shard `route` modulo the number of shards. If that shard is closed or full, the call
+    /// tries others. It takes the lock of each shard that it tries, one at a time and for constant time, and no
+    /// memory.
     ///
     /// # Errors
-    /// TooFar beyond the last tick, where the first that takes entries is asked; Closed where no shard takes entries;
-    /// and Full where those that do have no free slot, with the numbers of one of them.
+    /// - `TooFar` if `when` is beyond the last tick, 2^42 - 1, and a shard accepts entries: the first such shard says
+    ///   so.
+    /// - `Closed` if no shard accepts entries.
+    /// - `Full` if no shard that accepts entries has a free slot. It has the numbers of one of them.
     pub fn insert_or_drop(&self, route: u64, value: T, when: u64) -> Result<Key, LastingError> {
         match self.insert(route, value, when) {
             Ok(key) => Ok(key),
@@ -131,16 +156,42 @@ impl<T> LastingQueue<T> {
         }
     }
 
-    /// Notes `tick`, of one millisecond, in the shard at a place, and takes out one entry of the shard whose deadline in
-    /// force is reached by the greatest tick noted there. Call again until it answers Waiting (nothing is due; `next` is
-    /// the next tick at which there is something to do) or Idle (nothing is linked). A closed shard is polled as any
-    /// other.
+    /// Notes `tick`, of one millisecond, in the shard at `place`, and takes one entry out that is due at the greatest
+    /// tick noted there. Call it until it returns something else than `Out`:
+    /// - `Out` has the entry's key, its deadline and its value. No live entry of the shard has an earlier deadline.
+    /// - `Waiting` if no live entry is due: the shard has nothing to do before the tick `next`.
+    /// - `Idle` if the shard holds no entry.
     ///
-    /// The values of cancelled entries that it reaps are dropped by it once the lock is free, where it gives no entry,
-    /// and else by a later call.
+    /// A closed shard is polled like any other.
+    ///
+    /// It takes the shard's lock, and no memory. It takes constant time for each entry that it moves down the wheel,
+    /// schedules again or frees; an entry moves at most five times after it was scheduled.
+    /// [`LastingQueue::poll_some`] bounds the steps of one call. The values of the cancelled entries that it frees
+    /// are dropped after it has released the lock, or by a later call if it returns an entry.
     ///
     /// # Errors
-    /// Unknown out of range, before all else, and then TickTooLarge beyond the last tick, which is not noted then.
+    /// In this order:
+    /// - `Unknown` if there is no such place.
+    /// - `TickTooLarge` if `tick` is beyond the last tick. It isn't noted then.
+    ///
+    /// ```
+    /// use hontkhale::lasting::{LastingConfig, LastingQueue};
+    /// use hontkhale::owner::Turn;
+    ///
+    /// # fn main() -> Result<(), Box<dyn std::error::Error>> {
+    /// let queue = LastingQueue::new(LastingConfig::of(2, 100))?;
+    /// queue.insert_or_drop(0, "early", 50)?;
+    /// queue.insert_or_drop(1, "late", 80)?;
+    /// let mut out = Vec::new();
+    /// for place in 0..queue.shards() {
+    ///     while let Turn::Out(expired) = queue.poll(place, 100)? {
+    ///         out.push(expired.value);
+    ///     }
+    /// }
+    /// assert_eq!(out, ["early", "late"]);
+    /// # Ok(())
+    /// # }
+    /// ```
     pub fn poll(&self, place: usize, tick: u64) -> Result<Turn<T>, LastingError> {
         self.in_range(place)?;
         let (answer, aside) = self.poll_at(place, tick);
@@ -152,13 +203,41 @@ impl<T> LastingQueue<T> {
         Ok(turn)
     }
 
-    /// Does of a [`LastingQueue::poll`] of the shard at a place at most `most` steps, each in constant time but for a
-    /// value's drop. `tick` is of one millisecond. Call again while it answers Working: each such call leaves at
-    /// least so many steps fewer. The shard's lock is held for this piece alone, so other threads may make every
-    /// other call between two pieces.
+    /// Notes `tick`, of one millisecond, in the shard at `place`, and does at most `most` steps of a poll there. It
+    /// returns `Working` if more steps may be left, and else the poll's answer:
+    /// - `Out` has the key, the deadline and the value of an entry that is due.
+    /// - `Waiting` if no live entry is due: the shard has nothing to do before the tick `next`.
+    /// - `Idle` if the shard holds no entry.
+    ///
+    /// Call it again while it returns `Working`. Each such call leaves at least `most` steps fewer than there were
+    /// when its tick was noted. A call of no steps that returns `Working` tells nothing.
+    ///
+    /// It takes the shard's lock for these steps alone, so that other threads may take it between two calls, and no
+    /// memory. A step takes constant time. Dropped values aren't counted: they are dropped after the lock is
+    /// released, or by a later call if this one returns an entry.
     ///
     /// # Errors
-    /// Unknown out of range, and TickTooLarge beyond the last tick.
+    /// In this order:
+    /// - `Unknown` if there is no such place.
+    /// - `TickTooLarge` if `tick` is beyond the last tick. It isn't noted then.
+    ///
+    /// ```
+    /// use hontkhale::lasting::{LastingConfig, LastingQueue};
+    /// use hontkhale::owner::{Piece, Turn};
+    ///
+    /// # fn main() -> Result<(), Box<dyn std::error::Error>> {
+    /// let queue = LastingQueue::new(LastingConfig::of(2, 100))?;
+    /// queue.insert_or_drop(0, "value", 100_000)?;
+    /// let turn = loop {
+    ///     match queue.poll_some(0, 100_000, 2)? {
+    ///         Piece::Answer(turn) => break turn,
+    ///         Piece::Working => {}
+    ///     }
+    /// };
+    /// assert!(matches!(turn, Turn::Out(expired) if expired.value == "value"));
+    /// # Ok(())
+    /// # }
+    /// ```
     pub fn poll_some(&self, place: usize, tick: u64, most: u32) -> Result<Piece<T>, LastingError> {
         self.in_range(place)?;
         let (answer, aside) = self.poll_some_at(place, tick, most);
@@ -170,16 +249,21 @@ impl<T> LastingQueue<T> {
         Ok(piece)
     }
 
-    /// Notes `tick`, of one millisecond, in the shard at a place, and takes out one entry that is due there, in pieces of
-    /// at most `most` steps. The shard's lock is free between two pieces, and where another thread waits for it this one gives way for a bounded while: a call
-    /// by name then waits for about one piece, not for the whole poll.
+    /// Notes `tick`, of one millisecond, in the shard at `place`, and takes one entry out that is due there, in
+    /// pieces of at most `most` steps:
+    /// - `Out` has the entry's key, its deadline and its value.
+    /// - `Waiting` if no live entry is due: the shard has nothing to do before the tick `next`.
+    /// - `Idle` if the shard holds no entry.
     ///
-    /// It returns once a piece comes to an answer: each leaves at least so many steps fewer, but other threads may
-    /// give the shard more to do meanwhile.
+    /// It takes the shard's lock for each piece, and no memory. If another thread waits for the lock between two
+    /// pieces, the call gives way for a bounded while. So a call by another thread waits for about one piece, and not
+    /// for the whole poll. A step takes constant time. Each piece leaves at least `most` steps fewer, but other
+    /// threads may give the shard more to do meanwhile.
     ///
     /// # Errors
-    /// Unknown for a place out of range, before all else, and then TickTooLarge beyond the last tick, which is not
-    /// noted then.
+    /// In this order:
+    /// - `Unknown` if there is no such place.
+    /// - `TickTooLarge` if `tick` is beyond the last tick. It isn't noted then.
     ///
     /// ```
     /// use hontkhale::lasting::{LastingConfig, LastingQueue};
@@ -204,15 +288,18 @@ impl<T> LastingQueue<T> {
             }
         }
     }
-    /// Polls the shard at a place under one lock until the caller's own row is full, or nothing is due: the entries stand
-    /// behind what stood in the row, in order, as many as it has free room for. `tick` is of one millisecond. Call again
-    /// while it answers More, with the row emptied. A closed shard is polled as any other. It takes no memory, and its cost
-    /// is that of so many polls, but for their locks.
+    /// Notes `tick`, of one millisecond, in the shard at `place`, and takes entries out that are due there, until
+    /// `row` is full or nothing is due. They are appended to `row` in the order of their deadlines, as many as its
+    /// capacity has room for. It returns `More` if entries may still be due, and else what a poll returns then. Empty
+    /// `row` and call it again while it returns `More`. If `row` has no room, nothing comes out and `tick` isn't
+    /// noted. A closed shard is polled like any other.
     ///
-    /// A row without room takes nothing out, and no tick is noted then.
+    /// It takes the shard's lock once, and no memory. It costs as much as so many polls without their locks.
     ///
     /// # Errors
-    /// Unknown out of range, before all else, and then TickTooLarge beyond the last tick. Nothing changes then.
+    /// Nothing changes then. In this order:
+    /// - `Unknown` if there is no such place.
+    /// - `TickTooLarge` if `tick` is beyond the last tick.
     ///
     /// ```
     /// use hontkhale::lasting::{LastingConfig, LastingQueue};
@@ -242,17 +329,25 @@ impl<T> LastingQueue<T> {
         Ok(answer?)
     }
 
-    /// Polls the shard at a place at `tick`, of one millisecond, for a task: it gives an entry that is due. Where none
-    /// is it is Pending, and its task is parked in the shard, one task a shard.
+    /// Polls the shard at `place` for a task, at `tick` of one millisecond. If an entry is due, it takes the entry
+    /// out and returns it. Else it parks the task in the shard, one task a shard, and returns `Pending`.
     ///
-    /// The task is woken once: where the next wake comes sooner or is gone, by an insert, a reset, a removal, a poll, a
-    /// sweep or a clear; where the shard is closed or opened again; and by `ring` at its tick. Where nothing is linked
-    /// it waits for an insert. A handle's extend or cancel doesn't wake it: the shard learns of it when the entry comes
-    /// due. `name` is the task's own name for the shard.
+    /// The task is woken once:
+    /// - if the shard's next wake comes sooner or goes away, by an insert, a reset, a removal, a poll, a sweep or a
+    ///   clear;
+    /// - if the shard is closed or opened again;
+    /// - by [`LastingQueue::ring`] at its tick.
+    ///
+    /// If the shard holds no entry, the task waits for an insert. A handle's extend or cancel doesn't wake it: the
+    /// shard learns of it when the entry comes due.
+    ///
+    /// It takes the shard's lock once, and memory for a waker. It costs as much as one poll.
     ///
     /// # Errors
-    /// Unknown out of range, TickTooLarge beyond the last tick, and NoMemory where no waker can be made; nothing is
-    /// parked then.
+    /// Nothing is parked then. In this order:
+    /// - `Unknown` if there is no such place.
+    /// - `TickTooLarge` if `tick` is beyond the last tick.
+    /// - `NoMemory` if no waker can be made.
     pub fn poll_or_park(
         &self,
         place: usize,
@@ -275,15 +370,24 @@ impl<T> LastingQueue<T> {
         answer
     }
 
-    /// Polls the shard at a place at `tick`, of one millisecond, for a task, by at most `most` steps while the shard's lock
-    /// is held, each in constant time but for a value's drop: it gives an entry that is due. Where none is it is Pending,
-    /// and its task is parked in the shard, one task a shard, and woken as [`LastingQueue::poll_or_park`] tells. Where more
-    /// is to do nothing is parked: the lock is let go, the polled task is woken, and the answer is Pending. So others may
-    /// take the lock before the task is polled again.
+    /// Polls the shard at `place` for a task, at `tick` of one millisecond, by at most `most` steps. It returns:
+    /// - `Ready(Ok(..))` with an entry that is due.
+    /// - `Pending` if no entry is due: the task is parked in the shard, one task a shard.
+    /// - `Pending` if more steps are left: nothing is parked, and the polled task is woken after the lock is
+    ///   released. Other threads may take the lock before the task is polled again.
+    ///
+    /// A parked task is woken once: if the shard's next wake comes sooner or goes away; if the shard is closed or
+    /// opened again; and by [`LastingQueue::ring`] at its tick. If the shard holds no entry, the task waits for an
+    /// insert. A handle's extend or cancel doesn't wake it.
+    ///
+    /// It takes the shard's lock for these steps alone, and memory for a waker. A step takes constant time. Dropped
+    /// values aren't counted: they are dropped after the lock is released.
     ///
     /// # Errors
-    /// Unknown out of range, TickTooLarge beyond the last tick, and NoMemory where no waker can be made; nothing is
-    /// parked then.
+    /// Nothing is parked then. In this order:
+    /// - `Unknown` if there is no such place.
+    /// - `TickTooLarge` if `tick` is beyond the last tick.
+    /// - `NoMemory` if no waker can be made.
     pub fn poll_some_or_park(
         &self,
         place: usize,
@@ -310,10 +414,14 @@ impl<T> LastingQueue<T> {
         }
         answer
     }
-    /// Reaps what was cancelled in the shard at a place, and answers how many. It looks at every slot.
+    /// Frees the slots of all cancelled entries of the shard at `place`, and returns how many these were. Their
+    /// values are dropped after the lock is released.
+    ///
+    /// It looks at every slot of the shard while it holds the shard's lock. [`LastingQueue::sweep_some`] does it in
+    /// pieces. It takes no memory.
     ///
     /// # Errors
-    /// Unknown out of range.
+    /// `Unknown` if there is no such place.
     pub fn sweep(&self, place: usize) -> Result<usize, LastingError> {
         self.in_range(place)?;
         let (reaped, aside) = self.sweep_at(place);
@@ -321,10 +429,14 @@ impl<T> LastingQueue<T> {
         Ok(reaped)
     }
 
-    /// Ends all that is linked in the shard at a place, and answers how many it ended as removed.
+    /// Takes all entries out of the shard at `place`, and returns how many live ones were removed. Their values, and
+    /// those of cancelled entries, are dropped after the lock is released. A task that is parked until a tick is
+    /// woken then.
+    ///
+    /// It looks at every slot of the shard while it holds the shard's lock. It takes no memory.
     ///
     /// # Errors
-    /// Unknown out of range.
+    /// `Unknown` if there is no such place.
     pub fn clear(&self, place: usize) -> Result<usize, LastingError> {
         self.in_range(place)?;
         let (removed, aside) = self.clear_at(place);
@@ -332,8 +444,17 @@ impl<T> LastingQueue<T> {
         Ok(removed)
     }
 
-    /// Reaps what was cancelled at `count` slots from `from` on in the shard at a place, as `sweep` does at all of
-    /// them, and tells the slot to go on from. The shard's lock is held for this piece alone:
+    /// Frees the slots of the cancelled entries among the `count` slots of the shard at `place` from the slot `from`
+    /// on. It returns how many these were, and the slot to go on from, which is none after the last slot. Their
+    /// values are dropped after the lock is released.
+    ///
+    /// It takes the shard's lock, time in proportion to `count`, and no memory.
+    ///
+    /// # Errors
+    /// `Unknown` if there is no such place.
+    ///
+    /// # Examples
+    /// A shard is swept in pieces, and other threads may take its lock between them:
     ///
     /// ```
     /// use hontkhale::lasting::{LastingConfig, LastingQueue};
@@ -347,9 +468,6 @@ impl<T> LastingQueue<T> {
     /// # Ok(())
     /// # }
     /// ```
-    ///
-    /// # Errors
-    /// Unknown out of range.
     pub fn sweep_some(&self, place: usize, from: usize, count: usize) -> Result<Swept, LastingError> {
         self.in_range(place)?;
         let (swept, aside) = self.sweep_some_at(place, from, count);
@@ -357,12 +475,15 @@ impl<T> LastingQueue<T> {
         Ok(swept)
     }
 
-    /// Reaps the entry of that name where it is found cancelled, in the shard of its number: its value is dropped, and
-    /// its slot is free for another, or worn. Constant time but for the value's drop.
+    /// Frees the slot of `entry` if the entry was cancelled. Its value is dropped after the lock is released. The
+    /// entry is looked for in the shard of its number, whatever generation that shard has.
+    ///
+    /// It takes that shard's lock for constant time, and no memory.
     ///
     /// # Errors
-    /// Missing where no entry is linked with that number, index and birth stamp, also for an entry of an earlier
-    /// generation, and Live where it is found live.
+    /// In this order:
+    /// - `Missing` if the entry isn't in the queue any more, or never was.
+    /// - `Live` if the entry wasn't cancelled. It stays.
     pub fn reap(&self, entry: &EntryId) -> Result<(), ReapError> {
         let place = self.place_of(entry.shard());
         let (answer, aside) = self.reap_at(place, entry);
@@ -385,15 +506,15 @@ impl<T> LastingQueue<T> {
         }
     }
 
-    /// Drops the values that are set aside in the shard at a place, each while the shard's lock is free. `most` is how
-    /// many the caller has left there: of none nothing is done, and no lock is taken. Else it goes on until none is
-    /// left.
+    /// Drops the values that are set aside in the shard at `place`, each while the shard's lock is free. `most` is
+    /// how many the caller has left there: if that is 0, the call takes no lock and does nothing. Else it goes on
+    /// until none is left. If there is no such place, there is nothing to drop.
     ///
-    /// One thread at a time does it. Where another is at it, or a value's drop that this one runs makes the call, that one
-    /// drops these values too, and the call returns at once. Where a drop panics, a later call drops the rest.
+    /// One thread drops at a time. If another thread is dropping, or the call is made by the drop of a value, the
+    /// other drops these values too, and this call returns at once. If a drop panics, a later call drops the rest.
     ///
-    /// The calls by name do it by themselves, but for a poll that gave an entry: [`LastingQueue::aside`] tells how many
-    /// are left. Of a place out of range there is nothing to drop.
+    /// Every call by name does this by itself, except for a poll that returned an entry: [`LastingQueue::aside`]
+    /// tells how many values are left.
     #[inline(always)]
     pub fn drop_aside(&self, place: usize, most: usize) {
         if most > 0 {
@@ -422,22 +543,37 @@ impl<T> LastingQueue<T> {
         }
     }
 
-    /// Does the one step that is due to keep the queue going, and tells which. Whoever polls calls it in a quiet
-    /// moment.
+    /// Does the one step that is due next to keep the queue going for years, and returns which it was. Whoever polls
+    /// calls it in a quiet moment.
     ///
-    /// The first shard where nothing is linked, and which is closed or worn by half, is opened again under its next
-    /// number. Where none is closed the first is closed of which half the slots are worn. While one drains, another
-    /// is closed once three quarters of its slots are worn, so that an entry with a far deadline holds up no shard
-    /// but its own. One that takes entries always stays, where one thread alone calls this. Else the next 256 slots
-    /// of the first closed shard are swept: what was cancelled there is reaped. An entry that is extended for ever
-    /// keeps its shard closed: `remove` and `insert` move it.
+    /// It looks at the shards, and does the first of these that is due:
+    /// - It opens a shard again, under its next number, if nothing is linked there, and it is closed or half of its
+    ///   slots are worn.
+    /// - If no shard is closed, it closes the first one of which half the slots are worn.
+    /// - If a shard is closed, it closes another one of which three quarters of the slots are worn. But a shard that
+    ///   accepts entries is always left, if one thread alone calls this.
+    /// - If a shard is closed, it frees what was cancelled in the next 256 slots there.
     ///
-    /// It looks at each place once, under that shard's lock, and takes at most two locks more. It holds a lock for a step of
-    /// constant time, or for 256 slots. Where it opens a shard it takes memory before the lock and gives the old one back
-    /// behind it.
+    /// An entry that is extended for ever keeps its shard closed: `remove` it and `insert` it again.
+    ///
+    /// It takes the lock of each shard once, and at most two locks more. It holds a lock for a step of constant time,
+    /// or for 256 slots. If it opens a shard, it takes memory before it takes the lock, and gives the old memory back
+    /// after it has released the lock.
     ///
     /// # Errors
-    /// NoMemory and NumbersSpent where a shard isn't opened again, which stays closed then.
+    /// The shard stays closed then:
+    /// - `NumbersSpent` if no higher number is left.
+    /// - `NoMemory` if memory is refused.
+    ///
+    /// ```
+    /// use hontkhale::lasting::{Kept, LastingConfig, LastingQueue};
+    ///
+    /// # fn main() -> Result<(), Box<dyn std::error::Error>> {
+    /// let queue: LastingQueue<u8> = LastingQueue::new(LastingConfig::of(2, 100))?;
+    /// while queue.keep_going()? != Kept::Fine {}
+    /// # Ok(())
+    /// # }
+    /// ```
     pub fn keep_going(&self) -> Result<Kept, ReopenError> {
         match self.due() {
             Due::Made(kept) => Ok(kept),

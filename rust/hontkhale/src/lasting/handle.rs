@@ -16,7 +16,7 @@ use core::mem;
 /// nobody.
 ///
 /// A key of another generation than that of its shard's caller is unknown to it, older or newer, and never misread.
-/// After a shard was renewed [`LastingHandle::renew`] takes its new caller on.
+/// After a shard was renewed, [`LastingHandle::renew`] takes the shard's new caller.
 pub struct LastingHandle {
     callers: Vec<NumberedCaller>,
     name: u64,
@@ -34,43 +34,55 @@ impl LastingHandle {
         self.name
     }
 
-    /// Raises the deadline of a live entry to `when`, a tick of one millisecond, as `NumberedCaller::extend` of the
-    /// key's shard does, and answers the deadline that is then in force. Constant time.
+    /// Raises the deadline of a live entry to `when`, a tick of one millisecond, and returns the deadline that is
+    /// then in force: `when`, or a later one that the entry had. No deadline gets sooner by it. The entry doesn't
+    /// come out before the returned deadline, unless the queue resets or removes it.
+    ///
+    /// It makes one load and at most one atomic step. It takes no lock and no memory. A parked task isn't woken.
     ///
     /// # Errors
-    /// TooFar beyond the last tick, Unknown where no slot has the key or it is of another generation than the caller,
-    /// Stale where the slot has a later stamp, and Ended where the entry isn't live.
+    /// In this order:
+    /// - `TooFar` if `when` is beyond the last tick, 2^42 - 1.
+    /// - `Unknown` if no slot has the key, or if it is of another generation than the handle's caller.
+    /// - `Stale` if the slot has a later stamp: the entry was reset, or the slot has another entry.
+    /// - `Ended` if the entry came out, was removed or was cancelled. It tells which.
     #[inline]
     pub fn extend(&mut self, key: &Key, when: u64) -> Result<u64, CallError> {
         let place = self.place_of(key.entry().shard());
         nth_mut(&mut self.callers, place).extend(key, when)
     }
 
-    /// Cancels a live entry, as `NumberedCaller::cancel` of the key's shard does, and answers the deadline that it
-    /// gave up. Constant time.
+    /// Cancels a live entry, so that it won't come out, and returns the deadline that it gave up, a tick of one
+    /// millisecond. The entry keeps its slot and its value until a call of its shard frees it.
+    ///
+    /// It makes one load and at most one atomic step. It takes no lock and no memory. A parked task isn't woken.
     ///
     /// # Errors
-    /// Unknown where no slot has the key or it is of another generation than the caller, Stale where the slot has a later
-    /// stamp, and Ended where the entry isn't live.
+    /// In this order:
+    /// - `Unknown` if no slot has the key, or if it is of another generation than the handle's caller.
+    /// - `Stale` if the slot has a later stamp: the entry was reset, or the slot has another entry.
+    /// - `Ended` if the entry came out, was removed or was cancelled. It tells which.
     #[inline]
     pub fn cancel(&mut self, key: &Key) -> Result<u64, CallError> {
         let place = self.place_of(key.entry().shard());
         nth_mut(&mut self.callers, place).cancel(key)
     }
 
-    /// What the entry of a key is, as `NumberedCaller::look` of the key's shard tells. Constant time.
+    /// Returns what the entry of `key` is: live, with its deadline, or how it ended. It makes one load. It takes no
+    /// lock and no memory.
     ///
     /// # Errors
-    /// Unknown where no slot has the key or it is of another generation than the caller, and Stale where the slot has a
-    /// later stamp.
+    /// In this order:
+    /// - `Unknown` if no slot has the key, or if it is of another generation than the handle's caller.
+    /// - `Stale` if the slot has a later stamp: the entry was reset, or the slot has another entry.
     #[inline]
     pub fn look(&mut self, key: &Key) -> Result<Look, CallError> {
         let place = self.place_of(key.entry().shard());
         nth_mut(&mut self.callers, place).look(key)
     }
 
-    /// The number of accepted cancels of its callers, of which there is one a shard. Those of a caller that `renew`
-    /// gave back are no longer among them.
+    /// Returns the number of cancels by this handle that were accepted. Those of a caller that
+    /// [`LastingHandle::renew`] gave back are no longer among them.
     pub fn cancels(&self) -> u64 {
         let mut cancels = 0;
         for place in 0..self.callers.len() {
@@ -79,7 +91,7 @@ impl LastingHandle {
         cancels
     }
 
-    /// Gives each of its callers back, and answers the number of their accepted cancels.
+    /// Gives the handle's callers back, and returns the number of their cancels that were accepted.
     pub fn give_back(self) -> u64 {
         let LastingHandle { callers, name: _ } = self;
         give_back_all(callers)
@@ -98,14 +110,16 @@ impl LastingHandle {
         Ok(true)
     }
 
-    /// Takes on the caller of each shard that was renewed since, gives the old ones back, and answers how many. It
-    /// takes each shard's lock once or twice, in the order of the places.
+    /// Takes the new caller of each shard that was renewed, gives the old ones back, and returns how many these were.
+    /// It takes each shard's lock once or twice, in the order of the places, and memory for the new callers.
     ///
     /// # Errors
-    /// OtherQueue exactly where the queue has another name than the one that made the handle, or another number of
-    /// shards; then nothing changes. Else it stops at the first place whose shard issues no caller: TooManyHandles
-    /// where 1,024 of this generation were issued, or NoMemory. The error tells that place, and how many new callers
-    /// were taken on below it, which stay; the callers from there on are those from before.
+    /// The error tells why, at which place it stopped, and how many new callers it had taken. Those stay, and the
+    /// callers from that place on are the ones from before. It is:
+    /// - `OtherQueue` if `queue` has another name than the one that made the handle, or another number of shards.
+    ///   Nothing changes then.
+    /// - `TooManyHandles` if the shard has made 1,024 callers of this generation.
+    /// - `NoMemory` if memory is refused.
     pub fn renew<T>(&mut self, queue: &LastingQueue<T>) -> Result<usize, HandleRenewError> {
         let shards = queue.shards();
         if self.name != queue.name() || self.callers.len() != shards {
@@ -170,12 +184,16 @@ impl<T> LastingQueue<T> {
 }
 
 impl<T> LastingQueue<T> {
-    /// A handle, with a caller of each shard, issued in turn under that shard's lock.
+    /// Makes a handle, by which one thread at a time extends and cancels entries without a lock. It has a caller of
+    /// each shard. A shard makes 1,024 callers at most in each generation, given back or not.
+    ///
+    /// It takes the lock of each shard in turn, and memory for the callers.
     ///
     /// # Errors
-    /// NoMemory where there is no room for the callers, and then, shard by shard, TooManyHandles where 1,024 callers
-    /// of its generation were issued, given back or not, and NoMemory. The callers that were issued before are given
-    /// back then.
+    /// The callers that were made before the refusal are given back, but stay counted. In this order:
+    /// - `NoMemory` if there is no room for the callers.
+    /// - `TooManyHandles` if a shard has made 1,024 callers in its generation; `NoMemory` if one is refused its
+    ///   memory.
     pub fn handle(&self) -> Result<LastingHandle, HandleError> {
         let shards = self.shards();
         let Ok(mut callers) = room_for(shards) else {

@@ -64,23 +64,29 @@ pub struct LastingPacedStream<'q, T, S> {
 }
 
 impl<'q, T, S> LastingStream<'q, T, S> {
-    /// This stream with at most so many steps a poll. A step is an entry that is settled, reaped or filed anew, or an
-    /// arrival of the wheel, and takes constant time but for a value's drop.
+    /// Makes a stream of this one, whose polls make at most `steps` steps. A step settles one entry or moves the
+    /// wheel to a slot, and takes constant time, except for the drop of a value.
     pub fn paced(self, steps: NonZeroU32) -> LastingPacedStream<'q, T, S> {
         LastingPacedStream { stream: self, steps }
     }
 }
 
 impl<'q, T, S> LastingPacedStream<'q, T, S> {
-    /// Its stream, which makes whole polls.
+    /// Returns its stream, which makes whole polls.
     pub fn into_inner(self) -> LastingStream<'q, T, S> {
         self.stream
     }
 }
 
 impl<'q, T, S: TickSource> LastingPacedStream<'q, T, S> {
-    /// An entry that is due, one of least deadline, or Pending: parked at the next wake or for an insert, or woken,
-    /// with more to do. Faults are those of its stream. Its cost is that of its steps.
+    /// Polls the stream once, by at most as many steps as it was made with. It returns:
+    /// - `Ready(Some(Ok(..)))` with an entry that is due. No live entry of the shard has an earlier deadline.
+    /// - `Pending` if no live entry is due: the task is parked in the shard until its next wake, or for an insert.
+    /// - `Pending` if more steps are left: nothing is parked, and the polled task is woken.
+    /// - `Ready(Some(Err(..)))` for a fault: `TickTooLarge` if the source tells a tick beyond the last one, and
+    ///   `NoMemory` if no waker can be made. The stream goes on after both.
+    ///
+    /// It takes the shard's lock for these steps alone. A step takes constant time, except for the drop of a value.
     pub fn poll_next(&mut self, cx: &mut Context<'_>) -> Poll<Option<Result<Expired<T>, StreamFault>>> {
         self.stream.queue.give_way(self.stream.place);
         let stream = &mut self.stream;

@@ -11,7 +11,9 @@ use crate::parking::{waiting_row, Leaver, Waiting};
 use crate::words::locked_shards;
 use alloc::vec::Vec;
 
-/// A delay queue in shards, each behind a lock of its own, which are renewed one by one while the others serve.
+/// A delay queue for many threads that runs for years. It has shards, each behind a lock of its own, which are
+/// renewed one by one while the others serve. Ticks are of one millisecond, and the program passes them in: the queue
+/// reads no clock.
 ///
 /// ```
 /// use hontkhale::lasting::{Kept, LastingConfig, LastingQueue};
@@ -29,17 +31,28 @@ use alloc::vec::Vec;
 /// # }
 /// ```
 ///
-/// It hands out no `&mut` of a shard, so no two shards change places.
+/// # Places and generations
+/// A shard stands at a *place*, from 0 on. Its keys carry the number of its *generation*. Each renewal gives the
+/// shard fresh words and slots under a higher number, and the keys of an earlier generation are refused for good. A
+/// number modulo the number of shards is the shard's place. The queue hands out no `&mut` of a shard, so no two
+/// shards change places.
 ///
-/// No call drops a value under a lock: what it reaps or clears it drops once the lock is free, so a value's drop may
-/// call the queue. One thread at a time drops what a shard has set aside: a call that finds it at work, and one that a
-/// value's drop makes itself, leave their values to it, and return before they are dropped. So drops don't nest, and a
-/// value may be dropped by another thread's call. An insert may drop one value before its own entry is in, where no slot
-/// has a place for that one.
+/// # Entries
+/// An entry is *live* until it comes out, is removed or is cancelled. Handles extend and cancel entries without a
+/// lock. An entry that a handle has cancelled keeps its slot until a call of the shard frees it: a poll at which it
+/// would have been due, a sweep, a reap, a clear or a step of [`LastingQueue::keep_going`].
 ///
-/// Where a drop panics the shard is whole, and a later poll, sweep, reap, clear or `keep_going` drops the rest. Up to 15
-/// that were taken out with it are dropped as the panic unwinds: where the drop of one of these panics too, Rust ends the
-/// process. A poll that gave an entry drops nothing, since a panic would lose the entry: that is left to a later call.
+/// # Drops of values
+/// A call drops the values that it frees after it has released the lock, so a value's drop may call the queue. One
+/// thread at a time drops what a shard has set aside. A call that finds another thread at it, or that is made by a
+/// value's drop, leaves its values to that one, and returns before they are dropped. So drops don't nest, and a value
+/// may be dropped by another thread's call. An insert may drop one value before its own entry is in, if no other slot
+/// is free.
+///
+/// If a drop panics, the shard stays whole, and a later poll, sweep, reap, clear or `keep_going` drops the rest. Up
+/// to 15 values that were taken out with it are dropped as the panic unwinds; if the drop of one of these panics too,
+/// Rust ends the process. A poll that returns an entry drops nothing, since a panic would lose the entry: that is
+/// left to a later call.
 pub struct LastingQueue<T> {
     pub(crate) shards: Vec<Mutex<LastingShard<T>>>,
     // Of each shard, who waits for its lock.
@@ -48,20 +61,24 @@ pub struct LastingQueue<T> {
 }
 
 impl<T> LastingQueue<T> {
-    /// A queue of empty shards at tick 0, all of which take entries. All memory of the queue is taken here: no other
-    /// call takes any, but `handle` and its renewal, `keep_going`, `states`, and `poll_or_park` for a waker.
+    /// Makes a queue of empty shards at tick 0, all of which accept entries. It takes time and memory in proportion
+    /// to the slots of all shards. Later only `handle` and its renewal, `keep_going`, `states`, and `poll_or_park`
+    /// for a waker take memory.
     ///
     /// # Errors
-    /// BadConfig where a number of the configuration is out of its range, and else NoMemory.
+    /// - `BadConfig` if a number of `config` is out of its range: [`LastingConfig::check`] tells which.
+    /// - `NoMemory` if memory is refused.
     pub fn new(config: LastingConfig) -> Result<LastingQueue<T>, CoreError> {
         LastingQueue::named(config, names::next())
     }
 
-    /// A queue of empty shards at tick 0, with a name that the queue keeps and that its handles have. A handle is renewed
-    /// by a queue of that name alone.
+    /// Makes a queue of empty shards at tick 0, with a name that the queue keeps and that its handles have. A handle
+    /// is renewed only by a queue of its name. It takes time and memory in proportion to the slots of all shards.
     ///
     /// # Errors
-    /// BadConfig where a number of the configuration is out of its range, and else NoMemory.
+    /// In this order:
+    /// - `BadConfig` if a number of `config` is out of its range.
+    /// - `NoMemory` if memory is refused.
     fn named(config: LastingConfig, name: u64) -> Result<LastingQueue<T>, CoreError> {
         let Ok(()) = config.check() else {
             return Err(CoreError::BadConfig);
@@ -94,11 +111,11 @@ impl<T> LastingQueue<T> {
 }
 
 impl<T> LastingQueue<T> {
-    /// Gives way to whoever waits for the lock of the shard at a place: it looks for a bounded while until nobody
-    /// does, and returns at once where nobody does. A place out of range has no lock.
+    /// Gives way to the threads that wait for the lock of the shard at `place`: it waits for a bounded while until
+    /// none waits. It returns at once if none waits, or if there is no such place. It takes no lock.
     ///
-    /// For loops of one's own over [`LastingQueue::poll_some`]: whoever lets a lock go and takes it again at once gets
-    /// it before a thread that sleeps.
+    /// It is for a loop over [`LastingQueue::poll_some`]. A thread that releases a lock and takes it again at once
+    /// gets it before a thread that sleeps.
     pub fn give_way(&self, place: usize) {
         if place < self.shards.len() {
             let waiting = nth(&self.waiting, place);

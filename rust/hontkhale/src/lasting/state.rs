@@ -47,10 +47,11 @@ impl<T> LastingShard<T> {
 }
 
 impl<T> LastingQueue<T> {
-    /// The state of the shard at a place: all of it is of one moment. Constant time.
+    /// Returns the state of the shard at `place`, all of it of one moment. It takes the shard's lock for constant
+    /// time, and no memory.
     ///
     /// # Errors
-    /// Unknown out of range.
+    /// `Unknown` if there is no such place.
     pub fn state(&self, place: usize) -> Result<PlaceState, LastingError> {
         let shard = self.entered(place)?;
         Ok(shard.state())
@@ -62,10 +63,11 @@ impl<T> LastingQueue<T> {
         self.lock(place).state()
     }
 
-    /// The states of all shards, in the order of their places, each under its own lock in turn.
+    /// Returns the states of all shards, in the order of their places. Each is taken under its own lock in turn, so
+    /// they are of different moments. It takes memory for the row.
     ///
     /// # Errors
-    /// Where memory for the row is refused.
+    /// `AllocError` if memory is refused.
     pub fn states(&self) -> Result<Vec<PlaceState>, AllocError> {
         let shards = self.shards();
         let mut states = room_for(shards)?;

@@ -10,12 +10,13 @@ use crate::lasting::queue::LastingQueue;
 use crate::parking::{StreamFault, TickSource};
 use core::task::{Context, Poll};
 
-/// What expires at one place of a lasting queue, at the ticks of a source, through every renewal of the shard there.
-/// It asks the source while it holds no lock.
+/// The entries that expire at one place of a lasting queue, at the ticks of a source, through every renewal of the
+/// shard there.
 ///
-/// Each poll takes the shard's lock once. It gives one entry that is due, and else parks in the shard, one poller a
-/// place: until the next wake, or where nothing is linked until an insert. It never ends. It holds no entry, so none is
-/// lost where it is dropped; its poller stays parked until it is woken or another takes its place.
+/// Each poll asks the source for the tick while it holds no lock, and then takes the shard's lock once. It returns
+/// one entry that is due. Else it parks its task in the shard, one task a place: until the next wake, or until an
+/// insert if the shard holds no entry. It never ends. It holds no entry, so none is lost when it is dropped; its task
+/// stays parked until it is woken or another takes its place.
 pub struct LastingStream<'q, T, S> {
     pub(crate) queue: &'q LastingQueue<T>,
     pub(crate) place: usize,
@@ -23,10 +24,10 @@ pub struct LastingStream<'q, T, S> {
 }
 
 impl<'q, T, S> LastingStream<'q, T, S> {
-    /// A stream of a place, at the ticks of a source.
+    /// Makes a stream of the shard at `place`, at the ticks of `source`. It takes no memory.
     ///
     /// # Errors
-    /// Unknown out of range. The source comes back.
+    /// `Unknown` if there is no such place. `source` comes back.
     pub fn new(
         queue: &'q LastingQueue<T>,
         place: usize,
@@ -50,11 +51,13 @@ pub(crate) fn fault_of(error: LastingError) -> StreamFault {
 }
 
 impl<'q, T, S: TickSource> LastingStream<'q, T, S> {
-    /// An entry that is due, one of least deadline, or Pending, parked at the next wake or for an insert. Its cost is
-    /// that of one poll of the shard.
+    /// Polls the stream once. It returns:
+    /// - `Ready(Some(Ok(..)))` with an entry that is due. No live entry of the shard has an earlier deadline.
+    /// - `Pending` if no live entry is due: the task is parked in the shard until its next wake, or for an insert.
+    /// - `Ready(Some(Err(..)))` for a fault: `TickTooLarge` if the source tells a tick beyond the last one, and
+    ///   `NoMemory` if no waker can be made. The stream goes on after both.
     ///
-    /// A tick beyond the last one gives TickTooLarge, and where no waker can be made it gives NoMemory. It goes on
-    /// after both.
+    /// It takes the shard's lock once, and costs as much as one poll of the shard.
     pub fn poll_next(&mut self, cx: &mut Context<'_>) -> Poll<Option<Result<Expired<T>, StreamFault>>> {
         let tick = self.source.now();
         match self.queue.poll_or_park(self.place, tick, cx) {

@@ -46,8 +46,9 @@ impl<T, N> Attended<T, N> {
 }
 
 impl<T, N: Until> Attended<T, N> {
-    /// As [`DelayCore::insert`]. Refused, nothing changes. What waited for its drop where the entry is now is handed over,
-    /// to be dropped once the lock is free: none, where it was taken out before.
+    /// Puts `value` in, to come out at `when` or at the queue's tick, and returns its key. If it is refused, the
+    /// value comes back and nothing changes. Beside it comes who has left, and the value that waited for its drop in
+    /// the entry's slot, which is to be dropped once the lock is free: none if it was taken out before.
     #[inline(always)]
     pub fn insert(&mut self, value: T, when: u64) -> (Inserted<T>, Leaver<N>, Option<T>) {
         // requires MayWait N.lasts self.old.core self.old.parked
@@ -58,60 +59,63 @@ impl<T, N: Until> Attended<T, N> {
         }
     }
 
-    /// As [`DelayCore::reset`].
+    /// Gives a live entry another deadline, and returns its new key, with who has left by it.
     #[inline(always)]
     pub fn reset(&mut self, entry: &EntryId, when: u64) -> (Result<Key, CoreError>, Leaver<N>) {
         let answer = self.core.reset(entry, when);
         (answer, keep_or_leave(&self.core, &mut self.parked))
     }
 
-    /// As [`DelayCore::remove`].
+    /// Takes a live entry out, and returns it, with who has left by it.
     #[inline(always)]
     pub fn remove(&mut self, entry: &EntryId) -> (Result<Removed<T>, CoreError>, Leaver<N>) {
         let answer = self.core.remove(entry);
         (answer, keep_or_leave(&self.core, &mut self.parked))
     }
 
-    /// As [`DelayCore::poll`].
+    /// Notes a tick and takes one entry out that is due, or tells when to come again, with who has left by it. No
+    /// value is dropped.
     #[inline(always)]
     pub fn poll(&mut self, tick: u64) -> (Result<Turn<T>, CoreError>, Leaver<N>) {
         let answer = self.core.poll_deferring(tick);
         (answer, keep_or_leave(&self.core, &mut self.parked))
     }
 
-    /// As [`DelayCore::poll_some`].
+    /// Notes a tick and does at most `most` steps of a poll, with who has left by it. No value is dropped.
     #[inline]
     pub fn poll_some(&mut self, tick: u64, most: u32) -> (Result<Piece<T>, CoreError>, Leaver<N>) {
         let answer = self.core.poll_some_deferring(tick, most);
         (answer, keep_or_leave(&self.core, &mut self.parked))
     }
 
-    /// As `poll_into`.
+    /// Notes a tick and appends what is due to `row`, as far as it has room, with who has left by it. No value is
+    /// dropped.
     #[inline]
     pub fn poll_many(&mut self, tick: u64, row: &mut Vec<Expired<T>>) -> (Result<ManyTurn, CoreError>, Leaver<N>) {
         let answer = poll_into(&mut self.core, tick, row);
         (answer, keep_or_leave(&self.core, &mut self.parked))
     }
 
-    /// As [`DelayCore::sweep`].
+    /// Reaps all cancelled entries, and returns how many, with who has left by it. No value is dropped.
     pub fn sweep(&mut self) -> (usize, Leaver<N>) {
         let reaped = self.core.sweep_deferring();
         (reaped, keep_or_leave(&self.core, &mut self.parked))
     }
 
-    /// As [`DelayCore::sweep_some`].
+    /// Reaps the cancelled entries at `count` slots from `from` on, with who has left by it. No value is dropped.
     pub fn sweep_some(&mut self, from: usize, count: usize) -> (Swept, Leaver<N>) {
         let swept = self.core.sweep_some_deferring(from, count);
         (swept, keep_or_leave(&self.core, &mut self.parked))
     }
 
-    /// As [`DelayCore::reap`].
+    /// Reaps an entry if it was cancelled, with who has left by it. No value is dropped.
     pub fn reap(&mut self, entry: &EntryId) -> (Result<(), ReapError>, Leaver<N>) {
         let answer = self.core.reap_deferring(entry);
         (answer, keep_or_leave(&self.core, &mut self.parked))
     }
 
-    /// As [`DelayCore::clear`].
+    /// Takes all entries out, and returns how many live ones were removed, with who has left by it. No value is
+    /// dropped.
     pub fn clear(&mut self) -> (usize, Leaver<N>) {
         let removed = self.core.clear_deferring();
         (removed, keep_or_leave(&self.core, &mut self.parked))

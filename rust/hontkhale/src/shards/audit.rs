@@ -38,8 +38,11 @@ fn totals_of(tally: &Tally, cancelled: u64) -> Totals {
 }
 
 impl<T> ShardState<T> {
-    /// The totals, where every caller is given back: what was inserted is what expired, was removed, was cancelled
-    /// (reaped or not) and is live. Refused with the number of callers that are out.
+    /// Returns what became of all entries of this shard that were ever inserted: what expired, was removed, was
+    /// cancelled (freed or not) and is live adds up to what was inserted. It takes constant time and no memory.
+    ///
+    /// # Errors
+    /// `HandlesOut` if some callers aren't given back, with their number: what they cancelled isn't known.
     pub fn audit(&mut self) -> Result<Totals, HandlesOut> {
         let tally = self.attended.core.tally();
         match self.attended.core.returned() {
@@ -57,10 +60,14 @@ impl<T> SharedDelayQueue<T> {
         shard.audit()
     }
 
-    /// The totals of all shards, each taken in turn under its own lock, where every caller of every handle is given
-    /// back. Refused with the number that is out by the first shard that has one. It takes no memory.
+    /// Returns what became of all entries that were ever inserted, over all shards: what expired, was removed, was
+    /// cancelled (freed or not) and is live adds up to what was inserted. It takes the lock of each shard in turn for
+    /// constant time, and no memory.
     ///
-    /// A handle that was dropped and not given back is out for good: then no audit tells totals any more.
+    /// A handle that was dropped and not given back is out for good: then no audit returns totals any more.
+    ///
+    /// # Errors
+    /// `HandlesOut` if a handle isn't given back, with the number that is out by the first shard that has one.
     pub fn audit(&self) -> Result<Totals, HandlesOut> {
         let mut sums = NOTHING;
         for shard in 0..self.shards() {

@@ -4,13 +4,18 @@ use crate::shards::state::ShardState;
 use crate::words::{Caller, WordsError};
 
 impl<T> ShardState<T> {
-    /// One caller more of this shard's words, which may go to any thread. Refused as TooManyHandles where 1,024
-    /// callers were issued, given back or not, and else as NoMemory.
+    /// Makes one caller more of this shard's words, which may go to any thread. It takes memory for the caller.
+    ///
+    /// # Errors
+    /// In this order:
+    /// - `TooManyHandles` if 1,024 callers were made, given back or not.
+    /// - `NoMemory` if memory is refused.
     pub fn issue(&mut self) -> Result<Caller, WordsError> {
         self.attended.core.issue()
     }
 
-    /// The issued callers that are not given back, by one load. One that was dropped is out for good.
+    /// Returns the number of callers that were made and not given back, by one load. A caller that was dropped stays
+    /// counted.
     pub fn out(&mut self) -> u64 {
         self.attended.core.out()
     }

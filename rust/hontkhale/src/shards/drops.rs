@@ -29,9 +29,12 @@ fn routed_shard(route: u64, shards: u64) -> u64 {
 }
 
 impl<T> SharedDelayQueue<T> {
-    /// A queue of empty shards at tick 0. Refused as BadConfig where a number of the configuration is out of its
-    /// range, and else as NoMemory. All memory of the queue is taken here: no other call takes any, but `handle` and
-    /// `issue`.
+    /// Makes a queue of empty shards at tick 0. Later only `handle` and `issue` take memory. It takes time and memory
+    /// in proportion to the slots of all shards.
+    ///
+    /// # Errors
+    /// - `BadConfig` if a number of `config` is out of its range: [`QueueConfig::check`] tells which.
+    /// - `NoMemory` if memory is refused.
     pub fn new(config: QueueConfig) -> Result<SharedDelayQueue<T>, QueueError> {
         if !is_config(&config) {
             return Err(QueueError::Core(CoreError::BadConfig));
@@ -65,9 +68,29 @@ impl<T> SharedDelayQueue<T> {
         }
     }
 
-    /// Puts an entry into the shard `route` modulo the number of shards, live until `when`, a tick of one
-    /// millisecond, as [`ShardState::insert`] does, and answers its key there. Constant time. Refused as TooFar
-    /// beyond the last tick, and else as Full where that shard has no free slot; the value comes back then.
+    /// Puts `value` into the shard `route` modulo the number of shards, to come out at the tick `when` of one
+    /// millisecond, and returns its key. If `when` is before the shard's tick, the entry is due at once. Whoever has
+    /// no reason to prefer a shard counts the routes up.
+    ///
+    /// It takes that shard's lock for constant time, and no memory. If a task is parked there until a later tick, the
+    /// call wakes it after it has released the lock.
+    ///
+    /// # Errors
+    /// `value` comes back. In this order:
+    /// - `TooFar` if `when` is beyond the last tick, 2^42 - 1.
+    /// - `Full` if that shard has no free slot. It tells how many entries are linked and how many slots are worn.
+    ///
+    /// ```
+    /// use hontkhale::owner::CoreError;
+    /// use hontkhale::shards::{QueueConfig, QueueError, SharedDelayQueue};
+    ///
+    /// let queue = SharedDelayQueue::new(QueueConfig::of(8, 1)).unwrap();
+    /// let key = queue.insert(3, "value", 100).unwrap();
+    /// assert_eq!(key.entry().shard(), 3);
+    /// let (error, value) = queue.insert(11, "other", 100).unwrap_err();
+    /// assert_eq!(error, QueueError::Core(CoreError::Full { linked: 1, worn: 0 }));
+    /// assert_eq!(value, "other");
+    /// ```
     pub fn insert(&self, route: u64, value: T, when: u64) -> Result<Key, (QueueError, T)> {
         let shard = routed_shard(route, self.shards() as u64);
         let mut locked = self.lock_with_room(shard as usize);
@@ -80,10 +103,17 @@ impl<T> SharedDelayQueue<T> {
         }
     }
 
-    /// As [`SharedDelayQueue::insert`], for callers that answer a refusal with `?`: the value is dropped then.
+    /// Puts `value` into the shard `route` modulo the number of shards, to come out at the tick `when` of one
+    /// millisecond, and returns its key. If the entry is refused, `value` is dropped, and the error can be returned
+    /// with `?`. [`SharedDelayQueue::insert`] gives the value back instead.
+    ///
+    /// It takes that shard's lock for constant time, and no memory. If a task is parked there until a later tick, the
+    /// call wakes it after it has released the lock.
     ///
     /// # Errors
-    /// TooFar beyond the last tick, and else Full where the shard of the route has no free slot.
+    /// In this order:
+    /// - `TooFar` if `when` is beyond the last tick, 2^42 - 1.
+    /// - `Full` if that shard has no free slot.
     pub fn insert_or_drop(&self, route: u64, value: T, when: u64) -> Result<Key, QueueError> {
         match self.insert(route, value, when) {
             Ok(key) => Ok(key),
@@ -91,11 +121,24 @@ impl<T> SharedDelayQueue<T> {
         }
     }
 
-    /// As [`ShardState::poll`], `tick` of one millisecond. Refused as Unknown for a shard out of range, before all
-    /// else, and then as TickTooLarge beyond the last tick.
+    /// Notes `tick`, of one millisecond, in `shard`, and takes one entry out that is due at the greatest tick noted
+    /// there. Call it until it returns something else than `Out`:
+    /// - `Out` has the entry's key, its deadline and its value. No live entry of the shard has an earlier deadline.
+    /// - `Waiting` if no live entry is due: the shard has nothing to do before the tick `next`.
+    /// - `Idle` if the shard holds no entry.
     ///
-    /// Each call takes the shard's lock. Whoever wants many entries out polls in a loop under one lock, by
-    /// [`SharedDelayQueue::lend`]:
+    /// It takes the shard's lock, and no memory. It takes constant time for each entry that it moves down the wheel,
+    /// schedules again or frees; an entry moves at most five times after it was scheduled.
+    /// [`SharedDelayQueue::poll_some`] bounds the steps of one call. The values of the cancelled entries that it
+    /// frees are dropped after it has released the lock, or by a later call if it returns an entry.
+    ///
+    /// # Errors
+    /// In this order:
+    /// - `Unknown` if there is no such shard.
+    /// - `TickTooLarge` if `tick` is beyond the last tick. It isn't noted then.
+    ///
+    /// # Examples
+    /// Each call takes the shard's lock. [`SharedDelayQueue::lend`] polls in a loop under one lock:
     ///
     /// ```
     /// use hontkhale::owner::Turn;
@@ -126,10 +169,23 @@ impl<T> SharedDelayQueue<T> {
         Ok(answer?)
     }
 
-    /// As [`ShardState::poll_some`], `tick` of one millisecond. Refused as Unknown for a shard out of range, before
-    /// all else, and then as TickTooLarge beyond the last tick.
+    /// Notes `tick`, of one millisecond, in `shard`, and does at most `most` steps of a poll there. It returns
+    /// `Working` if more steps may be left, and else the poll's answer:
+    /// - `Out` has the key, the deadline and the value of an entry that is due.
+    /// - `Waiting` if no live entry is due: the shard has nothing to do before the tick `next`.
+    /// - `Idle` if the shard holds no entry.
     ///
-    /// The shard's lock is held for this piece alone: other threads may take it between two pieces.
+    /// Call it again while it returns `Working`. Each such call leaves at least `most` steps fewer than there were
+    /// when its tick was noted. A call of no steps that returns `Working` tells nothing.
+    ///
+    /// It takes the shard's lock for these steps alone, so that other threads may take it between two calls, and no
+    /// memory. A step takes constant time. Dropped values aren't counted: they are dropped after the lock is
+    /// released, or by a later call if this one returns an entry.
+    ///
+    /// # Errors
+    /// In this order:
+    /// - `Unknown` if there is no such shard.
+    /// - `TickTooLarge` if `tick` is beyond the last tick. It isn't noted then.
     ///
     /// ```
     /// use hontkhale::owner::{Piece, Turn};
@@ -157,16 +213,21 @@ impl<T> SharedDelayQueue<T> {
         Ok(answer?)
     }
 
-    /// As [`SharedDelayQueue::poll`], in pieces of at most `most` steps, `tick` of one millisecond. The shard's lock
-    /// is free between two pieces, and where another thread waits for it this one gives way for a bounded while: a
-    /// call by name then waits for about one piece, not for the whole poll.
+    /// Notes `tick`, of one millisecond, in `shard`, and takes one entry out that is due there, in pieces of at most
+    /// `most` steps:
+    /// - `Out` has the entry's key, its deadline and its value.
+    /// - `Waiting` if no live entry is due: the shard has nothing to do before the tick `next`.
+    /// - `Idle` if the shard holds no entry.
     ///
-    /// It returns once a piece comes to an answer: each leaves at least so many steps fewer, but other threads may
-    /// give the shard more to do meanwhile.
+    /// It takes the shard's lock for each piece, and no memory. If another thread waits for the lock between two
+    /// pieces, the call gives way for a bounded while. So a call by another thread waits for about one piece, and not
+    /// for the whole poll. A step takes constant time. Each piece leaves at least `most` steps fewer, but other
+    /// threads may give the shard more to do meanwhile.
     ///
     /// # Errors
-    /// Unknown for a shard out of range, before all else, and then TickTooLarge beyond the last tick, which is not
-    /// noted then.
+    /// In this order:
+    /// - `Unknown` if there is no such shard.
+    /// - `TickTooLarge` if `tick` is beyond the last tick. It isn't noted then.
     ///
     /// ```
     /// use hontkhale::owner::Turn;
@@ -190,15 +251,17 @@ impl<T> SharedDelayQueue<T> {
         }
     }
 
-    /// Polls a shard under one lock until the caller's own row is full, or nothing is due, as [`ShardState::poll_many`] does:
-    /// the entries stand behind what stood in the row, in order, as many as it has free room for. `tick` is of one
-    /// millisecond. It takes no memory, and its cost is that of so many polls, but for their locks.
+    /// Notes `tick`, of one millisecond, in `shard`, and takes entries out that are due there, until `row` is full or
+    /// nothing is due. They are appended to `row` in the order of their deadlines, as many as its capacity has room
+    /// for. It returns `More` if entries may still be due, and else what a poll returns then. Empty `row` and call it
+    /// again while it returns `More`. If `row` has no room, nothing comes out and `tick` isn't noted.
     ///
-    /// Other threads may take the lock between two calls. A row without room takes nothing out, and no tick is noted then:
-    /// empty it before each call.
+    /// It takes the shard's lock once, and no memory. It costs as much as so many polls without their locks.
     ///
     /// # Errors
-    /// Unknown for a shard out of range, before all else, and then TickTooLarge beyond the last tick. Nothing changes then.
+    /// Nothing changes then. In this order:
+    /// - `Unknown` if there is no such shard.
+    /// - `TickTooLarge` if `tick` is beyond the last tick.
     ///
     /// ```
     /// use hontkhale::owner::ManyTurn;
@@ -227,7 +290,14 @@ impl<T> SharedDelayQueue<T> {
         Ok(answer?)
     }
 
-    /// As [`ShardState::sweep`]. Refused as Unknown for a shard out of range.
+    /// Frees the slots of all cancelled entries of `shard`, and returns how many these were. Their values are dropped
+    /// after the lock is released.
+    ///
+    /// It looks at every slot of the shard while it holds the shard's lock. [`SharedDelayQueue::sweep_some`] does it
+    /// in pieces. It takes no memory.
+    ///
+    /// # Errors
+    /// `Unknown` if there is no such shard.
     pub fn sweep(&self, shard: usize) -> Result<usize, QueueError> {
         let mut locked = self.enter(shard)?;
         let (reaped, leaver) = locked.attended.sweep();
@@ -236,9 +306,17 @@ impl<T> SharedDelayQueue<T> {
         Ok(reaped)
     }
 
-    /// As [`ShardState::sweep_some`]. Refused as Unknown for a shard out of range.
+    /// Frees the slots of the cancelled entries among the `count` slots of `shard` from the slot `from` on. It
+    /// returns how many these were, and the slot to go on from, which is none after the last slot. Their values are
+    /// dropped after the lock is released.
     ///
-    /// A shard is swept in pieces, with its lock free between them:
+    /// It takes the shard's lock, time in proportion to `count`, and no memory.
+    ///
+    /// # Errors
+    /// `Unknown` if there is no such shard.
+    ///
+    /// # Examples
+    /// A shard is swept in pieces, and other threads may take its lock between them:
     ///
     /// ```
     /// use hontkhale::shards::{QueueConfig, SharedDelayQueue};
@@ -258,7 +336,16 @@ impl<T> SharedDelayQueue<T> {
         Ok(swept)
     }
 
-    /// As [`ShardState::reap`], whose answer it gives. Refused as Unknown for a shard out of range.
+    /// Frees the slot of `entry` if the entry was cancelled. Its value is dropped after the lock is released. The
+    /// outer result tells whether the shard was found, the inner one whether the entry was freed.
+    ///
+    /// It takes the lock of the entry's shard for constant time, and no memory.
+    ///
+    /// # Errors
+    /// In this order:
+    /// - `Unknown`, in the outer result, if there is no such shard.
+    /// - `Missing`, in the inner result, if the entry isn't in the queue any more, or never was.
+    /// - `Live`, in the inner result, if the entry wasn't cancelled. It stays.
     pub fn reap(&self, entry: &EntryId) -> Result<Result<(), ReapError>, QueueError> {
         let shard = entry.shard() as usize;
         let mut locked = self.enter(shard)?;
@@ -268,7 +355,13 @@ impl<T> SharedDelayQueue<T> {
         Ok(answer)
     }
 
-    /// As [`ShardState::clear`]. Refused as Unknown for a shard out of range.
+    /// Takes all entries out of `shard`, and returns how many live ones were removed. Their values, and those of
+    /// cancelled entries, are dropped after the lock is released. A parked task is woken then.
+    ///
+    /// It looks at every slot of the shard while it holds the shard's lock. It takes no memory.
+    ///
+    /// # Errors
+    /// `Unknown` if there is no such shard.
     pub fn clear(&self, shard: usize) -> Result<usize, QueueError> {
         let mut locked = self.enter(shard)?;
         let (cleared, leaver) = locked.attended.clear();
@@ -277,16 +370,15 @@ impl<T> SharedDelayQueue<T> {
         Ok(cleared)
     }
 
-    /// Drops the values that are set aside in a shard, each while the shard's lock is free. `most` is how many the caller has left there: of none nothing is done, and no lock is taken. Else it
-    /// goes on until none is left.
+    /// Drops the values that are set aside in `shard`, each while the shard's lock is free. `most` is how many the
+    /// caller has left there: if that is 0, the call takes no lock and does nothing. Else it goes on until none is
+    /// left. If there is no such shard, there is nothing to drop.
     ///
-    /// One thread at a time does it. Where another is at it, or a value's drop that this one runs makes the call, that one
-    /// drops these values too, and the call returns at once. Where a drop panics, a later call drops
-    /// the rest.
+    /// One thread drops at a time. If another thread is dropping, or the call is made by the drop of a value, the
+    /// other drops these values too, and this call returns at once. If a drop panics, a later call drops the rest.
     ///
-    /// The calls by name do it by themselves, and so does [`SharedDelayQueue::lend`]; whoever holds a shard by
-    /// [`SharedDelayQueue::enter`] asks [`ShardState::aside`] before it lets the shard go. Of a shard out of range there is
-    /// nothing to drop.
+    /// Every call by name does this by itself, and so does [`SharedDelayQueue::lend`]. Whoever holds a shard by
+    /// [`SharedDelayQueue::enter`] asks [`ShardState::aside`] before the lock is released.
     ///
     /// ```
     /// use hontkhale::shards::{QueueConfig, SharedDelayQueue};
@@ -321,11 +413,30 @@ impl<T> SharedDelayQueue<T> {
 
 // A contract can't speak of a closure whose argument has an allocator of the caller's choice.
 impl<T> SharedDelayQueue<T> {
-    /// Calls `f` once with the shard's state while its lock is held, and gives back its answer. Refused as Unknown
-    /// exactly out of range; `f` isn't called then. What `f` does on the shard it does on the state, and what it
-    /// wakes it wakes under the lock: see [`SharedDelayQueue::enter`] for what waits for ever. What it reaps or
-    /// clears is dropped behind the lock; but of values that wait an insert drops one, before its entry is in, where it
-    /// finds no other slot for that.
+    /// Calls `f` once with the state of `shard` while it holds the shard's lock, and returns what `f` returned. So
+    /// `f` may make many calls on the shard under one lock.
+    ///
+    /// What a call of `f` wakes, it wakes under the lock: see [`SharedDelayQueue::enter`] for what waits for ever.
+    /// Values that `f` frees are dropped after the lock is released. But an insert drops one value that waits for its
+    /// drop, under the lock, if it finds no other slot. It takes no memory.
+    ///
+    /// # Errors
+    /// `Unknown` if there is no such shard. `f` isn't called then.
+    ///
+    /// ```
+    /// use hontkhale::shards::{QueueConfig, SharedDelayQueue};
+    ///
+    /// let queue = SharedDelayQueue::new(QueueConfig::of(1, 100))?;
+    /// let last = queue.lend(0, |state| {
+    ///     let mut last = None;
+    ///     for number in 0..10 {
+    ///         last = state.insert(number, 100 + number).ok();
+    ///     }
+    ///     last
+    /// })?;
+    /// assert_eq!(queue.deadline(&last.expect("there is room").entry()), Ok(109));
+    /// # Ok::<(), hontkhale::shards::QueueError>(())
+    /// ```
     pub fn lend<O, F: FnOnce(&mut ShardState<T>) -> O>(&self, shard: usize, f: F) -> Result<O, QueueError> {
         // requires F.IsAlwaysCallable f
         let mut locked = self.enter(shard)?;

@@ -11,7 +11,7 @@ use alloc::vec::Vec;
 /// Extends and cancels entries of a queue of shards, and looks at them, from any thread. It has one caller for each
 /// shard. Its calls take no lock and no memory, and wait for nobody.
 ///
-/// A handle that is dropped counts as out for good: see [`Handle::give_back`].
+/// A handle that is dropped counts as out for good: [`Handle::give_back`] tells why that matters.
 ///
 /// ```
 /// use hontkhale::owner::{CallError, Look};
@@ -31,10 +31,18 @@ pub struct Handle {
 }
 
 impl Handle {
-    /// Raises the deadline of a live entry to `when`, a tick of one millisecond, as [`Caller::extend`] of the key's
-    /// shard does, and answers the deadline that is then in force. Constant time. Refused as TooFar beyond the last
-    /// tick, as Unknown where no slot has the key or its shard is out of range, as Stale where the slot has a later
-    /// stamp, and as Ended where the entry isn't live.
+    /// Raises the deadline of a live entry to `when`, a tick of one millisecond, and returns the deadline that is
+    /// then in force: `when`, or a later one that the entry had. No deadline gets sooner by it. The entry doesn't
+    /// come out before the returned deadline, unless the queue resets or removes it.
+    ///
+    /// It makes one load and at most one atomic step. It takes no lock and no memory. A parked task isn't woken.
+    ///
+    /// # Errors
+    /// In this order:
+    /// - `TooFar` if `when` is beyond the last tick, 2^42 - 1.
+    /// - `Unknown` if no slot has the key, or if there is no such shard.
+    /// - `Stale` if the slot has a later stamp: the entry was reset, or the slot has another entry.
+    /// - `Ended` if the entry came out, was removed or was cancelled. It tells which.
     pub fn extend(&mut self, key: &Key, when: u64) -> Result<u64, CallError> {
         let shard = key.entry().shard() as usize;
         if shard < self.callers.len() {
@@ -46,8 +54,16 @@ impl Handle {
         Err(CallError::Unknown)
     }
 
-    /// Cancels a live entry, as [`Caller::cancel`] of the key's shard does, and answers the deadline that it gave up,
-    /// a tick of one millisecond. Constant time. Refused as `extend` is, but never as TooFar.
+    /// Cancels a live entry, so that it won't come out, and returns the deadline that it gave up, a tick of one
+    /// millisecond. The entry keeps its slot and its value until a call of its shard frees it.
+    ///
+    /// It makes one load and at most one atomic step. It takes no lock and no memory. A parked task isn't woken.
+    ///
+    /// # Errors
+    /// In this order:
+    /// - `Unknown` if no slot has the key, or if there is no such shard.
+    /// - `Stale` if the slot has a later stamp: the entry was reset, or the slot has another entry.
+    /// - `Ended` if the entry came out, was removed or was cancelled. It tells which.
     pub fn cancel(&mut self, key: &Key) -> Result<u64, CallError> {
         let shard = key.entry().shard() as usize;
         if shard < self.callers.len() {
@@ -56,8 +72,13 @@ impl Handle {
         Err(CallError::Unknown)
     }
 
-    /// What the entry of a key is, as [`Caller::look`] of the key's shard tells. Constant time. Refused as Unknown
-    /// where no slot has the key or its shard is out of range, and as Stale where the slot has a later stamp.
+    /// Returns what the entry of `key` is: live, with its deadline, or how it ended. It makes one load. It takes no
+    /// lock and no memory.
+    ///
+    /// # Errors
+    /// In this order:
+    /// - `Unknown` if no slot has the key, or if there is no such shard.
+    /// - `Stale` if the slot has a later stamp: the entry was reset, or the slot has another entry.
     pub fn look(&mut self, key: &Key) -> Result<Look, CallError> {
         let shard = key.entry().shard() as usize;
         if shard < self.callers.len() {
@@ -66,7 +87,7 @@ impl Handle {
         Err(CallError::Unknown)
     }
 
-    /// The number of accepted cancels of its callers, of which there is one a shard.
+    /// Returns the number of cancels by this handle that were accepted.
     pub fn cancels(&self) -> u64 {
         let mut cancels = 0;
         for shard in 0..self.callers.len() {
@@ -75,8 +96,8 @@ impl Handle {
         cancels
     }
 
-    /// Gives back each of its callers, and answers the number of their accepted cancels. An audit tells totals only
-    /// once every handle is given back.
+    /// Gives the handle's callers back, and returns the number of its cancels that were accepted. An audit tells
+    /// totals only once every handle is given back.
     pub fn give_back(self) -> u64 {
         give_back_all(self.callers)
     }
@@ -118,9 +139,16 @@ impl<T> SharedDelayQueue<T> {
 }
 
 impl<T> SharedDelayQueue<T> {
-    /// A handle, with a caller of each shard, issued in turn under that shard's lock. Refused as NoMemory where there
-    /// is no room for the callers, and then, shard by shard, as TooManyHandles where 1,024 callers were issued, given
-    /// back or not, and as NoMemory. The callers that were issued before are given back then, but stay counted.
+    /// Makes a handle, by which one thread at a time extends and cancels entries without a lock. It has a caller of
+    /// each shard. A shard makes 1,024 callers at most, given back or not, so a queue makes at most 1,024 handles in
+    /// all.
+    ///
+    /// It takes the lock of each shard in turn, and memory for the callers.
+    ///
+    /// # Errors
+    /// The callers that were made before the refusal are given back, but stay counted. In this order:
+    /// - `NoMemory` if there is no room for the callers.
+    /// - `TooManyHandles` if a shard has made 1,024 callers; `NoMemory` if one is refused its memory.
     pub fn handle(&self) -> Result<Handle, QueueError> {
         let Ok(mut callers) = self.row.room_for_each() else {
             return Err(QueueError::Core(CoreError::NoMemory));

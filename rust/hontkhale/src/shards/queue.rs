@@ -6,8 +6,8 @@ use crate::shards::errors::{QueueConfig, QueueError, SHARD_LIMIT};
 use crate::shards::state::ShardState;
 use crate::ticks::{CAPACITY_LIMIT, LAST_STAMP};
 
-/// A delay queue in shards, each behind a lock of its own, so that many threads may fill and poll it. A call takes the
-/// lock of one shard.
+/// A delay queue in shards, each behind a lock of its own, so that many threads may fill and poll it. A call takes
+/// the lock of one shard. Ticks are of one millisecond, and the program passes them in: the queue reads no clock.
 ///
 /// ```
 /// use hontkhale::owner::Turn;
@@ -21,19 +21,27 @@ use crate::ticks::{CAPACITY_LIMIT, LAST_STAMP};
 /// # Ok::<(), hontkhale::shards::QueueError>(())
 /// ```
 ///
-/// A call by name that wakes a parked poller lets the lock go first: whoever is woken may call the queue at once.
-/// Under the lock wake only the calls that are made on a shard in hand, of [`SharedDelayQueue::enter`] and
+/// # Entries
+/// An entry is *live* until it comes out, is removed or is cancelled. Handles extend and cancel entries without a
+/// lock. An entry that a handle has cancelled keeps its slot until a call of the shard frees it: a poll at which it
+/// would have been due, a sweep, a reap or a clear.
+///
+/// # Wakers
+/// A call by name that wakes a parked task releases the lock first, so the task may call the queue at once. Only
+/// calls that are made on a shard in hand wake under the lock: those of [`SharedDelayQueue::enter`] and
 /// [`SharedDelayQueue::lend`].
 ///
-/// Nor is a value dropped under the lock: what a call reaps or clears it drops once the lock is free, so a value's
-/// drop may call the queue. One thread at a time drops what a shard has set aside: a call that finds it at work, and one
-/// that a value's drop makes itself, leave their values to it, and return before they are dropped. So drops don't nest,
-/// and a value may be dropped by another thread's call. An insert may drop one value before its own entry is in, where no
-/// slot has a place for that one.
+/// # Drops of values
+/// A call by name drops the values that it frees after it has released the lock, so a value's drop may call the
+/// queue. One thread at a time drops what a shard has set aside. A call that finds another thread at it, or that is
+/// made by a value's drop, leaves its values to that one, and returns before they are dropped. So drops don't nest,
+/// and a value may be dropped by another thread's call. An insert may drop one value before its own entry is in, if
+/// no other slot is free.
 ///
-/// Where a drop panics the shard is whole, and a later poll, sweep, reap or clear drops the rest. Up to 15 that were taken
-/// out with it are dropped as the panic unwinds: where the drop of one of these panics too, Rust ends the process. A poll
-/// that gave an entry drops nothing, since a panic would lose the entry: that is left to a later call.
+/// If a drop panics, the shard stays whole, and a later poll, sweep, reap or clear drops the rest. Up to 15 values
+/// that were taken out with it are dropped as the panic unwinds; if the drop of one of these panics too, Rust ends
+/// the process. A poll that returns an entry drops nothing, since a panic would lose the entry: that is left to a
+/// later call.
 pub struct SharedDelayQueue<T> {
     pub(crate) row: Row<ShardState<T>>,
 }
@@ -53,21 +61,38 @@ impl<T> SharedDelayQueue<T> {
         self.row.len()
     }
 
-    /// Gives way to whoever waits for the shard's lock: it looks for a bounded while until nobody does, and returns
-    /// at once where nobody does. A shard out of range has no lock.
+    /// Gives way to the threads that wait for the lock of `shard`: it waits for a bounded while until none waits. It
+    /// returns at once if none waits, or if there is no such shard. It takes no lock.
     ///
-    /// For loops of one's own over [`SharedDelayQueue::poll_some`]: whoever lets a lock go and takes it again at once
-    /// gets it before a thread that sleeps.
+    /// It is for a loop over [`SharedDelayQueue::poll_some`]. A thread that releases a lock and takes it again at
+    /// once gets it before a thread that sleeps.
     pub fn give_way(&self, shard: usize) {
         self.row.give_way(shard);
     }
 
-    /// The shard, with its lock held until the answer is dropped. Refused as Unknown exactly out of range.
+    /// Takes the lock of `shard`, and returns the shard's state. The lock is released when the returned guard is
+    /// dropped. It takes no memory.
     ///
     /// A thread that holds a shard and takes its lock once more, by any call that names the shard, waits for ever. So
-    /// does a waker that calls the queue where a call on the shard in hand wakes it: [`ShardState::take_parked`]
-    /// takes the poller out before. Values of what is reaped or cleared wait in the shard:
-    /// [`SharedDelayQueue::drop_aside`] drops them once it is let go.
+    /// does a waker that calls the queue if a call on the held shard wakes it. [`ShardState::take_parked`] takes the
+    /// parked task out before. Values that are freed meanwhile wait in the shard until
+    /// [`SharedDelayQueue::drop_aside`] or a later call drops them.
+    ///
+    /// # Errors
+    /// `Unknown` if there is no such shard.
+    ///
+    /// ```
+    /// use hontkhale::shards::{QueueConfig, SharedDelayQueue};
+    ///
+    /// let queue = SharedDelayQueue::new(QueueConfig::of(1, 100))?;
+    /// let mut state = queue.enter(0)?;
+    /// let first = state.insert("first", 100).expect("there is room");
+    /// let second = state.insert("second", 200).expect("there is room");
+    /// drop(state);
+    /// assert_eq!(queue.deadline(&first.entry()), Ok(100));
+    /// assert_eq!(queue.deadline(&second.entry()), Ok(200));
+    /// # Ok::<(), hontkhale::shards::QueueError>(())
+    /// ```
     #[inline(always)]
     pub fn enter(&self, shard: usize) -> Result<MutexGuard<'_, ShardState<T>>, QueueError> {
         if shard >= self.row.len() {

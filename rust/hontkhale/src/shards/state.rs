@@ -6,11 +6,16 @@ use crate::ticks::{EntryId, Key};
 use crate::words::{Keeper, ManyTurn};
 use alloc::vec::Vec;
 
-/// The value behind a shard's lock: a queue over words that callers share, and the poller that is parked there.
+/// The state of a shard behind its lock: a queue over words that handles share, and the task that is parked there. A
+/// program gets it by [`SharedDelayQueue::enter`](crate::shards::SharedDelayQueue::enter) and
+/// [`SharedDelayQueue::lend`](crate::shards::SharedDelayQueue::lend).
 ///
-/// It always keeps the shard law of its queue, whatever the callers do meanwhile, and the parked law: where a poller is
-/// parked there is a next wake, and the parked tick is not after it. A call that would break the parked law takes the
-/// poller out and wakes it, at once: the lock is held meanwhile. A call of the queue by name wakes it once the lock is free.
+/// A task is parked until a tick that isn't after the shard's next wake. A call that makes the next wake come sooner,
+/// or after which nothing is left to wait for, takes the task out and wakes it at once, under the lock. A call of the
+/// queue by name wakes it after the lock is released.
+///
+/// An entry is *live* until it comes out, is removed or is cancelled. A cancelled entry stays *linked*, in its slot,
+/// until a call *reaps* it: its slot is free for another entry then, and its value is dropped.
 #[repr(align(64))]
 pub struct ShardState<T> {
     pub(crate) attended: Attended<T, u64>,
@@ -26,9 +31,14 @@ impl<T> From<DelayCore<T, Keeper>> for ShardState<T> {
 
 // The one call of a state that may drop a value.
 impl<T> ShardState<T> {
-    /// Puts an entry in that is live until `when`, a tick of one millisecond, or until the wheel's tick where `when`
-    /// lies before it, and answers its key. Constant time. Refused as TooFar beyond the last tick, and else as Full
-    /// where no slot is free; the value comes back then.
+    /// Puts `value` in, to come out at the tick `when` of one millisecond, and returns its key. If `when` is before
+    /// the shard's tick, the entry is due at once. If the only slot left has a value that waits for its drop, that
+    /// value is dropped first. Constant time, and no memory is taken.
+    ///
+    /// # Errors
+    /// `value` comes back. In this order:
+    /// - `TooFar` if `when` is beyond the last tick, 2^42 - 1.
+    /// - `Full` if no slot is free.
     #[inline(always)]
     pub fn insert(&mut self, value: T, when: u64) -> Result<Key, (CoreError, T)> {
         let answer = self.attended.core.insert(value, when);
@@ -38,9 +48,16 @@ impl<T> ShardState<T> {
 }
 
 impl<T> ShardState<T> {
-    /// Gives a live entry another deadline, earlier or later, but not before the wheel's tick, and its slot's next
-    /// stamp: the keys from before are stale for callers. Answers the new key. Constant time. Refused as TooFar
-    /// beyond the last tick, then as Missing, as WasCancelled, and as Worn where the slot has no stamp left.
+    /// Gives a live entry the deadline `when`, a tick of one millisecond, sooner or later than the one that it has,
+    /// and returns its new key. If `when` is before the shard's tick, the entry is due at once. Callers and handles
+    /// refuse the old key from then on. Constant time, and no memory is taken.
+    ///
+    /// # Errors
+    /// In this order:
+    /// - `TooFar` if `when` is beyond the last tick, 2^42 - 1.
+    /// - `Missing` if the entry isn't linked here.
+    /// - `WasCancelled` if the entry was cancelled.
+    /// - `Worn` if the entry's slot has no stamp left for another key.
     #[inline(always)]
     pub fn reset(&mut self, entry: &EntryId, when: u64) -> Result<Key, CoreError> {
         let answer = self.attended.core.reset(entry, when);
@@ -48,9 +65,13 @@ impl<T> ShardState<T> {
         answer
     }
 
-    /// Takes a live entry out, with its key, its deadline in force and its value. Constant time. Refused as Missing
-    /// where no entry is linked with that shard, index and birth stamp, and as WasCancelled where a caller cancelled
-    /// it.
+    /// Takes a live entry out, and returns its value with its key and its current deadline, a tick of one
+    /// millisecond. Constant time, and no memory is taken.
+    ///
+    /// # Errors
+    /// In this order:
+    /// - `Missing` if the entry isn't linked here.
+    /// - `WasCancelled` if the entry was cancelled.
     #[inline(always)]
     pub fn remove(&mut self, entry: &EntryId) -> Result<Removed<T>, CoreError> {
         let answer = self.attended.core.remove(entry);
@@ -58,17 +79,30 @@ impl<T> ShardState<T> {
         answer
     }
 
-    /// The deadline in force of a live entry, a tick of one millisecond, by one look at its word. Refused as `remove`
-    /// is. The poller stays.
+    /// Returns the current deadline of a live entry, a tick of one millisecond, by one look at its word. A parked
+    /// task stays parked. Constant time.
+    ///
+    /// # Errors
+    /// In this order:
+    /// - `Missing` if the entry isn't linked here.
+    /// - `WasCancelled` if the entry was cancelled.
     #[inline]
     pub fn deadline(&mut self, entry: &EntryId) -> Result<u64, CoreError> {
         self.attended.core.deadline(entry)
     }
 
-    /// Notes a tick of one millisecond, and takes out one entry whose deadline in force is reached by the greatest
-    /// tick noted: call again until the answer is Waiting (nothing is due; `next` is the next tick at which there is
-    /// something to do) or Idle (nothing is linked). Refused as TickTooLarge beyond the last tick, which is not noted
-    /// then.
+    /// Notes `tick`, of one millisecond, and takes one entry out that is due at the greatest tick noted. Call it
+    /// until it returns something else than `Out`:
+    /// - `Out` has the entry's key, its deadline and its value. No live entry has an earlier deadline.
+    /// - `Waiting` if no live entry is due: there is nothing to do before the tick `next`.
+    /// - `Idle` if nothing is linked.
+    ///
+    /// It takes constant time for each entry that it moves down the wheel, schedules again or reaps; an entry moves
+    /// at most five times after it was scheduled. It takes no memory, and drops no value: the values of reaped
+    /// entries are set aside.
+    ///
+    /// # Errors
+    /// `TickTooLarge` if `tick` is beyond the last tick. It isn't noted then.
     #[inline(always)]
     pub fn poll(&mut self, tick: u64) -> Result<Turn<T>, CoreError> {
         let answer = self.attended.core.poll_deferring(tick);
@@ -76,33 +110,42 @@ impl<T> ShardState<T> {
         answer
     }
 
-    /// Does of a [`ShardState::poll`] at most `most` steps, each in constant time but for a value's drop. Call again while
-    /// it answers Working: each such call leaves at least so many steps fewer. Between the calls the lock may be let go,
-    /// and every other call may be made.
+    /// Notes `tick`, of one millisecond, and does at most `most` steps of a poll. It returns `Working` if more steps
+    /// may be left, and else the poll's answer:
+    /// - `Out` has the key, the deadline and the value of an entry that is due.
+    /// - `Waiting` if no live entry is due: there is nothing to do before the tick `next`.
+    /// - `Idle` if nothing is linked.
     ///
-    /// Whoever is told Working by a call of no step at all learns nothing. Refused as TickTooLarge beyond the last tick,
-    /// which is not noted then.
+    /// Call it again while it returns `Working`. Each such call leaves at least `most` steps fewer than there were
+    /// when its tick was noted. A call of no steps that returns `Working` tells nothing. Between two calls the lock
+    /// may be released, and every other call may be made.
+    ///
+    /// A step takes constant time. The call takes no memory, and drops no value: the values of reaped entries are set
+    /// aside.
+    ///
+    /// # Errors
+    /// `TickTooLarge` if `tick` is beyond the last tick. It isn't noted then.
     pub fn poll_some(&mut self, tick: u64, most: u32) -> Result<Piece<T>, CoreError> {
         let answer = self.attended.core.poll_some_deferring(tick, most);
         keep_or_leave(&self.attended.core, &mut self.attended.parked).wake();
         answer
     }
 
-    /// Polls until the caller's own row is full, or nothing is due: what comes out is put behind what stands in the row, in
-    /// order, as many as it has free room for. `tick` is of one millisecond. Call again while it answers More. It takes no
-    /// memory.
-    ///
-    /// A full row takes nothing out, and no tick is noted then.
+    /// Notes `tick`, of one millisecond, and takes entries out that are due, until `row` is full or nothing is due.
+    /// They are appended to `row` in the order of their deadlines, as many as its capacity has room for. It returns
+    /// `More` if entries may still be due, and else what a poll returns then. Empty `row` and call it again while it
+    /// returns `More`. If `row` has no room, nothing comes out and `tick` isn't noted. It costs as much as so many
+    /// polls, and takes no memory.
     ///
     /// # Errors
-    /// TickTooLarge beyond the last tick. Nothing changes then.
+    /// `TickTooLarge` if `tick` is beyond the last tick. Nothing changes then.
     pub fn poll_many(&mut self, tick: u64, row: &mut Vec<Expired<T>>) -> Result<ManyTurn, CoreError> {
         let (answer, leaver) = self.attended.poll_many(tick, row);
         leaver.wake();
         answer
     }
 
-    /// Reaps each linked entry that is found cancelled, and answers how many. Their values are dropped. It looks at every
+    /// Reaps all cancelled entries, and returns how many these were. Their values are set aside. It looks at every
     /// slot.
     pub fn sweep(&mut self) -> usize {
         let reaped = self.attended.core.sweep_deferring();
@@ -110,26 +153,30 @@ impl<T> ShardState<T> {
         reaped
     }
 
-    /// Reaps each linked entry that is found cancelled at `count` slots from `from` on, as `sweep` does at all of them, and
-    /// tells the slot to go on from. So many calls go round a shard as it has pieces, and each takes no longer than its piece:
-    /// the lock is free between them.
+    /// Reaps the cancelled entries among the `count` slots from the slot `from` on. It returns how many these were,
+    /// and the slot to go on from, which is none after the last slot. Their values are set aside. It takes time in
+    /// proportion to `count`. Between two calls the lock may be released.
     pub fn sweep_some(&mut self, from: usize, count: usize) -> Swept {
         let swept = self.attended.core.sweep_some_deferring(from, count);
         keep_or_leave(&self.attended.core, &mut self.attended.parked).wake();
         swept
     }
 
-    /// Reaps the entry of that name where it is found cancelled: its value is dropped, and its slot is free for another, or
-    /// worn. Constant time. Refused as Missing where no entry is linked with that shard, index and birth stamp, and as
-    /// Live where it is found live.
+    /// Reaps `entry` if it was cancelled: its slot is free for another entry, or worn, and its value is set aside.
+    /// Constant time.
+    ///
+    /// # Errors
+    /// In this order:
+    /// - `Missing` if the entry isn't linked here.
+    /// - `Live` if the entry wasn't cancelled. It stays.
     pub fn reap(&mut self, entry: &EntryId) -> Result<(), ReapError> {
         let answer = self.attended.core.reap_deferring(entry);
         keep_or_leave(&self.attended.core, &mut self.attended.parked).wake();
         answer
     }
 
-    /// Ends every linked entry, and drops its value: each live one as removed, and those that were cancelled are
-    /// reaped. It answers how many it ended as removed, and goes over every slot. No poller is left parked.
+    /// Takes all entries out, and returns how many live ones were removed. Their values, and those of cancelled
+    /// entries, are set aside. A parked task is woken. It looks at every slot.
     pub fn clear(&mut self) -> usize {
         let removed = self.attended.core.clear_deferring();
         keep_or_leave(&self.attended.core, &mut self.attended.parked).wake();

@@ -8,37 +8,69 @@ use crate::stream::stream::{dropped_behind, ends, ExpiredStream, Polled};
 use core::num::NonZeroU32;
 use core::task::{Context, Poll, Waker};
 
-/// An [`ExpiredStream`] whose polls make at most so many steps of their shard while its lock is held.
+/// An [`ExpiredStream`] whose polls make at most so many steps of their shard while they hold its lock.
 ///
-/// A poll that has made them all and has more to do lets the lock go, wakes its own task and is Pending. So others may
-/// take the lock before the task is polled again, and where it is polled at once it gives way for a bounded while to who
-/// waits for the lock. It gives what its stream would give, and parks as that does.
+/// A poll that has made them all and has more to do releases the lock, wakes its own task and is `Pending`. So other
+/// threads may take the lock before the task is polled again. If the task is polled at once, it gives way for a
+/// bounded while to the threads that wait for the lock. A paced stream returns what its stream would return, and
+/// parks when that one does.
 ///
-/// It keeps nothing of a poll: what is under way stands in the shard. Whether it is dropped, or turned back into its
-/// stream, the next poll of the shard goes on there.
+/// It keeps nothing of a poll: what is under way stands in the shard. If the paced stream is dropped, or turned back
+/// into its stream, the next poll of the shard goes on there.
 pub struct PacedStream<'q, T, S> {
     stream: ExpiredStream<'q, T, S>,
     steps: NonZeroU32,
 }
 
 impl<'q, T, S> ExpiredStream<'q, T, S> {
-    /// This stream with at most so many steps a poll. A step is an entry that is settled, reaped or filed anew, or an
-    /// arrival of the wheel, and takes constant time but for a value's drop.
+    /// Makes a stream of this one, whose polls make at most `steps` steps. A step settles one entry or moves the
+    /// wheel to a slot, and takes constant time, except for the drop of a value.
+    ///
+    /// ```
+    /// use hontkhale::shards::{QueueConfig, SharedDelayQueue};
+    /// use hontkhale::streams::{ExpiredStream, MillisecondTicks};
+    /// use std::future::poll_fn;
+    /// use std::num::NonZeroU32;
+    ///
+    /// async fn first(queue: &SharedDelayQueue<String>) -> Option<String> {
+    ///     let stream = ExpiredStream::new(queue, 0, MillisecondTicks::new()).ok()?;
+    ///     let mut stream = stream.paced(NonZeroU32::new(64)?);
+    ///     let expired = poll_fn(|cx| stream.poll_next(cx)).await?;
+    ///     Some(expired.ok()?.value)
+    /// }
+    /// ```
     pub fn paced(self, steps: NonZeroU32) -> PacedStream<'q, T, S> {
         PacedStream { stream: self, steps }
     }
 }
 
 impl<'q, T, S> PacedStream<'q, T, S> {
-    /// Its stream, which makes whole polls.
+    /// Returns its stream, which makes whole polls.
     pub fn into_inner(self) -> ExpiredStream<'q, T, S> {
         self.stream
     }
 }
 
 impl<'q, T, S: TickSource> ExpiredStream<'q, T, S> {
-    /// As [`ExpiredStream::poll_locked`], by at most so many steps. Where the shard has more to do nothing is parked: the
-    /// polled task is woken, and the answer is Pending.
+    /// Polls the stream once by at most `steps` steps, on a shard whose lock the caller holds by
+    /// [`SharedDelayQueue::enter`]. It polls the shard in hand, and takes no lock. It returns:
+    /// - `Ready(Some(Ok(..)))` with an entry that is due. No live entry of the shard has an earlier deadline.
+    /// - `Pending` if no live entry is due: the task is parked in the shard at its next wake.
+    /// - `Pending` if more steps are left: nothing is parked, and the polled task is woken.
+    /// - `Ready(None)` if the shard holds no entry. Later polls go on.
+    /// - `Ready(Some(Err(..)))` for a fault: see below.
+    ///
+    /// It makes the polled task's waker under the lock, and drops the waker that was parked before there. If such a
+    /// drop may call the queue, take the waker out before, by [`ShardState::take_parked`]. A step takes constant
+    /// time.
+    ///
+    /// # Errors
+    /// Each is an item of the stream:
+    /// - `TickTooLarge` if the source tells a tick beyond the last one. The stream has ended then: each later poll
+    ///   returns `Ready(None)`.
+    /// - `NoMemory` if no waker can be made. The stream goes on.
+    ///
+    /// [`SharedDelayQueue::enter`]: crate::shards::SharedDelayQueue::enter
     pub fn poll_some_locked(
         &mut self,
         shard: &mut ShardState<T>,
@@ -78,13 +110,18 @@ impl<'q, T, S: TickSource> ExpiredStream<'q, T, S> {
 }
 
 impl<'q, T, S: TickSource> PacedStream<'q, T, S> {
-    /// An entry that is due, one of least deadline; None where nothing is linked; or Pending: parked at the next wake, or
-    /// woken, with more to do. Faults are those of its stream. Its cost is that of its steps.
+    /// Polls the stream once, by at most as many steps as it was made with. It returns:
+    /// - `Ready(Some(Ok(..)))` with an entry that is due. No live entry of the shard has an earlier deadline.
+    /// - `Pending` if no live entry is due: the task is parked in the shard until its next wake.
+    /// - `Pending` if more steps are left: nothing is parked, and the polled task is woken.
+    /// - `Ready(None)` if the shard holds no entry. Later polls go on.
+    /// - `Ready(Some(Err(..)))` for a fault: `TickTooLarge` if the source tells a tick beyond the last one, and
+    ///   `NoMemory` if no waker can be made. The stream goes on after `NoMemory`. After `TickTooLarge` it has ended:
+    ///   each later poll returns `Ready(None)` without taking the lock.
     ///
-    /// It does what [`ExpiredStream::poll_some_locked`] does under the shard's lock, which it doesn't take where it has
-    /// ended for good. The polled task's waker is made before that lock; once it is free the task is woken where there is
-    /// more to do, and a waker that was parked before is let go. Under the lock the source is asked: it may not take that
-    /// lock.
+    /// It makes the polled task's waker before it takes the shard's lock. It wakes the task, and drops the waker that
+    /// was parked before, after it has released the lock. It asks the source under the lock, so the source may not
+    /// take that lock. A step takes constant time, except for the drop of a value.
     pub fn poll_next(&mut self, cx: &mut Context<'_>) -> Poll<Option<Result<Expired<T>, StreamFault>>> {
         if self.stream.ended {
             Poll::Ready(None)

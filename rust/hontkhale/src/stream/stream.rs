@@ -9,14 +9,14 @@ use core::task::{Context, Poll, Waker};
 // What a poll of a stream gives.
 pub(crate) type Polled<T> = Poll<Option<Result<Expired<T>, StreamFault>>>;
 
-/// What expires in one shard, at the ticks of a source.
+/// The entries that expire in one shard, at the ticks of a source.
 ///
-/// Each poll takes the shard's lock once. It gives one entry that is due. It ends for now where nothing is linked, and
-/// later polls go on. Else it parks in the shard until the shard's next wake, one poller a shard. The shard wakes it
-/// where its next wake comes sooner or is gone, and [`SharedDelayQueue::ring`] wakes it at a tick. It may be polled
-/// again at any time. A stream that is dropped stays parked until then.
+/// Each poll takes the shard's lock once, and returns one entry that is due. If the shard holds no entry, it returns
+/// `Ready(None)`, and later polls go on. Else it parks its task in the shard until the shard's next wake, one task a
+/// shard. The shard wakes the task if the next wake comes sooner or goes away, and [`SharedDelayQueue::ring`] wakes
+/// it at a tick. A stream may be polled again at any time. If it is dropped, its task stays parked until then.
 ///
-/// After a tick that is refused it has ended for good: its polls take no lock, and its source is asked no more.
+/// After a tick that is refused the stream has ended: its polls take no lock, and don't ask the source.
 ///
 /// ```
 /// use hontkhale::shards::{QueueConfig, SharedDelayQueue};
@@ -37,7 +37,10 @@ pub struct ExpiredStream<'q, T, S> {
 }
 
 impl<'q, T, S> ExpiredStream<'q, T, S> {
-    /// A stream of a shard. Refused as Unknown for a shard out of range; the source comes back then.
+    /// Makes a stream of `shard`, at the ticks of `source`. It takes no memory.
+    ///
+    /// # Errors
+    /// `Unknown` if there is no such shard. `source` comes back.
     pub fn new(
         queue: &'q SharedDelayQueue<T>,
         shard: usize,
@@ -56,15 +59,23 @@ impl<'q, T, S> ExpiredStream<'q, T, S> {
 }
 
 impl<'q, T, S: TickSource> ExpiredStream<'q, T, S> {
-    /// One poll of the stream on a shard whose lock is held, which [`SharedDelayQueue::enter`] gave: what
-    /// `Stream::poll_next` does under its lock. The shard that it polls is the one in hand.
+    /// Polls the stream once, on a shard whose lock the caller holds by [`SharedDelayQueue::enter`]. It polls the
+    /// shard in hand, and takes no lock. It takes the parked task out, asks its source for the tick, and polls the
+    /// shard once. It returns:
+    /// - `Ready(Some(Ok(..)))` with an entry that is due. No live entry of the shard has an earlier deadline.
+    /// - `Pending` if no live entry is due: the task is parked in the shard at its next wake.
+    /// - `Ready(None)` if the shard holds no entry. Later polls go on.
+    /// - `Ready(Some(Err(..)))` for a fault: see below.
     ///
-    /// It takes the parked poller out, asks its source for the tick, and polls the shard once at it. An entry that comes
-    /// out is given. Where the shard waits the polled task is parked at its next wake.
+    /// It makes the polled task's waker under the lock, and drops the waker that was parked before there. If such a
+    /// drop may call the queue, take the waker out before, by [`ShardState::take_parked`], and drop it after the lock
+    /// is released.
     ///
-    /// The polled task's waker is made under the lock, and the one that was parked is let go there. Where letting it go may
-    /// call the queue, take it out before, by [`ShardState::take_parked`], and let it go once the lock is free, as
-    /// `Stream::poll_next` does.
+    /// # Errors
+    /// Each is an item of the stream:
+    /// - `TickTooLarge` if the source tells a tick beyond the last one. The stream has ended then: each later poll
+    ///   returns `Ready(None)`.
+    /// - `NoMemory` if no waker can be made. The stream goes on.
     pub fn poll_locked(
         &mut self,
         shard: &mut ShardState<T>,
@@ -95,13 +106,17 @@ impl<'q, T, S: TickSource> ExpiredStream<'q, T, S> {
 }
 
 impl<'q, T, S: TickSource> ExpiredStream<'q, T, S> {
-    /// An entry that is due, one of least deadline; Pending, parked at the next wake; or None where nothing is linked.
-    /// A tick beyond the last one gives TickTooLarge once, and from then on None. Where no waker can be made for want
-    /// of memory it gives NoMemory, and goes on. Its cost is that of one poll of the shard.
+    /// Polls the stream once. It returns:
+    /// - `Ready(Some(Ok(..)))` with an entry that is due. No live entry of the shard has an earlier deadline.
+    /// - `Pending` if no live entry is due: the task is parked in the shard until its next wake.
+    /// - `Ready(None)` if the shard holds no entry. Later polls go on.
+    /// - `Ready(Some(Err(..)))` for a fault: `TickTooLarge` if the source tells a tick beyond the last one, and
+    ///   `NoMemory` if no waker can be made. The stream goes on after `NoMemory`. After `TickTooLarge` it has ended:
+    ///   each later poll returns `Ready(None)` without taking the lock.
     ///
-    /// It does what [`ExpiredStream::poll_locked`] does under the shard's lock, which it doesn't take where it has ended for
-    /// good. The polled task's waker is made before that lock, and one that was parked before is let go once it is free.
-    /// Under the lock the source is asked: it may not take that lock.
+    /// It makes the polled task's waker before it takes the shard's lock, and drops the one that was parked before
+    /// after it has released the lock. It asks the source under the lock, so the source may not take that lock. It
+    /// costs as much as one poll of the shard.
     pub fn poll_next(&mut self, cx: &mut Context<'_>) -> Poll<Option<Result<Expired<T>, StreamFault>>> {
         if self.ended {
             Poll::Ready(None)

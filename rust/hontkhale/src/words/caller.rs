@@ -25,9 +25,9 @@ use crate::words::seated::Seated;
 /// # Ok::<(), hontkhale::owner::CoreError>(())
 /// ```
 ///
-/// Each call takes one load and at most one atomic step, waits for nobody and takes no memory. A caller that is
-/// dropped counts as out for good. It may outlive its queue: what was live when the queue was dropped is then refused
-/// as Ended, and a look shows it as removed.
+/// Each call makes one load and at most one atomic step, waits for nobody and takes no memory. A caller that is
+/// dropped counts as out for good. It may outlive its queue: the entries that were live when the queue was dropped
+/// are then refused as `Ended`, and a look shows them as removed.
 pub struct Caller {
     pub(crate) seat: Seated,
     cancels: u64,
@@ -64,9 +64,18 @@ impl Caller {
         }
     }
 
-    /// Raises the deadline of a live entry to `when`, a tick of one millisecond, and answers the deadline that is
-    /// then in force: `when`, or a later one that it had. Refused as TooFar beyond the last tick, as Unknown where no
-    /// slot has the key, as Stale where the slot has a later stamp, and as Ended where the entry isn't live.
+    /// Raises the deadline of a live entry to `when`, a tick of one millisecond, and returns the deadline that is
+    /// then in force: `when`, or a later one that the entry had. No deadline gets sooner by it. The entry doesn't
+    /// come out before the returned deadline, unless the queue resets or removes it.
+    ///
+    /// It makes one load and at most one atomic step. It takes no lock and no memory.
+    ///
+    /// # Errors
+    /// In this order:
+    /// - `TooFar` if `when` is beyond the last tick, 2^42 - 1.
+    /// - `Unknown` if no slot has the key.
+    /// - `Stale` if the slot has a later stamp: the entry was reset, or the slot has another entry.
+    /// - `Ended` if the entry came out, was removed or was cancelled. It tells which.
     pub fn extend(&mut self, key: &Key, when: u64) -> Result<u64, CallError> {
         if when > LAST_TICK {
             return Err(CallError::TooFar { limit: LAST_TICK });
@@ -84,7 +93,16 @@ impl Caller {
         Ok(before.max(when))
     }
 
-    /// Cancels a live entry, and answers the deadline that it gave up. Refused as `extend` is, but never as TooFar.
+    /// Cancels a live entry, so that it won't come out, and returns the deadline that it gave up, a tick of one
+    /// millisecond. The entry keeps its slot and its value until the queue frees it.
+    ///
+    /// It makes one load and at most one atomic step. It takes no lock and no memory.
+    ///
+    /// # Errors
+    /// In this order:
+    /// - `Unknown` if no slot has the key.
+    /// - `Stale` if the slot has a later stamp: the entry was reset, or the slot has another entry.
+    /// - `Ended` if the entry came out, was removed or was cancelled. It tells which.
     pub fn cancel(&mut self, key: &Key) -> Result<u64, CallError> {
         let Some(index) = self.slot(key) else {
             return Err(CallError::Unknown);
@@ -100,8 +118,13 @@ impl Caller {
         Ok(given_up)
     }
 
-    /// What the entry of a key is. Refused as Unknown where no slot has the key, and as Stale where the slot has a
-    /// later stamp.
+    /// Returns what the entry of `key` is: live, with its deadline, or how it ended. It makes one load. It takes no
+    /// lock and no memory.
+    ///
+    /// # Errors
+    /// In this order:
+    /// - `Unknown` if no slot has the key.
+    /// - `Stale` if the slot has a later stamp: the entry was reset, or the slot has another entry.
     pub fn look(&mut self, key: &Key) -> Result<Look, CallError> {
         let Some(index) = self.slot(key) else {
             return Err(CallError::Unknown);
@@ -117,12 +140,13 @@ impl Caller {
         Ok(shown(seen.mark, seen.field))
     }
 
-    /// The number of its accepted cancels.
+    /// Returns the number of its cancels that were accepted.
     pub fn cancels(&self) -> u64 {
         self.cancels
     }
 
-    /// Counts the caller as gone and its cancels with it, by one step on the return word, and answers its cancels.
+    /// Gives the caller back, and returns the number of its cancels that were accepted. It makes one atomic step,
+    /// which counts the caller as gone and its cancels with it.
     pub fn give_back(mut self) -> u64 {
         let cancels = self.cancels;
         self.seat.give_back(cancels);

@@ -3,21 +3,24 @@
 use crate::core::{CoreConfig, CoreError, DelayCore};
 use crate::words::keeper::Keeper;
 
-/// A queue of one owner for that many entries, at tick 0 with nothing linked, whose entries callers extend and cancel
-/// from any thread: [`DelayCore::issue`] gives a caller. All of its memory is taken here, but for each caller's own.
+/// Makes a queue of one owner for `capacity` entries, at tick 0, with nothing in it, whose entries callers extend and
+/// cancel from any thread: [`DelayCore::issue`] makes a caller. It takes time and memory in proportion to `capacity`.
+/// Later only `issue` takes memory.
 ///
 /// # Errors
-/// BadConfig where the capacity isn't 1 to [`CAPACITY_LIMIT`](crate::owner::CAPACITY_LIMIT), and else NoMemory.
+/// - `BadConfig` if `capacity` isn't 1 to [`CAPACITY_LIMIT`](crate::owner::CAPACITY_LIMIT).
+/// - `NoMemory` if memory is refused.
 pub fn shared_queue<T>(capacity: usize) -> Result<DelayCore<T, Keeper>, CoreError> {
     numbered_queue(CoreConfig::of(capacity))
 }
 
-/// A [`shared_queue`] by all the numbers of a configuration, as one shard of many has it: its keys carry that shard's
-/// number, and a slot is worn after that last stamp.
+/// Makes a queue of one owner by the numbers of `config`, at tick 0, with nothing in it, whose entries callers extend
+/// and cancel from any thread. Its keys carry the number `config.shard`, and a slot is worn after the stamp
+/// `config.last_stamp`. It takes time and memory in proportion to the capacity.
 ///
 /// # Errors
-/// BadConfig where the capacity isn't 1 to [`CAPACITY_LIMIT`] or the last stamp isn't 1 to [`LAST_STAMP`], and else
-/// NoMemory.
+/// - `BadConfig` if the capacity isn't 1 to [`CAPACITY_LIMIT`], or the last stamp isn't 1 to [`LAST_STAMP`].
+/// - `NoMemory` if memory is refused.
 ///
 /// [`CAPACITY_LIMIT`]: crate::owner::CAPACITY_LIMIT
 /// [`LAST_STAMP`]: crate::owner::LAST_STAMP

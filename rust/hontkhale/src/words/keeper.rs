@@ -57,8 +57,12 @@ impl From<AllocError> for WordsError {
 }
 
 impl Keeper {
-    /// A keeper of that many slots which were never used. Refused as BadConfig for a capacity of 0 or beyond
-    /// [`CAPACITY_LIMIT`], and as NoMemory.
+    /// Makes a keeper of `capacity` slots that were never used. It takes time and memory in proportion to `capacity`.
+    ///
+    /// # Errors
+    /// In this order:
+    /// - `BadConfig` if `capacity` is 0 or beyond [`CAPACITY_LIMIT`].
+    /// - `NoMemory` if memory is refused.
     pub fn new(capacity: usize) -> Result<Keeper, WordsError> {
         if capacity == 0 || capacity > CAPACITY_LIMIT {
             return Err(WordsError::BadConfig);
@@ -69,8 +73,12 @@ impl Keeper {
 }
 
 impl Keeper {
-    /// One caller more, which may go to any thread. Refused as TooManyHandles where [`HANDLE_LIMIT`] callers were
-    /// issued, given back or not, and as NoMemory where the table can't be shared once more.
+    /// Makes one caller more, which may go to any thread. It takes memory for the caller.
+    ///
+    /// # Errors
+    /// In this order:
+    /// - `TooManyHandles` if [`HANDLE_LIMIT`] callers were made, given back or not.
+    /// - `NoMemory` if memory is refused.
     pub fn issue(&mut self) -> Result<Caller, WordsError> {
         if self.issued >= HANDLE_LIMIT {
             return Err(WordsError::TooManyHandles { limit: HANDLE_LIMIT });
@@ -80,7 +88,8 @@ impl Keeper {
         Ok(Caller::of(seat))
     }
 
-    /// The callers that were issued and are not given back, by one load. A caller that was dropped is out for good.
+    /// Returns the number of callers that were made and not given back, by one load. A caller that was dropped stays
+    /// counted.
     pub fn out(&mut self) -> u64 {
         let gone = self.seat.return_load() % ONE_CANCEL;
         self.issued - gone

@@ -5,7 +5,7 @@ use crate::ticks::LAST_TICK;
 use crate::words::keeper::Keeper;
 use alloc::vec::Vec;
 
-/// What a poll for many entries answers.
+/// What a poll for many entries returns.
 #[derive(Clone, Copy, Debug, PartialEq, Eq)]
 pub enum ManyTurn {
     /// The row is full: more may be due.
