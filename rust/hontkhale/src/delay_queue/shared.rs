@@ -679,6 +679,10 @@ impl<T> Shared<T> {
         let Some(_claim) = segment.claim() else {
             return;
         };
+        // It was worn when it was looked at, and others may have renewed it, emptied it and given its memory back since.
+        if segment.is_closed() {
+            return;
+        }
         segment
             .renew_at
             .store(self.front.time.tick().saturating_add(RENEW_PAUSE), SeqCst);
@@ -773,5 +777,34 @@ impl Limits {
             capacity,
             last_stamp: self.last_stamp,
         }
+    }
+}
+
+#[cfg(test)]
+mod tests {
+    use crate::DelayQueue;
+    use std::time::Duration;
+
+    /// A thread that saw a worn shard may come to renew it once the segment was emptied, renewed and closed by others.
+    #[test]
+    fn a_renewal_that_comes_late_opens_no_closed_segment() {
+        const FAR: Duration = Duration::from_secs(1_000);
+        let queue = DelayQueue::builder().shards(2).build();
+        let keys: Vec<_> = (0..500)
+            .map(|number| queue.insert(number, FAR).expect("room"))
+            .collect();
+        keys.iter().rev().for_each(|key| assert!(queue.remove(key).is_ok()));
+        let closed: Vec<_> = queue
+            .shared
+            .segments()
+            .filter(|(_, segment)| segment.is_closed())
+            .collect();
+        assert!(!closed.is_empty());
+        closed.iter().for_each(|(at, segment)| queue.shared.renew(segment, *at));
+        let keys: Vec<_> = (0..1_000)
+            .map(|number| queue.insert(number, FAR).expect("room"))
+            .collect();
+        let lost = keys.iter().filter(|key| queue.remove(key).is_err()).count();
+        assert_eq!((lost, queue.len()), (0, 0));
     }
 }
