@@ -9,6 +9,7 @@ use crate::delay_queue::shared::Shared;
 use crate::delay_queue::{DelayQueue, Expired};
 use std::fmt;
 use std::mem;
+use std::panic::{catch_unwind, resume_unwind, AssertUnwindSafe};
 use std::sync::atomic::{AtomicU64, Ordering::SeqCst};
 use std::sync::{Arc, Mutex, MutexGuard, PoisonError};
 use std::task::{Context, Poll, Waker};
@@ -78,21 +79,27 @@ impl Tasks {
         let later = others.iter().map(|task| task.armed.load(SeqCst)).max();
         self.armed.fetch_max(later.unwrap_or(0), SeqCst);
         drop(row);
-        for task in woken {
-            task.armed.store(0, SeqCst);
-            task.wake();
-        }
+        woken.iter().for_each(|task| task.armed.store(0, SeqCst));
+        wake_each(&woken);
     }
 
     /// Wakes all of them.
     pub fn wake_all(&self) {
         let all = self.row().clone();
-        all.iter().for_each(|task| task.wake());
+        wake_each(&all);
     }
 
     fn arm(&self, task: &Task, until: u64) {
         task.armed.store(until, SeqCst);
         self.armed.fetch_max(until, SeqCst);
+    }
+}
+
+/// Wakes each of them. Where a waker panics, those behind it are woken before the panic goes on.
+fn wake_each(tasks: &[Arc<Task>]) {
+    let woken = tasks.iter().map(|task| catch_unwind(AssertUnwindSafe(|| task.wake())));
+    if let Err(panic) = woken.fold(Ok(()), Result::and) {
+        resume_unwind(panic);
     }
 }
 
@@ -235,5 +242,66 @@ impl<T> fmt::Debug for AsyncReceiver<T> {
             .field("queue", &self.queue)
             .field("wake_at", &self.wake_at)
             .finish_non_exhaustive()
+    }
+}
+
+#[cfg(test)]
+mod tests {
+    use crate::delay_queue::waking::NEVER;
+    use crate::delay_queue::{Key, ManualClock};
+    use crate::DelayQueue;
+    use std::sync::atomic::{AtomicBool, Ordering::SeqCst};
+    use std::sync::mpsc::channel;
+    use std::sync::Arc;
+    use std::task::{Context, Wake, Waker};
+    use std::thread;
+    use std::time::Duration;
+
+    /// A waker that asks for the deadline of an entry.
+    struct Asks {
+        queue: DelayQueue<u64>,
+        key: Key,
+        was_told: AtomicBool,
+    }
+
+    impl Wake for Asks {
+        fn wake(self: Arc<Self>) {
+            self.was_told.store(self.queue.deadline(&self.key).is_ok(), SeqCst);
+        }
+    }
+
+    /// A task that read the hints while an entry was moved may be woken by whoever moved it.
+    #[test]
+    fn a_waker_that_is_called_as_an_entry_was_moved_finds_the_entry() {
+        const FAR: Duration = Duration::from_secs(1_000);
+        let queue = DelayQueue::builder()
+            .clock(&ManualClock::new())
+            .shards(2)
+            .last_stamp(2)
+            .build();
+        let key = queue.insert(0, FAR).expect("room");
+        // So that no insert renews what is worn.
+        queue.shared.renew(queue.shared.segment(0).expect("a segment"), 0);
+        for number in 1..100 {
+            let key = queue.insert(number, FAR).expect("room");
+            queue.remove(&key).expect("it waits");
+        }
+        let asks = Arc::new(Asks {
+            queue: queue.clone(),
+            key,
+            was_told: AtomicBool::new(false),
+        });
+        let mut receiver = queue.receiver();
+        let waker = Waker::from(Arc::clone(&asks));
+        assert!(receiver.poll_recv(&mut Context::from_waker(&waker)).is_pending());
+        queue.shared.front.tasks.arm(&receiver.task, NEVER);
+        let (done, waits) = channel();
+        let renews = queue.clone();
+        thread::spawn(move || {
+            renews.shared.renew(renews.shared.segment(0).expect("a segment"), 0);
+            let _ = done.send(renews.shared.moves_made.load(SeqCst));
+        });
+        assert_eq!(waits.recv_timeout(Duration::from_secs(20)), Ok(1));
+        assert!(asks.was_told.load(SeqCst));
     }
 }

@@ -672,7 +672,7 @@ impl<T> Shared<T> {
     /// Has worn shards closed, emptied and opened again, unless another thread does so. It holds no lock while values are
     /// dropped.
     #[cold]
-    fn renew(&self, segment: &Segment<T>, at: usize) {
+    pub fn renew(&self, segment: &Segment<T>, at: usize) {
         let Some(_dropping) = Dropping::begin() else {
             return;
         };
@@ -718,7 +718,10 @@ impl<T> Shared<T> {
                     continue;
                 }
             }
-            match self.move_entry(&mut moves, &self.key(at, &key), None) {
+            let moved = self.move_entry(&mut moves, &self.key(at, &key), None);
+            // A task's waker is the program's code.
+            drop(moves);
+            match moved {
                 Ok(tick) => self.front.ring_before(tick),
                 Err(Unmoved::Ended) => {}
                 Err(Unmoved::NoRoom) => return false,
