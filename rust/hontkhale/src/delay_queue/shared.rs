@@ -17,6 +17,7 @@ use std::sync::atomic::{
     Ordering::{Relaxed, SeqCst},
 };
 use std::sync::{Arc, Mutex, MutexGuard, OnceLock, PoisonError};
+use std::thread;
 
 /// The most segments of a queue.
 const SEGMENTS: usize = 64;
@@ -407,7 +408,11 @@ impl<T> Shared<T> {
         }
         let open = self.open.load(SeqCst);
         if let Some((at, segment)) = self.segments().find(|(_, segment)| segment.is_closed()) {
-            let claim = segment.claim().ok_or(InsertErrorKind::NoMemory)?;
+            // A thread that comes late to renew it has it for a moment: the caller looks again.
+            let Some(claim) = segment.claim() else {
+                thread::yield_now();
+                return Ok(());
+            };
             if !segment.open(&claim) {
                 return Err(InsertErrorKind::NoMemory);
             }
@@ -679,6 +684,10 @@ impl<T> Shared<T> {
         let Some(_claim) = segment.claim() else {
             return;
         };
+        // It was worn when it was looked at, and others may have renewed it, emptied it and given its memory back since.
+        if segment.is_closed() {
+            return;
+        }
         segment
             .renew_at
             .store(self.front.time.tick().saturating_add(RENEW_PAUSE), SeqCst);
@@ -776,5 +785,55 @@ impl Limits {
             capacity,
             last_stamp: self.last_stamp,
         }
+    }
+}
+
+#[cfg(test)]
+mod tests {
+    use crate::DelayQueue;
+    use std::thread;
+    use std::time::Duration;
+
+    const FAR: Duration = Duration::from_secs(1_000);
+
+    /// A queue that has given memory back.
+    fn queue() -> DelayQueue<u64> {
+        let queue = DelayQueue::builder().shards(2).build();
+        let keys: Vec<_> = (0..500)
+            .map(|number| queue.insert(number, FAR).expect("room"))
+            .collect();
+        keys.iter().rev().for_each(|key| assert!(queue.remove(key).is_ok()));
+        assert!(queue.shared.segments().any(|(_, segment)| segment.is_closed()));
+        queue
+    }
+
+    fn takes_and_gives(queue: &DelayQueue<u64>) {
+        let keys: Vec<_> = (0..1_000)
+            .map(|number| queue.insert(number, FAR).expect("room"))
+            .collect();
+        let lost = keys.iter().filter(|key| queue.remove(key).is_err()).count();
+        assert_eq!((lost, queue.len()), (0, 0));
+    }
+
+    /// A thread that saw a worn shard may come to renew it once others have emptied the segment, renewed and closed it.
+    #[test]
+    fn a_renewal_that_comes_late_opens_no_closed_segment() {
+        let queue = queue();
+        queue
+            .shared
+            .segments()
+            .for_each(|(at, segment)| queue.shared.renew(segment, at));
+        takes_and_gives(&queue);
+    }
+
+    #[test]
+    fn an_insert_waits_for_whoever_comes_late_to_a_closed_segment() {
+        let queue = queue();
+        thread::scope(|scope| {
+            let claims: Vec<_> = queue.shared.segments().map(|(_, segment)| segment.claim()).collect();
+            scope.spawn(|| takes_and_gives(&queue));
+            thread::sleep(Duration::from_millis(20));
+            drop(claims);
+        });
     }
 }
