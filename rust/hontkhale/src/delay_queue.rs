@@ -30,7 +30,6 @@ pub use time::ManualClock;
 
 use shared::{Shared, Step};
 use std::fmt;
-use std::sync::atomic::Ordering::SeqCst;
 use std::sync::Arc;
 use std::time::{Duration, Instant};
 use waking::NEVER;
@@ -215,10 +214,12 @@ impl<T> DelayQueue<T> {
         self.extend_to(key, self.shared.front.time.tick_at(when))
     }
 
+    #[inline]
     fn extend_to(&self, key: &Key, tick: Option<u64>) -> Result<Instant, KeyError> {
         self.step(key, Step::to(tick))
     }
 
+    #[inline(always)]
     fn step(&self, key: &Key, step: Step) -> Result<Instant, KeyError> {
         let deadline = self.shared.step(key, step)?;
         Ok(self.shared.front.time.moment(deadline))
@@ -321,7 +322,7 @@ impl<T> DelayQueue<T> {
 
     /// The number of entries that wait, or are due and didn't come out yet.
     pub fn len(&self) -> usize {
-        self.shared.front.waiting.load(SeqCst)
+        self.shared.waiting()
     }
 
     /// Whether no entry waits.

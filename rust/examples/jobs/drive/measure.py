@@ -11,6 +11,7 @@ import re
 import statistics
 import subprocess
 import sys
+import textwrap
 import threading
 import time
 
@@ -119,7 +120,8 @@ NAMES = {"worker": "the index", "10": "polled every 10 ms", "100": "polled every
 
 def table(name, circumstances, rows, is_stored):
     """Prints a table, and writes it to README.md."""
-    text = "\n".join([circumstances, "", *(f"| {' | '.join(row)} |" for row in rows)])
+    lines = textwrap.wrap(circumstances, 120)
+    text = "\n".join([*lines, "", *(f"| {' | '.join(row)} |" for row in rows)])
     print(text, flush=True)
     if is_stored:
         page = HERE / "README.md"

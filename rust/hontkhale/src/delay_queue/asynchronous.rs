@@ -9,6 +9,7 @@ use crate::delay_queue::shared::Shared;
 use crate::delay_queue::{DelayQueue, Expired};
 use std::fmt;
 use std::mem;
+use std::panic::{catch_unwind, resume_unwind, AssertUnwindSafe};
 use std::sync::atomic::{AtomicU64, Ordering::SeqCst};
 use std::sync::{Arc, Mutex, MutexGuard, PoisonError};
 use std::task::{Context, Poll, Waker};
@@ -78,21 +79,27 @@ impl Tasks {
         let later = others.iter().map(|task| task.armed.load(SeqCst)).max();
         self.armed.fetch_max(later.unwrap_or(0), SeqCst);
         drop(row);
-        for task in woken {
-            task.armed.store(0, SeqCst);
-            task.wake();
-        }
+        woken.iter().for_each(|task| task.armed.store(0, SeqCst));
+        wake_each(&woken);
     }
 
     /// Wakes all of them.
     pub fn wake_all(&self) {
         let all = self.row().clone();
-        all.iter().for_each(|task| task.wake());
+        wake_each(&all);
     }
 
     fn arm(&self, task: &Task, until: u64) {
         task.armed.store(until, SeqCst);
         self.armed.fetch_max(until, SeqCst);
+    }
+}
+
+/// Wakes each of them. Where a waker panics, those behind it are woken before the panic goes on.
+fn wake_each(tasks: &[Arc<Task>]) {
+    let woken = tasks.iter().map(|task| catch_unwind(AssertUnwindSafe(|| task.wake())));
+    if let Err(panic) = woken.fold(Ok(()), Result::and) {
+        resume_unwind(panic);
     }
 }
 

@@ -87,7 +87,7 @@ impl<T> Builder<T> {
     /// The queue, which is empty, and takes memory as entries come.
     #[must_use]
     pub fn build(self) -> DelayQueue<T> {
-        let front = Arc::new(Front::new(Time::new(self.clock.clone())));
+        let front = Arc::new(Front::new(Time::new(self.clock.clone()), self.limits.max_entries));
         if let Source::Manual(clock) = &self.clock {
             let weak = Arc::downgrade(&front);
             clock.wakes(move || weak.upgrade().map(|front| front.wake_all()).is_some());

@@ -6,7 +6,10 @@ use crate::delay_queue::waking::Bell;
 use crate::lasting::LastingHandle;
 use std::cell::{Cell, RefCell};
 use std::mem;
-use std::sync::atomic::{AtomicBool, AtomicU64, AtomicUsize, Ordering::SeqCst};
+use std::sync::atomic::{
+    AtomicBool, AtomicU64, AtomicUsize,
+    Ordering::{Relaxed, SeqCst},
+};
 use std::sync::{Arc, Mutex, MutexGuard, PoisonError, Weak};
 use std::thread::{self, Thread};
 
@@ -15,11 +18,16 @@ const PLACES: usize = 4;
 /// How many threads have callers of one queue for themselves. A shard issues 1,024 of a generation.
 const CALLER_LIMIT: usize = 1_000;
 
+/// Over how many counts and notes the threads of a queue are spread.
+const LANES: usize = 8;
+
 static NEXT_QUEUE: AtomicU64 = AtomicU64::new(1);
 static NEXT_THREAD: AtomicUsize = AtomicUsize::new(0);
+/// How often a queue ended or closed a segment. A thread that sees it changed lets the callers go that it needs no longer.
+static ENDS: AtomicU64 = AtomicU64::new(0);
 
 thread_local! {
-    static KEPT: RefCell<[Option<Kept>; PLACES]> = const { RefCell::new([None, None, None, None]) };
+    static KEPT: RefCell<Places> = const { RefCell::new(Places { kept: [None, None, None, None], ends: 0 }) };
     static ROUTE: Cell<Option<usize>> = const { Cell::new(None) };
 }
 
@@ -48,14 +56,65 @@ pub(crate) struct Front {
     pub tasks: Tasks,
     /// Whether the queue was dropped.
     is_ended: AtomicBool,
-    /// The entries that wait.
-    pub waiting: AtomicUsize,
-    /// The cancels that were accepted.
-    pub cancels: AtomicU64,
+    /// How many entries wait, of a queue that has a bound.
+    pub bound: Option<Bound>,
+    lanes: [Lane; LANES],
+    /// The segments that are closed, a bit for each.
+    closed: AtomicU64,
     idle: Mutex<Vec<Handles>>,
     issued: AtomicUsize,
     /// Of the threads that have none for themselves.
     shared: Mutex<Handles>,
+}
+
+/// The most entries of a queue, and how many wait.
+pub(crate) struct Bound {
+    pub most: usize,
+    waiting: AtomicUsize,
+}
+
+/// What a few of the threads count and note.
+#[repr(align(64))]
+#[derive(Default)]
+pub(crate) struct Lane {
+    /// The cancels that were accepted.
+    cancels: AtomicU64,
+    /// Where an insert of these threads found room last.
+    pub room: AtomicU64,
+}
+
+impl Bound {
+    /// Counts one entry more, unless there are as many as may be.
+    pub fn count(&self) -> bool {
+        let more = |waiting| Some(waiting + 1).filter(|waiting| *waiting <= self.most);
+        self.waiting.fetch_update(SeqCst, SeqCst, more).is_ok()
+    }
+
+    pub fn waiting(&self) -> usize {
+        self.waiting.load(SeqCst)
+    }
+
+    pub fn uncount(&self) {
+        self.waiting.fetch_sub(1, SeqCst);
+    }
+}
+
+/// What a step by a thread's own handle came to, in a register: a deadline, or one of the two below.
+#[derive(Clone, Copy, PartialEq, Eq)]
+pub(crate) struct Quick(pub u64);
+
+impl Quick {
+    /// The entry has ended.
+    pub const ENDED: Quick = Quick(u64::MAX - 1);
+    /// It takes the shard's lock to tell.
+    pub const UNTOLD: Quick = Quick(u64::MAX);
+}
+
+/// What a thread keeps.
+struct Places {
+    kept: [Option<Kept>; PLACES],
+    /// What the thread saw of `ENDS` last.
+    ends: u64,
 }
 
 /// A thread's callers of one queue. They go back to the queue with the thread, or where another queue wants the place.
@@ -74,15 +133,17 @@ impl Drop for Kept {
 }
 
 impl Front {
-    pub fn new(time: Time) -> Front {
+    pub fn new(time: Time, most: usize) -> Front {
+        let waiting = AtomicUsize::new(0);
         Front {
             id: NEXT_QUEUE.fetch_add(1, SeqCst),
             time,
             bell: Bell::new(),
             tasks: Tasks::default(),
             is_ended: AtomicBool::new(false),
-            waiting: AtomicUsize::new(0),
-            cancels: AtomicU64::new(0),
+            bound: (most < usize::MAX).then_some(Bound { most, waiting }),
+            lanes: Default::default(),
+            closed: AtomicU64::new(0),
             idle: Mutex::default(),
             issued: AtomicUsize::new(0),
             shared: Mutex::default(),
@@ -100,23 +161,62 @@ impl Front {
         self.is_ended.load(SeqCst)
     }
 
+    /// What this thread counts and notes.
+    #[inline]
+    pub fn lane(&self) -> &Lane {
+        &self.lanes[route() % LANES]
+    }
+
+    #[inline]
+    pub fn count_cancel(&self) {
+        self.lane().cancels.fetch_add(1, SeqCst);
+        self.count_out();
+    }
+
+    /// Counts an entry that waits no longer.
+    #[inline]
+    pub fn count_out(&self) {
+        if let Some(bound) = &self.bound {
+            bound.uncount();
+        }
+    }
+
+    /// The cancels that were accepted.
+    pub fn cancels(&self) -> u64 {
+        self.lanes.iter().map(|lane| lane.cancels.load(SeqCst)).sum()
+    }
+
     /// Ends the queue: no callers of it are kept here from now on, nor by this thread. Another thread that has some lets them
-    /// go as it ends, or as it comes to a queue that it has none of.
+    /// go with its next call of any queue, or as it ends.
     pub fn end(&self) {
         self.is_ended.store(true, SeqCst);
         let idle = mem::take(&mut *self.idle());
         let shared = mem::take(&mut *self.shared());
         drop((idle, shared));
-        let _ = KEPT.try_with(|kept| {
-            let mut kept = kept.try_borrow_mut().ok()?;
-            let place = &mut kept[self.id as usize % PLACES];
-            let is_own = |kept: &Kept| kept.id == self.id;
-            if place.as_ref().is_some_and(is_own) {
-                place.take()
-            } else {
-                None
+        ENDS.fetch_add(1, SeqCst);
+        let _ = KEPT.try_with(|kept| kept.try_borrow_mut().map(|mut places| places.tidy()));
+    }
+
+    /// Notes that a segment is closed, or opened again. The callers that threads have of a closed one go.
+    pub fn note_closed(&self, segment: usize, is_closed: bool) {
+        if is_closed {
+            self.closed.fetch_or(1 << segment, SeqCst);
+            self.idle().iter_mut().for_each(|handles| self.forget_closed(handles));
+            self.forget_closed(&mut self.shared());
+            ENDS.fetch_add(1, SeqCst);
+            let _ = KEPT.try_with(|kept| kept.try_borrow_mut().map(|mut places| places.tidy()));
+        } else {
+            self.closed.fetch_and(!(1 << segment), SeqCst);
+        }
+    }
+
+    fn forget_closed(&self, handles: &mut Handles) {
+        let closed = self.closed.load(SeqCst);
+        for (segment, handle) in handles.iter_mut().enumerate() {
+            if closed >> segment & 1 == 1 {
+                *handle = None;
             }
-        });
+        }
     }
 
     fn idle(&self) -> MutexGuard<'_, Vec<Handles>> {
@@ -141,22 +241,44 @@ impl Front {
 
     fn put_back(&self, handles: Handles) {
         let mut idle = self.idle();
-        if !self.is_ended() {
+        // Where memory is refused they go.
+        if !self.is_ended() && idle.try_reserve(1).is_ok() {
             idle.push(handles);
         }
     }
 
-    /// What a call makes of this thread's handles. It takes no lock but a thread's first time, and where more threads call
-    /// than may have callers. Nobody's code runs in the call.
-    #[inline]
+    /// What a step makes of the handle that this thread has of a segment; none where it has none. It takes no lock.
+    #[inline(always)]
+    pub fn with_own(&self, segment: usize, step: impl FnOnce(&mut LastingHandle) -> Quick) -> Quick {
+        let made = KEPT.try_with(|kept| {
+            let Ok(mut places) = kept.try_borrow_mut() else {
+                return Quick::UNTOLD;
+            };
+            if places.ends != ENDS.load(Relaxed) {
+                places.tidy();
+            }
+            match &mut places.kept[self.id as usize % PLACES] {
+                Some(place) if place.id == self.id => match place.handles.get_mut(segment) {
+                    Some(Some(handle)) => step(handle),
+                    _ => Quick::UNTOLD,
+                },
+                _ => Quick::UNTOLD,
+            }
+        });
+        made.unwrap_or(Quick::UNTOLD)
+    }
+
+    /// What a call makes of this thread's handles, or of those that several threads share, where more call than may have
+    /// handles for themselves. Nobody's code runs in the call.
+    #[cold]
     pub fn with_handles<R>(self: &Arc<Front>, call: impl FnOnce(&mut Handles) -> R) -> R {
         let mut call = Some(call);
         let mut once = |handles: &mut Handles| call.take().map(|call| call(handles));
         let kept = KEPT.try_with(|kept| {
-            let mut kept = kept.try_borrow_mut().ok()?;
-            match &mut kept[self.id as usize % PLACES] {
+            let mut places = kept.try_borrow_mut().ok()?;
+            match &mut places.kept[self.id as usize % PLACES] {
                 Some(place) if place.id == self.id => once(&mut place.handles),
-                _ => once(&mut self.keep(&mut kept)?.handles),
+                place => once(&mut place.insert(self.keep()?).handles),
             }
         });
         match kept {
@@ -165,22 +287,13 @@ impl Front {
         }
     }
 
-    /// Callers of this queue at its place, where the thread had those of another.
-    #[cold]
-    fn keep<'k>(self: &Arc<Front>, kept: &'k mut [Option<Kept>; PLACES]) -> Option<&'k mut Kept> {
-        for place in kept.iter_mut() {
-            let is_over = |kept: &Kept| kept.front.upgrade().map_or(true, |front| front.is_ended());
-            if place.as_ref().is_some_and(is_over) {
-                *place = None;
-            }
-        }
-        let handles = self.take()?;
-        let place = &mut kept[self.id as usize % PLACES];
-        Some(place.insert(Kept {
+    /// Callers of this queue for a thread that has none.
+    fn keep(self: &Arc<Front>) -> Option<Kept> {
+        Some(Kept {
             id: self.id,
+            handles: self.take()?,
             front: Arc::downgrade(self),
-            handles,
-        }))
+        })
     }
 
     /// Wakes the leader, and each task, that sleeps beyond a tick.
@@ -210,5 +323,20 @@ impl Front {
 
     pub fn join(&self) -> super::waking::Wait {
         super::waking::Wait::join(&self.bell, thread::current())
+    }
+}
+
+impl Places {
+    /// Lets the callers go of queues that have ended, and of segments that were closed.
+    #[cold]
+    fn tidy(&mut self) {
+        self.ends = ENDS.load(SeqCst);
+        for place in &mut self.kept {
+            let front = place.as_ref().and_then(|kept| kept.front.upgrade());
+            match (&mut *place, front.filter(|front| !front.is_ended())) {
+                (Some(kept), Some(front)) => front.forget_closed(&mut kept.handles),
+                (place, _) => *place = None,
+            }
+        }
     }
 }

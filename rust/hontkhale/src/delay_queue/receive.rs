@@ -7,7 +7,7 @@ use crate::delay_queue::shared::Shared;
 use crate::delay_queue::waking::{Todo, Wait};
 use crate::delay_queue::{DelayQueue, Expired};
 use std::fmt;
-use std::sync::atomic::Ordering::SeqCst;
+use std::sync::atomic::Ordering::{Relaxed, SeqCst};
 use std::thread;
 use std::time::{Duration, Instant};
 
@@ -130,76 +130,93 @@ impl<T> Shared<T> {
             out = Some(expired);
             false
         });
-        out.map_or(Step::Works, |out| Step::Took(self.expired(at, out, now)))
+        out.map_or(Step::Works, |mut out| {
+            self.note_out(&mut out);
+            Step::Took(out)
+        })
     }
 
     /// An entry that is due.
     pub fn take_one(&self) -> Option<Expired<T>> {
-        let now = self.front.time.tick();
-        while let Some((at, place)) = self.most_due(now) {
-            let mut out = None;
-            self.poll(at, place, now, |expired| {
-                out = Some(expired);
-                false
-            });
-            if let Some(out) = out {
-                return Some(self.expired(at, out, now));
+        loop {
+            match self.take_step() {
+                Step::Took(out) => return Some(out),
+                Step::Works => {}
+                Step::Rests => return None,
             }
         }
-        None
     }
 
     /// Entries that are due, at most so many, and tells how many.
     pub fn take_many(&self, row: &mut Vec<Expired<T>>, most: usize) -> usize {
         let now = self.front.time.tick();
-        let mut taken = 0;
-        while taken < most {
+        let before = row.len();
+        while row.len() - before < most {
             let Some((at, place)) = self.most_due(now) else {
                 break;
             };
-            let count = TAKEN_AT_ONCE.min(most - taken);
-            let mut batch = Vec::with_capacity(count);
+            let first = row.len();
+            let until = first + TAKEN_AT_ONCE.min(most - (first - before));
+            row.reserve(until - first);
             self.poll(at, place, now, |expired| {
-                batch.push(expired);
-                batch.len() < count
+                row.push(expired);
+                row.len() < until
             });
-            taken += batch.len();
-            row.extend(batch.into_iter().map(|out| self.expired(at, out, now)));
+            row[first..].iter_mut().for_each(|out| self.note_out(out));
         }
-        taken
+        row.len() - before
     }
 
     /// Takes out what is due in a shard while `more` says so, by a bounded number of steps.
-    fn poll(&self, at: usize, place: usize, now: u64, mut more: impl FnMut(Out<T>) -> bool) {
+    #[inline]
+    fn poll(&self, at: usize, place: usize, now: u64, mut more: impl FnMut(Expired<T>) -> bool) {
         let segment = self.segment(at).expect("a segment of the queue");
         let mut shard = segment.enter(place);
-        loop {
-            let (piece, _nobody) = shard.attended.poll_some(now, STEPS);
-            match piece.expect("a tick that isn't beyond the last") {
-                Piece::Answer(Turn::Out(expired)) => {
-                    if !more(expired) {
-                        break;
+        let mut latest = 0;
+        let is_through = loop {
+            match shard
+                .core_mut()
+                .poll_some_deferring(now, STEPS)
+                .expect("a tick that isn't beyond the last")
+            {
+                Piece::Answer(Turn::Out(out)) => {
+                    latest = latest.max(now.saturating_sub(out.deadline));
+                    if !more(self.expired(at, out)) {
+                        break true;
                     }
                 }
-                Piece::Answer(Turn::Waiting { .. } | Turn::Idle) => break,
+                Piece::Answer(Turn::Waiting { .. } | Turn::Idle) => break true,
                 // The hint is as it was, so the shard is asked again.
-                Piece::Working => return,
+                Piece::Working => break false,
             }
+        };
+        if is_through {
+            shard.set_hint();
         }
-        shard.set_hint();
+        let is_last = shard.core().is_empty();
+        drop(shard);
+        if latest > self.latest.load(Relaxed) {
+            self.latest.fetch_max(latest, SeqCst);
+        }
+        if is_last && at > 0 {
+            self.shrink();
+        }
     }
 
-    fn expired(&self, at: usize, out: Out<T>, now: u64) -> Expired<T> {
-        self.front.waiting.fetch_sub(1, SeqCst);
-        let late = now.saturating_sub(out.deadline);
-        if late > self.latest.load(SeqCst) {
-            self.latest.fetch_max(late, SeqCst);
-        }
+    #[inline]
+    fn expired(&self, at: usize, out: Out<T>) -> Expired<T> {
         Expired {
-            key: self.user_key(at, &out.key),
+            key: self.key(at, &out.key),
             deadline: self.front.time.moment(out.deadline),
             value: out.value,
         }
+    }
+
+    /// Notes that an entry came out, and gives it the key that its insert had. No lock of a shard is held.
+    #[inline]
+    fn note_out(&self, out: &mut Expired<T>) {
+        self.front.count_out();
+        out.key = self.key_of_user(out.key);
     }
 }
 
@@ -225,7 +242,8 @@ impl<T> Shared<T> {
         self.tidy();
         let taken = self.take_one();
         if taken.is_none() {
-            // What the poll freed is dropped while nothing is in hand.
+            self.use_quiet_moment();
+            // What was freed is dropped while nothing is in hand.
             self.tidy();
         }
         taken
@@ -316,14 +334,14 @@ impl<'q, T> Drain<'q, T> {
         while let Some((entry, next)) = segment.entry_from(self.place, self.slot) {
             self.slot = next;
             let mut shard = segment.enter(self.place);
-            let Ok(removed) = shard.attended.remove(&entry).0 else {
-                let _ = shard.attended.reap(&entry).0;
+            let Ok(removed) = shard.core_mut().remove(&entry) else {
+                let _ = shard.core_mut().reap_deferring(&entry);
                 continue;
             };
             drop(shard);
             let front = &self.shared.front;
-            front.waiting.fetch_sub(1, SeqCst);
-            let key = self.shared.user_key(self.segment, &removed.key);
+            front.count_out();
+            let key = self.shared.key_of_user(self.shared.key(self.segment, &removed.key));
             return Some((key, front.time.moment(removed.deadline), removed.value));
         }
         None
@@ -348,6 +366,7 @@ impl<T> Iterator for Drain<'_, T> {
             *self = again;
         }
         self.shared.tidy();
+        self.shared.shrink();
         None
     }
 }

@@ -1,13 +1,17 @@
-//! A queue's rows of shards, which are made one after the other as entries come.
+//! A queue's rows of shards, which are made one after the other as entries come, and give their memory back once they go.
 
-use crate::core::CoreError;
+use crate::core::{CoreConfig, CoreError, DelayCore};
 use crate::delay_queue::dropping::{Dropping, LetGo};
 use crate::delay_queue::waking::NEVER;
-use crate::lasting::{LastingConfig, LastingQueue, LastingShard, Wear};
+use crate::lasting::{with_ended, LastingConfig, LastingQueue, LastingShard};
 use crate::locks::MutexGuard;
-use crate::ticks::EntryId;
-use std::ops::{Deref, DerefMut};
-use std::sync::atomic::{AtomicBool, AtomicU64, AtomicUsize, Ordering::SeqCst};
+use crate::memory::room_for;
+use crate::ticks::{EntryId, Key};
+use crate::words::{numbered_queue, Keeper};
+use std::sync::atomic::{
+    AtomicBool, AtomicU64, AtomicUsize,
+    Ordering::{Relaxed, SeqCst},
+};
 use std::sync::Arc;
 use std::thread;
 
@@ -16,6 +20,10 @@ use std::thread;
 pub(crate) struct Row {
     /// No entry of the shard is due before this tick.
     hint: AtomicU64,
+    /// How many entries came in, less those that came out or were removed: the cancelled ones count.
+    left: AtomicU64,
+    /// How many entries are linked.
+    linked: AtomicUsize,
     /// Whether it took entries and had a free slot as its lock was let go last.
     has_room: AtomicBool,
     /// Whether values are set aside there, to be dropped.
@@ -28,18 +36,22 @@ pub(crate) struct Row {
 pub(crate) struct Segment<T> {
     pub queue: LastingQueue<T>,
     pub rows: Box<[Row]>,
-    /// How many slots there are in all shards.
-    pub capacity: usize,
+    config: LastingConfig,
+    /// Whether its memory was given back.
+    is_closed: AtomicBool,
     /// Whether a shard is worn, or drains.
     pub is_worn: AtomicBool,
     /// Whether values are set aside in one of the shards.
     pub has_aside: AtomicBool,
     let_go: Arc<LetGo<T>>,
-    /// Held by the one thread that renews shards.
-    pub is_renewed: AtomicBool,
+    /// Held by the one thread that renews shards, or gives their memory back.
+    is_claimed: AtomicBool,
     /// The tick from which on shards are renewed next.
     pub renew_at: AtomicU64,
 }
+
+/// The right to change the shards of a segment, which one thread has at a time, until this is dropped.
+pub(crate) struct Claim<'s, T>(&'s Segment<T>);
 
 /// Where a drop panics, the values that are left are noted again.
 struct Left<'s, T> {
@@ -47,65 +59,71 @@ struct Left<'s, T> {
     place: usize,
 }
 
-impl<T> Drop for Left<'_, T> {
-    fn drop(&mut self) {
-        if thread::panicking() {
-            // The other places weren't come to, and this one is noted as its lock is let go, where values are left there.
-            self.segment.has_aside.store(true, SeqCst);
-            drop(self.segment.enter(self.place));
-        }
-    }
-}
-
-/// A shard while its lock is held.
+/// A shard while its lock is held. Nobody is parked there, so its queue is called as that of one owner, but by calls that drop
+/// no value.
 pub(crate) struct Locked<'s, T> {
     shard: MutexGuard<'s, LastingShard<T>>,
     segment: &'s Segment<T>,
-    place: usize,
+    row: &'s Row,
 }
 
 impl<T> Segment<T> {
     /// A row of empty shards.
     pub fn new(config: LastingConfig, let_go: &Arc<LetGo<T>>) -> Result<Segment<T>, CoreError> {
-        let row = || Row {
+        let row = |_| Row {
             hint: AtomicU64::new(NEVER),
+            left: AtomicU64::new(0),
+            linked: AtomicUsize::new(0),
             has_room: AtomicBool::new(true),
             has_aside: AtomicBool::new(false),
             sweep_from: AtomicUsize::new(0),
         };
+        let mut rows = room_for(config.shards)?;
+        rows.extend((0..config.shards).map(row));
         Ok(Segment {
             queue: LastingQueue::new(config)?,
-            rows: (0..config.shards).map(|_| row()).collect(),
-            capacity: config.shards * config.capacity,
+            rows: rows.into_boxed_slice(),
+            config,
+            is_closed: AtomicBool::new(false),
             is_worn: AtomicBool::new(false),
             has_aside: AtomicBool::new(false),
             let_go: Arc::clone(let_go),
-            is_renewed: AtomicBool::new(false),
+            is_claimed: AtomicBool::new(false),
             renew_at: AtomicU64::new(0),
         })
+    }
+
+    /// How many slots there are in all shards.
+    pub fn capacity(&self) -> usize {
+        if self.is_closed() {
+            0
+        } else {
+            self.config.shards * self.config.capacity
+        }
     }
 
     /// The place of a shard's number.
     #[inline]
     pub fn place_of(&self, number: u32) -> usize {
-        number as usize % self.rows.len()
+        (number % self.rows.len() as u32) as usize
     }
 
     /// The shard at a place, with its lock held.
     #[inline]
     pub fn enter(&self, place: usize) -> Locked<'_, T> {
         Locked {
+            row: &self.rows[place],
             shard: self.queue.lock(place),
             segment: self,
-            place,
         }
     }
 
     /// The same once no value is set aside there: what was is dropped before, while the lock is free.
+    #[inline]
     pub fn enter_clean(&self, place: usize) -> Locked<'_, T> {
         loop {
             let shard = self.enter(place);
-            if shard.aside() == 0 {
+            if shard.core().aside() == 0 {
                 return shard;
             }
             drop(shard);
@@ -114,6 +132,7 @@ impl<T> Segment<T> {
     }
 
     /// Drops the values that are set aside at a place, while its lock is free. Within a drop they are let go.
+    #[cold]
     pub fn drop_aside(&self, place: usize) {
         self.rows[place].has_aside.store(false, SeqCst);
         let _left = Left { segment: self, place };
@@ -128,11 +147,6 @@ impl<T> Segment<T> {
                 (0..aside).map_while(take).for_each(|value| self.let_go.push(value));
             }
         }
-    }
-
-    fn note_aside(&self, place: usize) {
-        self.rows[place].has_aside.store(true, SeqCst);
-        self.has_aside.store(true, SeqCst);
     }
 
     /// The same in each shard.
@@ -150,7 +164,7 @@ impl<T> Segment<T> {
     pub fn sweep(&self, place: usize, count: usize) -> bool {
         let row = &self.rows[place];
         let from = row.sweep_from.load(SeqCst);
-        let swept = self.enter(place).attended.sweep_some(from, count).0;
+        let swept = self.enter(place).core_mut().sweep_some_deferring(from, count);
         row.sweep_from.store(swept.next.unwrap_or(0), SeqCst);
         swept.next.is_none()
     }
@@ -163,6 +177,84 @@ impl<T> Segment<T> {
         let (slot, born) = (from..core.capacity()).find_map(born)?;
         Some((EntryId::new(core.shard(), slot as u32, born), slot + 1))
     }
+
+    /// The right to change the shards; none where another thread has it.
+    pub fn claim(&self) -> Option<Claim<'_, T>> {
+        if self.is_claimed.swap(true, SeqCst) {
+            None
+        } else {
+            Some(Claim(self))
+        }
+    }
+}
+
+impl<T> Segment<T> {
+    pub fn is_closed(&self) -> bool {
+        self.is_closed.load(SeqCst)
+    }
+
+    /// Whether nothing is linked in any shard.
+    pub fn is_empty(&self) -> bool {
+        self.rows.iter().all(|row| row.linked() == 0)
+    }
+
+    /// Gives the memory of all shards back, and tells whether it did: not where an entry is linked, or a shard is renewed.
+    pub fn close(&self, _claim: &Claim<'_, T>) -> bool {
+        let takes = |takes| (0..self.rows.len()).for_each(|place| self.enter(place).shard.takes = takes);
+        let is_free = |place| {
+            let shard = self.enter(place);
+            shard.core().is_empty() && shard.core().aside() == 0
+        };
+        if self.is_worn.load(SeqCst) {
+            return false;
+        }
+        // From here on nothing is put in.
+        takes(false);
+        if !(0..self.rows.len()).all(is_free) || !self.put_in(1, false) {
+            takes(true);
+            return false;
+        }
+        self.is_closed.store(true, SeqCst);
+        true
+    }
+
+    /// Takes memory anew for a segment that was closed.
+    pub fn open(&self, _claim: &Claim<'_, T>) -> bool {
+        let is_open = self.put_in(self.config.capacity, true);
+        if is_open {
+            self.is_closed.store(false, SeqCst);
+        }
+        is_open
+    }
+
+    /// Puts an empty queue of that capacity in the place of each shard's, which is empty, under the shard's next number: keys
+    /// from before are missing for good. It tells whether it did so in each shard: not where memory is refused, or a
+    /// number is the last.
+    fn put_in(&self, capacity: usize, takes: bool) -> bool {
+        let by = self.rows.len() as u32;
+        let next = |place| {
+            let shard = self.queue.lock(place).number().checked_add(by)?;
+            let last_stamp = self.config.last_stamp;
+            numbered_queue(CoreConfig {
+                shard,
+                capacity,
+                last_stamp,
+            })
+            .ok()
+        };
+        let Ok(mut made) = room_for(self.rows.len()) else {
+            return false;
+        };
+        made.extend((0..self.rows.len()).map_while(next));
+        if made.len() < self.rows.len() {
+            return false;
+        }
+        for (place, core) in made.into_iter().enumerate() {
+            // The one that goes is dropped once the lock is free.
+            let _old = self.enter(place).replace(core, takes);
+        }
+        true
+    }
 }
 
 impl Row {
@@ -173,46 +265,77 @@ impl Row {
 
     #[inline]
     pub fn has_room(&self) -> bool {
-        self.has_room.load(SeqCst)
+        self.has_room.load(Relaxed)
+    }
+
+    pub fn left(&self) -> u64 {
+        self.left.load(Relaxed)
+    }
+
+    pub fn linked(&self) -> usize {
+        self.linked.load(Relaxed)
     }
 }
 
 impl<T> Locked<'_, T> {
-    fn row(&self) -> &Row {
-        &self.segment.rows[self.place]
+    #[inline]
+    pub fn core(&self) -> &DelayCore<T, Keeper> {
+        &self.shard.attended.core
+    }
+
+    /// Its calls that drop a value aren't to be made here.
+    #[inline]
+    pub fn core_mut(&mut self) -> &mut DelayCore<T, Keeper> {
+        &mut self.shard.attended.core
+    }
+
+    /// Puts an entry in where none of the values is set aside. The value comes back where there is no room.
+    #[inline]
+    pub fn insert(&mut self, value: T, tick: u64) -> Result<Key, T> {
+        if !self.shard.takes {
+            return Err(value);
+        }
+        let (answer, _none) = self.core_mut().insert_deferring(value, tick);
+        let key = answer.map_err(|(_, value)| value)?;
+        self.lower_hint(tick);
+        Ok(key)
     }
 
     /// Notes that something is due at a tick.
     #[inline]
     pub fn lower_hint(&mut self, tick: u64) {
-        if tick < self.row().hint() {
-            self.row().hint.store(tick, SeqCst);
+        if tick < self.row.hint() {
+            self.row.hint.store(tick, SeqCst);
         }
     }
 
     /// Notes when something is due next, after a poll.
     pub fn set_hint(&mut self) {
-        let next = self.shard.next_wake().unwrap_or(NEVER);
-        self.row().hint.store(next, SeqCst);
+        let next = self.core().next_wake().unwrap_or(NEVER);
+        self.row.hint.store(next, SeqCst);
     }
 
     /// Whether it takes an entry.
+    #[inline]
     pub fn has_room(&self) -> bool {
-        self.shard.takes() && self.shard.len() + self.shard.worn() < self.shard.capacity()
+        let core = self.core();
+        self.shard.takes && core.len() + core.worn() < core.capacity()
     }
-}
 
-impl<T> Deref for Locked<'_, T> {
-    type Target = LastingShard<T>;
-
-    fn deref(&self) -> &LastingShard<T> {
-        &self.shard
+    /// How many entries of the shard were cancelled and freed.
+    pub fn reaped(&self) -> u64 {
+        self.shard.past.cancelled + self.core().tally().cancelled
     }
-}
 
-impl<T> DerefMut for Locked<'_, T> {
-    fn deref_mut(&mut self) -> &mut LastingShard<T> {
-        &mut self.shard
+    fn replace(&mut self, core: DelayCore<T, Keeper>, takes: bool) -> DelayCore<T, Keeper> {
+        // What has ended counts on.
+        if let Some(past) = with_ended(&self.shard.past, &self.core().tally()) {
+            self.shard.past = past;
+        }
+        self.shard.takes = takes;
+        self.row.hint.store(NEVER, SeqCst);
+        self.row.sweep_from.store(0, SeqCst);
+        std::mem::replace(self.core_mut(), core)
     }
 }
 
@@ -220,15 +343,39 @@ impl<T> Drop for Locked<'_, T> {
     /// Notes, before the lock is let go, what its shard has come to.
     #[inline]
     fn drop(&mut self) {
-        let has_room = self.has_room();
-        if has_room != self.row().has_room() {
-            self.row().has_room.store(has_room, SeqCst);
+        let core = self.core();
+        let (len, worn, capacity) = (core.len(), core.worn(), core.capacity());
+        let left = self.shard.past.cancelled + core.inserted - core.expired - core.removed;
+        self.row.left.store(left, Relaxed);
+        self.row.linked.store(len, Relaxed);
+        let has_room = self.shard.takes && len + worn < capacity;
+        if has_room != self.row.has_room() {
+            self.row.has_room.store(has_room, SeqCst);
         }
-        if self.shard.aside() > 0 {
-            self.segment.note_aside(self.place);
+        if core.aside() > 0 {
+            self.row.has_aside.store(true, SeqCst);
+            self.segment.has_aside.store(true, SeqCst);
         }
-        if self.shard.takes() && self.shard.is_worn_by(Wear::Half) {
+        if worn >= capacity - capacity / 2 && self.shard.takes {
             self.segment.is_worn.store(true, SeqCst);
+        }
+    }
+}
+
+impl<T> Drop for Claim<'_, T> {
+    fn drop(&mut self) {
+        // Which shards have room is noted as their locks are let go, also after a value's drop that panicked.
+        (0..self.0.rows.len()).for_each(|place| drop(self.0.enter(place)));
+        self.0.is_claimed.store(false, SeqCst);
+    }
+}
+
+impl<T> Drop for Left<'_, T> {
+    fn drop(&mut self) {
+        if thread::panicking() {
+            // The other places weren't come to, and this one is noted as its lock is let go, where values are left there.
+            self.segment.has_aside.store(true, SeqCst);
+            drop(self.segment.enter(self.place));
         }
     }
 }

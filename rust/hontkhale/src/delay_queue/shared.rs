@@ -1,17 +1,21 @@
 //! What the clones of a queue share: its segments, and the calls by key.
 
 use crate::core::{CallError, CoreError, Look, Removed};
-use crate::delay_queue::callers::{route, Front, Handles};
+use crate::delay_queue::callers::{route, Bound, Front, Handles, Quick};
 use crate::delay_queue::dropping::{Dropping, LetGo};
 use crate::delay_queue::errors::{InsertErrorKind, KeyError};
 use crate::delay_queue::key::Key;
 use crate::delay_queue::moves::Moves;
-use crate::delay_queue::segment::{Locked, Segment};
+use crate::delay_queue::segment::{Locked, Row, Segment};
 use crate::delay_queue::waking::NEVER;
 use crate::lasting::{Kept, LastingConfig, LastingHandle};
+use crate::memory::room_for;
 use crate::ticks::LAST_TICK;
 use crate::ticks::{self, EntryId, CAPACITY_LIMIT};
-use std::sync::atomic::{AtomicU64, AtomicUsize, Ordering::SeqCst};
+use std::sync::atomic::{
+    AtomicU64, AtomicUsize,
+    Ordering::{Relaxed, SeqCst},
+};
 use std::sync::{Arc, Mutex, MutexGuard, OnceLock, PoisonError};
 
 /// The most segments of a queue.
@@ -25,6 +29,8 @@ const SWEPT: usize = 256;
 const SWEEPS: usize = 8;
 /// Ticks from one time that a worn shard is looked at to the next.
 const RENEW_PAUSE: u64 = 100;
+/// How often an insert goes where there was room before it looks for room anew.
+const TRIES: u8 = 64;
 /// How many entries of a shard that drains are moved at once.
 const MOVED_AT_ONCE: usize = 16;
 
@@ -39,9 +45,12 @@ pub(crate) struct Limits {
 pub(crate) struct Shared<T> {
     pub front: Arc<Front>,
     limits: Limits,
-    segments: [OnceLock<Box<Segment<T>>>; SEGMENTS],
-    /// How many segments there are.
+    /// Each in a row of one, for which memory may be refused.
+    segments: [OnceLock<Vec<Segment<T>>>; SEGMENTS],
+    /// How many segments there are, closed ones among them.
     open: AtomicUsize,
+    /// How often one was made, or opened again.
+    grown: AtomicUsize,
     /// Held while a segment is made.
     grows: Mutex<()>,
     moves: Mutex<Moves>,
@@ -74,7 +83,7 @@ impl Step {
         Step::Extend(tick.unwrap_or(u64::MAX))
     }
 
-    #[inline]
+    #[inline(always)]
     fn make(self, handle: &mut LastingHandle, key: &ticks::Key) -> Result<u64, CallError> {
         match self {
             Step::Extend(tick) => handle.extend(key, tick),
@@ -88,37 +97,28 @@ impl Step {
 }
 
 /// A step by a thread's own handle, without a lock. None where it takes the shard's to tell.
-#[inline]
-pub(crate) fn quick_step(front: &Arc<Front>, key: &Key, step: Step) -> Option<Result<u64, KeyError>> {
+#[inline(always)]
+pub(crate) fn quick_step(front: &Front, key: &Key, step: Step) -> Option<Result<u64, KeyError>> {
     if key.queue() != front.number() {
         return Some(Err(KeyError::WrongQueue));
     }
-    if matches!(step, Step::Extend(tick) if tick > LAST_TICK) {
-        return Some(Err(KeyError::TooFar));
-    }
-    let made = front.with_handles(|handles| match handles.get_mut(key.segment()) {
-        Some(Some(handle)) => Some(step.make(handle, &key.inner())),
-        _ => None,
+    let made = front.with_own(key.segment(), |handle| match step.make(handle, &key.inner()) {
+        Ok(deadline) => Quick(deadline),
+        Err(CallError::Ended { how }) if !matches!(how, Look::LookRemoved(_)) => Quick::ENDED,
+        // It may have a newer key, or have been moved: one that was is found as removed.
+        Err(_) => Quick::UNTOLD,
     });
-    match made? {
-        Ok(deadline) => Some(Ok(counted(front, step, deadline))),
-        Err(CallError::TooFar { .. }) => Some(Err(KeyError::TooFar)),
-        // One that was moved is found as removed.
-        Err(
-            CallError::Ended {
-                how: Look::LookRemoved(_),
-            }
-            | CallError::Unknown
-            | CallError::Stale { .. },
-        ) => None,
-        Err(CallError::Ended { .. }) => Some(Err(KeyError::Ended)),
+    match made {
+        Quick::UNTOLD => None,
+        Quick::ENDED => Some(Err(KeyError::Ended)),
+        Quick(deadline) => Some(Ok(counted(front, step, deadline))),
     }
 }
 
+#[inline(always)]
 fn counted(front: &Front, step: Step, deadline: u64) -> u64 {
     if let Step::Cancel = step {
-        front.cancels.fetch_add(1, SeqCst);
-        front.waiting.fetch_sub(1, SeqCst);
+        front.count_cancel();
     }
     deadline
 }
@@ -136,14 +136,21 @@ impl<T: Send> Steps for Shared<T> {
 }
 
 impl<T> Shared<T> {
+    #[inline(always)]
     pub fn step(&self, key: &Key, step: Step) -> Result<u64, KeyError> {
-        quick_step(&self.front, key, step).unwrap_or_else(|| self.step_slowly(key, step))
+        match quick_step(&self.front, key, step) {
+            Some(made) => made,
+            None => self.step_slowly(key, step),
+        }
     }
 
     /// A step under the shard's lock: the entry's stamp was changed by a reset, its shard was renewed, it was moved, or it has
     /// ended.
     #[cold]
     fn step_slowly(&self, key: &Key, step: Step) -> Result<u64, KeyError> {
+        if matches!(step, Step::Extend(tick) if tick > LAST_TICK) {
+            return Err(KeyError::TooFar);
+        }
         if let Some(deadline) = self.step_at(key, step)? {
             return Ok(deadline);
         }
@@ -166,6 +173,10 @@ impl<T> Shared<T> {
         let Some(segment) = self.segment(place.segment()) else {
             return Ok(None);
         };
+        let is_there = |shard: &mut Locked<'_, T>| shard.core_mut().deadline(&place.entry()).is_ok();
+        if !is_there(&mut segment.enter(segment.place_of(place.number()))) {
+            return Ok(None);
+        }
         let made = self
             .front
             .with_handles(|handles| step_in(handles, segment, place, step))?;
@@ -178,7 +189,7 @@ fn step_in<T>(handles: &mut Handles, segment: &Segment<T>, place: &Key, step: St
     let handle = handle_of(handles, segment, place.segment())?;
     for _ in 0..2 {
         let mut shard = segment.enter(segment.place_of(place.number()));
-        if shard.deadline(&place.entry()).0.is_err() {
+        if shard.core_mut().deadline(&place.entry()).is_err() {
             return Ok(None);
         }
         // The entry is there by its birth, and under the lock nobody changes its stamp.
@@ -189,7 +200,6 @@ fn step_in<T>(handles: &mut Handles, segment: &Segment<T>, place: &Key, step: St
         drop(shard);
         match made {
             Ok(deadline) => return Ok(Some(deadline)),
-            Err(CallError::TooFar { .. }) => return Err(KeyError::TooFar),
             Err(CallError::Unknown) => handle.renew(&segment.queue).map_err(|_| KeyError::NoMemory)?,
             Err(_) => return Ok(None),
         };
@@ -203,6 +213,9 @@ fn handle_of<'h, T>(
     at: usize,
 ) -> Result<&'h mut LastingHandle, KeyError> {
     if handles.len() <= at {
+        handles
+            .try_reserve(at + 1 - handles.len())
+            .map_err(|_| KeyError::NoMemory)?;
         handles.resize_with(at + 1, || None);
     }
     let slot = &mut handles[at];
@@ -219,6 +232,7 @@ impl<T> Shared<T> {
             limits,
             segments: std::array::from_fn(|_| OnceLock::new()),
             open: AtomicUsize::new(0),
+            grown: AtomicUsize::new(0),
             grows: Mutex::default(),
             moves: Mutex::new(Moves::new()),
             let_go: Arc::new(LetGo::new()),
@@ -236,13 +250,23 @@ impl<T> Shared<T> {
     }
 
     pub fn segment(&self, at: usize) -> Option<&Segment<T>> {
-        self.segments.get(at)?.get().map(|segment| &**segment)
+        self.segments.get(at)?.get()?.first()
     }
 
     /// The segments that there are.
     pub fn segments(&self) -> impl Iterator<Item = (usize, &Segment<T>)> {
         let open = self.open.load(SeqCst);
         (0..open).filter_map(|at| Some((at, self.segment(at)?)))
+    }
+
+    /// How many entries wait. While others change the queue it is a number of about then.
+    pub fn waiting(&self) -> usize {
+        if let Some(bound) = &self.front.bound {
+            return bound.waiting();
+        }
+        let rows = self.segments().flat_map(|(_, segment)| segment.rows.iter());
+        let left: u64 = rows.map(Row::left).sum();
+        left.saturating_sub(self.front.cancels()) as usize
     }
 
     /// The least hint: nothing is due before it.
@@ -260,6 +284,7 @@ impl<T> Shared<T> {
 
 impl<T> Shared<T> {
     /// Puts an entry in that is due at a tick.
+    #[inline]
     pub fn insert(&self, value: T, tick: Option<u64>) -> Result<Key, (InsertErrorKind, T)> {
         let Some(tick) = tick else {
             return Err((InsertErrorKind::TooFar, value));
@@ -267,36 +292,51 @@ impl<T> Shared<T> {
         if self.front.bell.is_closed() {
             return Err((InsertErrorKind::Closed, value));
         }
-        let Some(counted) = self.count() else {
-            return Err((InsertErrorKind::Full, value));
+        let counted = match &self.front.bound {
+            Some(bound) if !bound.count() => return Err((InsertErrorKind::Full, value)),
+            bound => Counted(bound.as_ref()),
         };
-        let key = self.insert_counted(value, tick)?;
+        let key = self.insert_where_last(value, tick)?;
         std::mem::forget(counted);
         self.front.ring_before(tick);
         Ok(key)
     }
 
-    /// Counts one entry more, none where there are as many as may be.
+    /// The same of an entry that is counted already, where this thread found room last.
     #[inline]
-    fn count(&self) -> Option<Counted<'_>> {
-        let (waiting, most) = (&self.front.waiting, self.limits.max_entries);
-        if most == usize::MAX {
-            waiting.fetch_add(1, SeqCst);
-        } else {
-            let more = |waiting| if waiting < most { Some(waiting + 1) } else { None };
-            waiting.fetch_update(SeqCst, SeqCst, more).ok()?;
+    fn insert_where_last(&self, value: T, tick: u64) -> Result<Key, (InsertErrorKind, T)> {
+        let noted = &self.front.lane().room;
+        let Room { left, at, place } = Room::of(noted.load(Relaxed));
+        match self
+            .segment(at)
+            .filter(|segment| left > 0 && segment.rows[place].has_room())
+        {
+            None => self.insert_anywhere(value, tick),
+            Some(segment) => {
+                noted.store(
+                    Room {
+                        left: left - 1,
+                        at,
+                        place,
+                    }
+                    .packed(),
+                    Relaxed,
+                );
+                let insert = self.insert_at(at, segment, place, value, tick);
+                insert.or_else(|value| self.insert_anywhere(value, tick))
+            }
         }
-        Some(Counted(waiting))
     }
 
-    /// The same of an entry that is counted already, in this thread's shard of a segment that has room there.
-    fn insert_counted(&self, value: T, tick: u64) -> Result<Key, (InsertErrorKind, T)> {
+    /// The same in this thread's shard of the first segment that has room there, or in any that has.
+    #[cold]
+    fn insert_anywhere(&self, value: T, tick: u64) -> Result<Key, (InsertErrorKind, T)> {
         let mut value = value;
         let route = route();
         for (at, segment) in self.segments() {
             let place = route % segment.rows.len();
             if segment.rows[place].has_room() {
-                match self.insert_at(at, segment, place, value, tick) {
+                match self.insert_noted(at, segment, place, value, tick) {
                     Ok(key) => return Ok(key),
                     Err(back) => value = back,
                 }
@@ -305,18 +345,21 @@ impl<T> Shared<T> {
         self.insert_elsewhere(value, tick)
     }
 
+    /// An insert at a place, which this thread tries first the next times.
+    fn insert_noted(&self, at: usize, segment: &Segment<T>, place: usize, value: T, tick: u64) -> Result<Key, T> {
+        let key = self.insert_at(at, segment, place, value, tick)?;
+        let room = Room { left: TRIES, at, place };
+        self.front.lane().room.store(room.packed(), Relaxed);
+        Ok(key)
+    }
+
     /// An insert at a place. The value comes back where there is no room.
+    #[inline]
     fn insert_at(&self, at: usize, segment: &Segment<T>, place: usize, value: T, tick: u64) -> Result<Key, T> {
         // Values may be dropped here. Where a drop panics the entry isn't in yet, and no key of it is lost.
         self.renew_where_due(segment, at);
-        let mut shard = segment.enter_clean(place);
-        match shard.insert(value, tick).0 {
-            Ok(key) => {
-                shard.lower_hint(tick);
-                Ok(self.key(at, &key))
-            }
-            Err((_, back)) => Err(back),
-        }
+        let key = segment.enter_clean(place).insert(value, tick)?;
+        Ok(self.key(at, &key))
     }
 
     /// An insert for which this thread's shards have no room: in any that has, then after a sweep and a renewal, and at last
@@ -326,18 +369,18 @@ impl<T> Shared<T> {
         let mut value = value;
         for turn in 0.. {
             // It is read first: where another thread has made a segment since, that one is tried before one more is made.
-            let open = self.open.load(SeqCst);
+            let grown = self.grown.load(SeqCst);
             for (at, segment) in self.segments() {
                 for place in (0..segment.rows.len()).filter(|place| segment.rows[*place].has_room()) {
-                    match self.insert_at(at, segment, place, value, tick) {
+                    match self.insert_noted(at, segment, place, value, tick) {
                         Ok(key) => return Ok(key),
                         Err(back) => value = back,
                     }
                 }
             }
-            if turn == 0 && open > 0 {
+            if turn == 0 && grown > 0 {
                 self.make_room();
-            } else if let Err(kind) = self.grow(open) {
+            } else if let Err(kind) = self.grow(grown) {
                 return Err((kind, value));
             }
         }
@@ -356,19 +399,51 @@ impl<T> Shared<T> {
         }
     }
 
-    /// Makes the next segment, unless there are more than `seen` by now.
+    /// Opens a segment that was closed, or makes the next, unless that was done since `grown` was seen.
     fn grow(&self, seen: usize) -> Result<(), InsertErrorKind> {
         let _one = self.grows.lock().unwrap_or_else(PoisonError::into_inner);
-        let open = self.open.load(SeqCst);
-        if open > seen {
+        if self.grown.load(SeqCst) > seen {
             return Ok(());
         }
-        let slot = self.segments.get(open).ok_or(InsertErrorKind::Full)?;
-        let segment =
-            Segment::new(self.limits.of_segment(open), &self.let_go).map_err(|_| InsertErrorKind::NoMemory)?;
-        let _ = slot.set(Box::new(segment));
-        self.open.store(open + 1, SeqCst);
+        let open = self.open.load(SeqCst);
+        if let Some((at, segment)) = self.segments().find(|(_, segment)| segment.is_closed()) {
+            let claim = segment.claim().ok_or(InsertErrorKind::NoMemory)?;
+            if !segment.open(&claim) {
+                return Err(InsertErrorKind::NoMemory);
+            }
+            self.front.note_closed(at, false);
+        } else {
+            let slot = self.segments.get(open).ok_or(InsertErrorKind::Full)?;
+            let mut row = room_for(1).map_err(|_| InsertErrorKind::NoMemory)?;
+            let config = self.limits.of_segment(open);
+            row.push(Segment::new(config, &self.let_go).map_err(|_| InsertErrorKind::NoMemory)?);
+            let _ = slot.set(row);
+            self.open.store(open + 1, SeqCst);
+        }
+        self.grown.fetch_add(1, SeqCst);
         Ok(())
+    }
+
+    /// Gives the memory of the last segment back where it is empty, and those before it are half empty.
+    #[cold]
+    pub fn shrink(&self) {
+        let Ok(_one) = self.grows.try_lock() else {
+            return;
+        };
+        while let Some((at, segment)) = self.segments().filter(|(_, segment)| !segment.is_closed()).last() {
+            let before = self.segments().take_while(|(other, _)| *other < at);
+            let (capacity, linked) = before.fold((0, 0), |(capacity, linked), (_, segment)| {
+                let of_rows: usize = segment.rows.iter().map(Row::linked).sum();
+                (capacity + segment.capacity(), linked + of_rows)
+            });
+            if at == 0 || !segment.is_empty() || linked > capacity / 2 {
+                return;
+            }
+            match segment.claim() {
+                Some(claim) if segment.close(&claim) => self.front.note_closed(at, true),
+                _ => return,
+            }
+        }
     }
 }
 
@@ -406,7 +481,7 @@ impl<T> Shared<T> {
         self.own(key)?;
         let tick = tick.ok_or(KeyError::TooFar)?;
         let reset = self.at_entry(key, |shard, entry| {
-            let renamed = shard.attended.reset(entry, tick).0?;
+            let renamed = shard.core_mut().reset(entry, tick)?;
             shard.lower_hint(tick);
             Ok(renamed)
         });
@@ -424,7 +499,7 @@ impl<T> Shared<T> {
     #[cold]
     fn reset_elsewhere(&self, key: &Key, tick: u64) -> Result<Key, KeyError> {
         loop {
-            let open = self.open.load(SeqCst);
+            let grown = self.grown.load(SeqCst);
             let mut moves = self.moves();
             let place = moves.place(key).unwrap_or(*key);
             let moved = self.move_entry(&mut moves, &place, Some(tick));
@@ -434,7 +509,7 @@ impl<T> Shared<T> {
                 Err(Unmoved::Ended) => return Err(KeyError::Ended),
                 Err(Unmoved::NoRoom) => {
                     self.tidy();
-                    self.grow(open).map_err(|_| KeyError::NoMemory)?;
+                    self.grow(grown).map_err(|_| KeyError::NoMemory)?;
                 }
             }
         }
@@ -443,16 +518,21 @@ impl<T> Shared<T> {
     /// Takes a live entry out.
     pub fn remove(&self, key: &Key) -> Result<Removed<T>, KeyError> {
         self.own(key)?;
-        let removed = self.at_entry(key, |shard, entry| shard.attended.remove(entry).0);
-        let (at, removed) = removed.map_err(|_| KeyError::Ended)?;
-        self.user_key(at, &removed.key);
-        self.front.waiting.fetch_sub(1, SeqCst);
+        let removed = self.at_entry(key, |shard, entry| {
+            Ok((shard.core_mut().remove(entry)?, shard.core().is_empty()))
+        });
+        let (at, (removed, is_last)) = removed.map_err(|_| KeyError::Ended)?;
+        self.key_of_user(self.key(at, &removed.key));
+        self.front.count_out();
+        if is_last && at > 0 {
+            self.shrink();
+        }
         Ok(removed)
     }
 
-    /// The key that the user has of an entry that has ended.
-    pub fn user_key(&self, at: usize, key: &ticks::Key) -> Key {
-        let place = self.key(at, key);
+    /// The key that the user has of an entry that has ended at a place.
+    #[inline]
+    pub fn key_of_user(&self, place: Key) -> Key {
         if self.moved.load(SeqCst) == 0 {
             return place;
         }
@@ -476,7 +556,7 @@ impl<T> Shared<T> {
         let segment = self.segment(place.segment()).ok_or(Unmoved::Ended)?;
         let at = segment.place_of(place.number());
         let mut source = segment.enter(at);
-        source.deadline(&place.entry()).0.map_err(|_| Unmoved::Ended)?;
+        source.core_mut().deadline(&place.entry()).map_err(|_| Unmoved::Ended)?;
         let key = moves.key(place);
         // From here on whoever doesn't find the entry at its place asks for where it was moved.
         self.moved.store(moves.len() + 1, SeqCst);
@@ -499,9 +579,9 @@ impl<T> Shared<T> {
         entry: &EntryId,
         tick: Option<u64>,
     ) -> Result<(Key, u64), Unmoved> {
-        let takes = |shard: &Locked<'_, T>| shard.has_room() && shard.aside() == 0;
+        let takes = |shard: &Locked<'_, T>| shard.has_room() && shard.core().aside() == 0;
         if takes(source) {
-            let removed = source.attended.remove(entry).0.map_err(|_| Unmoved::Ended)?;
+            let removed = source.core_mut().remove(entry).map_err(|_| Unmoved::Ended)?;
             return Ok(self.put(source, from.0, removed, tick));
         }
         for (at, segment) in self.segments() {
@@ -511,7 +591,7 @@ impl<T> Shared<T> {
                 }
                 let mut other = segment.enter(place);
                 if takes(&other) {
-                    let removed = source.attended.remove(entry).0.map_err(|_| Unmoved::Ended)?;
+                    let removed = source.core_mut().remove(entry).map_err(|_| Unmoved::Ended)?;
                     return Ok(self.put(&mut other, at, removed, tick));
                 }
             }
@@ -522,9 +602,10 @@ impl<T> Shared<T> {
     fn put(&self, shard: &mut Locked<'_, T>, at: usize, removed: Removed<T>, tick: Option<u64>) -> (Key, u64) {
         // An extend takes no lock: the deadline that counts is the one with which the entry was taken out.
         let tick = tick.unwrap_or(removed.deadline);
-        let key = shard.insert(removed.value, tick).0.map_err(|(error, _)| error);
-        shard.lower_hint(tick);
-        (self.key(at, &key.expect("a shard that has a free slot")), tick)
+        match shard.insert(removed.value, tick) {
+            Ok(key) => (self.key(at, &key), tick),
+            Err(_) => unreachable!("a shard that has a free slot"),
+        }
     }
 }
 
@@ -547,9 +628,9 @@ impl<T> Shared<T> {
 
     /// A bounded part of what is done where nothing is due: cancelled entries are freed, and worn shards renewed.
     pub fn use_quiet_moment(&self) {
-        let cancels = self.front.cancels.load(SeqCst);
+        let cancels = self.front.cancels();
         if self.swept.swap(cancels, SeqCst) != cancels {
-            let sweeps = |segment: &Segment<T>| segment.capacity / SWEPT + segment.rows.len();
+            let sweeps = |segment: &Segment<T>| segment.capacity() / SWEPT + segment.rows.len();
             let sweeps = self.segments().map(|(_, segment)| sweeps(segment)).sum();
             self.sweeps_left.store(sweeps, SeqCst);
         }
@@ -566,12 +647,16 @@ impl<T> Shared<T> {
     fn sweep_next(&self) {
         let shards: usize = self.segments().map(|(_, segment)| segment.rows.len()).sum();
         let mut place = self.sweep_at.load(SeqCst) % shards.max(1);
-        for (_, segment) in self.segments() {
+        for (at, segment) in self.segments() {
             if place < segment.rows.len() {
                 if segment.sweep(place, SWEPT) {
                     self.sweep_at.fetch_add(1, SeqCst);
                 }
-                return segment.drop_aside(place);
+                segment.drop_aside(place);
+                if at > 0 && segment.is_empty() && !segment.is_closed() {
+                    self.shrink();
+                }
+                return;
             }
             place -= segment.rows.len();
         }
@@ -591,10 +676,9 @@ impl<T> Shared<T> {
         let Some(_dropping) = Dropping::begin() else {
             return;
         };
-        if segment.is_renewed.swap(true, SeqCst) {
+        let Some(_claim) = segment.claim() else {
             return;
-        }
-        let _claim = Claim(segment);
+        };
         segment
             .renew_at
             .store(self.front.time.tick().saturating_add(RENEW_PAUSE), SeqCst);
@@ -615,18 +699,18 @@ impl<T> Shared<T> {
         for _ in 0..MOVED_AT_ONCE {
             let mut moves = self.moves();
             let mut shard = segment.enter(place);
-            let Some(key) = shard.peek() else {
+            let Some(key) = shard.core().peek() else {
                 return true;
             };
-            if shard.len() > shard.capacity() / 8 + 1 {
+            if shard.core().len() > shard.core().capacity() / 8 + 1 {
                 return false;
             }
-            match shard.deadline(&key.entry()).0 {
+            match shard.core_mut().deadline(&key.entry()) {
                 Ok(deadline) if deadline > now => drop(shard),
                 // It is due, and comes out without being moved.
                 Ok(_) => return false,
                 Err(_) => {
-                    let _ = shard.attended.reap(&key.entry()).0;
+                    let _ = shard.core_mut().reap_deferring(&key.entry());
                     continue;
                 }
             }
@@ -646,23 +730,36 @@ impl<T> Drop for Shared<T> {
     }
 }
 
-/// The renewal of a segment, which one thread makes at a time, until this is dropped.
-struct Claim<'s, T>(&'s Segment<T>);
-
-impl<T> Drop for Claim<'_, T> {
-    fn drop(&mut self) {
-        // Which shards have room is noted as their locks are let go, also after a value's drop that panicked.
-        (0..self.0.rows.len()).for_each(|place| drop(self.0.enter(place)));
-        self.0.is_renewed.store(false, SeqCst);
-    }
-}
-
 /// An entry that is counted though it isn't in.
-struct Counted<'a>(&'a AtomicUsize);
+struct Counted<'a>(Option<&'a Bound>);
 
 impl Drop for Counted<'_> {
     fn drop(&mut self) {
-        self.0.fetch_sub(1, SeqCst);
+        if let Some(bound) = self.0 {
+            bound.uncount();
+        }
+    }
+}
+
+/// Where there was room, and how often it is tried there before it is looked for anew: the first segments are to be full
+/// before others are filled.
+struct Room {
+    left: u8,
+    at: usize,
+    place: usize,
+}
+
+impl Room {
+    fn of(packed: u64) -> Room {
+        Room {
+            left: packed as u8,
+            at: (packed >> 16) as u8 as usize,
+            place: (packed >> 8) as u8 as usize,
+        }
+    }
+
+    fn packed(&self) -> u64 {
+        (self.at as u64) << 16 | (self.place as u64) << 8 | u64::from(self.left)
     }
 }
 

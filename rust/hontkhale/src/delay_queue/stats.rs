@@ -48,22 +48,21 @@ impl<T> Segment<T> {
     /// The tick by which the first entry of the shard at a place is filed. No deadline of a live one is before it.
     fn first_filed(&self, place: usize) -> Option<u64> {
         let shard = self.enter(place);
-        shard.attended.core.filed(&shard.peek()?.entry())
+        shard.core().filed(&shard.core().peek()?.entry())
     }
 
     /// How many cancelled entries were freed, but for those whose values are set aside.
     fn reaped(&self) -> u64 {
         let reaped = |place| {
             let shard = self.enter(place);
-            let tally = shard.tally();
-            tally.past.cancelled + tally.present.cancelled - shard.aside() as u64
+            shard.reaped() - shard.core().aside() as u64
         };
         (0..self.rows.len()).map(reaped).sum()
     }
 
     fn memory(&self) -> usize {
         let slot = size_of::<(u32, u32, Option<T>)>() + SLOT_BYTES;
-        self.rows.len() * SHARD_BYTES + self.capacity * slot
+        self.rows.len() * SHARD_BYTES + self.capacity() * slot
     }
 }
 
@@ -83,9 +82,9 @@ impl<T> Shared<T> {
     }
 
     pub fn stats(&self) -> Stats {
-        let waiting = self.front.waiting.load(SeqCst);
+        let waiting = self.waiting();
         let reaped: u64 = self.segments().map(|(_, segment)| segment.reaped()).sum();
-        let cancels = self.front.cancels.load(SeqCst);
+        let cancels = self.front.cancels();
         let now = self.front.time.tick();
         let late = self.first_filed_before(now).map_or(0, |first| now - first);
         Stats {

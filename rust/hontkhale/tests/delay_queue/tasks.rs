@@ -2,6 +2,7 @@
 
 use hontkhale::delay_queue::{AsyncReceiver, Expired, ManualClock};
 use hontkhale::DelayQueue;
+use std::panic::{catch_unwind, AssertUnwindSafe};
 use std::sync::atomic::{AtomicUsize, Ordering::SeqCst};
 use std::sync::Arc;
 use std::task::{Context, Poll, RawWaker, RawWakerVTable, Wake, Waker};
@@ -157,6 +158,29 @@ fn tasks_and_threads_receive_all_that_others_put_in() {
             .collect()
     });
     assert_eq!(sums.iter().sum::<u64>(), 3 * EACH);
+}
+
+struct Panics;
+
+impl Wake for Panics {
+    fn wake(self: Arc<Self>) {
+        panic!("a waker that panics");
+    }
+}
+
+#[test]
+fn a_waker_that_panics_keeps_no_other_task_asleep() {
+    let calls: [fn(&DelayQueue<u64>); 2] = [|queue| _ = queue.insert(1, SECOND), DelayQueue::close];
+    for call in calls {
+        let queue = DelayQueue::new();
+        let wakes = Arc::<Wakes>::default();
+        let (mut one, mut other) = (queue.receiver(), queue.receiver());
+        let panics = Waker::from(Arc::new(Panics));
+        assert!(one.poll_recv(&mut Context::from_waker(&panics)).is_pending());
+        assert!(poll(&mut other, &wakes).is_pending());
+        assert!(catch_unwind(AssertUnwindSafe(|| call(&queue))).is_err());
+        assert_eq!(wakes.take(), 1);
+    }
 }
 
 /// A waker that calls the queue as it is cloned, dropped and called.

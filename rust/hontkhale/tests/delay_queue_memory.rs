@@ -1,0 +1,253 @@
+//! What a `DelayQueue` takes of memory, and gives back: counted by the allocator of this program, in which one test runs at a
+//! time.
+
+use hontkhale::delay_queue::{InsertErrorKind, Key, KeyError, ManualClock};
+use hontkhale::DelayQueue;
+use std::alloc::{GlobalAlloc, Layout, System};
+use std::cell::Cell;
+use std::sync::atomic::{AtomicIsize, Ordering::SeqCst};
+use std::sync::mpsc::channel;
+use std::sync::{Barrier, Mutex, MutexGuard, PoisonError};
+use std::thread;
+use std::time::Duration;
+
+const MILLION: usize = 1_000_000;
+const FAR: Duration = Duration::from_secs(100_000);
+
+/// std's `Arc` can't be refused memory: of a row of words it takes so many bytes at the most.
+const OF_AN_ARC: usize = 40;
+
+static USED: AtomicIsize = AtomicIsize::new(0);
+static ONE: Mutex<()> = Mutex::new(());
+
+thread_local! {
+    /// How many allocations of this thread are granted before one is refused; none where all are.
+    static GRANTS: Cell<Option<u64>> = const { Cell::new(None) };
+}
+
+struct Counting;
+
+#[global_allocator]
+static COUNTING: Counting = Counting;
+
+fn is_granted(size: usize) -> bool {
+    if size <= OF_AN_ARC {
+        return true;
+    }
+    GRANTS.with(|grants| {
+        let left = grants.get();
+        grants.set(left.and_then(|left| left.checked_sub(1)));
+        left != Some(0)
+    })
+}
+
+// SAFETY: each call goes to the system's allocator, or answers that there is no memory.
+unsafe impl GlobalAlloc for Counting {
+    unsafe fn alloc(&self, layout: Layout) -> *mut u8 {
+        if !is_granted(layout.size()) {
+            return std::ptr::null_mut();
+        }
+        USED.fetch_add(layout.size() as isize, SeqCst);
+        // SAFETY: as the caller says.
+        unsafe { System.alloc(layout) }
+    }
+
+    unsafe fn dealloc(&self, ptr: *mut u8, layout: Layout) {
+        USED.fetch_sub(layout.size() as isize, SeqCst);
+        // SAFETY: as the caller says.
+        unsafe { System.dealloc(ptr, layout) }
+    }
+}
+
+/// The test that runs has the count for itself.
+fn alone() -> MutexGuard<'static, ()> {
+    ONE.lock().unwrap_or_else(PoisonError::into_inner)
+}
+
+fn used() -> isize {
+    USED.load(SeqCst)
+}
+
+/// How many bytes there are more than before, once a queue has a million entries, and once `ends` ended them.
+fn taken_and_left(ends: impl FnOnce(&DelayQueue<u64>, &ManualClock, &[Key])) -> (isize, isize) {
+    let clock = ManualClock::new();
+    let mut keys: Vec<Key> = Vec::with_capacity(MILLION);
+    let before = used();
+    let queue = DelayQueue::builder().clock(&clock).shards(4).build();
+    keys.extend((0..MILLION as u64).map(|number| queue.insert(number, FAR).expect("room")));
+    // So that this thread has handles, whose words are the queue's.
+    keys.iter()
+        .step_by(1_000)
+        .for_each(|key| assert!(queue.extend(key, FAR).is_ok()));
+    let taken = used() - before;
+    ends(&queue, &clock, &keys);
+    assert!(queue.is_empty() && queue.try_recv().is_none());
+    let left = used() - before;
+    assert!((0..2 * MILLION as u64)
+        .step_by(1_000)
+        .all(|number| queue.insert(number, FAR).is_ok()));
+    (taken, left)
+}
+
+fn at_most_a_tenth_is_left(name: &str, ends: impl FnOnce(&DelayQueue<u64>, &ManualClock, &[Key])) {
+    let _alone = alone();
+    let (taken, left) = taken_and_left(ends);
+    println!(
+        "{name}: {} bytes an entry, {} of a value; {left} bytes of {taken} stay",
+        taken / MILLION as isize,
+        8
+    );
+    assert!(taken <= (64 + 8) * MILLION as isize, "{taken}");
+    assert!(left <= taken / 10, "{left} of {taken}");
+}
+
+#[test]
+fn after_a_million_entries_were_removed_at_most_a_tenth_stays() {
+    at_most_a_tenth_is_left("removed", |queue, _, keys| {
+        keys.iter().for_each(|key| assert!(queue.remove(key).is_ok()));
+    });
+}
+
+#[test]
+fn after_a_million_entries_came_out_at_most_a_tenth_stays() {
+    at_most_a_tenth_is_left("came out", |queue, clock, _| {
+        clock.advance(FAR);
+        let mut row = Vec::with_capacity(64);
+        while !queue.is_empty() {
+            queue.recv_many(&mut row, 64);
+            row.clear();
+        }
+    });
+}
+
+#[test]
+fn after_a_million_entries_were_drained_at_most_a_tenth_stays() {
+    at_most_a_tenth_is_left("cleared", |queue, _, _| assert_eq!(queue.clear(), MILLION));
+}
+
+#[test]
+fn after_a_million_entries_were_cancelled_at_most_a_tenth_stays() {
+    at_most_a_tenth_is_left("cancelled", |queue, _, keys| {
+        keys.iter().for_each(|key| assert!(queue.cancel(key).is_ok()));
+        while queue.stats().cancelled > 0 {
+            assert!(queue.try_recv().is_none());
+        }
+    });
+}
+
+/// An entry that stays good while the memory around it goes and comes again.
+#[test]
+fn keys_stay_good_and_stale_ones_are_refused_as_segments_go_and_come() {
+    let _alone = alone();
+    let queue = DelayQueue::builder().shards(2).build();
+    let stays = queue.insert(0, FAR).expect("room");
+    let mut before: Vec<Key> = Vec::new();
+    for round in 1..20_u64 {
+        let keys: Vec<Key> = (0..5_000).map(|_| queue.insert(round, FAR).expect("room")).collect();
+        assert!(keys.iter().all(|key| queue.extend(key, FAR).is_ok()));
+        assert!(before
+            .iter()
+            .all(|key| queue.extend(key, FAR).is_err() && queue.remove(key).is_err()));
+        let small = queue.stats().memory;
+        assert!(keys.iter().all(|key| queue.remove(key) == Ok(round)));
+        assert!(queue.stats().memory < small);
+        assert!(queue.extend(&stays, FAR).is_ok() && queue.len() == 1);
+        before = keys;
+    }
+}
+
+/// No entry is lost, and none is taken for another, where threads fill the queue and empty it all the time.
+#[test]
+fn segments_go_and_come_under_eight_threads() {
+    let _alone = alone();
+    let queue = DelayQueue::builder().shards(4).build();
+    let barrier = Barrier::new(8);
+    let works = |thread: u64| {
+        let mut stale: Vec<Key> = Vec::new();
+        for round in 0..40 {
+            let numbers = (0..500).map(|number| (thread * 40 + round) * 500 + number);
+            let keys: Vec<(u64, Key)> = numbers
+                .map(|number| (number, queue.insert(number, FAR).expect("room")))
+                .collect();
+            assert!(keys.iter().all(|(_, key)| queue.extend(key, FAR).is_ok()));
+            assert!(stale.iter().all(|key| queue.deadline(key) == Err(KeyError::Ended)));
+            // In some rounds all empty it at once.
+            if round % 4 == 0 {
+                barrier.wait();
+            }
+            assert!(keys.iter().all(|(number, key)| queue.remove(key) == Ok(*number)));
+            assert!(queue.try_recv().is_none());
+            stale = keys.into_iter().map(|(_, key)| key).collect();
+        }
+    };
+    let works = &works;
+    thread::scope(|scope| (0..8).for_each(|thread| drop(scope.spawn(move || works(thread)))));
+    assert!(queue.is_empty() && queue.stats().memory < 300_000, "{}", queue.stats());
+}
+
+/// A thread that goes on with another queue lets the words of one that was dropped go.
+#[test]
+fn words_of_a_dropped_queue_go_with_a_threads_next_call() {
+    let _alone = alone();
+    let (queue, other) = (DelayQueue::builder().shards(2).build(), DelayQueue::new());
+    let keys: Vec<Key> = (0..100_000_u64)
+        .map(|number| queue.insert(number, FAR).expect("room"))
+        .collect();
+    let others = other.insert(1, FAR).expect("room");
+    let (asks, asked) = channel::<()>();
+    let (tells, told) = channel::<()>();
+    let (handle, other_handle) = (queue.handle(), other.handle());
+    let thread = thread::spawn(move || {
+        keys.iter().for_each(|key| assert!(handle.extend(key, FAR).is_ok()));
+        other_handle.extend(&others, FAR).expect("it waits");
+        tells.send(()).unwrap();
+        asked.recv().unwrap();
+        other_handle.extend(&others, FAR).expect("it waits");
+        tells.send(()).unwrap();
+        asked.recv().unwrap();
+    });
+    told.recv().unwrap();
+    drop(queue);
+    let kept = used();
+    asks.send(()).unwrap();
+    told.recv().unwrap();
+    let freed = kept - used();
+    asks.send(()).unwrap();
+    thread.join().unwrap();
+    // A word is of eight bytes.
+    assert!(freed >= 8 * 100_000, "{freed} bytes");
+}
+
+/// Each allocation of an insert is refused in turn, until none is left to refuse.
+#[test]
+fn a_refused_insert_gives_its_value_back_and_changes_nothing() {
+    let _alone = alone();
+    let mut refusals = 0;
+    // In an empty queue, and in one in which each slot is taken.
+    for before in [0_usize, 128] {
+        for grants in 0.. {
+            let queue = DelayQueue::builder().shards(2).build();
+            assert!((0..before).all(|_| queue.insert(Box::new(0), FAR).is_ok()));
+            let (value, memory) = (Box::new(7), queue.stats().memory);
+            GRANTS.with(|left| left.set(Some(grants)));
+            let inserted = queue.insert(value, FAR);
+            let is_done = GRANTS.with(Cell::take).is_some();
+            match inserted {
+                Ok(_) => assert!(is_done, "a refusal of memory isn't told"),
+                Err(refused) => {
+                    assert_eq!(
+                        (refused.kind(), queue.stats().memory),
+                        (InsertErrorKind::NoMemory, memory)
+                    );
+                    assert_eq!((queue.len(), *refused.into_inner()), (before, 7));
+                    assert!(queue.insert(Box::new(8), FAR).is_ok());
+                    refusals += 1;
+                }
+            }
+            if is_done {
+                break;
+            }
+        }
+    }
+    assert!(refusals > 20, "{refusals}");
+}
