@@ -306,8 +306,9 @@ def old_snapshot(it):
     with held(it, "SET TRANSACTION ISOLATION LEVEL REPEATABLE READ", "SELECT count(*) FROM jobs"):
         it.jobs("enqueue", "150000")
         wait_for(lambda: done(it) == 150000, 120, every=0.5)
-        # What was due within two seconds is read again, and a session tells some seconds later what it has read.
-        time.sleep(10)
+        # What was due within two seconds is read again, and a session tells at most once a second what it has read. A
+        # longer wait would hide readings that notifications of jobs that are over still ask for, one after another.
+        time.sleep(4)
         it.sql("SELECT pg_stat_reset()")
         buffers = (
             "SELECT sum(idx_blks_hit + idx_blks_read) FROM pg_statio_user_indexes WHERE indexrelname = 'jobs_waiting'"

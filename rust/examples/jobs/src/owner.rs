@@ -268,6 +268,15 @@ impl Owner<'_> {
                 }
             }
         }
+        // The next reading answers whatever was told before it. Each notice that stays would ask for one more: where
+        // readings are slow, they would go on long after the last job. A flood doesn't put the next one off.
+        let until = Instant::now() + READ_AFTER;
+        while let Ok(notice) = told.try_recv() {
+            self.file(&notice);
+            if Instant::now() > until {
+                return;
+            }
+        }
     }
 
     /// Files the jobs of a notification. False where it asks to read the table.
