@@ -19,7 +19,8 @@ use std::collections::HashMap;
 use std::hash::{BuildHasher, BuildHasherDefault, FoldHasher, Hash};
 use std::marker::Model;
 
-/// Values by keys, each seen until its deadline. Ticks are of one millisecond and are handed in: no clock is read.
+/// A cache of one owner, in which each value has a deadline: it is *seen* until then. Ticks are of one millisecond,
+/// and the owner passes them in: the cache reads no clock.
 ///
 /// ```
 /// use hontkhale::cache::TtlCache;
@@ -31,12 +32,12 @@ use std::marker::Model;
 /// assert_eq!(cache.purge(1_500), Ok(1));
 /// ```
 ///
-/// The cache keeps a moment, at first 0; a call at `now` is made at the greater of `now` and the moment. What is due
-/// stays until a put or a purge drops it, but isn't seen.
+/// The cache keeps a *moment*, at first 0: the greatest tick of a put, a renewal or a purge. A call at an earlier
+/// tick is made at the moment. A value that is due isn't seen, but is kept until a put or a purge drops it.
 ///
-/// A slot has a stamp for each put and each renewal, and is worn at its last one. [`TtlCache::set`] and
-/// [`TtlCache::touch`] begin the stamps again where they are at their end, so a cache that is only changed by them
-/// runs for years. They take memory then; else only `new` and a put do.
+/// A slot has a stamp for each put and each renewal, and is *worn* at its last one. [`TtlCache::set`] and
+/// [`TtlCache::touch`] begin the stamps again when a slot has none left, so a cache that is changed only by them runs
+/// for years. They take memory then. Else only a new cache and a put take memory.
 #[derive(Drop)]
 pub struct TtlCache<
     K: Eq + Hash,
@@ -159,8 +160,8 @@ impl<K: Eq + Hash + Drop, V: Drop, A: Allocator, S: BuildHasher> TtlCache<K, V, 
         self.timers.law();
     }
 
-    /// The moment, at first 0: the greatest tick of a put, a renewal or a purge. A call at an earlier tick is made at
-    /// the moment.
+    /// Returns the moment, a tick of one millisecond, at first 0: the greatest tick of a put, a renewal or a purge. A
+    /// call at an earlier tick is made at the moment.
     pub fn moment(&self) -> u64
         ensures value { result ≡ self.now.moment }
         ensures tick { result ≤ LAST_TICK }
@@ -168,7 +169,7 @@ impl<K: Eq + Hash + Drop, V: Drop, A: Allocator, S: BuildHasher> TtlCache<K, V, 
         self.moment
     }
 
-    /// How many keys are kept, seen or due.
+    /// Returns how many keys are kept, seen or due.
     pub fn len(&self) -> usize
         ensures { result ≡ kept_count self.now }
     {
@@ -183,7 +184,7 @@ impl<K: Eq + Hash + Drop, V: Drop, A: Allocator, S: BuildHasher> TtlCache<K, V, 
         self.len() == 0
     }
 
-    /// How many keys may be kept at once, while no slot is worn.
+    /// Returns how many keys may be kept at once while no slot is worn.
     pub fn capacity(&self) -> usize
         ensures { result ≡ length self.now.slots }
     {
@@ -191,7 +192,8 @@ impl<K: Eq + Hash + Drop, V: Drop, A: Allocator, S: BuildHasher> TtlCache<K, V, 
         self.timers.capacity()
     }
 
-    /// How many slots hold no key and have no stamp left: so many keys fewer may be kept at once, until a refresh.
+    /// Returns how many slots hold no key and have no stamp left. So many keys fewer may be kept at once, until a
+    /// refresh.
     pub fn worn(&self) -> usize
         ensures { result ≡ count_by (is_used_up self.now.last_stamp) self.now.slots }
     {
@@ -221,8 +223,8 @@ impl<K: Eq + Hash + Drop, V: Drop, A: Allocator, S: BuildHasher> TtlCache<K, V, 
         self.get(key, now).is_some()
     }
 
-    /// What is seen at `now`: each key with its value, once, in no order that is promised. It goes over all that is
-    /// kept.
+    /// Returns what is seen at `now`, a tick of one millisecond: each key with its value, once, in no promised order.
+    /// It goes over all keys that are kept.
     pub fn seen(&self, now: u64) -> Seen<'_, K, V>
         ensures all { IsAllSeen K.eq self.now now result }
         ensures few { length result ≤ CAPACITY_LIMIT }
@@ -234,9 +236,11 @@ impl<K: Eq + Hash + Drop, V: Drop, A: Allocator, S: BuildHasher> TtlCache<K, V, 
         }
     }
 
-    /// The least deadline of what is kept, seen or due: before it a purge has nothing to drop. None where nothing is
-    /// kept. Time as the keys whose deadlines share the first one's slot of the wheel; as all that is kept, where the
-    /// first deadline is more than two years ahead.
+    /// Returns the least deadline of what is kept, seen or due, a tick of one millisecond. Before it a purge has
+    /// nothing to drop. It returns none if nothing is kept.
+    ///
+    /// It takes time in proportion to the keys whose deadlines share the first one's slot of the wheel. If the first
+    /// deadline is more than two years ahead, it goes over all keys that are kept.
     pub fn next_deadline(&self) -> Option<u64>
         ensures { TellsNextDeadline self.now result }
     {
@@ -247,13 +251,13 @@ impl<K: Eq + Hash + Drop, V: Drop, A: Allocator, S: BuildHasher> TtlCache<K, V, 
         }
     }
 
-    /// A tick to purge at next: before it nothing that is kept is due. None where nothing is kept. Constant time,
-    /// however many deadlines there are.
+    /// Returns a tick, of one millisecond, at which to purge next: before it nothing that is kept is due. It returns
+    /// none if nothing is kept. Constant time, however many deadlines there are.
     ///
-    /// It isn't after the least deadline, but may lie before it: then a purge there drops nothing, and the next wake
-    /// after that purge is nearer. Whoever purges at each wake purges at most six times for one deadline less than
-    /// two years ahead. It may lie before the moment where the moment was set by a renewal, or where the cache was
-    /// refreshed.
+    /// The tick isn't after the least deadline, but may be before it. A purge drops nothing then, and the next wake
+    /// after it is nearer to the deadline. Whoever purges at each wake purges at most six times for one deadline that
+    /// is less than two years ahead. The tick may be before the moment if a renewal set the moment, or if the cache
+    /// was refreshed.
     pub fn next_wake(&self) -> Option<u64>
         ensures tells { TellsNextWake self.now result }
 

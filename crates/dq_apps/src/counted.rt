@@ -8,7 +8,7 @@ use crate::memo::MemoAnswer;
 use std::alloc::{Allocator, Global};
 use std::hash::{BuildHasher, BuildHasherDefault, FoldHasher, Hash};
 
-/// A cache whose look-ups are counted: as a hit where a value was seen, and else as a miss.
+/// A cache that counts its look-ups: a hit if a value was seen, and else a miss.
 ///
 /// ```
 /// use hontkhale::cache::{CountedCache, TtlCache};
@@ -19,7 +19,7 @@ use std::hash::{BuildHasher, BuildHasherDefault, FoldHasher, Hash};
 /// assert_eq!((long, short, cache.hits(), cache.misses()), (1, 1, 1, 1));
 /// ```
 ///
-/// A count stays at the greatest `u64` where it came so far. What goes by the cache itself isn't counted.
+/// A count stops at the greatest `u64`. A look-up by the field `cache` isn't counted.
 #[derive(Drop)]
 pub struct CountedCache<
     K: Eq + Hash,
@@ -34,7 +34,7 @@ pub struct CountedCache<
 }
 
 impl<K: Eq + Hash, V, A: Allocator, S: BuildHasher> CountedCache<K, V, A, S> {
-    /// A cache of which no look-up was counted yet.
+    /// Makes a counted cache of `cache`, of which no look-up was counted yet.
     pub fn new(cache: TtlCache<K, V, A, S>) -> CountedCache<K, V, A, S>
         ensures cache { result.cache ≡ cache }
         ensures hits { result.hits ≡ 0 }
@@ -47,14 +47,14 @@ impl<K: Eq + Hash, V, A: Allocator, S: BuildHasher> CountedCache<K, V, A, S> {
         }
     }
 
-    /// How many look-ups saw a value, at most the greatest `u64`.
+    /// Returns how many look-ups saw a value, at most the greatest `u64`.
     pub fn hits(&self) -> u64
         ensures { result ≡ self.now.hits }
     {
         self.hits
     }
 
-    /// How many look-ups saw none, at most the greatest `u64`.
+    /// Returns how many look-ups saw no value, at most the greatest `u64`.
     pub fn misses(&self) -> u64
         ensures { result ≡ self.now.misses }
     {

@@ -18,8 +18,8 @@ use std::alloc::{AllocError, Allocator, Global};
 use std::marker::Model;
 use std::sync::Wait;
 
-/// Sessions, each of which ends when nobody touched it for a time. Ticks are of one millisecond and are handed in: no clock
-/// is read.
+/// Sessions of many threads, each of which ends when nobody touched it for a time. Ticks are of one millisecond, and
+/// the program passes them in: no clock is read.
 ///
 /// ```
 /// use hontkhale::owner::Turn;
@@ -135,7 +135,7 @@ impl<A: Allocator + Clone + Drop> IdleSessions<A> {
 }
 
 impl<A: Allocator> IdleSessions<A> {
-    /// The number of shards.
+    /// Returns the number of shards.
     pub fn shards(&self) -> usize
         ensures value { result ≡ self.now.shards }
         ensures range { (0 < result) × (result ≤ SHARD_LIMIT) }
@@ -143,7 +143,7 @@ impl<A: Allocator> IdleSessions<A> {
         self.queue.shards()
     }
 
-    /// For how many ticks a session may be idle.
+    /// Returns for how many ticks of one millisecond a session may be idle.
     pub fn idle(&self) -> u64
         ensures { result ≡ self.now.idle }
     {
@@ -167,7 +167,7 @@ impl<A: Allocator> IdleSessions<A> {
     /// # Errors
     /// In this order:
     /// - `TooFar` if the deadline is beyond the last tick.
-    /// - `Unknown` if no slot has the key.
+    /// - `Unknown` if no slot has the key, or if there is no such shard.
     /// - `Stale` if the slot has had a later session, or the session a later key.
     /// - `Ended` if the session expired or was logged out; it says how.
     ///
@@ -203,7 +203,7 @@ impl<A: Allocator> IdleSessions<A> {
     ///
     /// # Errors
     /// In this order:
-    /// - `Unknown` if no slot has the key.
+    /// - `Unknown` if no slot has the key, or if there is no such shard.
     /// - `Stale` if the slot has had a later session, or the session a later key.
     /// - `Ended` if the session expired or was logged out; it says how.
     ///
@@ -227,7 +227,7 @@ impl<A: Allocator> IdleSessions<A> {
 
 impl<A: Allocator + Drop> IdleSessions<A> {
     /// Takes a session out of `shard` that was idle for long enough at `now`, a tick of one millisecond. Call it
-    /// until it returns something else than `Out`:
+    /// again while it returns `Out`. It returns:
     /// - `Out` has the session's key, its deadline and its name.
     /// - `Waiting` if no session has ended: the shard has nothing to do before the tick `next`.
     /// - `Idle` if the shard has no session.
@@ -271,7 +271,7 @@ impl<A: Allocator + Drop> IdleSessions<A> {
         self.queue.poll(rt, shard, now)
     }
 
-    /// The queue itself, with each session an entry of its name, for an audit.
+    /// Returns the queue under the sessions, in which each session is an entry of its name. An audit takes it.
     pub fn into_queue(self) -> SharedDelayQueue<Name<A>, A>
         ensures { result ≡ self.shards }
     {

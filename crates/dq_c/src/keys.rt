@@ -105,7 +105,7 @@ impl DqRemoved {
 #[repr(C)]
 #[derive(Clone, Copy)]
 pub struct DqTally {
-    /// As of [`Tally`], like each number below.
+    /// Inserts. Each number is the one of that name in a [`Tally`].
     pub inserted: u64,
     pub expired: u64,
     pub removed: u64,

@@ -30,7 +30,10 @@ impl<T, W: SharedWords, A: Allocator> DelayCore<T, W, A> {
         self.words.out()
     }
 
-    /// The accepted cancels of all callers, where none is out; else the number of callers that are out.
+    /// Returns the number of cancels by all callers that were accepted.
+    ///
+    /// # Errors
+    /// The number of callers that are out, if some aren't given back.
     pub fn returned(&mut self) -> Result<u64, u64>
         ensures returned { W.returns self.old.words result self.new.words }
         ensures same { self.new ≡ with_words self.old self.new.words }

@@ -54,8 +54,8 @@ impl<T, W: Words, A: Allocator> DelayCore<T, W, A> {
     ghost use Rattle.dq_core.specs.AtTheCall.{HoldsValue};
     ghost use Rattle.dq_core.specs.Calls.{IsMissing};
 
-    /// The value of an entry; none where no entry is linked with that shard, index and birth stamp. One that a caller
-    /// cancelled has its value until it is reaped. Constant time.
+    /// Returns the value of an entry. It returns none if the entry isn't in the queue any more, or never was. A
+    /// cancelled entry has its value until it is freed. Constant time.
     pub fn get(&self, entry: &EntryId) -> Option<&T>
         ensures { MatchOption result (IsMissing self.now entry.now)
             (λ v. HoldsValue self.now entry.now v.now) }
@@ -95,8 +95,9 @@ impl<T, A: Allocator> DelayCore<T, VecWords<A>, A> {
         })
     }
 
-    /// The live entries, one after the other, by their slots: each with its key, its deadline in force and its value.
-    /// A step looks at slots until it finds a live entry, so all of them take as much time as there are slots.
+    /// Returns the live entries, one after the other, in the order of their slots: each with its key, its deadline
+    /// and its value. A step looks at slots until it finds a live entry, so all steps together take time in
+    /// proportion to the slots.
     pub fn entries(&self) -> Entries<'_, T, A>
         // All live entries are left to be given.
         ensures lists { result ≡ live_entries self.now }

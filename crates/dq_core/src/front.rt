@@ -13,7 +13,7 @@ use dq_ticks::{CAPACITY_LIMIT, Key, LAST_STAMP};
 use std::alloc::Allocator;
 
 impl CoreConfig {
-    /// Shard 0, with that many slots, each of which may be used until the last stamp there is.
+    /// Shard 0 with `capacity` slots, and the most stamps a slot, 1,048,575.
     pub fn of(capacity: usize) -> CoreConfig
         ensures { result ≡ config_of capacity }
     {
@@ -24,8 +24,8 @@ impl CoreConfig {
         }
     }
 
-    /// Whether a queue can be made by these numbers. A `BadConfig` tells no number, so ask here first where the
-    /// numbers come from outside.
+    /// Whether a queue can be made by these numbers. `BadConfig` doesn't tell which number is bad, so call this first
+    /// if the numbers come from outside.
     ///
     /// # Errors
     /// The first number that is out of its range: the capacity, and then the last stamp.

@@ -9,9 +9,9 @@ use dq_ticks::Key;
 pub struct Expired<T> {
     /// Its key of the present stamp.
     pub key: Key,
-    /// Its deadline in force.
+    /// Its deadline, a tick of one millisecond.
     pub deadline: u64,
-    /// The greatest tick that was noted, which the deadline is not after.
+    /// The greatest tick of one millisecond that was noted. The deadline isn't after it.
     pub noted: u64,
     /// Its value.
     pub value: T,
@@ -23,16 +23,16 @@ pub struct Expired<T> {
 pub struct Swept {
     /// How many cancelled entries it reaped.
     pub reaped: usize,
-    /// The slot to go on from, none behind the last.
+    /// The slot to go on from, none after the last.
     pub next: Option<usize>,
 }
 
-/// An entry that was removed.
+/// An entry that was taken out by a removal.
 #[derive(Debug, Drop)]
 pub struct Removed<T> {
     /// Its key of the present stamp.
     pub key: Key,
-    /// The deadline that was in force.
+    /// The deadline that it had, a tick of one millisecond.
     pub deadline: u64,
     /// Its value.
     pub value: T,
@@ -41,9 +41,9 @@ pub struct Removed<T> {
 /// What a poll returns.
 #[derive(Debug, Drop)]
 pub enum Turn<T> {
-    /// An entry whose deadline in force is reached.
+    /// An entry whose deadline is reached.
     Out(Expired<T>),
-    /// None is due: there is nothing to do before the tick `next`.
+    /// No live entry is due: there is nothing to do before the tick `next`.
     Waiting {
         /// The next wake of the wheel, a tick of one millisecond.
         next: u64,
@@ -94,6 +94,6 @@ pub struct Tally {
     pub cancelled: u64,
     /// Entries that are linked.
     pub linked: u64,
-    /// Moves from one level's slot to a lower level's slot, or the greatest u64.
+    /// Moves from one level's slot to a lower level's slot, at most the greatest `u64`.
     pub moves: u64,
 }

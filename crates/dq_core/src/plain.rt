@@ -51,7 +51,8 @@ fn soonest<T>(entries: &[Pending<T>]) -> (usize, u64)
     (first, deadline)
 }
 
-/// The slow twin: a delay queue over a plain list, of one owner.
+/// A delay queue of one owner over a plain list, slow and short enough to be read. It is the twin to which the tests
+/// compare the wheel.
 ///
 /// ```
 /// use hontkhale::owner::{PlainQueue, PlainTurn};
@@ -85,8 +86,12 @@ impl<T, A: Allocator> Model for PlainQueue<T, A> {
 impl<T, A: Allocator> PlainQueue<T, A> {
     ghost use Rattle.dq_core.specs.Plain.{IsPlain, PlainMakes, PlainInserts, PlainPolls};
 
-    /// An empty queue at tick 0; `BadConfig` for a capacity of 0 or beyond [`CAPACITY_LIMIT`], `NoMemory` where
-    /// memory is refused. No other call takes memory.
+    /// Makes an empty queue for `capacity` entries, at tick 0. No other call takes memory.
+    ///
+    /// # Errors
+    /// In this order:
+    /// - `BadConfig` if `capacity` is 0 or beyond [`CAPACITY_LIMIT`].
+    /// - `NoMemory` if memory is refused.
     pub fn new(alloc: A, capacity: usize) -> Result<PlainQueue<T, A>, CoreError>
         ensures { PlainMakes capacity result }
     {
@@ -145,9 +150,13 @@ impl<T, A: Allocator> PlainQueue<T, A> {
         self.noted
     }
 
-    /// Puts an entry in and answers its deadline, which is `when`, raised to the tick where it lies before it. It is
-    /// refused, and the value comes back, with `TooFar` for a deadline beyond the last tick, and else with `Full`
-    /// where no room is left.
+    /// Puts `value` in, to come out at the tick `when` of one millisecond, and returns its deadline: `when`, or the
+    /// queue's tick if `when` is before it.
+    ///
+    /// # Errors
+    /// `value` comes back. In this order:
+    /// - `TooFar` if `when` is beyond the last tick.
+    /// - `Full` if as many entries wait as the capacity.
     pub fn insert(&mut self, value: T, when: u64) -> Result<u64, (CoreError, T)>
         ensures { PlainInserts self.old value when result self.new }
     {
@@ -163,8 +172,11 @@ impl<T, A: Allocator> PlainQueue<T, A> {
         Ok(deadline)
     }
 
-    /// Notes a tick, and takes out an entry of least deadline where that deadline isn't after the noted tick. A tick
-    /// beyond the last one is refused with `TickTooLarge`, and isn't noted.
+    /// Notes `tick`, of one millisecond, and takes out an entry of least deadline if that deadline isn't after the
+    /// greatest tick noted. It looks at each entry.
+    ///
+    /// # Errors
+    /// `TickTooLarge` if `tick` is beyond the last tick. It isn't noted then.
     pub fn poll(&mut self, tick: u64) -> Result<PlainTurn<T>, CoreError>
         ensures { PlainPolls self.old tick result self.new }
     {

@@ -37,8 +37,8 @@ pub enum RenewError {
     WrongRows,
 }
 
-/// Words and slots that were never used, one of each, for [`DelayCore::renew_with`]. Their memory is taken where they
-/// are made: outside of the lock that a queue lies behind, say.
+/// Words and slots that were never used, one of each, for [`DelayCore::renew_with`]. Their memory is taken when they
+/// are made: before the lock is taken that a queue is behind, say.
 #[derive(Drop)]
 pub struct FreshRows<T, W: Words, A: Allocator = Global> {
     words: W,
@@ -67,11 +67,12 @@ impl<T, W: Words, A: Allocator> Model for FreshRows<T, W, A> {
 impl<T, W: Words + Drop, A: Allocator + Clone> FreshRows<T, W, A> {
     ghost use Rattle.dq_core.specs.Renewals.{MakesRows};
 
-    /// Those words, with a slot for each that has `last_stamp` stamps.
+    /// Pairs `words` with a slot for each, which has `last_stamp` stamps. It takes memory for the slots.
     ///
     /// # Errors
-    /// BadConfig where the words aren't 1 to [`CAPACITY_LIMIT`] or the last stamp isn't 1 to [`LAST_STAMP`], and else
-    /// NoMemory. The words come back then.
+    /// The words come back. In this order:
+    /// - `BadConfig` if the words aren't 1 to [`CAPACITY_LIMIT`], or the last stamp isn't 1 to [`LAST_STAMP`].
+    /// - `NoMemory` if memory is refused.
     pub fn new(alloc: A, words: W, last_stamp: u32) -> Result<FreshRows<T, W, A>, (CoreError, W)>
         requires { AreFresh (W.known words) (W.counts words) }
         ensures { MakesRows words (W.known words) (W.counts words) last_stamp result }

@@ -130,7 +130,7 @@ impl<T: Drop, A: Allocator + Clone + Drop> LastingQueue<T, A> {
 }
 
 impl<T, A: Allocator> LastingQueue<T, A> {
-    /// The number of shards, from 2 to [`SHARD_LIMIT`].
+    /// Returns the number of shards, from 2 to [`SHARD_LIMIT`].
     pub fn shards(&self) -> usize
         ensures value { result ≡ self.now.shards }
         ensures range { (2 ≤ result) × (result ≤ SHARD_LIMIT) }
@@ -138,7 +138,7 @@ impl<T, A: Allocator> LastingQueue<T, A> {
         self.shards.len()
     }
 
-    /// The name that it was given where it was made. No other queue of the process has it.
+    /// Returns the name that the queue was given when it was made. No other queue of the process has it.
     pub fn name(&self) -> u64
         ensures { result ≡ self.now.name }
     {

@@ -151,7 +151,8 @@ impl<T, A: Allocator> LastingShard<T, A> {
         self.attended.core.worn()
     }
 
-    /// The next wake: the tick of one millisecond at which the queue has something to do, none where nothing is linked.
+    /// Returns the tick, of one millisecond, at which the queue has something to do next. It returns none if nothing
+    /// is linked.
     pub fn next_wake(&self) -> Option<u64>
         ensures { TellsWake self.now.core result }
     {
@@ -175,8 +176,8 @@ impl<T, A: Allocator> LastingShard<T, A> {
         self.attended.core.aside()
     }
 
-    /// A linked entry that is filed least, possibly a cancelled one; none where nothing is linked. No live entry has a
-    /// deadline before the tick by which that one is filed.
+    /// Returns the key of an entry that is scheduled first, possibly a cancelled one. It returns none if nothing is
+    /// linked. No live entry has a deadline before the tick at which that one is scheduled.
     pub fn peek(&self) -> Option<Key>
         ensures { TellsLeast self.now.core result }
     {

@@ -22,13 +22,14 @@ pub struct PlaceState {
     pub capacity: usize,
     /// The number of linked entries, live or cancelled and not yet reaped.
     pub linked: usize,
-    /// The number of worn slots, which hold nothing and have no stamp left. It is closed once they are half.
+    /// The number of worn slots, which hold nothing and have no stamp left. The shard is closed once half of its
+    /// slots are worn.
     pub worn: usize,
     /// The greatest tick of one millisecond that a poll of it accepted; at first 0.
     pub noted: u64,
-    /// The next wake: the tick of one millisecond at which it has something to do, none where nothing is linked. No
-    /// live entry has a deadline before it. The least deadline may be later, since an entry that is far ahead moves
-    /// to a lower level first, and one that was extended is found when it comes due.
+    /// The tick, of one millisecond, at which it has something to do next; none if it holds no entry. No live entry
+    /// has a deadline before that tick. The least deadline may be later: an entry that is far ahead moves to a lower
+    /// level first, and one that was extended is found when it comes due.
     pub next_wake: Option<u64>,
     /// How many entries came and went, in the present generation and in those before it.
     pub tally: LastingTally,

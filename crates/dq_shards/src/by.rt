@@ -217,11 +217,12 @@ impl<T: Drop, A: Allocator> ShardState<T, A> {
     }
 }
 
-/// Polls the shard behind the lock at a tick of one millisecond, as [`ShardState::poll`] does, and tells what the caller
-/// was promised of what comes out. Who has left is woken once the lock is free; values that were reaped stay set aside.
+/// Takes the shard's lock, notes `tick`, of one millisecond, and takes one entry out that is due. It tells what the
+/// caller was promised of what comes out. Who has left is woken once the lock is free; values that were reaped stay
+/// set aside.
 ///
 /// # Errors
-/// TickTooLarge beyond the last tick.
+/// `TickTooLarge` if `tick` is beyond the last tick.
 pub fn poll_by<T: Drop, J: Room, A: Allocator, R: Wait>(
     rt: &R,
     shard: &Mutex<NamedShard<T, J, A>>,
@@ -242,11 +243,13 @@ pub fn poll_by<T: Drop, J: Room, A: Allocator, R: Wait>(
     answer
 }
 
-/// Puts an entry into the shard behind the lock, as [`ShardState::insert`] does. Who has left is woken once the lock is
-/// free.
+/// Takes the shard's lock, puts `value` in, to come out at the tick `when` of one millisecond, and returns its key.
+/// Who has left is woken once the lock is free.
 ///
 /// # Errors
-/// TooFar beyond the last tick, and else Full where no slot is free. The value comes back.
+/// `value` comes back. In this order:
+/// - `TooFar` if `when` is beyond the last tick.
+/// - `Full` if no slot is free.
 pub fn insert<T: Drop, J: Room, A: Allocator, R: Wait>(
     rt: &R,
     shard: &Mutex<NamedShard<T, J, A>>,
@@ -262,8 +265,9 @@ pub fn insert<T: Drop, J: Room, A: Allocator, R: Wait>(
     answer
 }
 
-/// Extends an entry without the lock, and then polls by name. Where that entry comes out, its deadline isn't before the
-/// one asked for, whatever other threads did meanwhile. None where it was refused, or something else came out.
+/// Extends an entry without the lock, and then polls by name. If that entry comes out, its deadline isn't before the
+/// one asked for, whatever other threads did meanwhile. It returns none if the extend was refused, or another entry
+/// or none came out.
 pub fn extend_then_poll<T: Drop, J: Room, A: Allocator, R: Wait>(
     rt: &R,
     shard: &Mutex<NamedShard<T, J, A>>,

@@ -10,7 +10,7 @@ use futures::task::Waker;
 use std::alloc::Allocator;
 
 impl<T, A: Allocator> ShardState<T, A> {
-    /// The tick of one millisecond until which a poller is parked; none where none is.
+    /// Returns the tick, of one millisecond, until which a task is parked. It returns none if no task is parked.
     pub fn parked(&self) -> Option<u64>
         ensures { result ≡ option_map (λ p. p.next) self.now.parked }
     {
@@ -20,8 +20,11 @@ impl<T, A: Allocator> ShardState<T, A> {
         }
     }
 
-    /// Parks a poller until `next`, a tick of one millisecond that is not after the next wake: nobody may park where
-    /// nothing is linked. It takes the place of one that was parked before, which is not woken.
+    /// Parks a task until `next`, a tick of one millisecond that isn't after the next wake. A task that was parked
+    /// before is replaced, and isn't woken.
+    ///
+    /// # Panics
+    /// If `next` is after the next wake, or nothing is linked.
     pub fn park(&mut self, next: u64, waker: Waker)
         requires { IsParked self.old.core (Some (poller next waker)) }
         ensures { self.new ≡ record self.old { parked = Some (poller next waker) } }

@@ -78,7 +78,7 @@ pub(crate) fn is_config(config: &QueueConfig) -> bool
 }
 
 impl<T, A: Allocator> SharedDelayQueue<T, A> {
-    /// The number of shards, from 1 to [`SHARD_LIMIT`].
+    /// Returns the number of shards, from 1 to [`SHARD_LIMIT`].
     pub fn shards(&self) -> usize
         ensures value { result ≡ self.now }
         ensures range { (0 < result) × (result ≤ SHARD_LIMIT) }

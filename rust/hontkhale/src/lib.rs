@@ -1,6 +1,6 @@
-//! A delay queue on a hierarchical timing wheel: a value goes in with a deadline, and comes out once the deadline is reached.
-//! Any thread extends and cancels entries without a lock. The core is proved: the wheel, the queue of one owner, the words that
-//! threads share, and the shards.
+//! A delay queue on a hierarchical timing wheel: a value goes in with a deadline, and comes out once the deadline is
+//! reached. Any thread extends and cancels entries without a lock. The core is proved: the wheel, the queue of one
+//! owner, the words that threads share, and the shards.
 //!
 #![cfg_attr(feature = "std", doc = "```")]
 #![cfg_attr(not(feature = "std"), doc = "```ignore")]
@@ -22,9 +22,10 @@
 //!
 //! [`DelayQueue`] is the queue for most servers. It is written by hand over the queues below, and tested.
 //!
-//! The other queues count time in ticks of one millisecond. They read no clock: the program passes the tick in, from a [`Clock`]
-//! or from whatever it counts by. A queue takes its memory when it is made. Inserts, resets and removals take constant time, and
-//! no memory. A poll takes no memory either, and constant time for each entry that it moves or takes out.
+//! The other queues count time in ticks of one millisecond. They read no clock: the program passes the tick in, from a
+//! [`Clock`] or from whatever it counts by. A queue takes its memory when it is made. Inserts, resets and removals take
+//! constant time, and no memory. A poll takes no memory either, and constant time for each entry that it moves or takes
+//! out.
 //!
 //! # Which queue
 //!
@@ -37,18 +38,18 @@
 //! | the same, for years | [`LastingQueue`](lasting::LastingQueue), whose shards are renewed one by one | [`lasting`] |
 //! | whoever keeps values by indexes | [`Wheel`](wheel::Wheel), the timing wheel alone | [`wheel`] |
 //!
-//! [`streams`] give what expires to a task, a [`cache`] keeps values until their deadlines, and [`sessions`] end once nobody
-//! touches them. A stream has a call `poll_next` of its own, since the crate depends on no other; the crate hontkhale-streams
-//! makes a `Stream` of each, as `futures::stream::poll_fn(|cx| stream.poll_next(cx))` does.
+//! [`streams`] give what expires to a task, a [`cache`] keeps values until their deadlines, and [`sessions`] end once
+//! nobody touches them. A stream has a call `poll_next` of its own, since the crate depends on no other; the crate
+//! hontkhale-streams makes a `Stream` of each, as `futures::stream::poll_fn(|cx| stream.poll_next(cx))` does.
 //!
 //! If a call that takes a value is refused, its error is a pair that has the value; `?` makes a [`Refused`] of it.
 //!
 //! # What is proved
 //!
-//! All of these queues but [`DelayQueue`] are written in Rattle, which is Rust with contracts, and each of their functions is
-//! proved. This crate is that source with its contracts erased by a script. So the script and rustc are trusted, and so is the
-//! plain Rust by hand under the erased code, such as locks, memory and the shared words. The README has one function side by side,
-//! and what the script rewrites.
+//! All of these queues but [`DelayQueue`] are written in Rattle, which is Rust with contracts, and each of their
+//! functions is proved. This crate is that source with its contracts erased by a script. So the script and rustc are
+//! trusted, and so is the plain Rust by hand beside the erased code, which the README lists: the locks, memory and the
+//! shared words among it. The README has one function side by side, and what the script rewrites.
 //!
 //! [`DelayQueue`] shares proved shards among threads by code that is written by hand, and tested.
 //!
@@ -63,9 +64,9 @@
 //!
 //! # Memory and panics
 //!
-//! If memory is refused, a call returns `NoMemory`. There is one exception: a row of shared words takes an `Arc` of few bytes when
-//! it is made, and std aborts if that is refused. A panic doesn't poison a lock: whatever panics in a program's own code, a shard
-//! stays whole.
+//! If memory is refused, a call returns `NoMemory`. There is one exception: a row of shared words takes an `Arc` of few
+//! bytes when it is made, and std aborts if that is refused. A panic doesn't poison a lock: whatever panics in a
+//! program's own code, a shard stays whole.
 #![cfg_attr(not(feature = "std"), no_std, allow(rustdoc::broken_intra_doc_links))]
 #![cfg_attr(not(feature = "proved-bounds"), forbid(unsafe_code))]
 #![cfg_attr(feature = "proved-bounds", deny(unsafe_code))]
@@ -144,7 +145,8 @@ pub mod owner {
 
 #[cfg(feature = "std")]
 pub mod streams {
-    //! What expires in a shard, given to a task. A lasting queue has [streams](crate::lasting::LastingStream) too.
+    //! Streams of the entries that expire in a shard, for a task. A lasting queue has
+    //! [streams](crate::lasting::LastingStream) too.
 
     pub use crate::stream::{ExpiredStream, MillisecondTicks, PacedStream, StreamFault, TickSource};
 }

@@ -14,6 +14,8 @@ mod ends;
 mod growth;
 #[path = "delay_queue/keys.rs"]
 mod keys;
+#[path = "delay_queue/long.rs"]
+mod long;
 #[path = "delay_queue/model.rs"]
 mod model;
 #[path = "delay_queue/moves.rs"]

@@ -5,7 +5,7 @@ use crate::apps::memo::MemoAnswer;
 use core::hash::{BuildHasher, Hash};
 use std::collections::hash_map::RandomState;
 
-/// A cache whose look-ups are counted: as a hit where a value was seen, and else as a miss.
+/// A cache that counts its look-ups: a hit if a value was seen, and else a miss.
 ///
 /// ```
 /// use hontkhale::cache::{CountedCache, TtlCache};
@@ -16,7 +16,7 @@ use std::collections::hash_map::RandomState;
 /// assert_eq!((long, short, cache.hits(), cache.misses()), (1, 1, 1, 1));
 /// ```
 ///
-/// A count stays at the greatest `u64` where it came so far. What goes by the cache itself isn't counted.
+/// A count stops at the greatest `u64`. A look-up by the field `cache` isn't counted.
 pub struct CountedCache<K: Eq + Hash, V, S: BuildHasher = RandomState> {
     /// The cache.
     pub cache: TtlCache<K, V, S>,
@@ -25,7 +25,7 @@ pub struct CountedCache<K: Eq + Hash, V, S: BuildHasher = RandomState> {
 }
 
 impl<K: Eq + Hash, V, S: BuildHasher> CountedCache<K, V, S> {
-    /// A cache of which no look-up was counted yet.
+    /// Makes a counted cache of `cache`, of which no look-up was counted yet.
     pub fn new(cache: TtlCache<K, V, S>) -> CountedCache<K, V, S> {
         CountedCache {
             cache,
@@ -34,12 +34,12 @@ impl<K: Eq + Hash, V, S: BuildHasher> CountedCache<K, V, S> {
         }
     }
 
-    /// How many look-ups saw a value, at most the greatest `u64`.
+    /// Returns how many look-ups saw a value, at most the greatest `u64`.
     pub fn hits(&self) -> u64 {
         self.hits
     }
 
-    /// How many look-ups saw none, at most the greatest `u64`.
+    /// Returns how many look-ups saw no value, at most the greatest `u64`.
     pub fn misses(&self) -> u64 {
         self.misses
     }

@@ -6,8 +6,8 @@ use crate::memory::AllocError;
 use crate::shards::{Handle, QueueConfig, QueueError, SharedDelayQueue};
 use crate::ticks::{Key, LAST_TICK};
 
-/// Sessions, each of which ends when nobody touched it for a time. Ticks are of one millisecond and are handed in: no clock
-/// is read.
+/// Sessions of many threads, each of which ends when nobody touched it for a time. Ticks are of one millisecond, and
+/// the program passes them in: no clock is read.
 ///
 /// ```
 /// use hontkhale::owner::Turn;
@@ -88,12 +88,12 @@ impl IdleSessions {
 }
 
 impl IdleSessions {
-    /// The number of shards.
+    /// Returns the number of shards.
     pub fn shards(&self) -> usize {
         self.queue.shards()
     }
 
-    /// For how many ticks a session may be idle.
+    /// Returns for how many ticks of one millisecond a session may be idle.
     pub fn idle(&self) -> u64 {
         self.idle
     }
@@ -113,7 +113,7 @@ impl IdleSessions {
     /// # Errors
     /// In this order:
     /// - `TooFar` if the deadline is beyond the last tick.
-    /// - `Unknown` if no slot has the key.
+    /// - `Unknown` if no slot has the key, or if there is no such shard.
     /// - `Stale` if the slot has had a later session, or the session a later key.
     /// - `Ended` if the session expired or was logged out; it says how.
     ///
@@ -140,7 +140,7 @@ impl IdleSessions {
     ///
     /// # Errors
     /// In this order:
-    /// - `Unknown` if no slot has the key.
+    /// - `Unknown` if no slot has the key, or if there is no such shard.
     /// - `Stale` if the slot has had a later session, or the session a later key.
     /// - `Ended` if the session expired or was logged out; it says how.
     ///
@@ -162,7 +162,7 @@ impl IdleSessions {
 
 impl IdleSessions {
     /// Takes a session out of `shard` that was idle for long enough at `now`, a tick of one millisecond. Call it
-    /// until it returns something else than `Out`:
+    /// again while it returns `Out`. It returns:
     /// - `Out` has the session's key, its deadline and its name.
     /// - `Waiting` if no session has ended: the shard has nothing to do before the tick `next`.
     /// - `Idle` if the shard has no session.
@@ -191,7 +191,7 @@ impl IdleSessions {
         self.queue.poll(shard, now)
     }
 
-    /// The queue itself, with each session an entry of its name, for an audit.
+    /// Returns the queue under the sessions, in which each session is an entry of its name. An audit takes it.
     pub fn into_queue(self) -> SharedDelayQueue<Name> {
         self.queue
     }

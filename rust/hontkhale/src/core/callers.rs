@@ -14,7 +14,10 @@ impl<T, W: SharedWords> DelayCore<T, W> {
         self.words.out()
     }
 
-    /// The accepted cancels of all callers, where none is out; else the number of callers that are out.
+    /// Returns the number of cancels by all callers that were accepted.
+    ///
+    /// # Errors
+    /// The number of callers that are out, if some aren't given back.
     pub fn returned(&mut self) -> Result<u64, u64> {
         self.words.returned()
     }

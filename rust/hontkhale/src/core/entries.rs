@@ -33,8 +33,8 @@ pub struct Entries<'a, T> {
 }
 
 impl<T, W: Words> DelayCore<T, W> {
-    /// The value of an entry; none where no entry is linked with that shard, index and birth stamp. One that a caller
-    /// cancelled has its value until it is reaped. Constant time.
+    /// Returns the value of an entry. It returns none if the entry isn't in the queue any more, or never was. A
+    /// cancelled entry has its value until it is freed. Constant time.
     pub fn get(&self, entry: &EntryId) -> Option<&T> {
         let index = self.find(entry)?;
         let held = self.slots.held(index)?;
@@ -59,8 +59,9 @@ impl<T> DelayCore<T, VecWords> {
         })
     }
 
-    /// The live entries, one after the other, by their slots: each with its key, its deadline in force and its value.
-    /// A step looks at slots until it finds a live entry, so all of them take as much time as there are slots.
+    /// Returns the live entries, one after the other, in the order of their slots: each with its key, its deadline
+    /// and its value. A step looks at slots until it finds a live entry, so all steps together take time in
+    /// proportion to the slots.
     pub fn entries(&self) -> Entries<'_, T> {
         Entries { queue: self, slot: 0 }
     }

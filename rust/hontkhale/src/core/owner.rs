@@ -89,7 +89,7 @@ impl<T, W: Words> DelayCore<T, W> {
     }
 
     /// Notes `tick`, of one millisecond, and takes one entry out that is due at the greatest tick noted. Call it
-    /// until it returns something else than `Out`:
+    /// again while it returns `Out`. It returns:
     /// - `Out` has the entry's key, its deadline and its value. No live entry has an earlier deadline.
     /// - `Waiting` if no live entry is due: there is nothing to do before the tick `next`.
     /// - `Idle` if the queue holds no entry.

@@ -45,7 +45,8 @@ fn soonest<T>(entries: &[Pending<T>]) -> (usize, u64) {
     (first, deadline)
 }
 
-/// The slow twin: a delay queue over a plain list, of one owner.
+/// A delay queue of one owner over a plain list, slow and short enough to be read. It is the twin to which the tests
+/// compare the wheel.
 ///
 /// ```
 /// use hontkhale::owner::{PlainQueue, PlainTurn};
@@ -64,8 +65,12 @@ pub struct PlainQueue<T> {
 }
 
 impl<T> PlainQueue<T> {
-    /// An empty queue at tick 0; `BadConfig` for a capacity of 0 or beyond [`CAPACITY_LIMIT`], `NoMemory` where
-    /// memory is refused. No other call takes memory.
+    /// Makes an empty queue for `capacity` entries, at tick 0. No other call takes memory.
+    ///
+    /// # Errors
+    /// In this order:
+    /// - `BadConfig` if `capacity` is 0 or beyond [`CAPACITY_LIMIT`].
+    /// - `NoMemory` if memory is refused.
     pub fn new(capacity: usize) -> Result<PlainQueue<T>, CoreError> {
         if capacity == 0 || capacity > CAPACITY_LIMIT {
             return Err(CoreError::BadConfig);
@@ -105,9 +110,13 @@ impl<T> PlainQueue<T> {
         self.noted
     }
 
-    /// Puts an entry in and answers its deadline, which is `when`, raised to the tick where it lies before it. It is
-    /// refused, and the value comes back, with `TooFar` for a deadline beyond the last tick, and else with `Full`
-    /// where no room is left.
+    /// Puts `value` in, to come out at the tick `when` of one millisecond, and returns its deadline: `when`, or the
+    /// queue's tick if `when` is before it.
+    ///
+    /// # Errors
+    /// `value` comes back. In this order:
+    /// - `TooFar` if `when` is beyond the last tick.
+    /// - `Full` if as many entries wait as the capacity.
     pub fn insert(&mut self, value: T, when: u64) -> Result<u64, (CoreError, T)> {
         if when > LAST_TICK {
             return Err((CoreError::TooFar { limit: LAST_TICK }, value));
@@ -121,8 +130,11 @@ impl<T> PlainQueue<T> {
         Ok(deadline)
     }
 
-    /// Notes a tick, and takes out an entry of least deadline where that deadline isn't after the noted tick. A tick
-    /// beyond the last one is refused with `TickTooLarge`, and isn't noted.
+    /// Notes `tick`, of one millisecond, and takes out an entry of least deadline if that deadline isn't after the
+    /// greatest tick noted. It looks at each entry.
+    ///
+    /// # Errors
+    /// `TickTooLarge` if `tick` is beyond the last tick. It isn't noted then.
     pub fn poll(&mut self, tick: u64) -> Result<PlainTurn<T>, CoreError> {
         if tick > LAST_TICK {
             return Err(CoreError::TickTooLarge { limit: LAST_TICK });

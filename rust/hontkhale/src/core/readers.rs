@@ -36,14 +36,18 @@ impl<T, W: Words> DelayCore<T, W> {
         }
     }
 
-    /// A linked entry that is filed least, possibly a cancelled one; none where nothing is linked.
+    /// Returns the key of an entry that is scheduled first, possibly a cancelled one. It returns none if the queue
+    /// holds no entry.
     ///
-    /// No live entry has a deadline before the tick by which it is filed, which [`Self::filed`] tells. So where that
-    /// tick is its deadline in force, no live entry comes out before it but one with the same deadline. Else one with
-    /// an earlier deadline may come out first: the entry was extended or cancelled, or was filed more than the
-    /// wheel's reach ahead; or a piece of a poll has opened a slot, whose entries all count as filed at the slot's
-    /// start until [`Self::poll_some`] has gone through them. Over plain words [`Self::entries`] then tells which
-    /// live entry has the least deadline.
+    /// No live entry has a deadline before the tick at which that one is scheduled, which [`Self::filed`] tells. So
+    /// if that tick is its deadline, no live entry comes out before it, except one with the same deadline. Else one
+    /// with an earlier deadline may come out first, for one of these reasons:
+    /// - The entry was extended or cancelled.
+    /// - It was scheduled further ahead than the wheel reaches.
+    /// - A piece of a poll has opened a slot. All entries of the slot count as scheduled at its start until
+    ///   [`Self::poll_some`] has gone through them.
+    ///
+    /// If the owner alone changes the deadlines, [`Self::entries`] then tells which live entry has the least one.
     pub fn peek(&self) -> Option<Key> {
         let index = self.wheel.least()?;
         let born = self.slots.born(index).unwrap();
@@ -51,13 +55,14 @@ impl<T, W: Words> DelayCore<T, W> {
         Some(Key::new(entry, self.slots.stamp(index)))
     }
 
-    /// Where an entry's index stands in the wheel; none where the entry is missing.
+    /// Returns where an entry stands in the wheel. It returns none if the entry isn't in the queue.
     pub fn place(&self, entry: &EntryId) -> Option<Place> {
         let index = self.find(entry)?;
         Some(self.wheel.place(index))
     }
 
-    /// The tick by which an entry is filed; none where the entry is missing.
+    /// Returns the tick, of one millisecond, at which an entry is scheduled. It returns none if the entry isn't in
+    /// the queue.
     pub fn filed(&self, entry: &EntryId) -> Option<u64> {
         let index = self.find(entry)?;
         self.wheel.filed(index)

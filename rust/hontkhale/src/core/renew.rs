@@ -45,19 +45,20 @@ impl fmt::Display for RenewError {
 #[cfg(feature = "std")]
 impl std::error::Error for RenewError {}
 
-/// Words and slots that were never used, one of each, for [`DelayCore::renew_with`]. Their memory is taken where they
-/// are made: outside of the lock that a queue lies behind, say.
+/// Words and slots that were never used, one of each, for [`DelayCore::renew_with`]. Their memory is taken when they
+/// are made: before the lock is taken that a queue is behind, say.
 pub struct FreshRows<T, W: Words> {
     words: W,
     slots: Slots<T>,
 }
 
 impl<T, W: Words> FreshRows<T, W> {
-    /// Those words, with a slot for each that has `last_stamp` stamps.
+    /// Pairs `words` with a slot for each, which has `last_stamp` stamps. It takes memory for the slots.
     ///
     /// # Errors
-    /// BadConfig where the words aren't 1 to [`CAPACITY_LIMIT`] or the last stamp isn't 1 to [`LAST_STAMP`], and else
-    /// NoMemory. The words come back then.
+    /// The words come back. In this order:
+    /// - `BadConfig` if the words aren't 1 to [`CAPACITY_LIMIT`], or the last stamp isn't 1 to [`LAST_STAMP`].
+    /// - `NoMemory` if memory is refused.
     pub fn new(words: W, last_stamp: u32) -> Result<FreshRows<T, W>, (CoreError, W)> {
         // requires AreFresh (W.known words) (W.counts words)
         let capacity = words.rows();

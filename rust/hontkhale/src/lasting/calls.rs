@@ -113,11 +113,12 @@ impl<T> LastingQueue<T> {
         Ok(shard.tally())
     }
 
-    /// The key of a linked entry that is filed least in the shard at a place, possibly a cancelled one; none where
-    /// nothing is linked. No live entry of the shard has a deadline before the tick by which that one is filed.
+    /// Returns the key of an entry that is scheduled first in the shard at `place`, possibly a cancelled one. It
+    /// returns none if the shard holds no entry. No live entry of the shard has a deadline before the tick at which
+    /// that one is scheduled. It takes the shard's lock, and no memory.
     ///
     /// # Errors
-    /// Unknown out of range.
+    /// `Unknown` if there is no such place.
     pub fn peek(&self, place: usize) -> Result<Option<Key>, LastingError> {
         let shard = self.entered(place)?;
         Ok(shard.peek())

@@ -157,7 +157,7 @@ impl<T> LastingQueue<T> {
     }
 
     /// Notes `tick`, of one millisecond, in the shard at `place`, and takes one entry out that is due at the greatest
-    /// tick noted there. Call it until it returns something else than `Out`:
+    /// tick noted there. Call it again while it returns `Out`. It returns:
     /// - `Out` has the entry's key, its deadline and its value. No live entry of the shard has an earlier deadline.
     /// - `Waiting` if no live entry is due: the shard has nothing to do before the tick `next`.
     /// - `Idle` if the shard holds no entry.

@@ -96,7 +96,7 @@ impl std::error::Error for HandleError {}
 pub struct HandleRenewError {
     /// Why: of another queue, or what the shard at `place` refused its caller for.
     pub why: HandleError,
-    /// The place at which it stopped, 0 where the queue is another one. The handle's callers of the shards below it
+    /// The place at which it stopped, 0 if the queue is another one. The handle's callers of the shards below it
     /// are up to date; those from there on are as before.
     pub place: usize,
     /// How many of the callers below it are new ones, which the handle took on and keeps.

@@ -7,21 +7,21 @@ use crate::lasting::queue::{unlock, LastingQueue};
 pub enum Kept {
     /// Nothing is due.
     Fine,
-    /// The shard at this place was worn by half, or by three quarters while another drains, and takes no more
-    /// entries.
+    /// The shard at this place was closed: half of its slots are worn, or three quarters while another shard is
+    /// closed. It accepts no more entries until it is opened again.
     Closed {
         /// Its place.
         place: usize,
     },
-    /// The shard at this place is closed, and so many entries are left. At the next few of its slots what was
-    /// cancelled was reaped.
+    /// The shard at this place is closed, and `linked` entries are left. What was cancelled in the next 256 of its
+    /// slots was freed.
     Drains {
         /// Its place.
         place: usize,
-        /// The entries that are linked.
+        /// The entries that are left, live or cancelled and not yet freed.
         linked: usize,
     },
-    /// The shard at this place was opened again.
+    /// The shard at this place was opened again: it accepts entries.
     Reopened {
         /// Its place.
         place: usize,

@@ -50,14 +50,15 @@ impl<T> LastingQueue<T> {
     }
 }
 
-/// A [`LastingStream`] whose polls make at most so many steps of their shard while its lock is held.
+/// A [`LastingStream`] whose polls make at most so many steps of their shard while they hold its lock.
 ///
-/// A poll that has made them all and has more to do lets the lock go, wakes its own task and is Pending. So others may
-/// take the lock before the task is polled again, and where it is polled at once it gives way for a bounded while to who
-/// waits for the lock. It gives what its stream would give, and parks as that does.
+/// A poll that has made them all and has more to do releases the lock, wakes its own task and is `Pending`. So other
+/// threads may take the lock before the task is polled again. If the task is polled at once, it gives way for a
+/// bounded while to the threads that wait for the lock. A paced stream returns what its stream would return, and
+/// parks when that one does.
 ///
-/// It keeps nothing of a poll: what is under way stands in the shard. Whether it is dropped, or turned back into its
-/// stream, the next poll of the place goes on there.
+/// It keeps nothing of a poll: what is under way stands in the shard. If the paced stream is dropped, or turned back
+/// into its stream, the next poll of the place goes on there.
 pub struct LastingPacedStream<'q, T, S> {
     stream: LastingStream<'q, T, S>,
     steps: NonZeroU32,

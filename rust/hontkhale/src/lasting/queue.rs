@@ -99,12 +99,12 @@ impl<T> LastingQueue<T> {
 }
 
 impl<T> LastingQueue<T> {
-    /// The number of shards, from 2 to [`SHARD_LIMIT`](crate::shards::SHARD_LIMIT).
+    /// Returns the number of shards, from 2 to [`SHARD_LIMIT`](crate::shards::SHARD_LIMIT).
     pub fn shards(&self) -> usize {
         self.shards.len()
     }
 
-    /// The name that it was given where it was made. No other queue of the process has it.
+    /// Returns the name that the queue was given when it was made. No other queue of the process has it.
     pub fn name(&self) -> u64 {
         self.name
     }

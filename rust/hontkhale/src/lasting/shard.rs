@@ -86,7 +86,8 @@ impl<T> LastingShard<T> {
         self.attended.core.worn()
     }
 
-    /// The next wake: the tick of one millisecond at which the queue has something to do, none where nothing is linked.
+    /// Returns the tick, of one millisecond, at which the queue has something to do next. It returns none if nothing
+    /// is linked.
     pub fn next_wake(&self) -> Option<u64> {
         self.attended.core.next_wake()
     }
@@ -106,8 +107,8 @@ impl<T> LastingShard<T> {
         self.attended.core.aside()
     }
 
-    /// A linked entry that is filed least, possibly a cancelled one; none where nothing is linked. No live entry has a
-    /// deadline before the tick by which that one is filed.
+    /// Returns the key of an entry that is scheduled first, possibly a cancelled one. It returns none if nothing is
+    /// linked. No live entry has a deadline before the tick at which that one is scheduled.
     pub fn peek(&self) -> Option<Key> {
         self.attended.core.peek()
     }

@@ -56,7 +56,7 @@ pub(crate) fn is_config(config: &QueueConfig) -> bool {
 }
 
 impl<T> SharedDelayQueue<T> {
-    /// The number of shards, from 1 to [`SHARD_LIMIT`].
+    /// Returns the number of shards, from 1 to [`SHARD_LIMIT`].
     pub fn shards(&self) -> usize {
         self.row.len()
     }

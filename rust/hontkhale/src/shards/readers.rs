@@ -49,18 +49,19 @@ impl<T> ShardState<T> {
         self.attended.core.tally()
     }
 
-    /// A linked entry that is filed least, possibly a cancelled one; none where nothing is linked.
+    /// Returns the key of an entry that is scheduled first, possibly a cancelled one. It returns none if nothing is
+    /// linked. No live entry has a deadline before the tick at which that one is scheduled.
     pub fn peek(&self) -> Option<Key> {
         self.attended.core.peek()
     }
 
-    /// Where an entry's index stands in the wheel; none where the entry is missing.
+    /// Returns where an entry stands in the wheel. It returns none if the entry isn't linked here.
     pub fn place(&self, entry: &EntryId) -> Option<Place> {
         self.attended.core.place(entry)
     }
 
-    /// The tick of one millisecond by which an entry is filed, which is not after its deadline in force; none where
-    /// the entry is missing.
+    /// Returns the tick, of one millisecond, at which an entry is scheduled, which isn't after its deadline. It
+    /// returns none if the entry isn't linked here.
     pub fn filed(&self, entry: &EntryId) -> Option<u64> {
         self.attended.core.filed(entry)
     }
