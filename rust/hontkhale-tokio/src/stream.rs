@@ -98,7 +98,7 @@ impl<T> Stream for QueueStream<T> {
     fn poll_next(self: Pin<&mut Self>, cx: &mut Context<'_>) -> Poll<Option<Expired<T>>> {
         let stream = self.get_mut();
         stream.note_task(cx.waker());
-        loop {
+        for _ in 0..2 {
             if let Poll::Ready(received) = stream.receiver.poll_recv(cx) {
                 stream.timer.leave();
                 return Poll::Ready(received);
@@ -108,6 +108,9 @@ impl<T> Stream for QueueStream<T> {
                 None => return Poll::Pending,
             }
         }
+        // The queue's clock isn't tokio's, and is behind it: who advances it may be a task of this thread.
+        cx.waker().wake_by_ref();
+        Poll::Pending
     }
 }
 

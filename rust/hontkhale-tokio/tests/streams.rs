@@ -2,7 +2,8 @@
 
 mod common;
 
-use common::{ends, ms, paused, threaded, Dice};
+use common::{ends, ms, paused, running, threaded, Dice};
+use hontkhale::delay_queue::ManualClock;
 use hontkhale::DelayQueue;
 use hontkhale_tokio::{builder, QueueExt, QueueStream};
 use std::sync::atomic::{AtomicU64, Ordering::SeqCst};
@@ -80,6 +81,22 @@ fn a_stream_that_is_dropped_amid_its_wait_leaves_everything() {
                     assert_eq!(out.map(|out| out.value), Some(left.remove(0)));
                 }
             }
+        });
+    });
+}
+
+#[test]
+fn a_stream_whose_clock_stands_still_leaves_their_turn_to_others() {
+    ends(|| {
+        running().block_on(async {
+            let clock = ManualClock::new();
+            let queue = DelayQueue::builder().clock(&clock).build();
+            queue.insert("late", ms(5)).unwrap();
+            let mut stream = queue.stream();
+            let late = tokio::spawn(async move { stream.next().await.map(|out| out.value) });
+            sleep(ms(20)).await;
+            clock.advance(ms(5));
+            assert_eq!(late.await.unwrap(), Some("late"));
         });
     });
 }

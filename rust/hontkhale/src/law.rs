@@ -225,3 +225,134 @@ impl<T> crate::lasting::LastingQueue<T> {
         holds(waits_lawfully, "a poller is parked until after the next wake")
     }
 }
+
+#[cfg(test)]
+mod tests {
+    use super::Broken;
+    use crate::core::{CoreConfig, DelayCore, VecWords, Words};
+    use crate::ticks::Key;
+    use crate::wheels::LISTS;
+    use alloc::boxed::Box;
+    use alloc::vec::Vec;
+
+    type Queue = DelayCore<Box<u64>, VecWords>;
+
+    const CAPACITY: usize = 70;
+
+    /// A queue of slots of each kind: entries near and far, cancelled ones, free slots, worn ones, and such as have a value set
+    /// aside.
+    fn queue() -> Queue {
+        let config = CoreConfig {
+            shard: 0,
+            capacity: CAPACITY,
+            last_stamp: 2,
+        };
+        let words = VecWords::new(CAPACITY).expect("memory");
+        let mut queue = Queue::new(config, words).expect("a queue");
+        let mut keys: Vec<Key> = (0..50u64)
+            .map(|at| queue.insert(Box::new(at), 400 + at * at * 97).expect("a slot"))
+            .collect();
+        for key in &mut keys[..8] {
+            *key = queue.reset(&key.entry(), 700).expect("it waits");
+        }
+        keys[..16]
+            .iter()
+            .for_each(|key| _ = queue.cancel(key).expect("it waits"));
+        keys[16..20]
+            .iter()
+            .for_each(|key| drop(queue.remove(&key.entry()).expect("it waits")));
+        queue.sweep_some_deferring(4, 8);
+        assert!(queue.poll_deferring(300).is_ok());
+        queue
+    }
+
+    fn row(queue: &mut Queue, at: usize) -> &mut crate::wheels::row::Row {
+        &mut queue.wheel.lists.circles.rows[at]
+    }
+
+    /// What was planted, and a fault that a panic amid a call could leave.
+    type Plant = (&'static str, fn(&mut Queue));
+
+    const PLANTS: [Plant; 27] = [
+        ("a link back", |queue| row(queue, 30).prev = 31),
+        ("a link ahead", |queue| row(queue, 30).next = 31),
+        ("a head's link", |queue| {
+            let head = row(queue, 30).home as usize - 1 + CAPACITY;
+            row(queue, head).next = head as u32;
+        }),
+        ("a home", |queue| row(queue, 30).home += 1),
+        ("no home", |queue| row(queue, 30).home = 0),
+        ("a filing in another list", |queue| row(queue, 30).filed -= 80_000),
+        ("a later filing", |queue| row(queue, 30).filed += 1),
+        ("a filing of nothing", |queue| {
+            let loose = (0..CAPACITY).find(|at| !queue.slots.is_held(*at)).expect("a slot");
+            row(queue, loose).filed = 5_000;
+        }),
+        ("a bit of an empty list", |queue| {
+            let list = (0..LISTS).find(|list| !super::is_set(&queue.wheel.lists.maps, *list));
+            let list = list.expect("an empty list");
+            queue.wheel.lists.maps[list / 64] |= 1 << (list % 64);
+        }),
+        ("no bit of a list", |queue| {
+            let list = (0..LISTS).find(|list| super::is_set(&queue.wheel.lists.maps, *list));
+            let list = list.expect("a list");
+            queue.wheel.lists.maps[list / 64] &= !(1 << (list % 64));
+        }),
+        ("a stamp", |queue| queue.slots.cells[30].stamp += 1),
+        ("a birth after the stamp", |queue| queue.slots.cells[30].born += 1),
+        ("no birth", |queue| queue.slots.cells[30].born = 0),
+        ("no value", |queue| queue.slots.cells[30].value = None),
+        ("a value of nothing", |queue| {
+            queue.slots.cells[60].value = Some(Box::new(0))
+        }),
+        ("a count of entries", |queue| queue.slots.held_count += 1),
+        ("a count of free slots", |queue| queue.slots.free_count -= 1),
+        ("a free slot that is held", |queue| queue.slots.free.recent.push(30)),
+        ("a free slot less", |queue| {
+            let (at, word) = queue
+                .slots
+                .free
+                .bits
+                .iter_mut()
+                .enumerate()
+                .find(|it| *it.1 > 0)
+                .expect("a bit");
+            *word &= *word - 1;
+            if *word == 0 {
+                queue.slots.free.summary[at / 64] &= !(1 << (at % 64));
+            }
+        }),
+        ("a summary", |queue| queue.slots.free.summary[0] ^= 1),
+        ("a count of values set aside", |queue| queue.slots.deferred.count += 1),
+        ("a bit of values set aside", |queue| {
+            queue.slots.deferred.bits[0] ^= 1 << 30
+        }),
+        ("a count of worn slots' values", |queue| {
+            queue.slots.deferred_worn.count += 1
+        }),
+        ("a word that was removed", |queue| {
+            let stamp = queue.slots.stamp(30);
+            queue.words.finish(30, stamp).expect("a live word");
+        }),
+        ("a word's stamp", |queue| {
+            let stamp = queue.slots.stamp(30);
+            queue.words.renew(30, stamp, 60_000_000).expect("a live word");
+        }),
+        ("a noted tick", |queue| queue.noted = 299),
+        ("a count of inserts", |queue| queue.inserted = 40),
+    ];
+
+    #[test]
+    fn each_planted_fault_is_found_and_no_other() {
+        assert_eq!(queue().check_law(), Ok(()));
+        let missed = |(what, plant): &Plant| -> Option<&'static str> {
+            let mut queue = queue();
+            assert!(queue.slots.is_held(30) && queue.aside() > 0);
+            plant(&mut queue);
+            let found: Result<(), Broken> = queue.check_law();
+            found.is_ok().then_some(*what)
+        };
+        let missed: Vec<&str> = PLANTS.iter().filter_map(missed).collect();
+        assert!(missed.is_empty(), "{missed:?}");
+    }
+}
