@@ -188,7 +188,7 @@ round_with found place FarWorn =
       beside = if is_some found.far_worn then Some place else found.beside;
     }
 
--- the first closed shard of so many places; where there is none each took entries
+-- a closed shard of so many places; where there is none each took entries
 abbrev pub IsFirstClosed : (T : Type 0) → ℕ → ℕ → Option ℕ → Type 0
 IsFirstClosed T shards many None = AtEach {T = T} shards many TellsTakes true
 IsFirstClosed T shards many (Some p) =
