@@ -388,9 +388,9 @@ impl<T> DelayQueue<T> {
 
     /// Takes memory for so many entries in all, those that wait among them, and keeps it for good. While fewer wait, no insert
     /// takes memory or is refused as NoMemory, and none waits until the queue has grown, but for two cases: entries that were
-    /// cancelled hold their slots until their values are dropped; and a shard of which half the slots are worn, by
-    /// 1,048,575 inserts or resets each, takes its memory anew and has no room meanwhile. A larger
-    /// number counts from then on, and a smaller one changes nothing.
+    /// cancelled hold their slots until their values are dropped; and a shard of which half the slots are worn, by a million
+    /// inserts or resets each, takes its memory anew and has no room meanwhile. A larger number counts from then on, and a
+    /// smaller one changes nothing.
     ///
     /// # Errors
     /// - Full beyond the queue's bound, or beyond the 3 million entries a shard that a queue may grow to.
