@@ -101,7 +101,7 @@ def older_tables(it):
     assert setup.wait(60) == 0, it.logged()
     assert longest < 10, f"an insert waited {longest:.1f} s for the setup"
     # A second one has nothing to change, and waits for nobody.
-    with held(it, "INSERT INTO older.jobs (state, due) VALUES ('waiting', 'infinity')"):
+    with held(it, "INSERT INTO older.jobs (state, due) VALUES ('waiting', '2100-01-01')"):
         begun = time.monotonic()
         assert "stands" in it.jobs("setup", "--schema", "older") and time.monotonic() - begun < 5
     effect = "INSERT INTO public.effects (job) SELECT id FROM taken"

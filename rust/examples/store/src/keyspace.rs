@@ -26,7 +26,7 @@ use std::task::Poll;
 
 pub const SHARDS: usize = 64;
 /// The threads that take off what is due.
-pub const KEEPERS: usize = 4;
+pub const KEEPERS: usize = 2;
 /// How many keys a keeper takes off before whoever waits for it goes on.
 const TAKEN_AT_ONCE: usize = 64;
 /// The shards of the queue, each behind a lock of its own.
