@@ -9,6 +9,7 @@ import kit
 import laws
 import links
 import paths
+from patterns import made
 from rattle import Refused, item_start, text_of, tokens_of
 
 TOP = Path(__file__).resolve().parent.parent.parent
@@ -157,7 +158,7 @@ def grouped(found):
 def replace_use(tokens, start, end, vis, kept):
     new = []
     for line in grouped(kept):
-        piece = kit.made(vis + line, tokens[start], "\n")
+        piece = made(vis + line, tokens[start], "\n")
         new += piece
     if new:
         new[0].before = tokens[start].before
@@ -173,7 +174,7 @@ def put_uses(tokens, found):
     # A module is told first, as in its source.
     new = []
     for line in grouped(found):
-        new += kit.made(line, tokens[at], "\n")
+        new += made(line, tokens[at], "\n")
     if not new:
         return
     new[0].before = "\n\n" if at else ""
@@ -204,7 +205,7 @@ def erased(hand, closed):
         source.tokens = guarded(source, ghosts.erased, source.tokens)
         guarded(source, kit.early, source.tokens, SWAPPED)
         source.tokens = guarded(source, handed.without_handed, source.tokens, fields[source.crate])
-        guarded(source, kit.rewritten, source.tokens)
+        guarded(source, kit.by_std, source.tokens)
         guarded(source, errors.with_errors, source.tokens)
         if source.crate != "dq_replay":
             guarded(source, indexes.with_indexes, source.tokens)

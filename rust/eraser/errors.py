@@ -2,7 +2,7 @@
 one day, so each is `#[non_exhaustive]`. An error that is said by another's text has that one as its source."""
 import re
 
-import kit
+from patterns import made
 from rattle import Refused, close_of, tokens_of, words_at
 
 
@@ -134,5 +134,5 @@ def one_error(tokens, at):
     if variants:
         # Behind the derive, before what is public.
         start = index - (tokens[index - 1].text == "pub")
-        tokens[start:start] = kit.made("#[non_exhaustive]", tokens[start], "\n")
+        tokens[start:start] = made("#[non_exhaustive]", tokens[start], "\n")
     return end + len(new)

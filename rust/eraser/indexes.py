@@ -1,5 +1,5 @@
 """Each index of a row goes through the module `index`, whose bounds check may be turned off since it is proved."""
-from kit import made
+from patterns import made
 from rattle import Refused, close_of, functions
 
 ASSIGNS = {"=", "+=", "-=", "|=", "&=", "^="}

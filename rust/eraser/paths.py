@@ -1,5 +1,5 @@
 """Paths: a crate becomes a module, and what is imported is what is named."""
-from kit import IMPORTS, PLACES, formatted
+from kit import PLACES, formatted
 from rattle import Refused
 
 # What is imported from the crate's own modules where it is named.
@@ -67,19 +67,17 @@ def uses_of(tokens):
 
 def moved(path, module, modules):
     """A path of a source as a path of the crate; empty where nothing is imported."""
-    if path in IMPORTS:
-        return IMPORTS[path]
     head, _, rest = path.partition("::")
     if head == "crate":
         return f"crate::{module}::{rest}"
     if head in modules:
         return f"crate::{modules[head]}::{rest}"
-    if head == "std":
-        place = PLACES.get(rest.partition("::")[0])
-        if place is None:
-            raise Refused(f"`{path}` is imported, which no rule knows")
-        return f"{place}::{rest}"
-    if head in ("self", "super") or head[0].islower() and "::" in path:
+    parts = path.split("::")
+    for count in range(len(parts), 0, -1):
+        place = PLACES.get("::".join(parts[:count]))
+        if place is not None:
+            return place and "::".join([place, *parts[count:]])
+    if head in ("self", "super") or head[0].islower() and head != "std" and "::" in path:
         return path
     raise Refused(f"`{path}` is imported, which no rule knows")
 
