@@ -195,9 +195,7 @@ def erased(hand, closed):
         source.tokens = guarded(source, laws.without_laws, source.tokens, names)
     fields = {}
     for source in found:
-        fields.setdefault(source.crate, set()).update(
-            guarded(source, lambda tokens: handed.erased_fields(tokens, handed.erased_types(tokens)), source.tokens)
-        )
+        fields.setdefault(source.crate, set()).update(guarded(source, handed.without_fields, source.tokens))
     for source in found:
         guarded(source, closed.close, source)
     closed.all_found()

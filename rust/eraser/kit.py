@@ -1,7 +1,6 @@
 """Rules for what the kit has otherwise than std: memory that may be refused, locks, wakers, hashers, formatting."""
-from handed import where_list
 from patterns import made, rewritten
-from rattle import Refused, close_of, functions, words_at
+from rattle import close_of, functions, words_at
 
 # What stands in the place of an imported path, or of what it begins with. What has nothing here is in std's prelude or goes.
 PLACES = {
@@ -35,6 +34,12 @@ WAKES = "// A waker that is dropped wakes.\n"
 # std's collections by calls that may refuse; its formatting and its hasher; a stream's call as the type's own, since the crate
 # depends on none that has the trait; and what two contracts or a law stood between.
 RULES = ["""
+#[derive(Drop)] =>
+, Drop) => )
+, Drop, => ,
+trait $Name: Drop { => trait $Name {
+Drop for => Drop for
+Drop => !`Drop` in a place that no rule knows
 vec![in $heap; $value; $count] => filled($value, $count)
 format!(in $heap; $text) => text_of(format_args!($text))
 Vec::with_capacity( => room_for(
@@ -55,39 +60,6 @@ let Some($Name) = $value else { return None; }; => let $Name = $value?;
 """, """
 let $Name = $value?; Some($Name) } => $value }
 """]
-
-
-def without_drop(tokens):
-    """`Drop` is a bound and a derive in Rattle; each type of Rust may be dropped."""
-    at = 1
-    while at < len(tokens) - 1:
-        if tokens[at].text == "Drop" and tokens[at].kind == "word":
-            before, after = tokens[at - 1].text, tokens[at + 1].text
-            if after == "for":
-                at += 1
-            elif before == "+":
-                del tokens[at - 1:at + 1]
-                at -= 1
-            elif before == ":" and after == "," and where_list(tokens, at - 2):
-                tokens[at + 2].before = tokens[at - 2].before
-                del tokens[at - 2:at + 2]
-                at -= 2
-            elif before == ":":
-                del tokens[at - 1:at + 1]
-                at -= 1
-            elif before == "," and after in (")", ","):
-                del tokens[at - 1:at + 1]
-                at -= 1
-            elif words_at(tokens, at - 4, "#", "[", "derive", "(", "Drop", ")", "]"):
-                # The line of the attribute goes with it.
-                tokens[at + 3].before = tokens[at - 4].before
-                del tokens[at - 4:at + 3]
-                at = max(1, at - 4)
-            else:
-                raise Refused(f"line {tokens[at].line}: `Drop` in a place that no rule knows")
-            continue
-        at += 1
-    return tokens
 
 
 def forever(tokens, lent):
@@ -130,7 +102,6 @@ def unused(tokens):
 
 
 def by_std(tokens):
-    without_drop(tokens)
     for rules in RULES:
         rewritten(tokens, rules)
     unused(tokens)

@@ -53,7 +53,7 @@ def with_space(part, its):
 def rewritten(tokens, rules):
     """Rewrites tokens by rules, the first that fits: `from => to` each, or `from => !why` for what is refused."""
     by_first = {}
-    for old, new in (line.split(" => ") for line in rules.strip().splitlines()):
+    for old, new in (line.split(" =>") for line in rules.strip().splitlines()):
         old = [part.text for part in parts_of(old)]
         by_first.setdefault(old[0], []).append((old, new))
     at = 0
@@ -61,8 +61,8 @@ def rewritten(tokens, rules):
         step = 1
         for old, new in by_first.get(tokens[at].text, ()):
             its = matched(tokens, at, old)
-            if its and new.startswith("!"):
-                raise Refused(f"line {tokens[at].line}: {new[1:]}")
+            if its and new.startswith(" !"):
+                raise Refused(f"line {tokens[at].line}: {new[2:]}")
             if its:
                 new, before = parts_of(new), tokens[at].before
                 tokens[at:its[1]] = [token for part in new for token in with_space(part, its[0].get(part.text, [part]))]
