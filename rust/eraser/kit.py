@@ -53,6 +53,7 @@ Formatter<W> => Formatter<'_>
 BuildHasherDefault<FoldHasher> => RandomState
 BuildHasherDefault::new() => RandomState::new()
 Stream for $type { type Item = $item; => $type {
+Stream for => !a stream of another form
 fn poll_next => pub fn poll_next
 let $Name = $value; $Name } => $value }
 let Some(_) = $value else { return None; }; => !a `Some(_)` that is only asked for
