@@ -9,25 +9,13 @@ import kit
 import laws
 import links
 import paths
-from patterns import made
+from patterns import TABLES, made
 from rattle import Refused, item_start, text_of, tokens_of
 
 TOP = Path(__file__).resolve().parent.parent.parent
 OUT = TOP / "rust" / "hontkhale" / "src"
 
-# The crates, and the modules that they become.
-MODULES = {
-    "dq_ticks": "ticks",
-    "dq_wheel": "wheels",
-    "dq_core": "core",
-    "dq_words": "words",
-    "dq_parking": "parking",
-    "dq_shards": "shards",
-    "dq_stream": "stream",
-    "dq_apps": "apps",
-    "dq_lasting": "lasting",
-    "dq_replay": "replay",
-}
+MODULES = dict(TABLES["modules"])
 # What is told where another shard's state stands in a shard's place: a closure of `lend`, or who entered both, put it there.
 SWAPPED = "the state of another shard was put here"
 

@@ -63,7 +63,7 @@ def with_errors(tokens):
             close = close_of(tokens, at + 3)
             if tokens[close - 1].text == "Error":
                 one_error(tokens, close + 2)
-    rewritten(tokens, ", Error)] => )]\n#[error($text)] =>")
+    rewritten(tokens, "errors")
 
 
 def one_error(tokens, at):

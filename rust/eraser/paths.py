@@ -1,22 +1,10 @@
 """Paths: a crate becomes a module, and what is imported is what is named."""
-from kit import PLACES, formatted
+from kit import formatted
 from lists import elements, next_of
+from patterns import TABLES
 from rattle import Refused
 
-# What is imported from the crate's own modules where it is named.
-PROVIDED = {
-    "Vec": "alloc::vec::Vec",
-    "String": "alloc::string::String",
-    "filled": "crate::memory::filled",
-    "room_for": "crate::memory::room_for",
-    "text_of": "crate::memory::text_of",
-    "copy_of": "crate::memory::copy_of",
-    "try_push": "crate::memory::TryPush",
-    "try_push_str": "crate::memory::TryPushStr",
-    "are_fresh": "crate::fresh::are_fresh",
-    "nth": "crate::index::nth",
-    "nth_mut": "crate::index::nth_mut",
-}
+IMPORTS, PROVIDED = (dict(TABLES[it]) for it in ("imports", "provided"))
 # Those of them that are functions.
 CALLS = {"are_fresh", "filled", "room_for", "text_of", "copy_of", "nth", "nth_mut"}
 
@@ -51,7 +39,7 @@ def moved(path, module, modules):
         return f"crate::{modules[head]}::{rest}"
     parts = path.split("::")
     for count in range(len(parts), 0, -1):
-        place = PLACES.get("::".join(parts[:count]))
+        place = IMPORTS.get("::".join(parts[:count]))
         if place is not None:
             return place and "::".join([place, *parts[count:]])
     if head in ("self", "super") or head[0].islower() and head != "std" and "::" in path:

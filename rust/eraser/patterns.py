@@ -1,10 +1,19 @@
-"""Rules as text: tokens that are found, and the tokens that take their place.
+"""The rules and tables of the file `rules`, and how a rule finds tokens and puts others in their place."""
+import re
+from pathlib import Path
 
-In a rule `$name` stands for the tokens up to what follows it, and `$Name` for one word. The tokens before a closing bracket
-are all up to it; others end at a semicolon or a brace too.
-"""
 from lists import next_of
 from rattle import CLOSES, Refused, tokens_of
+
+
+def tables():
+    """Each table of the file by its name: pairs of what stands on both sides of an arrow."""
+    text = Path(__file__).with_name("rules").read_text(encoding="utf-8")
+    for found in re.finditer(r"^\[(\w+)\]\n((?:.+\n)*)", text, re.M):
+        yield found[1], [tuple(it.strip() for it in line.split(" =>", 1)) for line in found[2].splitlines()]
+
+
+TABLES = dict(tables())
 
 
 def parts_of(text):
@@ -50,10 +59,10 @@ def with_space(part, its):
     return its
 
 
-def rewritten(tokens, rules):
-    """Rewrites tokens by rules, the first that fits: `from => to` each, or `from => !why` for what is refused."""
+def rewritten(tokens, name):
+    """Rewrites tokens by the rules of a table."""
     by_first = {}
-    for old, new in (line.split(" =>") for line in rules.strip().splitlines()):
+    for old, new in TABLES[name]:
         old = [part.text for part in parts_of(old)]
         by_first.setdefault(old[0], []).append((old, new))
     at = 0
@@ -61,8 +70,8 @@ def rewritten(tokens, rules):
         step = 1
         for old, new in by_first.get(tokens[at].text, ()):
             its = matched(tokens, at, old)
-            if its and new.startswith(" !"):
-                raise Refused(f"line {tokens[at].line}: {new[2:]}")
+            if its and new.startswith("!"):
+                raise Refused(f"line {tokens[at].line}: {new[1:]}")
             if its:
                 new, before = parts_of(new), tokens[at].before
                 tokens[at:its[1]] = [token for part in new for token in with_space(part, its[0].get(part.text, [part]))]
