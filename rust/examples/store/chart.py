@@ -1,4 +1,4 @@
-"""The chart of a stored run, as SVG of 900 pixels: both servers below each other, as bars, or as dots on a logarithmic axis."""
+"""The chart of a stored run, as SVG of 900 pixels: bars of both servers, or dots on a logarithmic axis."""
 
 import math
 from xml.sax.saxutils import escape
@@ -56,7 +56,8 @@ class Panel:
                 if self.is_logarithmic:
                     # a bar has no length on an axis without a zero
                     yield f'<circle cx="{left + bar:.1f}" cy="{above + BAR / 2:.1f}" r="4.5" fill="{COLOURS[server]}"/>'
-                yield text(left + max(bar + 5 * self.is_logarithmic, most) + 5, above + BAR - 1.5, told(figure, self.places), 11, fill="#333")
+                end = max(bar + 5 * self.is_logarithmic, most)
+                yield text(left + end + 5, above + BAR - 1.5, told(figure, self.places), 11, fill="#333")
 
 
 RATES = (("SET", "set"), ("GET", "get"), ("SET with PX", "set-px"), ("PEXPIRE GT", "extend"), ("EXPIRE", "expire"), ("DEL", "del"))
