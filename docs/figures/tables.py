@@ -385,11 +385,7 @@ def lasts(*sizes):
                 ([f"{capacity:,}", shards, *(told(capacity * shards * stamps / it) for it in RATES)] for capacity, shards in shapes), 0)
 
 
-TABLES = (adapter, adapter_memory, adapter_soak, adapter_stack, ahead, beside, beside_delay_queue, edit, evidence, fair, gate, headline, instructions, lasts, life_standing, longest,
-          pieces, renewing, shard_standing, shared_speed, sizes, speed, standing)
-
-
 def made(name):
     """A table by the words of its mark."""
     name, *arguments = name.split()
-    return {it.__name__.replace("_", "-"): it for it in TABLES}[name](*arguments)
+    return globals()[name.replace("-", "_")](*arguments)

@@ -1,7 +1,7 @@
 """What has a `requires` and is reached from safe Rust, and how the list `rust/closed` says that it is closed."""
 import re
 
-from kit import made
+from patterns import made
 from rattle import Refused, angle_close_of, clause, close_of, functions, homes
 
 WAYS = {"inside", "checked", "user code"}

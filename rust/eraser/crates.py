@@ -9,24 +9,13 @@ import kit
 import laws
 import links
 import paths
+from patterns import TABLES, made
 from rattle import Refused, item_start, text_of, tokens_of
 
 TOP = Path(__file__).resolve().parent.parent.parent
 OUT = TOP / "rust" / "hontkhale" / "src"
 
-# The crates, and the modules that they become.
-MODULES = {
-    "dq_ticks": "ticks",
-    "dq_wheel": "wheels",
-    "dq_core": "core",
-    "dq_words": "words",
-    "dq_parking": "parking",
-    "dq_shards": "shards",
-    "dq_stream": "stream",
-    "dq_apps": "apps",
-    "dq_lasting": "lasting",
-    "dq_replay": "replay",
-}
+MODULES = dict(TABLES["modules"])
 # What is told where another shard's state stands in a shard's place: a closure of `lend`, or who entered both, put it there.
 SWAPPED = "the state of another shard was put here"
 
@@ -40,16 +29,13 @@ class Source:
         self.inner = path.relative_to(TOP / "crates" / crate / "src")
         self.text = text
         self.tokens = tokens_of(text)
-        self.empty = False
-
-    def out(self):
-        module = MODULES[self.crate]
-        parts = list(self.inner.with_suffix("").parts)
-        return Path(f"{module}.rs") if parts == ["lib"] else Path(module, *parts).with_suffix(".rs")
 
     def module_path(self):
-        parts = list(self.inner.with_suffix("").parts)
-        return () if parts == ["lib"] else tuple(parts)
+        parts = self.inner.with_suffix("").parts
+        return () if parts == ("lib",) else parts
+
+    def out(self):
+        return Path(MODULES[self.crate], *self.module_path()).with_suffix(".rs")
 
 
 def guarded(source, rule, *arguments):
@@ -71,18 +57,12 @@ def sources(hand):
     return found
 
 
-def erase_modules(source, gone, names):
-    """Takes out `mod` and `use` of modules that are empty now, and of names that are gone."""
+def erase_modules(source, gone):
+    """Takes out the `mod` of each module that is empty now."""
     tokens = source.tokens
-    at = 0
-    while at < len(tokens) - 2:
-        if tokens[at].text == "mod" and tokens[at + 2].text == ";":
-            if (source.crate, source.module_path() + (tokens[at + 1].text,)) in gone:
-                start = item_start(tokens, at)
-                del tokens[start:at + 3]
-                at = start
-                continue
-        at += 1
+    for at in reversed(range(len(tokens) - 2)):
+        if tokens[at].text == "mod" and (source.crate, source.module_path() + (tokens[at + 1].text,)) in gone:
+            del tokens[item_start(tokens, at):at + 3]
 
 
 def rebuilt_uses(source, gone, names):
@@ -116,11 +96,11 @@ def defined_names(tokens):
     """The names that a file defines at its top."""
     found = set()
     depth = 0
-    for at, token in enumerate(tokens):
+    for token, behind in zip(tokens, tokens[1:]):
         if token.kind == "other":
             depth += (token.text == "{") - (token.text == "}")
         if depth == 0 and token.kind == "word" and token.text in ("fn", "struct", "type", "enum", "trait", "const"):
-            found.add(tokens[at + 1].text)
+            found.add(behind.text)
     return found
 
 
@@ -155,10 +135,7 @@ def grouped(found):
 
 
 def replace_use(tokens, start, end, vis, kept):
-    new = []
-    for line in grouped(kept):
-        piece = kit.made(vis + line, tokens[start], "\n")
-        new += piece
+    new = [token for line in grouped(kept) for token in made(vis + line, tokens[start], "\n")]
     if new:
         new[0].before = tokens[start].before
     elif tokens[end].before.count("\n") < 2 and "//" not in tokens[end].before:
@@ -167,20 +144,14 @@ def replace_use(tokens, start, end, vis, kept):
 
 
 def put_uses(tokens, found):
-    at = 0
-    while tokens[at].kind == "doc" and tokens[at].text.startswith("//!"):
-        at += 1
     # A module is told first, as in its source.
-    new = []
-    for line in grouped(found):
-        new += kit.made(line, tokens[at], "\n")
-    if not new:
-        return
-    new[0].before = "\n\n" if at else ""
-    rest = tokens[at]
-    if not rest.before.startswith("\n\n"):
-        rest.before = "\n\n" + rest.before.lstrip("\n")
-    tokens[at:at] = new
+    at = next(place for place, token in enumerate(tokens) if not token.text.startswith("//!"))
+    new = [token for line in grouped(found) for token in made(line, tokens[at], "\n")]
+    if new:
+        new[0].before = "\n\n" if at else ""
+        if not tokens[at].before.startswith("\n\n"):
+            tokens[at].before = "\n\n" + tokens[at].before.lstrip("\n")
+        tokens[at:at] = new
 
 
 def erased(hand, closed):
@@ -194,9 +165,7 @@ def erased(hand, closed):
         source.tokens = guarded(source, laws.without_laws, source.tokens, names)
     fields = {}
     for source in found:
-        fields.setdefault(source.crate, set()).update(
-            guarded(source, lambda tokens: handed.erased_fields(tokens, handed.erased_types(tokens)), source.tokens)
-        )
+        fields.setdefault(source.crate, set()).update(guarded(source, handed.without_fields, source.tokens))
     for source in found:
         guarded(source, closed.close, source)
     closed.all_found()
@@ -204,13 +173,13 @@ def erased(hand, closed):
         source.tokens = guarded(source, ghosts.erased, source.tokens)
         guarded(source, kit.early, source.tokens, SWAPPED)
         source.tokens = guarded(source, handed.without_handed, source.tokens, fields[source.crate])
-        guarded(source, kit.rewritten, source.tokens)
+        guarded(source, kit.by_std, source.tokens)
         guarded(source, errors.with_errors, source.tokens)
         if source.crate != "dq_replay":
             guarded(source, indexes.with_indexes, source.tokens)
     gone = {(source.crate, source.module_path()) for source in found if not laws.has_items(source.tokens)}
     for source in found:
-        guarded(source, erase_modules, source, gone, names)
+        guarded(source, erase_modules, source, gone)
         rebuilt_uses(source, gone, names)
         guarded(source, links.with_links, source.tokens, MODULES[source.crate], closed.given)
     return {
