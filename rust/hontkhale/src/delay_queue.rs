@@ -248,7 +248,8 @@ impl<T> DelayQueue<T> {
     /// then stays as it is. So a reader ends what is over before a receiver comes to it: of those who want the entry one gets it.
     /// An [`extend`](DelayQueue::extend) that was accepted counts: the entry isn't taken out before the deadline that it returned.
     ///
-    /// It takes no lock where the entry isn't due and this thread extended, or looked at, entries of that shard before.
+    /// Where the entry isn't due it takes a lock only as [`deadline`](DelayQueue::deadline) does: by a thread's first calls, or by
+    /// a key from before a reset.
     ///
     /// # Errors
     /// WrongQueue, Ended, and NoMemory: that only where no shard has a free slot and the entry's has had its last stamp.
