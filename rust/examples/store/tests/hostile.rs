@@ -320,6 +320,15 @@ fn fewer_clients_are_served_where_files_are_lacking() {
     assert_eq!(store.ends_with(b""), "-ERR max number of clients reached\r\n");
 }
 
+/// It takes the room of all deadlines as it starts, so that none is refused memory later.
+#[test]
+fn a_start_without_memory_for_the_deadlines_is_refused_by_name() {
+    let start = "ulimit -v 150000 && exec \"$0\" --port 0 --keys 4000000";
+    let started = Command::new("sh").args(["-c", start, env!("CARGO_BIN_EXE_store")]).output().unwrap();
+    assert_eq!(String::from_utf8_lossy(&started.stderr), "store: the deadlines of --keys 4000000: out of memory\n");
+    assert_eq!(started.status.code(), Some(1));
+}
+
 #[test]
 fn no_room_is_an_error_by_name_and_nothing_is_lost() {
     let store = Store::new(&["--keys", "6400", "--memory", "64"]);
