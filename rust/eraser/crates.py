@@ -99,7 +99,7 @@ def defined_names(tokens):
     for token, behind in zip(tokens, tokens[1:]):
         if token.kind == "other":
             depth += (token.text == "{") - (token.text == "}")
-        if depth == 0 and token.kind == "word" and token.text in ("fn", "struct", "type", "enum", "trait", "const"):
+        if depth == 0 and token.kind == "word" and token.text in paths.DEFINES:
             found.add(behind.text)
     return found
 
