@@ -321,15 +321,17 @@ def evidence():
     calls = re.search(r"const CALLS: u64 = if cfg!.debug_assertions. \{ ([\d_]+) \}", text_of(TOP / "rust/hontkhale/tests/models/draw.rs"))[1]
     lines, answers = script_rows(scripts, "const THREE_NAMES")
     ends = len(script_rows(refused, r"fn refused_memory\b")[0]) + 2 * len(script_rows(scripts, "const EVERY_COMMAND")[0])
+    functions = [tree.total("queue", lambda it: it.functions(only_public)) for only_public in (False, True)]
+    definitions = tree.total("queue", lambda it: sum(not indent for indent, _ in it.definitions()))
     told = {
         "Lines of code that a user runs, each function proved safe, total and true to its contract":
-            f"{code:,} in {tree.functions('queue'):,} functions, {tree.functions('queue', only_public=True):,} of them public",
+            f"{code:,} in {functions[0]:,} functions, {functions[1]:,} of them public",
         "Lines of proofs, definitions and contracts about them": f"{proofs:,}, {proofs / code:.1f} to a line of code",
-        "Definitions, which a reader has to believe in": f"{tree.definitions('queue'):,}",
-        "Lines of tests in Rattle, proved safe too": f"{tests:,} in {tree.tests('all'):,} functions",
+        "Definitions, which a reader has to believe in": f"{definitions:,}",
+        "Lines of tests in Rattle, proved safe too": f"{tests:,} in {tree.tests():,} functions",
         "Tests in plain Rust over the erased crate that the gate runs by name":
             f"{len(tree.plain_tests()):,}, {len(tree.plain_tests([tree.ERASED_ONCE])):,} of them once erased from tests in Rattle",
-        "Mutations, each named for its bug, that each gate tries and the prover refuses": f"{tree.edits('all'):,}",
+        "Mutations, each named for its bug, that each gate tries and the prover refuses": f"{tree.edits():,}",
         "Bodies planted by `rt plant`": f"{planted[0]} refused, {planted[1]} let through and seen by a test, {planted[2]} not judged (the tactics met a limit)",
         "Calls beside a slow model, every answer and count compared": f"{queues * int(calls.replace('_', '')):,}; five times as many in a release build",
         "Faults at each byte of a script and of its answers": f"{text_bytes(['delay 1', *lines]) + 1} of reading, {text_bytes(answers)} of writing",
