@@ -115,9 +115,10 @@ impl Source {
 }
 
 impl Time {
-    pub fn new(clock: Source) -> Time {
+    /// The time from a moment on, or from now.
+    pub fn new(clock: Source, start: Option<Instant>) -> Time {
         Time {
-            start: clock.now(),
+            start: start.unwrap_or_else(|| clock.now()),
             clock,
         }
     }
