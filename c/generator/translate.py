@@ -6,41 +6,17 @@ atomic step is a compiler's builtin of the same order. What LLVM calls poison ma
 """
 
 import collections
+import pathlib
 import re
+import tomllib
 
-# What an instruction, a type or an attribute may carry that narrows its meaning only: to leave it out is a refinement.
-FLAGS = set("""nuw nsw exact nusw disjoint nneg samesign tail musttail notail fastcc noundef nonnull noalias readonly
-    writeonly readnone nocapture nofree returned zeroext signext immarg dead_on_unwind writable inreg dead_on_return
-    """.split())
-FLAG_CALLS = set("range captures dereferenceable dereferenceable_or_null memory initializes sret".split())
-ORDERS = {"monotonic": "__ATOMIC_RELAXED", "acquire": "__ATOMIC_ACQUIRE", "release": "__ATOMIC_RELEASE",
-          "acq_rel": "__ATOMIC_ACQ_REL", "seq_cst": "__ATOMIC_SEQ_CST"}
-WIDTHS = (8, 16, 32, 64, 128)
-SIGNS = {"add": "+", "sub": "-", "mul": "*", "and": "&", "or": "|", "xor": "^", "shl": "<<", "lshr": ">>", "udiv": "/",
-         "urem": "%"}
-COMPARISONS = {"eq": "==", "ne": "!=", "ult": "<", "ule": "<=", "ugt": ">", "uge": ">="}
-STEPS = {"xchg": "exchange_n", **{it: f"fetch_{it}" for it in ("add", "sub", "and", "or", "xor")}}
-# What C has for LLVM's own functions, by the types of their answers.
-INTRINSICS = {
-    "trap": (["void"], "__builtin_trap()"),
-    "umin": (WIDTHS, "{0} < {1} ? {0} : {1}"), "umax": (WIDTHS, "{0} > {1} ? {0} : {1}"),
-    "usub.sat": (WIDTHS, "{0} > {1} ? {less} : 0u"),
-    "uadd.sat": (WIDTHS[2:], "{0} > {most} - {1} ? {most} : {0} + {1}"),
-    **{it: ((32, 64), it + "_{kind}({0})") for it in ("ctlz", "cttz")},
-}
+KNOWN = tomllib.loads(pathlib.Path(__file__).with_name("instructions.toml").read_text(encoding="utf-8"))
+FLAGS, FLAG_CALLS = set(KNOWN["flags"].split()), set(KNOWN["flag_calls"].split())
+ORDERS, SIGNS = KNOWN["orders"], KNOWN["signs"]
+FORMS = {**KNOWN["forms"], **dict.fromkeys(SIGNS, ["o , v"])}
+CASTS = [it for it, forms in FORMS.items() if forms == ["o to t"]]
 HEAP = ("rattle_alloc", "rattle_realloc", "rattle_dealloc")
-CASTS = ("zext", "trunc", "ptrtoint", "ptrtoaddr", "inttoptr")
-# What follows each instruction: `t` is a type, `o` a type and a value, `v` a value of the last type, `w` a word, `*` what its
-# own code reads. Of two forms the one counts whose first word stands there.
-FORMS = {
-    **dict.fromkeys(SIGNS, ["o , v"]), **dict.fromkeys(CASTS, ["o to t"]),
-    "icmp": ["w o , v"], "select": ["o , o , o"], "freeze": ["o"], "alloca": ["t"],
-    "getelementptr": ["inbounds t , o , o", "t , o , o"],
-    "load": ["atomic t , o w", "t , o"], "store": ["atomic o , o w", "o , o"],
-    "cmpxchg": ["weak o , o , o w w", "o , o , o w w"], "atomicrmw": ["w o , o w"],
-    "extractvalue": ["o , w"], "insertvalue": ["o , o , w"], "br": ["label w", "o , label w , label w"],
-    "ret": ["void", "o"], "unreachable": [""], "phi": ["t *"], "switch": ["o , label w [ *"], "call": ["t *"],
-}
+WIDTHS = (8, 16, 32, 64, 128)
 NAME = r'(?:"[^"]*"|[-\w.$]+)'
 TOKEN = re.compile(r'\s*(%s|[%%@]%s|[a-zA-Z_][\w.]*|-?\d+|\S)' % (r'"[^"]*"', NAME))
 # The names of metadata, alignments and groups of attributes.
@@ -353,7 +329,9 @@ class Function:
             self.say(f"{to} = {self.arithmetic(op, *parts)};")
         elif op in CASTS:
             self.say(f"{to} = {self.cast(op, *parts)};")
-        elif op in ("br", "switch", "call"):
+        elif op in KNOWN["lines"]:
+            self.say(KNOWN["lines"][op].format(*(self.of(it) if isinstance(it, tuple) else it for it in parts), to=to))
+        elif op in ("switch", "call"):
             getattr(self, "do_" + op)(step, to, *parts)
         else:
             getattr(self, "do_" + op)(to, *parts)
@@ -376,15 +354,9 @@ class Function:
         return value if op == "zext" else fit(other, value)
 
     def do_icmp(self, to, how, left, right):
-        if how not in COMPARISONS or left[0] == "ptr" and how[0] == "u":
+        if how not in KNOWN["comparisons"] or left[0] == "ptr" and how[0] == "u":
             raise Unknown(f"the comparison {how} of {left[0]}")
-        self.say(f"{to} = {self.of(left)} {COMPARISONS[how]} {self.of(right)};")
-
-    def do_select(self, to, choice, left, right):
-        self.say(f"{to} = {self.of(choice)} ? {self.of(left)} : {self.of(right)};")
-
-    def do_freeze(self, to, operand):
-        self.say(f"{to} = {self.of(operand)};")
+        self.say(f"{to} = {self.of(left)} {KNOWN['comparisons'][how]} {self.of(right)};")
 
     def do_getelementptr(self, to, *parts):
         kind, base, index = parts[-3:]
@@ -429,19 +401,12 @@ class Function:
 
     def do_atomicrmw(self, to, op, at, value, order):
         kind = known(value[0], "an atomic step")
-        if op not in STEPS:
+        if op not in KNOWN["steps"]:
             raise Unknown(f"the atomic step {op}")
-        step = f"__atomic_{STEPS[op]}((uint{kind}_t *){self.of(at)}, {self.of(value)}, {ORDERS[order]});"
+        step = f"__atomic_{KNOWN['steps'][op]}((uint{kind}_t *){self.of(at)}, {self.of(value)}, {ORDERS[order]});"
         self.say(f"{to} = {step}" if to else f"(void){step}")
 
-    def do_extractvalue(self, to, value, at):
-        self.say(f"{to} = {self.of(value)}.f{at};")
-
-    def do_insertvalue(self, to, whole, part, at):
-        self.say(f"{to} = {self.of(whole)};")
-        self.say(f"{to}.f{at} = {self.of(part)};")
-
-    def do_br(self, step, to, first, *rest):
+    def do_br(self, to, first, *rest):
         if rest:
             self.say(f"if ({self.of(first)}) {{ {self.jump(rest[0])} }}")
         self.say(self.jump(rest[1] if rest else first))
@@ -457,9 +422,6 @@ class Function:
 
     def do_ret(self, to, value=None):
         self.say(f"return {self.of(value)};" if value else "return;")
-
-    def do_unreachable(self, to):
-        self.say("__builtin_unreachable();")
 
     def do_call(self, step, to, answer):
         text = step.text
@@ -483,11 +445,9 @@ class Function:
 
     def intrinsic(self, name, answer, given):
         base = re.sub(r"(\.[pi]\d+)+$", "", name[6:])
-        if base.startswith("lifetime.") or base in ("assume", "experimental.noalias.scope.decl"):
-            return None
         if base in ("memcpy", "memmove", "memset") and given[3] == "false":
             return f"{base}({', '.join(given[:3])})"
-        answers, form = INTRINSICS.get(base, ((), ""))
+        answers, form = KNOWN["intrinsics"].get(base, ((), ""))
         if answer not in answers:
             raise Unknown(f"the call {name}")
         is_number = answer in WIDTHS
