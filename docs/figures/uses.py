@@ -2,16 +2,16 @@
 
 import re
 
+import source
 import tree
 
 TOP = tree.TOP
-LINE = re.compile(r"^(\w+)[^:\n]*:(.*)$", re.M)
 ROW = re.compile(r"^\| `(\w+)` \|[^|\n]*\|$", re.M)
 
 
 def listed(text):
     """Each crate of a crates.txt, with what it lists."""
-    return {found[1]: found[2].split() for found in LINE.finditer(text) if not found[0].startswith("#")}
+    return {name: libraries for name, (_, libraries) in source.lines_of_crates(text).items()}
 
 
 def named(crate):
