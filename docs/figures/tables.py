@@ -12,7 +12,8 @@ import tree
 from tree import TOP, text_of
 
 RESULTS = TOP / "bench" / "results"
-SIZES = ("1000", "10000", "65536")
+SIZES, TOUCHES = ("1000", "10000", "65536"), ("extend", "reset", "cancel")
+PIECE_WAYS = ("whole", "pieces-16", "pieces-64", "pieces-256")
 # The rows and the peers of the tables, by the table.
 PLAN = tomllib.loads(text_of(TOP / "bench" / "plan.toml"))["tables"]
 
@@ -158,22 +159,21 @@ def longest_of(name, peer, entries):
     raise LookupError(f"the stored run has no poll of {peer} in {name} at {entries}")
 
 
+def touched(peers, cell):
+    """A table of the longest call, after sessions were touched in some way."""
+    rows = ([f"{call}s", f"{int(size):,}", *(cell(call, it, size) for it in peers)] for call in TOUCHES for size in SIZES)
+    return grid(["Touched by", "Entries", *peers.values()], rows)
+
+
 def longest():
     """The longest poll of each kind, in microseconds."""
-    peers = PLAN["longest_peers"]
-    return grid(["Touched by", "Entries", *peers.values()], ([f"{call}s", f"{int(size):,}", *(us_text(longest_of(f"longest-{call}", it, size)) for it in peers)]
-                                                             for call in ("extend", "reset", "cancel") for size in SIZES))
-
-
-PIECE_WAYS = ("whole", "pieces-16", "pieces-64", "pieces-256")
+    return touched(PLAN["longest_peers"], lambda call, peer, size: us_text(longest_of(f"longest-{call}", peer, size)))
 
 
 def pieces():
     """Polls whole and in pieces: the longest call."""
     found = {tuple(it[:3]): it for it in rows_of("pieces") if it[1].startswith("pieces-") and it[3] == "poll"}
-    return grid(["Touched by", "Entries", *PIECE_WAYS],
-                ([f"{call}s", f"{int(size):,}", *(ns_text(float(found[way, f"pieces-{call}", size][9])) for way in PIECE_WAYS)]
-                 for call in ("extend", "reset", "cancel") for size in SIZES))
+    return touched({it: it for it in PIECE_WAYS}, lambda call, way, size: ns_text(float(found[way, f"pieces-{call}", size][9])))
 
 
 def beside():
