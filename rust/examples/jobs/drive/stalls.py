@@ -254,7 +254,8 @@ def locked_rows(it):
         worker = it.spawn("worker", *words)
         it.wait_for_owners(1)
         it.sql("INSERT INTO jobs (due) SELECT now() + interval '3 seconds' FROM generate_series(1, 1000)")
-        with held(it, "UPDATE jobs SET due = due + interval '1 ms' WHERE id % 300 = 0"):
+        three = "id - (SELECT min(id) FROM jobs) IN (300, 600, 900)"
+        with held(it, f"UPDATE jobs SET due = due + interval '1 ms' WHERE {three}"):
             if effect:
                 wait_for(lambda: done(it) >= 997, 15)
             else:
