@@ -73,9 +73,14 @@ def without_drop(tokens):
                 del tokens[at - 1:at + 1]
                 at -= 1
             elif before == ":" and after == "," and where_list(tokens, at - 2):
-                tokens[at + 2].before = tokens[at - 2].before
-                del tokens[at - 2:at + 2]
-                at -= 2
+                begin, end = at - 2, at + 2
+                while tokens[begin - 1].text not in ("where", ","):
+                    begin -= 1
+                if tokens[begin - 1].text == "where" and tokens[end].text == "{":
+                    begin -= 1
+                tokens[end].before = tokens[begin].before
+                del tokens[begin:end]
+                at = begin
             elif before == ":":
                 del tokens[at - 1:at + 1]
                 at -= 1

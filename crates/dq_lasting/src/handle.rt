@@ -246,7 +246,7 @@ impl<T, A: Allocator> LastingQueue<T, A> {
         requires { place < self.now.shards }
         ensures { NumberAt T self.now.shards place result }
     {
-        self.lock(rt, place).number()
+        self.lock(rt, place).attended.core.shard()
     }
 
     // One caller more of the shard at a place.
@@ -284,10 +284,7 @@ impl<T, A: Allocator + Clone + Drop> LastingQueue<T, A> {
         ensures { LastingQueueHandles T self.now result }
     {
         let shards = self.shards();
-        let Ok(alloc) = self.shards.allocator().clone() else {
-            return Err(HandleError::NoMemory);
-        };
-        let Ok(mut callers) = Vec::with_capacity(alloc, shards) else {
+        let Ok(mut callers) = self.row.room_for_each() else {
             return Err(HandleError::NoMemory);
         };
         for place in 0..shards {

@@ -133,13 +133,9 @@ pub fn keep_until<N: Until>(parked: &mut Option<Parked<N>>, next_wake: Option<u6
     ensures stays { parked.new ≡ still_parked N.lasts parked.old next_wake }
     ensures leaves { Leaves parked.old result.poller parked.new }
 {
-    let Some(poller) = parked else {
-        return Leaver { poller: None };
-    };
-    if poller.next.lasts_until(next_wake) {
-        Leaver { poller: None }
-    } else {
-        take(parked)
+    match parked {
+        Some(poller) if !poller.next.lasts_until(next_wake) => take(parked),
+        _ => Leaver { poller: None },
     }
 }
 
@@ -149,12 +145,8 @@ pub fn ring<N: Until>(parked: &mut Option<Parked<N>>, tick: u64) -> Leaver<N>
     ensures stays { parked.new ≡ after_ring N.ends parked.old tick }
     ensures leaves { Leaves parked.old result.poller parked.new }
 {
-    let Some(poller) = parked else {
-        return Leaver { poller: None };
-    };
-    if poller.next.ends_by(tick) {
-        take(parked)
-    } else {
-        Leaver { poller: None }
+    match parked {
+        Some(poller) if poller.next.ends_by(tick) => take(parked),
+        _ => Leaver { poller: None },
     }
 }

@@ -99,24 +99,16 @@ pub fn take<N>(parked: &mut Option<Parked<N>>) -> Leaver<N> {
 
 /// Takes the poller out unless it may go on waiting at this next wake.
 pub fn keep_until<N: Until>(parked: &mut Option<Parked<N>>, next_wake: Option<u64>) -> Leaver<N> {
-    let Some(poller) = parked else {
-        return Leaver { poller: None };
-    };
-    if poller.next.lasts_until(next_wake) {
-        Leaver { poller: None }
-    } else {
-        take(parked)
+    match parked {
+        Some(poller) if !poller.next.lasts_until(next_wake) => take(parked),
+        _ => Leaver { poller: None },
     }
 }
 
 /// Takes the poller out where its wait is over at a tick.
 pub fn ring<N: Until>(parked: &mut Option<Parked<N>>, tick: u64) -> Leaver<N> {
-    let Some(poller) = parked else {
-        return Leaver { poller: None };
-    };
-    if poller.next.ends_by(tick) {
-        take(parked)
-    } else {
-        Leaver { poller: None }
+    match parked {
+        Some(poller) if poller.next.ends_by(tick) => take(parked),
+        _ => Leaver { poller: None },
     }
 }
