@@ -51,14 +51,20 @@ fn nobody<T>(begun: Begun, rows: Option<Rows<T>>) -> Step<T> {
 }
 
 impl<T> LastingShard<T> {
-    // The step of one that isn't drained: where it is closed, the next few slots are swept, and what is reaped is set aside.
+    // Frees the slots of entries that were cancelled among the next few slots. Their values are set aside.
+    fn sweep_on(&mut self) -> (usize, Leaver<Option<u64>>) {
+        let (swept, leaver) = self.attended.sweep_some(self.sweep_from, SWEPT_AT_ONCE);
+        self.sweep_from = swept.next.unwrap_or(0);
+        (swept.reaped, leaver)
+    }
+
+    // The step of one that isn't drained.
     fn drain_on(&mut self, place: usize) -> (Kept, Leaver<Option<u64>>) {
         // requires ¬ IsDrained self.old
         if self.takes {
             return (Kept::Fine, Leaver { poller: None });
         }
-        let (swept, leaver) = self.attended.sweep_some(self.sweep_from, SWEPT_AT_ONCE);
-        self.sweep_from = swept.next.unwrap_or(0);
+        let (_reaped, leaver) = self.sweep_on();
         let linked = self.attended.core.len();
         (Kept::Drains { place, linked }, leaver)
     }
