@@ -1,9 +1,10 @@
-//! The calls by name that let values go: what they reap, clear or make room for is dropped by them, while no lock is held.
+//! The calls by name that let values go: what they reap, clear or make room for is dropped by them, while no lock is
+//! held.
 //!
-//! A value's drop is a user's code: it may call the queue, and it may panic. What is reaped or cleared is set aside in its
-//! shard, and one thread takes it out and drops it behind the lock. Where a drop panics the shard is whole, and what is
-//! still set aside is dropped by a later call. No other impl says that a value may be dropped, so the checker refuses a
-//! drop anywhere else.
+//! A value's drop is a user's code: it may call the queue, and it may panic. What is reaped or cleared is set aside in
+//! its shard, and the row takes it out and drops it behind the lock. Where a drop panics the shard is whole, and what
+//! is still set aside is dropped by a later call. Beside the row no other impl says that a value may be dropped, so the
+//! checker refuses a drop anywhere else.
 ghost use Rattle.std.specs.Prelude.{◌≡◌, ◌+◌, ◌-◌, ◌*◌, ◌%◌, ◌<◌, ◌≤◌, ◌↔◌, if◌then◌else◌};
 ghost use Rattle.std.specs.Prelude.{Err, IfErr, IsErrOf, OnErr, vec_capacity};
 ghost use Rattle.dq_lasting.specs.declared.config.TheConstants.{SHARD_LIMIT};
@@ -49,8 +50,8 @@ fn passes_on(error: &LastingError) -> bool
     )
 }
 
-// What is told of several places: that the first that takes entries is full, and else that they are closed. One that doesn't
-// count tells nothing.
+// What is told of several places: that the first that takes entries is full, and else that they are closed. One that
+// doesn't count tells nothing.
 fn first_told(told: LastingError, error: LastingError, counts: bool) -> LastingError
     ensures { result ≡ (if counts then told_of told error else told) }
 {
@@ -60,8 +61,8 @@ fn first_told(told: LastingError, error: LastingError, counts: bool) -> LastingE
     }
 }
 
-// The place of a route's try at a turn: as many as there are places are drawn, each place as often as any other. Then comes
-// each in turn.
+// The place of a route's try at a turn: as many as there are places are drawn, each place as often as any other. Then
+// comes each in turn.
 #[inline]
 fn tried_place(route: u64, turn: usize, shards: usize) -> usize
     requires some { (2 ≤ shards) × (shards ≤ SHARD_LIMIT) }
@@ -155,8 +156,8 @@ impl<T: Drop, A: Allocator> LastingQueue<T, A> {
         }
     }
 
-    // The insert of a route whose own place has passed it on: at the places that are drawn and then at each in turn, until
-    // one takes it or refuses it for more than want of room.
+    // The insert of a route whose own place has passed it on: at the places that are drawn and then at each in turn,
+    // until one takes it or refuses it for more than want of room.
     fn insert_elsewhere<R: Wait>(
         &self,
         rt: &R,

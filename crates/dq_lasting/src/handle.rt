@@ -1,7 +1,6 @@
 //! A handle extends and cancels entries of every shard, and looks at them, without a lock.
 ghost use Rattle.std.specs.Prelude.{◌≡◌, ◌≢◌, ◌%◌, ◌<◌, ◌≤◌, ◌↔◌, IfOk, IfErr, IsErrOf};
 ghost use Rattle.std.specs.Prelude.{length, vec_len};
-ghost use Rattle.dq_words.specs.Counts.{cancels_in, most_begins};
 ghost use Rattle.dq_words.specs.declared.keeper.WordsError.TheVariants.{BadConfig};
 ghost use Rattle.dq_lasting.specs.declared.config.TheConstants.{SHARD_LIMIT};
 ghost use Rattle.dq_lasting.specs.Numbered.{NumberedExtends, NumberedCancels, NumberedLooks};

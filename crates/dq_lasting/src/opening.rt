@@ -1,14 +1,15 @@
-//! A shard is opened by two short steps. By the first it is seen to be drained; then words and slots that were never used
-//! are made while the lock is free; by the second they take the place of the old ones, in constant time. What is left
-//! over is dropped behind the lock.
-ghost use Rattle.std.specs.Prelude.{◌≡◌, ◌+◌, ◌<◌, ◌≤◌, true, IfSome, None};
+//! A shard is opened by two short steps. By the first it is seen to be drained; then words and slots that were never
+//! used are made while the lock is free; by the second they take the place of the old ones, in constant time. What is
+//! left over is dropped behind the lock.
+ghost use Rattle.std.specs.Prelude.{◌≡◌, ◌+◌, ◌<◌, true, IfSome, None};
 ghost use Rattle.std.specs.List.{count_by};
 ghost use Rattle.dq_core.specs.Renewals.{OldAreMissing};
 ghost use Rattle.dq_core.specs.Slots.{is_held};
 ghost use Rattle.dq_parking.specs.Parking.{Leaves};
 ghost use Rattle.dq_lasting.specs.Answers.{AtPlace};
 ghost use Rattle.dq_lasting.specs.Changes.{LastingSweepsOn, NumbersAreSpent, IsEndedBefore};
-ghost use Rattle.dq_lasting.specs.Keeping.{BeginsAt, DrainsOn, IsDrained, IfReopened, IsOfShardSize, AreFreshRows, IsUnknown};
+ghost use Rattle.dq_lasting.specs.Keeping.{BeginsAt, DrainsOn, IsDrained, IfReopened, IsOfShardSize};
+ghost use Rattle.dq_lasting.specs.Keeping.{AreFreshRows, IsUnknown};
 
 use crate::ended::Ended;
 use crate::errors::ReopenError;
@@ -134,12 +135,13 @@ impl<T, A: Allocator> LastingShard<T, A> {
         }
     }
 
-    // The step of one shard. Where it is drained it goes on over these rows, under the number that is higher by so much; where
-    // there are none, or they don't fit it, it tells the size of those that are to be made.
+    // The step of one shard. Where it is drained it goes on over these rows, under the number that is higher by so
+    // much; where there are none, or they don't fit it, it tells the size of those that are to be made.
     pub(crate) fn step(&mut self, rows: Option<Rows<T, A>>, place: usize, by: u32) -> Step<T, A>
         requires by { 0 < by }
         requires rows { IfSome rows (λ r. IsUnknown r) }
-        // Where it is opened its number rises, so each entry from before is missing for good, and it takes entries again.
+        // Where it is opened its number rises, so each entry from before is missing for good, and it takes entries
+        // again.
         ensures rises { IfReopened result.0
             (self.new.core.shard ≡ self.old.core.shard + by) }
         ensures stale { IfReopened result.0 (OldAreMissing self.old.core self.new.core) }

@@ -2,15 +2,11 @@
 //!
 //! Its calls are made while its lock is held, so they wake nobody and drop no value: who leaves is handed over, to be
 //! woken once the lock is free, and what is reaped or cleared is set aside.
-ghost use Rattle.std.specs.Prelude.{◌≡◌, ◌↔◌, ◌+◌, ◌%◌, ◌<◌, ◌≤◌, true, false, None, OnOk, OnErr, IfErr, IfSome, IsErrAnd, length};
-ghost use Rattle.std.specs.List.{count_by};
-ghost use Rattle.dq_core.specs.Calls.{TellsWake};
-ghost use Rattle.dq_core.specs.Readers.{TellsLeast};
-ghost use Rattle.dq_core.specs.Slots.{is_held, is_worn};
+ghost use Rattle.std.specs.Prelude.{◌≡◌, ◌+◌, ◌%◌, ◌<◌, ◌≤◌, true, false, None};
+ghost use Rattle.std.specs.Prelude.{IfSome};
 ghost use Rattle.dq_parking.specs.Parking.{Leaves};
-ghost use Rattle.dq_lasting.specs.declared.errors.LastingError.TheVariants.{Closed};
 ghost use Rattle.dq_lasting.specs.Shard.{IsLasting, AddsUp};
-ghost use Rattle.dq_lasting.specs.Changes.{LastingInserts, LastingDeadline, LastingTells, LastingIssues};
+ghost use Rattle.dq_lasting.specs.Changes.{LastingTells, LastingIssues};
 ghost use Rattle.dq_lasting.specs.Changes.{Closes, IsWith, count_end};
 ghost use Rattle.dq_lasting.specs.Keeping.{IsWornBy, ClosesWorn, TellsDrained, TellsSeen};
 ghost use Rattle.dq_lasting.specs.Parking.{TellsParked};

@@ -1,5 +1,5 @@
 //! What a shard tells of itself under one lock, and what all shards tell in turn.
-ghost use Rattle.std.specs.Prelude.{◌≡◌, ◌<◌, ◌≤◌, ◌↔◌, IfOk, IsErrOf};
+ghost use Rattle.std.specs.Prelude.{◌<◌, ◌≤◌, ◌↔◌, IfOk, IsErrOf};
 ghost use Rattle.dq_lasting.specs.declared.errors.LastingError.TheVariants.{Unknown};
 ghost use Rattle.dq_lasting.specs.Answers.{AtPlace, AtPlaceAll};
 ghost use Rattle.dq_lasting.specs.States.{TellsState, LastingQueueStates};

@@ -79,8 +79,8 @@ impl<N: Drop> Parked<N> {
     }
 }
 
-/// Lets a poller go that was taken out, and doesn't wake its task. True where there is one. Its waker is the user's: where
-/// letting it go may call the queue, the shard's lock is to be free.
+/// Lets a poller go that was taken out, and doesn't wake its task. True where there is one. Its waker is the user's:
+/// where letting it go may call the queue, the shard's lock is to be free.
 pub fn let_sleep<N: Drop>(taken: Option<Parked<N>>) -> bool
     ensures { result ≡ is_some taken }
 {
@@ -93,8 +93,8 @@ pub fn let_sleep<N: Drop>(taken: Option<Parked<N>>) -> bool
     }
 }
 
-/// A poller that has left its shard, if one has. It isn't `Drop`: whoever has it has to wake it, once the shard's lock is
-/// free.
+/// A poller that has left its shard, if one has. It isn't `Drop`: whoever has it has to wake it, once the shard's lock
+/// is free.
 pub struct Leaver<N = u64> {
     /// The poller; none where none has left.
     pub poller: Option<Parked<N>>,

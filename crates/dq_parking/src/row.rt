@@ -1,7 +1,7 @@
 //! A row of shards behind locks, of either queue: the locks, who waits for them, and what is done once one is free.
 //!
-//! A front, as `SharedDelayQueue` and `LastingQueue`, has a `Row` of its own shards, and says in `impl Shard` what a call
-//! asks of one. A call by name of a front is then four lines:
+//! A front, as `SharedDelayQueue` and `LastingQueue`, has a `Row` of its own shards, and says in `impl Shard` what a
+//! call asks of one. A call by name of a front is then four lines:
 //!
 //! ```ignore
 //! let mut shard = self.row.lock(rt, place);
@@ -10,9 +10,9 @@
 //! self.row.drop_aside(rt, place, aside);
 //! ```
 //!
-//! `lock` compares once whether the shard stands at the place, and waits for ever where another was put there. `unlock` lets
-//! the lock go, wakes who has left, and answers how many values are set aside. A value's drop is a user's code: it may call the
-//! queue, and it may panic. So it runs while the lock is free, and where it panics the shard is whole.
+//! `lock` compares once whether the shard stands at the place, and waits for ever where another was put there. `unlock`
+//! lets the lock go, wakes who has left, and answers how many values are set aside. A value's drop is a user's code: it
+//! may call the queue, and it may panic. So it runs while the lock is free, and where it panics the shard is whole.
 ghost use Rattle.std.specs.Prelude.{◌≡◌, ℕ, ◌<◌, ◌≤◌, IfOk, IsTrue, vec_len, vec_capacity};
 ghost use Rattle.std.specs.Sync.Mutex.{mutex_guard_value};
 
@@ -96,8 +96,8 @@ impl<S, A: Allocator> Row<S, A> {
         self.shards.len()
     }
 
-    /// Gives way to whoever waits for the lock of the shard at a place: it looks for a bounded while until nobody does, and
-    /// returns at once where nobody does. A place out of range has no lock.
+    /// Gives way to whoever waits for the lock of the shard at a place: it looks for a bounded while until nobody does,
+    /// and returns at once where nobody does. A place out of range has no lock.
     pub fn give_way(&self, place: usize) {
         if place < self.shards.len() {
             let waiting = &self.waiting[place];
@@ -136,8 +136,8 @@ impl<S: Shard, A: Allocator> Row<S, A> {
     }
 }
 
-/// Lets a shard's lock go, and then wakes who has left: whoever is woken may call the queue at once. Answers how many values
-/// are set aside.
+/// Lets a shard's lock go, and then wakes who has left: whoever is woken may call the queue at once. Answers how many
+/// values are set aside.
 #[inline(always)]
 pub fn unlock<S: Shard>(shard: MutexGuard<'_, S>, leaver: Leaver<S::Next>) -> usize
     ensures { S.keeps (mutex_guard_value shard.entry) }
@@ -154,8 +154,8 @@ impl<S: Shard, A: Allocator> Row<S, A>
 where
     S::Value: Drop,
 {
-    /// As `lock`, for an insert, for which each value that is set aside has a place. One that has none is dropped before it: a
-    /// drop that panics then loses no key.
+    /// As `lock`, for an insert, for which each value that is set aside has a place. One that has none is dropped
+    /// before it: a drop that panics then loses no key.
     #[inline(always)]
     pub fn lock_with_room<R: Wait>(&self, rt: &R, place: usize) -> MutexGuard<'_, S>
         requires { place < self.now }
@@ -173,8 +173,8 @@ where
         unreachable!()
     }
 
-    /// Drops what is set aside in the shard at a place, where the caller has left so many there: nothing is done where it has
-    /// left none, or where there is no such place.
+    /// Drops what is set aside in the shard at a place, where the caller has left so many there: nothing is done where
+    /// it has left none, or where there is no such place.
     #[inline(always)]
     pub fn drop_aside<R: Wait>(&self, rt: &R, place: usize, most: usize) {
         if most > 0 && place < self.len() {
@@ -204,8 +204,8 @@ where
     }
 }
 
-// The thread that drops what is set aside in a shard, one value at a time, while the lock is free. Where a value's drop panics,
-// others may do it from then on.
+// The thread that drops what is set aside in a shard, one value at a time, while the lock is free. Where a value's drop
+// panics, others may do it from then on.
 struct Dropper<'q, S: Shard, R: Wait, A: Allocator> {
     row: &'q Row<S, A>,
     rt: &'q R,

@@ -1,10 +1,10 @@
-//! The calls of a queue of shards by name that may let a value go: each takes one shard's lock and makes the state's call. Who
-//! leaves by it is woken once the lock is free, and what it lets go is dropped then.
+//! The calls of a queue of shards by name that may let a value go: each takes one shard's lock and makes the state's
+//! call. Who leaves by it is woken once the lock is free, and what it lets go is dropped then.
 //!
-//! A value's drop is a user's code: it may call the queue, and it may panic. What is reaped or cleared is set aside in the
-//! shard, and one thread takes it out and drops it behind the lock. Where a drop panics the shard is whole, and what is still
-//! set aside is dropped by a later call. No other impl of a queue says that a value of it may be dropped, so the checker
-//! refuses a drop anywhere else.
+//! A value's drop is a user's code: it may call the queue, and it may panic. What is reaped or cleared is set aside in
+//! the shard, and the row takes it out and drops it behind the lock. Where a drop panics the shard is whole, and what
+//! is still set aside is dropped by a later call. Beside the row no other impl of a queue says that a value of it may
+//! be dropped, so the checker refuses a drop anywhere else.
 ghost use Rattle.std.specs.Prelude.{◌≡◌, ◌%◌, ◌<◌, ◌≤◌, ◌↔◌, vec_capacity, IfOk, IfErr, OnOk, OnErr, IsErrOf, IsErrAnd};
 ghost use Rattle.std.specs.Fn.{FnOnceReturnsAtMut};
 ghost use Rattle.dq_ticks.specs.declared.TheConstants.{LAST_TICK};
@@ -12,7 +12,8 @@ ghost use Rattle.dq_core.specs.declared.errors.CoreError.TheVariants.{TooFar, Ti
 ghost use Rattle.dq_shards.specs.declared.errors.QueueError.TheVariants.{Core, Unknown};
 ghost use Rattle.dq_shards.specs.Answers.{with_value_handed_back, OnShard, OnShardOr, QueueInserts, QueueIsMade};
 ghost use Rattle.dq_shards.specs.Changes.{OnNumbered};
-ghost use Rattle.dq_shards.specs.Changes.{ShardPolls, ShardPollsSome, ShardSweeps, ShardSweepsSome, ShardReaps, ShardClears};
+ghost use Rattle.dq_shards.specs.Changes.{ShardPolls, ShardPollsSome, ShardSweeps, ShardSweepsSome, ShardReaps};
+ghost use Rattle.dq_shards.specs.Changes.{ShardClears};
 ghost use Rattle.dq_shards.specs.Many.{ShardPollsMany};
 ghost use Rattle.dq_shards.specs.Through.{AnswersThrough};
 

@@ -1,10 +1,9 @@
 //! Shards behind locks.
-ghost use Rattle.std.specs.Prelude.{◌≡◌, ◌↔◌, ◌<◌, ◌≤◌, IsTrue, IfOk, IfErr};
+ghost use Rattle.std.specs.Prelude.{◌≡◌, ◌<◌, ◌≤◌, IfOk, IfErr};
 ghost use Rattle.std.specs.Sync.Mutex.{mutex_guard_value};
 ghost use Rattle.dq_shards.specs.declared.errors.TheConstants.{SHARD_LIMIT};
 ghost use Rattle.dq_shards.specs.declared.errors.QueueError.TheVariants.{Unknown};
 ghost use Rattle.dq_shards.specs.Shard.{IsShard};
-ghost use Rattle.dq_shards.specs.Answers.{IsQueueConfig};
 
 use crate::errors::{QueueError, SHARD_LIMIT};
 use crate::state::ShardState;

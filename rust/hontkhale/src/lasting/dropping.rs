@@ -1,9 +1,10 @@
-//! The calls by name that let values go: what they reap, clear or make room for is dropped by them, while no lock is held.
+//! The calls by name that let values go: what they reap, clear or make room for is dropped by them, while no lock is
+//! held.
 //!
-//! A value's drop is a user's code: it may call the queue, and it may panic. What is reaped or cleared is set aside in its
-//! shard, and one thread takes it out and drops it behind the lock. Where a drop panics the shard is whole, and what is
-//! still set aside is dropped by a later call. No other impl says that a value may be dropped, so the checker refuses a
-//! drop anywhere else.
+//! A value's drop is a user's code: it may call the queue, and it may panic. What is reaped or cleared is set aside in
+//! its shard, and the row takes it out and drops it behind the lock. Where a drop panics the shard is whole, and what
+//! is still set aside is dropped by a later call. Beside the row no other impl says that a value may be dropped, so the
+//! checker refuses a drop anywhere else.
 
 use crate::core::{CoreConfig, CoreError, Expired, Piece, ReapError, Swept, Turn};
 use crate::lasting::config::LastingConfig;
@@ -27,8 +28,8 @@ fn passes_on(error: &LastingError) -> bool {
     matches!(error, LastingError::Closed | LastingError::Core(CoreError::Full { .. }))
 }
 
-// What is told of several places: that the first that takes entries is full, and else that they are closed. One that doesn't
-// count tells nothing.
+// What is told of several places: that the first that takes entries is full, and else that they are closed. One that
+// doesn't count tells nothing.
 fn first_told(told: LastingError, error: LastingError, counts: bool) -> LastingError {
     match told {
         LastingError::Closed if counts => error,
@@ -36,8 +37,8 @@ fn first_told(told: LastingError, error: LastingError, counts: bool) -> LastingE
     }
 }
 
-// The place of a route's try at a turn: as many as there are places are drawn, each place as often as any other. Then comes
-// each in turn.
+// The place of a route's try at a turn: as many as there are places are drawn, each place as often as any other. Then
+// comes each in turn.
 #[inline]
 fn tried_place(route: u64, turn: usize, shards: usize) -> usize {
     // requires (2 ≤ shards) × (shards ≤ SHARD_LIMIT)
@@ -106,8 +107,8 @@ impl<T> LastingQueue<T> {
         }
     }
 
-    // The insert of a route whose own place has passed it on: at the places that are drawn and then at each in turn, until
-    // one takes it or refuses it for more than want of room.
+    // The insert of a route whose own place has passed it on: at the places that are drawn and then at each in turn,
+    // until one takes it or refuses it for more than want of room.
     fn insert_elsewhere(&self, route: u64, value: T, when: u64) -> Result<Key, (LastingError, T)> {
         let shards = self.shards();
         let mut told = LastingError::Closed;

@@ -1,6 +1,6 @@
-//! A shard is opened by two short steps. By the first it is seen to be drained; then words and slots that were never used
-//! are made while the lock is free; by the second they take the place of the old ones, in constant time. What is left
-//! over is dropped behind the lock.
+//! A shard is opened by two short steps. By the first it is seen to be drained; then words and slots that were never
+//! used are made while the lock is free; by the second they take the place of the old ones, in constant time. What is
+//! left over is dropped behind the lock.
 
 use crate::core::{FreshRows, Slots};
 use crate::lasting::ended::Ended;
@@ -88,8 +88,8 @@ impl<T> LastingShard<T> {
         }
     }
 
-    // The step of one shard. Where it is drained it goes on over these rows, under the number that is higher by so much; where
-    // there are none, or they don't fit it, it tells the size of those that are to be made.
+    // The step of one shard. Where it is drained it goes on over these rows, under the number that is higher by so
+    // much; where there are none, or they don't fit it, it tells the size of those that are to be made.
     pub(crate) fn step(&mut self, rows: Option<Rows<T>>, place: usize, by: u32) -> Step<T> {
         // requires 0 < by
         // requires IfSome rows (λ r. IsUnknown r)

@@ -1,7 +1,7 @@
 //! A row of shards behind locks, of either queue: the locks, who waits for them, and what is done once one is free.
 //!
-//! A front, as `SharedDelayQueue` and `LastingQueue`, has a `Row` of its own shards, and says in `impl Shard` what a call
-//! asks of one. A call by name of a front is then four lines:
+//! A front, as `SharedDelayQueue` and `LastingQueue`, has a `Row` of its own shards, and says in `impl Shard` what a
+//! call asks of one. A call by name of a front is then four lines:
 //!
 //! ```ignore
 //! let mut shard = self.row.lock(rt, place);
@@ -10,9 +10,9 @@
 //! self.row.drop_aside(rt, place, aside);
 //! ```
 //!
-//! `lock` compares once whether the shard stands at the place, and waits for ever where another was put there. `unlock` lets
-//! the lock go, wakes who has left, and answers how many values are set aside. A value's drop is a user's code: it may call the
-//! queue, and it may panic. So it runs while the lock is free, and where it panics the shard is whole.
+//! `lock` compares once whether the shard stands at the place, and waits for ever where another was put there. `unlock`
+//! lets the lock go, wakes who has left, and answers how many values are set aside. A value's drop is a user's code: it
+//! may call the queue, and it may panic. So it runs while the lock is free, and where it panics the shard is whole.
 
 use crate::index::nth;
 use crate::locks::{Mutex, MutexGuard};
@@ -65,8 +65,8 @@ impl<S> Row<S> {
         self.shards.len()
     }
 
-    /// Gives way to whoever waits for the lock of the shard at a place: it looks for a bounded while until nobody does, and
-    /// returns at once where nobody does. A place out of range has no lock.
+    /// Gives way to whoever waits for the lock of the shard at a place: it looks for a bounded while until nobody does,
+    /// and returns at once where nobody does. A place out of range has no lock.
     pub fn give_way(&self, place: usize) {
         if place < self.shards.len() {
             let waiting = nth(&self.waiting, place);
@@ -97,8 +97,8 @@ impl<S: Shard> Row<S> {
     }
 }
 
-/// Lets a shard's lock go, and then wakes who has left: whoever is woken may call the queue at once. Answers how many values
-/// are set aside.
+/// Lets a shard's lock go, and then wakes who has left: whoever is woken may call the queue at once. Answers how many
+/// values are set aside.
 #[inline(always)]
 pub fn unlock<S: Shard>(shard: MutexGuard<'_, S>, leaver: Leaver<S::Next>) -> usize {
     let aside = shard.aside();
@@ -109,8 +109,8 @@ pub fn unlock<S: Shard>(shard: MutexGuard<'_, S>, leaver: Leaver<S::Next>) -> us
 
 // The one impl of a row that says that a value may be dropped. It does so while no lock is held.
 impl<S: Shard> Row<S> {
-    /// As `lock`, for an insert, for which each value that is set aside has a place. One that has none is dropped before it: a
-    /// drop that panics then loses no key.
+    /// As `lock`, for an insert, for which each value that is set aside has a place. One that has none is dropped
+    /// before it: a drop that panics then loses no key.
     #[inline(always)]
     pub fn lock_with_room(&self, place: usize) -> MutexGuard<'_, S> {
         // requires place < self.now
@@ -124,8 +124,8 @@ impl<S: Shard> Row<S> {
         }
     }
 
-    /// Drops what is set aside in the shard at a place, where the caller has left so many there: nothing is done where it has
-    /// left none, or where there is no such place.
+    /// Drops what is set aside in the shard at a place, where the caller has left so many there: nothing is done where
+    /// it has left none, or where there is no such place.
     #[inline(always)]
     pub fn drop_aside(&self, place: usize, most: usize) {
         if most > 0 && place < self.len() {
@@ -152,8 +152,8 @@ impl<S: Shard> Row<S> {
     }
 }
 
-// The thread that drops what is set aside in a shard, one value at a time, while the lock is free. Where a value's drop panics,
-// others may do it from then on.
+// The thread that drops what is set aside in a shard, one value at a time, while the lock is free. Where a value's drop
+// panics, others may do it from then on.
 struct Dropper<'q, S: Shard> {
     row: &'q Row<S>,
     place: usize,

@@ -1,10 +1,10 @@
-//! The calls of a queue of shards by name that may let a value go: each takes one shard's lock and makes the state's call. Who
-//! leaves by it is woken once the lock is free, and what it lets go is dropped then.
+//! The calls of a queue of shards by name that may let a value go: each takes one shard's lock and makes the state's
+//! call. Who leaves by it is woken once the lock is free, and what it lets go is dropped then.
 //!
-//! A value's drop is a user's code: it may call the queue, and it may panic. What is reaped or cleared is set aside in the
-//! shard, and one thread takes it out and drops it behind the lock. Where a drop panics the shard is whole, and what is still
-//! set aside is dropped by a later call. No other impl of a queue says that a value of it may be dropped, so the checker
-//! refuses a drop anywhere else.
+//! A value's drop is a user's code: it may call the queue, and it may panic. What is reaped or cleared is set aside in
+//! the shard, and the row takes it out and drops it behind the lock. Where a drop panics the shard is whole, and what
+//! is still set aside is dropped by a later call. Beside the row no other impl of a queue says that a value of it may
+//! be dropped, so the checker refuses a drop anywhere else.
 
 use crate::core::{CoreConfig, CoreError, Expired, Piece, ReapError, Swept, Turn};
 use crate::parking::{unlock, waiting_row, Row};
