@@ -414,7 +414,7 @@ impl<T> Shared<T> {
         }
         match self.segments().find(|(_, segment)| segment.is_closed()) {
             Some((at, segment)) => self.open_again(at, segment)?,
-            None => self.add(self.make(self.open.load(SeqCst))?)?,
+            None => self.add(self.make(self.open.load(SeqCst))?),
         }
         self.grown.fetch_add(1, SeqCst);
         Ok(())
@@ -431,8 +431,11 @@ impl<T> Shared<T> {
         Ok(())
     }
 
-    /// A segment of the size of the one at a place.
+    /// A segment of the size of the one at a place, where there may be one more.
     fn make(&self, size: usize) -> Result<Vec<Segment<T>>, InsertErrorKind> {
+        if self.open.load(SeqCst) == SEGMENTS {
+            return Err(InsertErrorKind::Full);
+        }
         let mut row = room_for(1).map_err(|_| InsertErrorKind::NoMemory)?;
         let config = self.limits.of_segment(size);
         row.push(Segment::new(config, &self.let_go).map_err(|_| InsertErrorKind::NoMemory)?);
@@ -440,11 +443,10 @@ impl<T> Shared<T> {
     }
 
     /// Adds a segment as the last. Whoever calls it holds `grows`.
-    fn add(&self, segment: Vec<Segment<T>>) -> Result<(), InsertErrorKind> {
+    fn add(&self, segment: Vec<Segment<T>>) {
         let open = self.open.load(SeqCst);
-        let _ = self.segments.get(open).ok_or(InsertErrorKind::Full)?.set(segment);
+        let _ = self.segments[open].set(segment);
         self.open.store(open + 1, SeqCst);
-        Ok(())
     }
 
     /// Gives the memory of the last segment back where it is empty, and those before it are half empty.
