@@ -124,16 +124,7 @@ class Crate:
 
     def stale_edits(self):
         """The edits that can't be applied, which is told here in seconds, each with the reason."""
-        for edit in self.edits():
-            pairs = source.read(edit).pairs
-            paths = {it[0] for it in pairs if (self.folder / it[0]).is_file()}
-            try:
-                source.applied(pairs, {it: text_of(self.folder / it) for it in paths})
-                why = "" if pairs else "it changes nothing"
-            except source.Fault as fault:
-                why = str(fault)
-            if why:
-                yield edit.stem, why
+        return [(it.name, it.why) for it in source.Crate(self.name).edits if it.came_to] if self.edits() else []
 
 
 @functools.lru_cache(maxsize=None)
