@@ -25,7 +25,7 @@ def hash_of(paths, base):
 
 
 def current(folder):
-    """The record of the C file in a folder as it would be now: a line for each crate, the header, what makes it, and it."""
+    """The record of the C file in a folder as it is now: a line for each crate, the header, what makes it, and it."""
     here = TOP / "c"
     lines = [(f"crates/{it}/src", hash_of((TOP / "crates" / it / "src").rglob("*.rt"), TOP)) for it in CRATES]
     lines += [(it, hash_of([here / it], here)) for it in ("include/hontkhale.h", "generate")]
@@ -34,14 +34,8 @@ def current(folder):
     return "".join(f"{hash}  {name}\n" for name, hash in lines)
 
 
-def write(folder):
-    (folder / RECORD).write_text(current(folder), encoding="utf-8")
-
-
 def differences(folder):
     """The names whose hash isn't the recorded one."""
     record = folder / RECORD
-    if not record.exists():
-        return [RECORD]
-    then, now = record.read_text(encoding="utf-8").splitlines(), current(folder).splitlines()
-    return [it.split("  ")[1] for it in sorted(set(now) - set(then), key=now.index)]
+    then = record.read_text(encoding="utf-8").splitlines() if record.exists() else []
+    return [it.split("  ")[1] for it in current(folder).splitlines() if it not in then]
