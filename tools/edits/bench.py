@@ -184,9 +184,6 @@ def link(one, other):
 
 
 def has_room(checks, room):
-    """Whether there is memory for so many checks beside those that run; so it is where nothing tells."""
-    try:
-        found = re.search(r"^MemAvailable: +(\d+) kB", pathlib.Path("/proc/meminfo").read_text(), re.M)
-    except OSError:
-        return True
-    return found is None or int(found[1]) >= checks * room
+    """Whether there is memory for so many checks beside those that run."""
+    found = re.search(r"^MemAvailable: +(\d+) kB", pathlib.Path("/proc/meminfo").read_text(), re.M)
+    return int(found[1]) >= checks * room
