@@ -35,7 +35,6 @@ class Case:
         self.row, self.entries, self.threads = row, entries, threads
         self.call, _, shards = row.partition("/")
         self.shards = int(shards or 0)
-        self.is_own = self.call.startswith(OWN)
         self.is_life = self.shards > 0 and self.call.removeprefix(OWN) in WHOLE_ROWS
         self.is_full = self.shards == FULL_SHARDS and entries == FULL_ENTRIES
         self.is_longest = row in LONGEST_ROWS
@@ -71,9 +70,6 @@ class Case:
 
     def median(self, peer):
         return statistics.median(self.samples[peer])
-
-    def best(self, peer):
-        return min(self.samples[peer])
 
 
 def write_samples(all_cases, about):
