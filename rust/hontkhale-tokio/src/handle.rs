@@ -53,11 +53,13 @@ impl Handle {
         Handle { shared }
     }
 
-    /// Raises the deadline of an entry to `timeout` from now, and answers the deadline that is then in force: that one, or
-    /// a later one that it had.
+    /// Raises the deadline of an entry to `timeout` from now, and returns the deadline that is then in force: that one, or
+    /// a later one that it had. No extend that was accepted is lost. It reads the clock, and makes one atomic step.
     ///
     /// # Errors
-    /// `TooFar`, `Ended`.
+    /// In this order:
+    /// - `TooFar` if the deadline would be more than 139 years after the queue's making.
+    /// - `Ended` if the entry came out, was removed or cancelled, or its queue has gone.
     #[inline]
     pub fn extend(&self, key: &Key, timeout: Duration) -> Result<Instant, EntryError> {
         let tick = self.shared.clock.tick_after(timeout).ok_or(EntryError::TooFar)?;
@@ -65,11 +67,14 @@ impl Handle {
         Ok(self.shared.clock.moment(deadline))
     }
 
-    /// Raises the deadline of an entry to `when`, and answers the deadline that is then in force: `when`, or a later one
-    /// that it had. No extend that was accepted is lost.
+    /// Raises the deadline of an entry to `when`, and returns the deadline that is then in force: `when`, or a later one
+    /// that it had. No extend that was accepted is lost. It makes one atomic step, and reads no clock: a moment that was read once
+    /// serves for many entries.
     ///
     /// # Errors
-    /// `TooFar`, `Ended`.
+    /// In this order:
+    /// - `TooFar` if `when` is more than 139 years after the queue's making.
+    /// - `Ended` if the entry came out, was removed or cancelled, or its queue has gone.
     #[inline]
     pub fn extend_at(&self, key: &Key, when: Instant) -> Result<Instant, EntryError> {
         let tick = self.shared.clock.tick_at(when);
@@ -77,11 +82,11 @@ impl Handle {
         Ok(self.shared.clock.moment(deadline))
     }
 
-    /// Cancels an entry, and answers the deadline that it gave up. It never comes out; the queue's next poll drops its value
-    /// and frees its place, and until then it counts in [`len`](crate::DelayQueue::len).
+    /// Cancels an entry, and returns the deadline that it gave up. It never comes out; the queue's next poll drops its value
+    /// and frees its place, and until then it counts in [`len`](crate::DelayQueue::len). It makes five atomic steps.
     ///
     /// # Errors
-    /// `Ended`.
+    /// `Ended` if the entry came out, was removed or cancelled, or its queue has gone.
     ///
     /// ```
     /// # #[tokio::main(flavor = "current_thread")]
