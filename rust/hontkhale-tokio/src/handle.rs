@@ -1,6 +1,7 @@
 use crate::key::Key;
 use crate::shared::Shared;
 use crate::shared_state::{Refusal, Step};
+use hontkhale::owner::LAST_TICK;
 use std::error::Error;
 use std::fmt;
 use std::sync::Arc;
@@ -62,9 +63,7 @@ impl Handle {
     /// - `Ended` if the entry came out, was removed or cancelled, or its queue has gone.
     #[inline]
     pub fn extend(&self, key: &Key, timeout: Duration) -> Result<Instant, EntryError> {
-        let tick = self.shared.clock.tick_after(timeout).ok_or(EntryError::TooFar)?;
-        let deadline = self.step(key, Step::Extend(tick))?;
-        Ok(self.shared.clock.moment(deadline))
+        self.extend_to(key, self.shared.clock.tick_after(timeout))
     }
 
     /// Raises the deadline of an entry to `when`, and returns the deadline that is then in force: `when`, or a later one
@@ -77,7 +76,14 @@ impl Handle {
     /// - `Ended` if the entry came out, was removed or cancelled, or its queue has gone.
     #[inline]
     pub fn extend_at(&self, key: &Key, when: Instant) -> Result<Instant, EntryError> {
-        let tick = self.shared.clock.tick_at(when);
+        self.extend_to(key, self.shared.clock.tick_at(when))
+    }
+
+    #[inline]
+    fn extend_to(&self, key: &Key, tick: u64) -> Result<Instant, EntryError> {
+        if tick > LAST_TICK {
+            return Err(EntryError::TooFar);
+        }
         let deadline = self.step(key, Step::Extend(tick))?;
         Ok(self.shared.clock.moment(deadline))
     }
@@ -125,14 +131,10 @@ impl Handle {
             },
             refused => refused,
         };
-        match refused {
-            Refusal::TooFar => Err(EntryError::TooFar),
-            Refusal::Over => {
-                self.shared.forget_callers();
-                Err(EntryError::Ended)
-            }
-            _ => Err(EntryError::Ended),
+        if refused == Refusal::Over {
+            self.shared.forget_callers();
         }
+        Err(EntryError::Ended)
     }
 }
 

@@ -34,7 +34,6 @@ pub(crate) enum Step {
 /// Why a handle's step at a segment isn't made.
 #[derive(Clone, Copy, Debug, PartialEq, Eq)]
 pub(crate) enum Refusal {
-    TooFar,
     Ended,
     /// The entry went to another place, which only the queue's relocations tell.
     Moved,
@@ -152,18 +151,15 @@ impl SharedState {
             if seen.stamp == MOVED {
                 return Err(Refusal::Moved);
             }
-            let refused = match step.make(caller, &key.stamped(seen.stamp)) {
+            match step.make(caller, &key.stamped(seen.stamp)) {
                 Ok(deadline) => return Ok(self.made(key, step, deadline)),
                 // The owner is about to give the entry this stamp.
                 Err(CallError::Unknown) => match step.make(caller, &key.stamped(seen.stamp - 1)) {
                     Ok(deadline) => return Ok(self.made(key, step, deadline)),
                     Err(CallError::Stale { .. }) => continue,
-                    Err(refused) => refused,
+                    Err(_) => {}
                 },
-                Err(refused) => refused,
-            };
-            if let CallError::TooFar { .. } = refused {
-                return Err(Refusal::TooFar);
+                Err(_) => {}
             }
             if word.load() == seen {
                 return Err(Refusal::Ended);
