@@ -187,8 +187,8 @@ impl SharedState {
         self.has_cancels.load(Ordering::SeqCst)
     }
 
-    /// Hands the slots over in which handles cancelled an entry since the last time, at most so many, and answers how many.
-    /// The rest is handed over the next time, also where `look` panics.
+    /// Hands the slots over in which handles cancelled an entry since the last time, at most so many, and returns how many.
+    /// The rest is handed over the next time, also if `look` panics.
     pub fn take_cancelled(&self, most: u32, mut look: impl FnMut(usize)) -> u32 {
         let mut taken = 0;
         if !self.has_cancels.swap(false, Ordering::SeqCst) {

@@ -112,7 +112,7 @@ fn handles_serve_while_another_thread_holds_the_queue() {
 }
 
 #[test]
-fn handles_serve_parts_that_came_later_and_moved_entries() {
+fn handles_serve_segments_that_came_later_and_moved_entries() {
     ends(|| {
         running().block_on(async {
             let mut queue = DelayQueue::new();
