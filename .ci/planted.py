@@ -15,22 +15,9 @@ import shutil
 import subprocess
 import sys
 import tempfile
+import tomllib
 
 TOP = pathlib.Path(__file__).resolve().parent.parent
-# What a part says and its status: of `rt ci`, of test-edits and of rust/test.
-WELL = {"rt": ("29 passed, 0 failed", 0), "tools/test-edits": ("442 passed, 0 failed", 0), "rust/test": ("500 passed, 0 failed", 0)}
-# Each case: what isn't well in it, the gate's last line and status, and a line that it has to have.
-GATES = [
-    ({}, "971 passed, 0 failed", 0, "== rust/test"),
-    ({"rt": ("28 passed, 1 failed", 1)}, "528 passed, 1 failed", 1, "rt ci failed, so the wrong bodies were not tried"),
-    ({"rt": ("no memory", 2)}, "500 passed, 1 failed", 2, "rt ci failed, so the wrong bodies were not tried"),
-    ({"tools/test-edits": ("test-edits: NOT REFUSED: it\\n440 passed, 2 failed", 1)}, "969 passed, 2 failed", 1, "test-edits: NOT REFUSED: it"),
-    ({"tools/test-edits": ("it was ended", 130)}, "529 passed, 1 failed", 1, "it was ended"),
-    ({"tools/test-edits": ("442 passed, 0 failed", 1)}, "971 passed, 1 failed", 1, "442 passed, 0 failed"),
-    ({"rust/test": ("498 passed, 2 failed", 1)}, "969 passed, 2 failed", 1, "498 passed, 2 failed"),
-    ({"docs/check": ("a figure differs", 1)}, "0 passed, 1 failed", 1, "a figure differs"),
-    ({"c/generate": ("a hash differs", 1)}, "0 passed, 1 failed", 1, "a hash differs"),
-]
 # A function that isn't proved with the second text.
 LEN, WRONG_LEN = "self.handles.len()\n", "let most = self.most; most\n"
 REFUSED_TOO = "test-edits: small: a right body is refused too, as idle::Idle::len_right: nothing is known of its edits"
@@ -45,7 +32,7 @@ def script(path, says, status):
 
 def gate(folder, parts, last, status, line):
     """What went wrong where the parts say these."""
-    parts = {"docs/check": ("", 0), "c/generate": ("", 0), **WELL, **parts}
+    parts = {"docs/check": ("", 0), "c/generate": ("", 0), **parts}
     for name in ("docs/check", "c/generate", "tools/test-edits", "rust/test"):
         script(folder / name, *parts[name])
     for name in ("rt", "cargo"):
@@ -65,10 +52,11 @@ SAID = {"stdout": subprocess.PIPE, "stderr": subprocess.STDOUT, "encoding": "utf
 
 def try_gates():
     """How many cases of the gate went wrong."""
-    failed = 0
-    for parts, *wanted in GATES:
+    known, failed = tomllib.loads((TOP / ".ci" / "planted" / "gates.toml").read_text(encoding="utf-8")), 0
+    for case in known["case"]:
+        parts = case.get("parts", {})
         with tempfile.TemporaryDirectory(prefix="planted-") as folder:
-            wrong = gate(pathlib.Path(folder), parts, *wanted)
+            wrong = gate(pathlib.Path(folder), {**known["well"], **parts}, case["last"], case["status"], case["line"])
         failed += bool(wrong)
         what = ", ".join(f"{name} says `{says}` and ends with {status}" for name, (says, status) in parts.items())
         print(f"gate: {what or 'all is well'}: {'; '.join(wrong) or 'as it has to be'}", flush=True)

@@ -47,12 +47,8 @@ def guarded(source, rule, *arguments):
 
 
 def sources(hand):
-    found = []
-    for crate in MODULES:
-        for path in sorted((TOP / "crates" / crate / "src").rglob("*.rt")):
-            if hand.leaves_out(path):
-                continue
-            found.append(Source(crate, path, hand.applied(path, path.read_text(encoding="utf-8"))))
+    found = [(crate, path) for crate in MODULES for path in sorted((TOP / "crates" / crate / "src").rglob("*.rt"))]
+    found = [Source(*it, hand.applied(it[1], it[1].read_text(encoding="utf-8"))) for it in found if not hand.leaves_out(it[1])]
     hand.all_used()
     return found
 
@@ -72,24 +68,14 @@ def rebuilt_uses(source, gone, names):
     spans = paths.uses_of(tokens)
     words, wanted = paths.named(tokens, spans), []
     for start, end, vis, found in reversed(spans):
-        kept = []
-        for path in found:
-            if paths.last(path) in names or is_gone(source, path, gone):
-                continue
-            new = guarded(source, paths.moved, path, module, MODULES)
-            name = paths.last(new)
-            if not new:
-                continue
-            if vis:
-                kept.append(new)
-            elif name in words or name in TRAITS:
-                wanted.append(new)
-        replace_use(tokens, start, end, vis, kept)
+        found = [it for it in found if paths.last(it) not in names and not is_gone(source, it, gone)]
+        kept = list(filter(None, (guarded(source, paths.moved, it, module, MODULES) for it in found)))
+        if not vis:
+            wanted += [it for it in kept if paths.last(it) in words or paths.last(it) in TRAITS]
+        replace_use(tokens, start, end, vis, kept if vis else [])
     defined = defined_names(tokens)
-    for word, path in paths.PROVIDED.items():
-        if word in words and word not in defined:
-            wanted.append(path)
-    put_uses(tokens, sorted(set(wanted)))
+    wanted += [path for word, path in paths.PROVIDED.items() if word in words and word not in defined]
+    put_uses(tokens, wanted)
 
 
 def defined_names(tokens):
@@ -99,7 +85,7 @@ def defined_names(tokens):
     for token, behind in zip(tokens, tokens[1:]):
         if token.kind == "other":
             depth += (token.text == "{") - (token.text == "}")
-        if depth == 0 and token.kind == "word" and token.text in ("fn", "struct", "type", "enum", "trait", "const"):
+        if depth == 0 and token.kind == "word" and token.text in paths.DEFINES:
             found.add(behind.text)
     return found
 
@@ -123,15 +109,13 @@ def is_gone(source, path, gone):
 
 
 def grouped(found):
+    """The lines of uses, one for each parent."""
     groups = {}
-    for path in found:
+    for path in sorted(set(found)):
         parent, _, name = path.rpartition("::")
         groups.setdefault(parent, []).append(name)
-    lines = []
     for parent, names in sorted(groups.items()):
-        names = sorted(set(names))
-        lines.append(f"use {parent}::{names[0]};" if len(names) == 1 else f"use {parent}::{{{', '.join(names)}}};")
-    return lines
+        yield f"use {parent}::{names[0]};" if len(names) == 1 else f"use {parent}::{{{', '.join(names)}}};"
 
 
 def replace_use(tokens, start, end, vis, kept):
@@ -154,25 +138,26 @@ def put_uses(tokens, found):
         tokens[at:at] = new
 
 
+def changed(source, rule, *arguments):
+    source.tokens = guarded(source, rule, source.tokens, *arguments)
+
+
 def erased(hand, closed):
     """The erased text of each file, by its path in the crate."""
-    found = sources(hand)
+    found, fields = sources(hand), {}
     closed.learn({MODULES[source.crate]: source.text for source in found if source.module_path() == ()})
     for source in found:
-        source.tokens = guarded(source, without_ghosts_but_clauses, source.tokens)
+        changed(source, ghosts.erased, (ghosts.ghost, ghosts.model, ghosts.tactic))
     names = laws.law_names([source.tokens for source in found])
     for source in found:
-        source.tokens = guarded(source, laws.without_laws, source.tokens, names)
-    fields = {}
-    for source in found:
+        changed(source, laws.without_laws, names)
         fields.setdefault(source.crate, set()).update(guarded(source, handed.without_fields, source.tokens))
-    for source in found:
         guarded(source, closed.close, source)
     closed.all_found()
     for source in found:
-        source.tokens = guarded(source, ghosts.erased, source.tokens)
+        changed(source, ghosts.erased)
         guarded(source, kit.early, source.tokens, SWAPPED)
-        source.tokens = guarded(source, handed.without_handed, source.tokens, fields[source.crate])
+        changed(source, handed.without_handed, fields[source.crate])
         guarded(source, kit.by_std, source.tokens)
         guarded(source, errors.with_errors, source.tokens)
         if source.crate != "dq_replay":
@@ -182,12 +167,4 @@ def erased(hand, closed):
         guarded(source, erase_modules, source, gone)
         rebuilt_uses(source, gone, names)
         guarded(source, links.with_links, source.tokens, MODULES[source.crate], closed.given)
-    return {
-        source.out(): text_of(source.tokens)
-        for source in found
-        if (source.crate, source.module_path()) not in gone
-    }
-
-
-def without_ghosts_but_clauses(tokens):
-    return ghosts.erased(tokens, (ghosts.ghost, ghosts.model, ghosts.tactic))
+    return {it.out(): text_of(it.tokens) for it in found if (it.crate, it.module_path()) not in gone}

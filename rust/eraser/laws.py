@@ -1,4 +1,5 @@
 """Laws: functions that do nothing and are there for what they promise. They go, with the statements that call them."""
+from paths import uses_of
 from rattle import Refused, close_of, functions, words_at
 
 STARTS = {"{", "}", ";"}
@@ -94,14 +95,8 @@ def idle_statement(tokens, at, laws):
 
 def has_items(tokens):
     """Whether a file has more than docs and uses."""
+    ends = {start: end for start, end, _, _ in uses_of(tokens)}
     at = 0
-    while tokens[at].kind != "end":
-        if tokens[at].kind == "doc":
-            at += 1
-        elif tokens[at].text in ("use", "pub") and "use" in (tokens[at].text, tokens[at + 1].text):
-            while tokens[at].text != ";":
-                at += 1
-            at += 1
-        else:
-            return True
-    return False
+    while tokens[at].kind == "doc" or at in ends:
+        at = ends.get(at, at + 1)
+    return tokens[at].kind != "end"

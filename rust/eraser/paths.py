@@ -5,7 +5,9 @@ from patterns import TABLES
 from rattle import Refused
 
 IMPORTS, PROVIDED = (dict(TABLES[it]) for it in ("imports", "provided"))
-# Those of them that are functions.
+# The words that define a name.
+DEFINES = {"fn", "struct", "type", "enum", "trait", "const"}
+# Those of what is provided that are functions.
 CALLS = {"are_fresh", "filled", "room_for", "text_of", "copy_of", "nth", "nth_mut"}
 
 

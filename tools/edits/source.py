@@ -2,6 +2,7 @@
 
 import dataclasses
 import functools
+import graphlib
 import pathlib
 import re
 
@@ -266,22 +267,14 @@ class Crate:
         return sorted(rounds, key=len, reverse=True)
 
 
-def lines_of_crates():
-    """The lines of crates.txt: by a crate's name the words behind it, and the libraries that it uses."""
-    lines = [re.match(r"(\w+)([^:#]*):(.*)", it) for it in (TOP / "crates.txt").read_text(encoding="utf-8").splitlines()]
-    return {it[1]: (it[2].split(), it[3].split()) for it in lines if it}
+def lines_of_crates(text=None):
+    """The lines of a crates.txt, ours if none is given: by a crate's name the words behind it, and the libraries that it uses."""
+    text = (TOP / "crates.txt").read_text(encoding="utf-8") if text is None else text
+    return {it[1]: (it[2].split(), it[3].split()) for it in re.finditer(r"^(\w+)([^:#\n]*):(.*)$", text, re.M)}
 
 
 def graph_of():
     """The crates of crates.txt, lowest first: which of the repository each stands on."""
-    named, graph = {name: libraries for name, (_, libraries) in lines_of_crates().items()}, {}
-
-    def add(name):
-        for it in named[name]:
-            if it in named and it not in graph:
-                add(it)
-        graph.setdefault(name, [it for it in named[name] if it in named])
-
-    for name in named:
-        add(name)
-    return graph
+    lines = lines_of_crates()
+    graph = {name: [it for it in libraries if it in lines] for name, (_, libraries) in lines.items()}
+    return {name: graph[name] for name in graphlib.TopologicalSorter(graph).static_order()}

@@ -248,7 +248,8 @@ impl<T> DelayQueue<T> {
     /// then stays as it is. So a reader ends what is over before a receiver comes to it: of those who want the entry one gets it.
     /// An [`extend`](DelayQueue::extend) that was accepted counts: the entry isn't taken out before the deadline that it returned.
     ///
-    /// It takes no lock where the entry isn't due and this thread extended, or looked at, entries of that shard before.
+    /// Where the entry isn't due it takes a lock only as [`deadline`](DelayQueue::deadline) does: by a thread's first calls, or by
+    /// a key from before a reset.
     ///
     /// # Errors
     /// WrongQueue, Ended, and NoMemory: that only where no shard has a free slot and the entry's has had its last stamp.
@@ -388,9 +389,9 @@ impl<T> DelayQueue<T> {
 
     /// Takes memory for so many entries in all, those that wait among them, and keeps it for good. While fewer wait, no insert
     /// takes memory or is refused as NoMemory, and none waits until the queue has grown, but for two cases: entries that were
-    /// cancelled hold their slots until their values are dropped; and a shard of which half the slots are worn, by
-    /// 1,048,575 inserts or resets each, takes its memory anew and has no room meanwhile. A larger
-    /// number counts from then on, and a smaller one changes nothing.
+    /// cancelled hold their slots until their values are dropped; and a shard of which half the slots are worn, by a million
+    /// inserts or resets each, takes its memory anew and has no room meanwhile. A larger number counts from then on, and a
+    /// smaller one changes nothing.
     ///
     /// # Errors
     /// - Full beyond the queue's bound, or beyond the 3 million entries a shard that a queue may grow to.

@@ -332,6 +332,28 @@ fn room_beyond_all_bounds_is_refused_at_once() {
     assert!(queue.stats().memory < 10_000);
 }
 
+/// Where each allocation is refused, of which a thread's first look would take some.
+#[test]
+fn what_is_due_is_taken_out_without_memory() {
+    let _alone = alone();
+    for grants in 0..10 {
+        let clock = ManualClock::new();
+        let queue = DelayQueue::builder().shards(2).clock(&clock).build();
+        let keys: Vec<Key> = (0..128)
+            .map(|number| queue.insert(number, FAR).expect("room"))
+            .collect();
+        for due in [false, true] {
+            clock.advance(if due { FAR } else { Duration::ZERO });
+            for (number, key) in (0..).zip(&keys) {
+                GRANTS.with(|left| left.set(Some(grants)));
+                let ended = queue.remove_if_due(key);
+                GRANTS.with(|left| left.set(None));
+                assert_eq!(ended, Ok(Some(number).filter(|_| due)));
+            }
+        }
+    }
+}
+
 /// Threads that reserve, fill and empty the queue at once lose nothing.
 #[test]
 fn room_is_taken_ahead_while_others_fill_and_empty_the_queue() {

@@ -100,13 +100,17 @@ def older_tables(it):
         assert setup.poll() is None, "there was nothing to wait for"
     assert setup.wait(60) == 0, it.logged()
     assert longest < 10, f"an insert waited {longest:.1f} s for the setup"
+    # A second one has nothing to change, and waits for nobody.
+    with held(it, "INSERT INTO older.jobs (state, due) VALUES ('waiting', '2100-01-01')"):
+        begun = time.monotonic()
+        assert "stands" in it.jobs("setup", "--schema", "older") and time.monotonic() - begun < 5
     effect = "INSERT INTO public.effects (job) SELECT id FROM taken"
     worker = it.spawn("worker", "--schema", "older", "--effect", effect)
     it.wait_for_number("SELECT count(*) FROM older.jobs WHERE state = 'done'", 31)
     end(worker)
     print(
         f"operator: tables of the first form were changed beside 30 inserts, of which none waited {longest:.1f} s, and "
-        "all jobs were done",
+        "all jobs were done; a second setup beside an open insert had nothing to wait for",
         flush=True,
     )
 

@@ -19,6 +19,7 @@ use crate::room::Room;
 use hontkhale::delay_queue::{AsyncReceiver, Builder, Expired, InsertErrorKind, Key, KeyError};
 use hontkhale::DelayQueue;
 use shard::{Shard, Writer};
+use std::alloc::{handle_alloc_error, Layout};
 use std::collections::hash_map::RandomState;
 use std::hash::{BuildHasher, Hasher};
 use std::sync::{Arc, Mutex, MutexGuard, PoisonError, RwLock};
@@ -26,7 +27,7 @@ use std::task::Poll;
 
 pub const SHARDS: usize = 64;
 /// The threads that take off what is due.
-pub const KEEPERS: usize = 4;
+pub const KEEPERS: usize = 2;
 /// How many keys a keeper takes off before whoever waits for it goes on.
 const TAKEN_AT_ONCE: usize = 64;
 /// The shards of the queue, each behind a lock of its own.
@@ -138,8 +139,8 @@ impl Keyspace {
     pub fn deadline(&self, entry: &Key) -> Option<Tick> {
         match self.queue.deadline(entry) {
             Ok(deadline) => Some(self.clock.tick(deadline)),
-            // Of a thread's first look at a part of the queue.
-            Err(KeyError::NoMemory) => panic!("the machine refuses memory"),
+            // A thread takes some at its first look at a part of the queue.
+            Err(KeyError::NoMemory) => handle_alloc_error(Layout::new::<Key>()),
             Err(_) => None,
         }
     }
@@ -180,13 +181,12 @@ impl Keyspace {
         }
         let entry = record.entry()?;
         names.begin_end();
-        match self.queue.remove_if_due(&entry) {
-            Ok(None) => self.deadline(&entry).map(Life::Until),
-            _ => {
-                names.expire(name);
-                None
-            }
+        let is_extended = matches!(self.queue.remove_if_due(&entry), Ok(None));
+        let life = self.deadline(&entry).filter(|_| is_extended).map(Life::Until);
+        if life.is_none() {
+            names.expire(name);
         }
+        life
     }
 
     /// Changes a key, or makes it, while nobody else reads or changes its shard.
@@ -236,6 +236,7 @@ impl Keyspace {
     /// Takes all keys out, while nobody reads or changes any.
     pub fn clear(&self) {
         let mut all: Vec<_> = (0..SHARDS).map(|shard| self.write(shard)).collect();
+        all.iter().for_each(|names| names.begin_end());
         let old: Vec<_> = all.iter_mut().map(|names| names.clear()).collect();
         self.queue.clear();
         drop(all);

@@ -3,7 +3,7 @@
 use crate::clock::{Clock, Tick};
 use crate::command::{Client, Desk, Served, Session};
 use crate::keeper::keep;
-use crate::keyspace::{Keyspace, KEEPERS};
+use crate::keyspace::{Keyspace, Lifetime, Place, KEEPERS};
 use crate::output::Output;
 use crate::resp::{integer, Broken, Parser, Protocol, Reply};
 use crate::room::Room;
@@ -189,28 +189,38 @@ fn no_key_is_gone_before_the_deadline_that_was_accepted_last() {
     }
 }
 
-/// At the last moment of a key its entry may come out while a request is served: it is told to be gone then, or stays.
-#[test]
-fn what_is_kept_at_the_last_moment_stays() {
+/// A key comes to its deadline, and a keeper has its entry in hand, while its shard is held by whoever found it live: it is
+/// told to be gone then, or stays.
+fn changed_at_the_end(request: &str, change: impl Fn(&mut Place<'_, '_>) -> bool, is_there: bool) {
     let keyspace = kept();
     let mut client = client(&keyspace);
-    let (mut kept, mut gone) = (0, 0);
-    for round in 0..3_000 {
-        let request = ["PERSIST key", "PEXPIRE key 60000", "GETEX key PX 60000", "PEXPIRE key 60000 GT"][round % 4];
-        let deadline = keyspace.clock.now() + 1;
-        is_ok(&mut client, &format!("SET key value PXAT {deadline}"));
-        for _ in 0..round % 100 {
-            std::hint::spin_loop();
-        }
-        while keyspace.clock.now() < deadline && round % 2 == 0 {}
-        let is_kept = !matches!(ask(&mut client, request), Reply::Integer(0) | Reply::Nil);
-        let is_there = ask(&mut client, "GET key") != Reply::Nil;
-        assert_eq!(is_kept, is_there, "{request}");
-        (kept, gone) = (kept + u32::from(is_kept), gone + u32::from(!is_kept));
-        assert_eq!(ask(&mut client, "DEL key"), Reply::Integer(i64::from(is_there)));
+    for round in 0..5 {
+        is_ok(&mut client, "SET key value PX 20");
+        let is_done = keyspace.change(b"key", |place| {
+            assert!(place.life().is_some(), "{request}: it is gone too soon");
+            thread::sleep(Duration::from_millis(25));
+            change(place)
+        });
+        assert_eq!(is_done, is_there, "{request}");
+        // So that the keeper has its turn at the shard.
+        thread::sleep(Duration::from_millis(5));
+        let count = i64::from(is_there);
+        assert_eq!(ask(&mut client, "EXISTS key"), Reply::Integer(count), "{request}");
+        let held = keyspace.held();
+        assert_eq!((held.keys as i64, held.expired), (count, if is_there { 0 } else { round + 1 }), "{request}");
+        assert_eq!(ask(&mut client, "DEL key"), Reply::Integer(count));
+        assert_eq!((keyspace.held().keys, keyspace.held().expires, keyspace.held().bytes), (0, 0, 0));
     }
-    assert!(kept > 0 && gone > 0, "{kept} kept, {gone} gone");
-    assert_eq!((keyspace.held().keys, keyspace.held().expires, keyspace.held().bytes), (0, 0, 0));
+}
+
+#[test]
+fn a_key_that_ends_while_it_is_changed_is_gone_or_stays() {
+    let later = |place: &Place<'_, '_>| Lifetime::Until(place.now() + 60_000);
+    changed_at_the_end("PERSIST", |place| place.persist(), false);
+    changed_at_the_end("PEXPIRE", |place| place.expire(place.now() + 60_000) == Ok(true), false);
+    changed_at_the_end("SET KEEPTTL", |place| place.set(b"other", Lifetime::Kept).is_err(), false);
+    changed_at_the_end("SET PX", |place| place.set(b"other", later(place)).is_ok(), true);
+    changed_at_the_end("SET", |place| place.set(b"other", Lifetime::Endless).is_ok(), true);
 }
 
 /// Nor one whose entry is in a keeper's hands, or in those of a client who takes it off.

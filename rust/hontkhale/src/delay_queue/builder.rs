@@ -80,8 +80,8 @@ impl<T> Builder<T> {
     }
 
     /// From which moment the queue counts its milliseconds, in the place of its making. A deadline that is whole milliseconds
-    /// after it isn't rounded, so that the ticks of another clock are kept. It isn't after the making: nothing is due before it.
-    /// Deadlines may be up to 139 years after it.
+    /// after it isn't rounded, so that the ticks of another clock are kept. Deadlines may be up to 139 years after it. A moment
+    /// that is yet to come counts as the making.
     ///
     /// ```
     /// use hontkhale::DelayQueue;

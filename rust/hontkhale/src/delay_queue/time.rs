@@ -115,10 +115,11 @@ impl Source {
 }
 
 impl Time {
-    /// The time from a moment on, or from now.
+    /// The time from a moment on that isn't to come, or from now.
     pub fn new(clock: Source, start: Option<Instant>) -> Time {
+        let now = clock.now();
         Time {
-            start: start.unwrap_or_else(|| clock.now()),
+            start: start.map_or(now, |start| start.min(now)),
             clock,
         }
     }

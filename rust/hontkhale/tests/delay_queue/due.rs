@@ -235,4 +235,13 @@ fn ticks_begin_where_they_are_told_to() {
     assert_eq!(queue.remove_if_due(&key), Ok(None));
     clock.advance(std::time::Duration::from_micros(1));
     assert_eq!(queue.remove_if_due(&key), Ok(Some("lease")));
+    // Nothing comes out early where the moment is yet to come.
+    let queue = DelayQueue::builder()
+        .clock(&clock)
+        .ticks_from(clock.now() + ms(50))
+        .build();
+    let key = queue.insert_at("lease", clock.now() + ms(20)).expect("room");
+    assert_eq!(queue.remove_if_due(&key), Ok(None));
+    clock.advance(ms(20));
+    assert_eq!(queue.remove_if_due(&key), Ok(Some("lease")));
 }

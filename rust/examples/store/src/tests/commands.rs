@@ -540,6 +540,28 @@ fn no_request_sees_half_of_a_transaction() {
     });
 }
 
+/// The clock goes on within a transaction, and keepers take off what is due: what is gone once is gone for the rest of it.
+#[test]
+fn a_key_that_ends_within_a_transaction_stays_gone() {
+    let keyspace = super::kept();
+    let (mut client, mut ended) = (client(&keyspace), 0);
+    for life in (1..=8).cycle().take(80) {
+        is_ok(&mut client, "MULTI");
+        let set = format!("SET a 1 PX {life}");
+        for request in [&set[..]].into_iter().chain(["EXISTS a", "DBSIZE"].repeat(1_500)) {
+            assert_eq!(said(&mut client, request), "+QUEUED ", "{request}");
+        }
+        let told = said(&mut client, "EXEC");
+        let told: Vec<_> = told.split_whitespace().skip(2).collect();
+        let gone = told.iter().position(|it| *it == ":0").unwrap_or(told.len());
+        assert_eq!(told.len(), 3_000);
+        assert!(told[..gone].iter().all(|it| *it == ":1") && told[gone..].iter().all(|it| *it == ":0"), "{told:?}");
+        ended += usize::from(gone < told.len());
+        said(&mut client, "DEL a");
+    }
+    assert!(ended > 0, "no key ended within its transaction");
+}
+
 #[test]
 fn what_a_transaction_holds_counts_as_memory() {
     let keyspace = keyspace();

@@ -1,6 +1,6 @@
 //! The end of an entry by whoever comes upon it once its deadline is over.
 
-use super::{quick_step, Moved, Shared, Step, Unmoved};
+use super::{Moved, Shared, Step, Unmoved};
 use crate::core::Removed;
 use crate::delay_queue::errors::KeyError;
 use crate::delay_queue::key::Key;
@@ -10,12 +10,13 @@ impl<T> Shared<T> {
     /// Takes a live entry out where its deadline isn't after the present tick.
     pub fn remove_if_due(&self, key: &Key) -> Result<Option<T>, KeyError> {
         let now = self.front.time.tick();
-        let deadline = match quick_step(&self.front, key, Step::Look) {
-            Some(deadline) => deadline?,
-            None => {
+        let deadline = match self.step(key, Step::Look) {
+            // Memory is for looks to come: the shard tells without.
+            Err(KeyError::NoMemory) => {
                 let deadline = self.at_entry(key, |shard, entry| shard.core_mut().deadline(entry));
                 deadline.map_err(|_| KeyError::Ended)?.1
             }
+            deadline => deadline?,
         };
         if deadline > now {
             return Ok(None);
