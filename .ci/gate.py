@@ -15,7 +15,6 @@ import os
 import pathlib
 import re
 import resource
-import shutil
 import signal
 import subprocess
 import sys
@@ -97,20 +96,13 @@ class Tests:
 
     def __init__(self):
         self.said, self.ran = tempfile.TemporaryFile("w+", encoding="utf-8", errors="replace"), None
-        has_cargo = shutil.which("cargo")
-        self.missing = "" if has_cargo else "cargo isn't on the PATH, so the tests of the plain Rust were not run"
 
     def begin(self):
-        if self.missing:
-            say(self.missing)
-        elif self.ran is None:
-            self.ran = subprocess.Popen([str(TESTS)], stdout=self.said, start_new_session=True, **SAID)
+        self.ran = self.ran or subprocess.Popen([str(TESTS)], stdout=self.said, start_new_session=True, **SAID)
 
     def end(self):
         """Waits, and tells all: whether they passed, and what their last line counts."""
         self.begin()
-        if self.missing:
-            return 1, (0, 1)
         before, status = used(), self.ran.wait()
         self.said.seek(0)
         text = self.said.read()
@@ -131,14 +123,13 @@ def main():
     if any([shown(*part)[0] for part in FIRST.items()]):
         say("0 passed, 1 failed")
         return 1
-    tests = Tests() if TESTS.exists() else None
+    tests = Tests()
     try:
-        if tests and len(os.sched_getaffinity(0)) > 1:
+        if len(os.sched_getaffinity(0)) > 1:
             tests.begin()
-        parts = [*proved(), *([tests.end()] if tests else [])]
+        parts = [*proved(), tests.end()]
     finally:
-        if tests:
-            tests.stop()
+        tests.stop()
     if sys.argv[1:]:
         store(begun)
     say(f"{sum(it[0] for _, it in parts)} passed, {sum(it[1] for _, it in parts)} failed")

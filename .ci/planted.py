@@ -4,7 +4,7 @@
 usage: .ci/planted.py [gate | edits]     (both, if neither is named)
 
   gate    `.ci/gate.py` over parts that only say what they are told to; takes a second
-  edits   `tools/test-edits` over a small crate, which .ci/planted has, with edits planted; takes minutes, and wants the kit
+  edits   `tools/test-edits` over the small crate in .ci/planted, with edits planted; takes minutes, and wants the kit
 
 Each case is told with what went wrong. The status is 1 where one did.
 """
@@ -15,45 +15,11 @@ import shutil
 import subprocess
 import sys
 import tempfile
+import tomllib
 
 TOP = pathlib.Path(__file__).resolve().parent.parent
-# What a part says and its status: of `rt ci`, of test-edits and of rust/test.
-WELL = {"rt": ("29 passed, 0 failed", 0), "tools/test-edits": ("442 passed, 0 failed", 0), "rust/test": ("500 passed, 0 failed", 0)}
-# Each case: what isn't well in it, the gate's last line and status, and a line that it has to have.
-GATES = [
-    ({}, "971 passed, 0 failed", 0, "== rust/test"),
-    ({"rt": ("28 passed, 1 failed", 1)}, "528 passed, 1 failed", 1, "rt ci failed, so the wrong bodies were not tried"),
-    ({"rt": ("no memory", 2)}, "500 passed, 1 failed", 2, "rt ci failed, so the wrong bodies were not tried"),
-    ({"tools/test-edits": ("test-edits: NOT REFUSED: it\\n440 passed, 2 failed", 1)}, "969 passed, 2 failed", 1, "test-edits: NOT REFUSED: it"),
-    ({"tools/test-edits": ("it was ended", 130)}, "529 passed, 1 failed", 1, "it was ended"),
-    ({"tools/test-edits": ("442 passed, 0 failed", 1)}, "971 passed, 1 failed", 1, "442 passed, 0 failed"),
-    ({"rust/test": ("498 passed, 2 failed", 1)}, "969 passed, 2 failed", 1, "498 passed, 2 failed"),
-    ({"docs/check": ("a figure differs", 1)}, "0 passed, 1 failed", 1, "a figure differs"),
-    ({"c/generate": ("a hash differs", 1)}, "0 passed, 1 failed", 1, "a hash differs"),
-]
-# The root of the small crate.
-ROOT = "//! Handles that nobody uses.\n\nmod idle;\n\npub use idle::Idle;\n"
-PUT = "if self.handles.len() == self.most {"
-# Edits of `src/idle.rt` of the small crate: the function that each names, its old and its new text, and how the run has to tell of
-# it; none where it has to be refused.
-EDITS = {
-    "take_by_way_of_a_name": ("Idle::take", "self.handles.pop()", "let last = self.handles.pop(); last", "NOT REFUSED"),
-    "put_where_no_field_is": ("Idle::put", PUT, "if self.handles.len() == self.least {", "BAD EDIT"),
-    "put_of_a_text_that_is_gone": ("Idle::put", "self.handles.push_back(handle);", "let _ = handle;", "BAD EDIT"),
-    "put_of_another_functions_text": ("Idle::put", "self.handles.pop()", "self.handles.pop().or(None)", "BAD EDIT"),
-    "put_that_no_line_names": ("", PUT, "if self.handles.len() != self.most {", "BAD EDIT"),
-    "push_that_is_no_function": ("Idle::push", PUT, "if self.handles.len() != self.most {", "BAD EDIT"),
-    "len_of_a_text_that_put_has_too": ("Idle::len", "self.handles.len()", "self.most", None),
-    "len_promises_nothing": ("Idle::len", "result ≡ length self.now.handles", "result ≡ result", "NOT REFUSED"),
-    "put_hands_back_with_room": ("Idle::put", PUT, "if self.handles.len() != self.most {", None),
-    "put_forgets": ("Idle::put", "self.handles.push_reserved(handle);", "let _ = handle;", None),
-}
-# What the files of two say of the goals that aren't proved, both wrongly: their first goal there isn't one.
-FAILS = {"take_by_way_of_a_name": "idle::Idle::take no_goal returns", "put_hands_back_with_room": "idle::Idle::put no_goal returns"}
-# A function that isn't proved as the crate stands, the file of an edit of it, and that of one that asks for it too.
-LEN = ("src/idle.rt", "self.handles.len()\n", "let most = self.most; most\n")
-OF_LEN = "file: src/idle.rt\nin: Idle::len\nold: let most = self.most; most\nnew: let most = self.most; most / 2\n"
-BESIDE = f"asks: Idle::put Idle::len\nfile: src/idle.rt\nin: Idle::put\nold: {PUT}\nnew: if self.handles.len() != self.most {{\n"
+# A function that isn't proved with the second text.
+LEN, WRONG_LEN = "self.handles.len()\n", "let most = self.most; most\n"
 REFUSED_TOO = "test-edits: small: a right body is refused too, as idle::Idle::len_right: nothing is known of its edits"
 
 
@@ -66,7 +32,7 @@ def script(path, says, status):
 
 def gate(folder, parts, last, status, line):
     """What went wrong where the parts say these."""
-    parts = {"docs/check": ("", 0), "c/generate": ("", 0), **WELL, **parts}
+    parts = {"docs/check": ("", 0), "c/generate": ("", 0), **parts}
     for name in ("docs/check", "c/generate", "tools/test-edits", "rust/test"):
         script(folder / name, *parts[name])
     for name in ("rt", "cargo"):
@@ -86,10 +52,11 @@ SAID = {"stdout": subprocess.PIPE, "stderr": subprocess.STDOUT, "encoding": "utf
 
 def try_gates():
     """How many cases of the gate went wrong."""
-    failed = 0
-    for parts, *wanted in GATES:
+    known, failed = tomllib.loads((TOP / ".ci" / "planted" / "gates.toml").read_text(encoding="utf-8")), 0
+    for case in known["case"]:
+        parts = case.get("parts", {})
         with tempfile.TemporaryDirectory(prefix="planted-") as folder:
-            wrong = gate(pathlib.Path(folder), parts, *wanted)
+            wrong = gate(pathlib.Path(folder), {**known["well"], **parts}, case["last"], case["status"], case["line"])
         failed += bool(wrong)
         what = ", ".join(f"{name} says `{says}` and ends with {status}" for name, (says, status) in parts.items())
         print(f"gate: {what or 'all is well'}: {'; '.join(wrong) or 'as it has to be'}", flush=True)
@@ -97,21 +64,17 @@ def try_gates():
 
 
 def lay_out(folder):
-    """A tree of the tools and the small crate alone, with the planted edits. Its source has another ending in .ci/planted,
-    since `rt ci` refuses a source of no crate."""
+    """A tree of the tools and the small crate alone. Its sources have other endings in .ci/planted, since `rt ci` refuses a
+    source of no crate. What each planted edit has to come to, by its name: its line `told:`, none where it is refused."""
     shutil.copytree(TOP / "tools", folder / "tools")
     shutil.copy(TOP / "HANDLES", folder)
     (folder / "crates.txt").write_text("small:\n", encoding="utf-8")
-    for part, name, copied in (("src", "idle.rattle", "idle.rt"), ("specs", "Idle.specs", "Idle.antt")):
-        (folder / "crates" / "small" / part).mkdir(parents=True)
-        shutil.copy(TOP / ".ci" / "planted" / name, folder / "crates" / "small" / part / copied)
-    (folder / "crates" / "small" / "src" / "lib.rt").write_text(ROOT, encoding="utf-8")
-    (folder / "crates" / "small" / "specs" / "Lib.antt").write_text("pub mod Idle\n", encoding="utf-8")
-    (folder / "crates" / "small" / "edits").mkdir()
-    for name, (function, old, new, _) in EDITS.items():
-        lines = [f"fails: {FAILS[name]}\n"] if name in FAILS else []
-        lines += ["file: src/idle.rt\n", f"in: {function}\n" if function else "", f"old: {old}\nnew: {new}\n"]
-        (folder / "crates" / "small" / "edits" / f"{name}.edit").write_text("".join(lines), encoding="utf-8")
+    small = shutil.copytree(TOP / ".ci" / "planted" / "small", folder / "crates" / "small")
+    for ending, its in ((".rattle", ".rt"), (".specs", ".antt")):
+        for path in small.rglob(f"*{ending}"):
+            path.rename(path.with_suffix(its))
+    texts = {it.stem: it.read_text(encoding="utf-8") for it in sorted(small.rglob("*.edit"))}
+    return small, {name: text.partition("\n")[0].partition("told: ")[2] for name, text in texts.items()}
 
 
 def edits(folder, words, told, line="test-edits: "):
@@ -129,31 +92,26 @@ def edits(folder, words, told, line="test-edits: "):
 
 def try_edits():
     """How many cases of the edits went wrong."""
-    planted = {it: how for it, (*_, how) in EDITS.items()}
     with tempfile.TemporaryDirectory(prefix="planted-") as room:
-        folder = pathlib.Path(room)
-        lay_out(folder)
-        every = edits(folder, ["-j", "2"], planted)
-        print(f"edits: with those planted: {'; '.join(every) or 'as it has to be'}", flush=True)
-        one = edits(folder, ["small/put_hands_back_with_room"], {"put_hands_back_with_room": None})
-        print(f"edits: one by its name: {'; '.join(one) or 'as it has to be'}", flush=True)
-        built = edits(folder, ["--built", "-j", "2"], planted)
-        print(f"edits: with those planted, as in the gate: {'; '.join(built) or 'as it has to be'}", flush=True)
-        plant_wrong_len(folder / "crates" / "small")
-        too = edits(folder, ["--built", "small/len_of_half"], {"len_of_half": "NOT TRIED"}, REFUSED_TOO)
-        print(f"edits: of a function that isn't proved as it stands: {'; '.join(too) or 'as it has to be'}", flush=True)
-        beside = edits(folder, ["--built", "small/put_beside_a_wrong_len"], {"put_beside_a_wrong_len": "REFUSED ELSEWHERE"})
-        print(f"edits: beside a function that isn't proved: {'; '.join(beside) or 'as it has to be'}", flush=True)
-    return sum(map(bool, (every, one, built, too, beside)))
+        small, told = lay_out(pathlib.Path(room))
+        later = {it.stem: told.pop(it.stem) for it in (small / "later").iterdir()}
+        one, half, beside = "put_hands_back_with_room", "len_of_half", "put_beside_a_wrong_len"
+        cases = [("with those planted", ["-j", "2"], told), ("one by its name", [f"small/{one}"], {one: ""}),
+                 ("with those planted, as in the gate", ["--built", "-j", "2"], told)]
+        failed = sum(try_case(room, *case) for case in cases)
+        # a body that isn't proved, as the crate stands, an edit of it, and one of another function beside it
+        source = small / "src" / "idle.rt"
+        source.write_text(source.read_text(encoding="utf-8").replace(LEN, WRONG_LEN), encoding="utf-8")
+        shutil.copytree(small / "later", small / "edits", dirs_exist_ok=True)
+        failed += try_case(room, "of a function that isn't proved as it stands", ["--built", f"small/{half}"], {half: later[half]},
+                           REFUSED_TOO)
+        return failed + try_case(room, "beside a function that isn't proved", ["--built", f"small/{beside}"], {beside: later[beside]})
 
 
-def plant_wrong_len(crate):
-    """A body that isn't proved, as the crate stands, an edit of it, and one of another function beside it."""
-    path, old, new = LEN
-    text = (crate / path).read_text(encoding="utf-8")
-    (crate / path).write_text(text.replace(old, new), encoding="utf-8")
-    for name, text in (("len_of_half", OF_LEN), ("put_beside_a_wrong_len", BESIDE)):
-        (crate / "edits" / f"{name}.edit").write_text(text, encoding="utf-8")
+def try_case(folder, what, *its):
+    wrong = edits(folder, *its)
+    print(f"edits: {what}: {'; '.join(wrong) or 'as it has to be'}", flush=True)
+    return bool(wrong)
 
 
 def main():

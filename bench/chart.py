@@ -14,22 +14,7 @@ ROW, TITLE, HEAD, FOOT = 20, 46, 74, 34
 # Colours that are told apart without red and green (Okabe and Ito), and for each a form.
 OURS, HEAP, OTHER, QUEUE = ("#d55e00", "circle"), ("#0072b2", "square"), ("#009e73", "triangle"), ("#b08900", "diamond")
 HEAP_LOCKED, QUEUE_LOCKED = "heap-best-locked", "delay-queue-locked"
-# Each product of ours with its rows, worst things first: what the row is called, its name in the run, its entries and its threads.
-ONE_QUEUE = [
-    ("an extend beside polls, 4 threads", "callers", 10_000, 4),
-    ("an extend beside polls, 1 thread", "callers", 10_000, 1),
-    *((words, row, 10_000, 1) for words, row in (
-        ("insert", "insert"), ("reset", "reset"), ("remove", "remove"), ("poll", "poll"), ("cancel, and its freeing", "cancel"),
-        ("idle timeouts, by extends", "mixed"), ("idle timeouts, by resets", "heartbeat"))),
-]
-BY_NAME = [(f"{row}, {shards} shard{'s' * (shards > 1)}, {threads} thread{'s' * (threads > 1)}", f"{row}/{shards}", 10_000, threads)
-           for row in ("insert", "reset", "remove", "poll", "extend") for shards, threads in ((4, 4), (1, 1))]
-PRODUCTS = {
-    "hontkhale: SharedDelayQueue, each call but an extend under its shard's lock": (stored.RUST_CHECKED_SHARDS, BY_NAME),
-    "hontkhale: shared_queue, one owner, and callers that extend in other threads": (stored.RUST_CHECKED, ONE_QUEUE),
-    "hontkhale-tokio: DelayQueue, with a handle": (stored.ADAPTER_HANDLE, ONE_QUEUE),
-}
-LONGEST_PEERS = {"heap-best": HEAP, "heap-indexed": OTHER, "delay-queue": QUEUE, stored.RUST_CHECKED: OURS}
+LONGEST_PEERS = {"heap-best": HEAP, "heap-indexed": OTHER, "delay-queue": QUEUE, "rust-checked": OURS}
 
 
 def text(x, y, words, size=12, anchor="start", weight="normal", fill="#222"):
@@ -100,17 +85,17 @@ def drawn(title, legend, panels, about):
 def front_chart(cases, about):
     """Each product beside the best heap and tokio-util's queue, both in a lock."""
     known, panels = {case.key: case for case in cases}, []
-    for title, (ours, rows) in PRODUCTS.items():
+    for product in stored.PLAN["chart"]:
         lines = []
-        for words, *key in rows:
+        for words, *key in product["rows"]:
             samples = known[tuple(key)].samples if tuple(key) in known else {}
-            looks = [(it, look) for it, look in ((HEAP_LOCKED, HEAP), (QUEUE_LOCKED, QUEUE), (ours, OURS)) if it in samples]
+            looks = [(it, look) for it, look in ((HEAP_LOCKED, HEAP), (QUEUE_LOCKED, QUEUE), (product["peer"], OURS)) if it in samples]
             dots = [(min(samples[it]), known[tuple(key)].median(it), max(samples[it]), look,
                      f"{stored.NAMES[it]}: {known[tuple(key)].median(it):.1f} ns") for it, look in looks]
             if len(dots) > 1:
                 lines.append((words, dots))
         if lines:
-            panels.append((title, lines))
+            panels.append((product["title"], lines))
     legend = [("ours", OURS), ("the best heap we know, in a Mutex", HEAP), ("tokio-util's DelayQueue, in a Mutex", QUEUE)]
     return panels and drawn("Nanoseconds a call at 10,000 entries a queue or shard: median, best and worst sample", legend, panels, about)
 

@@ -2,7 +2,7 @@
 
 The sources have the ending .rattle, and load/crates.line is the program's line of a crates.txt, since `rt ci` would prove
 whatever stands in crates/ under .rt. The tree lies in the user's cache folder. It has the program under the names that rt
-wants, the crates of the repository that it stands on, and what rt made of them, so that a second run proves what changed.
+wants, the crates of the repository, and what rt made of them, so that a second run proves what changed.
 """
 
 import hashlib
@@ -21,25 +21,14 @@ TREE = pathlib.Path(os.environ.get("XDG_CACHE_HOME") or pathlib.Path.home() / ".
 PROGRAM = TREE / "crates" / NAME / "out" / NAME
 
 
-def lines():
-    """The lines of crates.txt for the program and all that it stands on, each by its crate."""
-    found = [*(TOP / "crates.txt").read_text(encoding="utf-8").splitlines(), (SOURCES / "crates.line").read_text(encoding="utf-8").strip()]
-    known = {it[1]: it[0] for it in (re.match(r"(\w+)[^:#]*:[^#]*", line) for line in found) if it}
-    wanted, left = set(), [NAME]
-    while left:
-        name = left.pop()
-        wanted.add(name)
-        left += [it for it in known[name].partition(":")[2].split() if it in known and it not in wanted]
-    return {name: line.rstrip() for name, line in known.items() if name in wanted}
-
-
 def lay_out(tree=TREE):
     """Lays the sources out anew, and leaves what rt made of them."""
     tree.mkdir(parents=True, exist_ok=True)
-    (tree / "crates.txt").write_text("".join(f"{line}\n" for line in lines().values()), encoding="utf-8")
+    lines = [(folder / name).read_text(encoding="utf-8") for folder, name in ((TOP, "crates.txt"), (SOURCES, "crates.line"))]
+    (tree / "crates.txt").write_text("".join(lines), encoding="utf-8")
     shutil.copy(TOP / "HANDLES", tree)
-    for name in lines():
-        home, to = SOURCES if name == NAME else TOP / "crates" / name, tree / "crates" / name
+    for home in [SOURCES, *(it.parent for it in (TOP / "crates").glob("*/src"))]:
+        to = tree / "crates" / (NAME if home == SOURCES else home.name)
         for part in ("src", "specs", "proofs"):
             shutil.rmtree(to / part, ignore_errors=True)
             if (home / part).is_dir():
@@ -59,11 +48,8 @@ def build():
 
 
 def faults(tree):
-    """Lays the sources out in an empty folder, and tells what isn't there as rt wants it. Nothing is compiled."""
+    """Lays the sources out in an empty folder, and tells which modules aren't there as rt wants them. Nothing is compiled."""
     lay_out(tree)
     texts = {it.stem: it.read_text(encoding="utf-8") for it in sorted((tree / "crates" / NAME / "src").glob("*.rt"))}
     named = {it for text in texts.values() for it in re.findall(r"^ *(?:pub(?:\([a-z]+\))? )?mod (\w+);", text, re.M)}
-    found = [f"{it} is a module that isn't there, or a file that none names" for it in sorted(named ^ (texts.keys() - {"main"}))]
-    words = {it for text in texts.values() for it in re.findall(r"\b(\w+)::", text)}
-    listed = lines()[NAME].partition(":")[2].split()
-    return found + [f"crates.line lists {it}, which none of the sources names" for it in listed if it not in words]
+    return [f"{it} is a module that isn't there, or a file that none names" for it in sorted(named ^ (texts.keys() - {"main"}))]

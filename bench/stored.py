@@ -7,70 +7,25 @@ are made of these two.
 
 import pathlib
 import statistics
+import tomllib
 
 BENCH = pathlib.Path(__file__).resolve().parent
 RESULTS = BENCH / "results"
 STORED, LONGEST = RESULTS / "latest.tsv", RESULTS / "latest.longest.tsv"
 
-SINGLE_ROWS = ["insert", "extend", "reset", "remove", "cancel", "poll"]
-# Rows that charge each peer for what its calls leave behind.
-WHOLE_ROWS = ["insert+poll", "reset+poll", "remove+poll", "mixed", "churn", "heartbeat"]
-# Rows whose calls are timed one by one, and what each of them tells.
-LONGEST_ROWS = {
-    "longest-extend": "idle timeouts, touched by extends",
-    "longest-reset": "idle timeouts, touched by resets",
-    "longest-cancel": "all cancelled, and one poll that reaps them",
-}
+# The rows, the peers and their names, and what tables and charts show of them.
+PLAN = tomllib.loads((BENCH / "plan.toml").read_text(encoding="utf-8"))
+SINGLE_ROWS, WHOLE_ROWS, NAMED_ROWS = (PLAN["rows"][it] for it in ("single", "whole", "named"))
+SHARD_ROWS = [*NAMED_ROWS, *PLAN["rows"]["bursts"]]
+LONGEST_ROWS, NAMES = PLAN["longest"], PLAN["names"]
 SHARES = ["half", "99%", "99.9%", "99.99%", "all"]
-SIZES = [1_000, 10_000, 65_536]
-# Rows of the shared queue: each call by name, and inserts and polls in bursts under one lock.
-NAMED_ROWS = ["insert", "extend", "reset", "remove", "poll"]
-SHARD_ROWS = [*NAMED_ROWS, "insert-burst", "poll-burst"]
-# Rows of whole lives over shards, in which the polls that pay for what the calls left behind are within the time.
-LIFE_ROWS = WHOLE_ROWS
-# The same, where each thread has a shard of its own.
+# Before the name of a row in which each thread has a shard of its own.
 OWN = "own-"
 # 64 full shards have 4.2 million entries. A round is long, so it is timed once.
 FULL_SHARDS, FULL_ENTRIES = 64, 65_536
 COUNTS = ["inserts", "extends", "resets", "removes", "cancels", "outs", "values", "deadlines"]
-OURS = "ours"
-OWNED = "ours-owned"
-SHARDS = "ours-shards"
-# By the calls that tokio_util's `DelayQueue` has, and beside them by a handle.
-ADAPTER, ADAPTER_HANDLE = "adapter", "adapter-handle"
-# By the cargo crate, without the bounds checks whose bounds are proved, and with them.
-RUST, RUST_CHECKED, RUST_SHARDS, RUST_CHECKED_SHARDS = "rust", "rust-checked", "rust-shards", "rust-checked-shards"
-UNCHECKED = (RUST, RUST_SHARDS)
-# The order and the names of the tables.
-NAMES = {
-    OWNED: "ours, one owner",
-    OURS: "ours, shared",
-    SHARDS: "ours, shards",
-    RUST: "ours, crate",
-    RUST_CHECKED: "ours, crate, checked",
-    ADAPTER: "ours, `DelayQueue`'s calls",
-    ADAPTER_HANDLE: "ours, those and a handle",
-    RUST_SHARDS: "ours, shards, crate",
-    RUST_CHECKED_SHARDS: "ours, shards, crate, checked",
-    "fetch-max": "bare `fetch_max`",
-    "heap-note": "heap, lazy",
-    "heap-best": "heap, best",
-    "heap-tight": "heap, tight",
-    "heap-indexed": "heap, indexed",
-    "hashed-wheel": "hashed wheel",
-    "heap-push": "heap, pushing",
-    "delay-queue": "`DelayQueue`",
-    "sleep": "a `Sleep` each",
-    "heap-note-locked": "heap, lazy, `Mutex`",
-    "heap-best-locked": "heap, best, `Mutex`",
-    "heap-tight-locked": "heap, tight, `Mutex`",
-    "heap-indexed-locked": "heap, indexed, `Mutex`",
-    "hashed-wheel-locked": "hashed wheel, `Mutex`",
-    "heap-push-locked": "heap, pushing, `Mutex`",
-    "delay-queue-locked": "`Mutex<DelayQueue>`",
-    "kit-delay-queue": "the kit's `DelayQueue`",
-    "kit-wheel": "the kit's wheel",
-}
+# By the cargo crate, without the bounds checks whose bounds are proved.
+UNCHECKED = ("rust", "rust-shards")
 
 
 class Case:
@@ -81,7 +36,7 @@ class Case:
         self.call, _, shards = row.partition("/")
         self.shards = int(shards or 0)
         self.is_own = self.call.startswith(OWN)
-        self.is_life = self.shards > 0 and self.call.removeprefix(OWN) in LIFE_ROWS
+        self.is_life = self.shards > 0 and self.call.removeprefix(OWN) in WHOLE_ROWS
         self.is_full = self.shards == FULL_SHARDS and entries == FULL_ENTRIES
         self.is_longest = row in LONGEST_ROWS
         self.samples = {}

@@ -3,6 +3,7 @@
 Every script reads Rattle by this: the eraser its tokens, the others the tree. Rust is read as well.
 """
 
+import dataclasses
 import re
 
 PATTERN = re.compile(
@@ -28,20 +29,15 @@ class Refused(Exception):
     """What no rule knows, with its line."""
 
 
+@dataclasses.dataclass(slots=True, eq=False)
 class Token:
     """A token: its text, the spaces and comments before it, its line, and where it stands in the text."""
 
-    __slots__ = ("kind", "text", "before", "line", "place")
-
-    def __init__(self, kind, text, before="", line=0, place=0):
-        self.kind = kind
-        self.text = text
-        self.before = before
-        self.line = line
-        self.place = place
-
-    def __repr__(self):
-        return f"{self.text!r}:{self.line}"
+    kind: str
+    text: str
+    before: str = ""
+    line: int = 0
+    place: int = 0
 
 
 def tokens_of(text):
@@ -64,34 +60,16 @@ def text_of(tokens):
     return "".join(token.before + token.text for token in tokens)
 
 
-def close_of(tokens, at):
-    """The index of the bracket that closes the one at an index."""
-    depth = 0
-    for index in range(at, len(tokens)):
-        if tokens[index].kind != "other":
-            continue
-        if tokens[index].text in OPENS:
-            depth += 1
-        elif tokens[index].text in CLOSES:
-            depth -= 1
+def close_of(tokens, at, step=1):
+    """The index of the bracket that closes the one at an index, or with a step of -1 of the one that it closes."""
+    depth, index = 0, at
+    while 0 <= index < len(tokens):
+        if tokens[index].kind == "other":
+            depth += (tokens[index].text in OPENS) - (tokens[index].text in CLOSES)
             if depth == 0:
                 return index
+        index += step
     raise Refused(f"line {tokens[at].line}: a bracket isn't closed")
-
-
-def opening_of(tokens, at):
-    """The index of the bracket that the one at an index closes."""
-    depth = 0
-    for index in range(at, -1, -1):
-        if tokens[index].kind != "other":
-            continue
-        if tokens[index].text in CLOSES:
-            depth += 1
-        elif tokens[index].text in OPENS:
-            depth -= 1
-            if depth == 0:
-                return index
-    raise Refused(f"line {tokens[at].line}: a bracket isn't opened")
 
 
 def angle_close_of(tokens, at):
@@ -169,16 +147,11 @@ def item_start(tokens, at):
             at -= 4
         elif before.kind == "string" and tokens[at - 2].text == "extern":
             at -= 2
-        elif before.text == "]" and is_attribute(tokens, at - 1):
-            at = opening_of(tokens, at - 1) - 1
+        elif before.text == "]" and tokens[close_of(tokens, at - 1, -1) - 1].text == "#":
+            at = close_of(tokens, at - 1, -1) - 1
         else:
             break
     return at
-
-
-def is_attribute(tokens, at):
-    opening = opening_of(tokens, at)
-    return opening > 0 and tokens[opening - 1].text == "#"
 
 
 def homes(tokens):
@@ -196,14 +169,19 @@ def homes(tokens):
             yield at, body
 
 
+@dataclasses.dataclass
 class Function:
-    """A function: its name behind those of what it stands in, and the places in the text where what is above it begins,
-    its header, its body, and where it ends; and
-    whether another may stand beside it, as none may that a trait names, and whether it is public."""
+    """A function: its name behind those of what it stands in, and the places in the text where what is above it begins, its
+    header, its body, and where it ends; and whether another may stand beside it, as none may that a trait names, and whether
+    it is public."""
 
-    def __init__(self, name, above, begin, body, end, is_free, is_public):
-        self.name, self.above, self.begin, self.body, self.end = name, above, begin, body, end
-        self.is_free, self.is_public = is_free, is_public
+    name: str
+    above: int
+    begin: int
+    body: int
+    end: int
+    is_free: bool
+    is_public: bool
 
 
 class File:

@@ -5,32 +5,19 @@ import re
 
 import translate
 
-HEAD = """\
-/* Hontkhale's queue as one file of C11, for gcc and clang. Made by c/generate: don't edit it.
- *
- * The library is proved in Rattle, whose compiler lowers it to LLVM's instructions. This is these instructions in C, one
- * for one: the proof is of what they were made from. Whoever builds this file trusts also the translator and a C compiler.
- */
-#include <stdbool.h>
-#include <stddef.h>
-#include <stdint.h>
-#include <stdlib.h>
-#include <string.h>
-
-#if !defined(__GNUC__)
-#error "hontkhale.c needs gcc or clang"
-#elif __BYTE_ORDER__ != __ORDER_LITTLE_ENDIAN__ || __SIZEOF_POINTER__ != 8
-#error "hontkhale.c is for little-endian targets with pointers of 64 bits"
-#endif
+LAYOUT = """\
+_Static_assert(sizeof(dq_answer) == 24 && offsetof(dq_answer, first) == 8 && offsetof(dq_answer, second) == 16,
+               "an answer is a code and two numbers");
 """
 
-LAYOUT = ["_Static_assert(sizeof(dq_answer) == 24 && offsetof(dq_answer, first) == 8 && offsetof(dq_answer, second) == 16,",
-          "               \"an answer is a code and two numbers\");", ""]
+
+def text_of(name):
+    return pathlib.Path(__file__).with_name(name).read_text(encoding="utf-8")
 
 
 def helpers(body):
     """What a text calls of helpers.c, and what that names, in the order in which it stands there."""
-    blocks = pathlib.Path(__file__).with_name("helpers.c").read_text(encoding="utf-8").strip().split("\n\n")[1:]
+    blocks = text_of("helpers.c").strip().split("\n\n")[1:]
     named = {re.search(r"typedef .* (\w+);|struct (\w+) \{|(\w+)\(", it): it for it in blocks}
     named = {next(filter(None, found.groups())): it for found, it in named.items()}
     wanted = {it for it in named if re.search(rf"\b{it}\b", body)}
@@ -82,4 +69,4 @@ def c_file(module_text, header):
         raise translate.Unknown(f"the header and the library have other calls: {sorted(names ^ set(declared))}")
     calls = [line for it in exports for line in call(it, *declared[it.name[1:]], module)]
     body = "\n".join([*lines, *calls])
-    return "\n".join([HEAD, header_text(header), *LAYOUT, *helpers(body), "", body]).rstrip() + "\n"
+    return "\n".join([text_of("head.c"), header_text(header), LAYOUT, *helpers(body), "", body]).rstrip() + "\n"

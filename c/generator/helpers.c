@@ -82,26 +82,6 @@ static inline uint64_t cttz_64(uint64_t value) {
     return value ? (uint64_t)__builtin_ctzll(value) : 64u;
 }
 
-static inline uint32_t ctpop_32(uint32_t value) {
-    return (uint32_t)__builtin_popcount(value);
-}
-
-static inline uint64_t ctpop_64(uint64_t value) {
-    return (uint64_t)__builtin_popcountll(value);
-}
-
-static inline struct of_64_1 uadd_64(uint64_t left, uint64_t right) {
-    struct of_64_1 answer;
-    answer.f1 = __builtin_add_overflow(left, right, &answer.f0);
-    return answer;
-}
-
-static inline struct of_64_1 umul_64(uint64_t left, uint64_t right) {
-    struct of_64_1 answer;
-    answer.f1 = __builtin_mul_overflow(left, right, &answer.f0);
-    return answer;
-}
-
 static struct of_64_64 rattle_alloc(uint64_t size, uint64_t align) {
     void *made = malloc(size ? size : align);
     return (struct of_64_64){made != NULL, (uintptr_t)made};

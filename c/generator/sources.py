@@ -25,11 +25,11 @@ def hash_of(paths, base):
 
 
 def current(folder):
-    """What the record of the C file in a folder would say now: a line for each crate, the header, what makes it, and it."""
+    """The record of the C file in a folder as it would be now: a line for each crate, the header, what makes it, and it."""
     here = TOP / "c"
     lines = [(f"crates/{it}/src", hash_of((TOP / "crates" / it / "src").rglob("*.rt"), TOP)) for it in CRATES]
     lines += [(it, hash_of([here / it], here)) for it in ("include/hontkhale.h", "generate")]
-    lines += [("generator", hash_of([*(here / "generator").glob("*.py"), here / "generator" / "helpers.c"], here))]
+    lines += [("generator", hash_of((here / "generator").glob("*.*"), here))]
     lines += [(C_FILE, hash_of([folder / C_FILE], folder))]
     return "".join(f"{hash}  {name}\n" for name, hash in lines)
 

@@ -5,18 +5,23 @@ that no sum and no shift is undefined in C; memory is read and written by memcpy
 atomic step is a compiler's builtin of the same order. What LLVM calls poison may be any value here.
 """
 
+import collections
+import pathlib
 import re
+import tomllib
 
-# What an instruction, a type or an attribute may carry that narrows its meaning only: to leave it out is a refinement.
-FLAGS = {"nuw", "nsw", "exact", "inbounds", "nusw", "disjoint", "nneg", "samesign", "tail", "musttail", "notail", "fastcc",
-         "noundef", "nonnull", "noalias", "readonly", "writeonly", "readnone", "nocapture", "nofree", "returned",
-         "zeroext", "signext", "immarg", "dead_on_unwind", "writable", "inreg", "dead_on_return"}
-FLAG_CALLS = {"range", "captures", "dereferenceable", "dereferenceable_or_null", "memory", "initializes", "align"}
-ORDERS = {"monotonic": "__ATOMIC_RELAXED", "acquire": "__ATOMIC_ACQUIRE", "release": "__ATOMIC_RELEASE",
-          "acq_rel": "__ATOMIC_ACQ_REL", "seq_cst": "__ATOMIC_SEQ_CST"}
+KNOWN = tomllib.loads(pathlib.Path(__file__).with_name("instructions.toml").read_text(encoding="utf-8"))
+FLAGS, FLAG_CALLS = set(KNOWN["flags"].split()), set(KNOWN["flag_calls"].split())
+ORDERS, SIGNS = KNOWN["orders"], KNOWN["signs"]
+FORMS = {**KNOWN["forms"], **dict.fromkeys(SIGNS, ["o , v"])}
+CASTS = [it for it, forms in FORMS.items() if forms == ["o to t"]]
+HEAP = ("rattle_alloc", "rattle_realloc", "rattle_dealloc")
 WIDTHS = (8, 16, 32, 64, 128)
 NAME = r'(?:"[^"]*"|[-\w.$]+)'
 TOKEN = re.compile(r'\s*(%s|[%%@]%s|[a-zA-Z_][\w.]*|-?\d+|\S)' % (r'"[^"]*"', NAME))
+# The names of metadata, alignments and groups of attributes.
+ARRAY = re.compile(r"(?:(?:private|internal|unnamed_addr) )*constant \[(\d+) x i(\d+)\] \[(.*)\](?:, align \d+)?")
+BESIDE = re.compile(r", ![\w.]+ !\d+|, align \d+(?=,|$)| #\d+(?=,|$)|\s+; preds = .*")
 
 
 class Unknown(Exception):
@@ -24,10 +29,19 @@ class Unknown(Exception):
 
 
 class Text:
-    """The words of a line, from its front."""
+    """The words of a line, from its front, without what narrows its meaning only."""
 
     def __init__(self, line):
-        self.words, self.at, self.line = TOKEN.findall(line), 0, line
+        self.words, self.at, self.line = [], 0, line
+        depth = 0
+        for word in TOKEN.findall(line):
+            is_group = depth or self.words[-1:] and self.words[-1] in FLAG_CALLS and word == "("
+            if is_group:
+                depth += {"(": 1, ")": -1}.get(word, 0)
+                if not depth:
+                    self.words.pop()
+            elif word not in FLAGS and not (self.words[-1:] == ["align"] and self.words.pop()):
+                self.words.append(word)
 
     def peek(self):
         return self.words[self.at] if self.at < len(self.words) else ""
@@ -45,31 +59,10 @@ class Text:
             return True
         return False
 
-    def want(self, word):
-        if not self.take(word):
-            raise Unknown(f"'{word}' is missing: {self.line.strip()}")
-
-    def past_group(self):
-        """Goes past a group in parentheses."""
-        self.want("(")
-        depth = 1
-        while depth:
-            depth += {"(": 1, ")": -1}.get(self.next(), 0)
-
-    def flags(self):
-        """Goes past flags and attributes."""
-        while True:
-            word = self.peek()
-            if word in FLAGS or (word == "align" and self.words[self.at + 1].isdigit()):
-                self.at += 2 if word == "align" else 1
-            elif word in FLAG_CALLS:
-                self.at += 1
-                self.past_group()
-            elif word == "sret":
-                self.at += 1
-                self.past_group()
-            else:
-                return
+    def want(self, *words):
+        for word in words:
+            if not self.take(word):
+                raise Unknown(f"'{word}' is missing: {self.line.strip()}")
 
     def type(self):
         word = self.next()
@@ -91,11 +84,44 @@ class Text:
             return ("array", count, part)
         raise Unknown(f"the type {word}: {self.line.strip()}")
 
-    def end(self):
-        """Nothing but the names of metadata, alignments and groups of attributes follow."""
-        rest = " ".join(self.words[self.at:])
-        if not re.fullmatch(r"(, (align \d+|! \w+ ! \d+)|# \d+| )*", rest):
-            raise Unknown(f"'{rest}' at the end: {self.line.strip()}")
+    def value(self):
+        """A word, or the operands of a pair."""
+        word = self.next()
+        if word == "{":
+            parts = [self.operand()]
+            while self.take(","):
+                parts.append(self.operand())
+            self.want("}")
+            return parts
+        return word
+
+    def operand(self):
+        """A type and a value."""
+        return self.type(), self.value()
+
+    def parts(self, op):
+        """What stands behind an instruction's name, by its form."""
+        forms = FORMS.get(op)
+        if forms is None:
+            raise Unknown(f"the instruction {op}: {self.line.strip()}")
+        form = next((it for it in forms if it.split()[:1] == [self.peek()]), forms[-1])
+        found, kind = [], None
+        for it in form.split():
+            if it == "t":
+                found.append(self.type())
+            elif it == "o":
+                found.append(self.operand())
+                kind = found[-1][0]
+            elif it == "v":
+                found.append((kind, self.value()))
+            elif it == "w":
+                found.append(self.next())
+            elif it != "*":
+                self.want(it)
+                found += [it] if it in ("atomic", "weak", "inbounds") else []
+        if self.peek() and "*" not in form:
+            raise Unknown(f"'{' '.join(self.words[self.at:])}' at the end: {self.line.strip()}")
+        return found
 
 
 def size(kind):
@@ -118,17 +144,17 @@ def box(kind):
 
 
 def c_type(kind):
-    if kind == "ptr":
-        return "char *"
-    if kind == "void":
-        return "void "
-    if kind == 1:
-        return "bool "
+    if kind in ("ptr", "void", 1):
+        return {"ptr": "char *", "void": "void ", 1: "bool "}[kind]
     if isinstance(kind, int):
         return "u128 " if box(kind) == 128 else f"uint{box(kind)}_t "
     if is_pair(kind):
         return f"struct {'_'.join(['of', *map(str, kind)])} "
     raise Unknown(f"a value of the type {kind}")
+
+
+def cast_to(kind):
+    return f"({c_type(kind).strip()})"
 
 
 def number(kind, value):
@@ -148,8 +174,8 @@ def fit(kind, text):
     if kind == 1:
         return f"(bool)(({text}) & 1)"
     if kind in WIDTHS:
-        return f"({c_type(kind).strip()})({text})"
-    return f"({c_type(kind).strip()})(({text}) & {number(box(kind), (1 << kind) - 1)})"
+        return f"{cast_to(kind)}({text})"
+    return f"{cast_to(kind)}(({text}) & {number(box(kind), (1 << kind) - 1)})"
 
 
 def wide(kind, text):
@@ -157,11 +183,11 @@ def wide(kind, text):
     return f"(uint32_t){text}" if kind < 32 else text
 
 
-def signed(kind, text):
-    """A number with its sign, of a width that C has."""
-    if kind not in (8, 16, 32, 64):
-        raise Unknown(f"a signed number of {kind} bits")
-    return f"(int{kind}_t){text}"
+def known(kind, what, widths=(8, 16, 32, 64)):
+    """A width that C has for something."""
+    if kind not in widths:
+        raise Unknown(f"{what} of {kind} bits")
+    return kind
 
 
 def plain(name):
@@ -171,180 +197,116 @@ def plain(name):
     return re.sub(r"\W+", "_", name).strip("_")
 
 
+# The type of the value that each makes, by its parts.
+KINDS = {
+    **dict.fromkeys([*SIGNS, "freeze", "insertvalue"], lambda it: it[0][0]), **dict.fromkeys(CASTS, lambda it: it[-1]),
+    **dict.fromkeys(("phi", "call"), lambda it: it[0]), **dict.fromkeys(("getelementptr", "alloca"), lambda it: "ptr"),
+    "icmp": lambda it: 1, "select": lambda it: it[1][0], "load": lambda it: it[it[0] == "atomic"],
+    "cmpxchg": lambda it: (it[-3][0], 1), "atomicrmw": lambda it: it[2][0],
+    "extractvalue": lambda it: it[0][0][int(it[1])],
+}
+
+
+class Step:
+    """An instruction: the name that it gives a value, what it is, and its parts, whose operands are words yet."""
+
+    def __init__(self, line):
+        self.line, self.align = BESIDE.sub("", line), re.search(r"(?<=, align )\d+", line)
+        made = re.match(r"\s*(%%%s) = (.*)" % NAME, self.line)
+        self.name, text = made and made[1], Text(made[2] if made else self.line)
+        self.op = text.next()
+        self.parts, self.text = text.parts(self.op), text
+
+
 class Function:
     def __init__(self, module, head, lines):
-        self.module, self.head, self.lines = module, head, lines
-        text = Text(head)
+        self.module = module
+        text = Text(re.sub(r"\b(dso_local|hidden|local_unnamed_addr)\b", "", head))
         text.want("define")
-        self.is_export = True
-        while text.peek() in ("internal", "private", "dso_local", "hidden", "noundef", "fastcc", "zeroext", "range",
-                              "nonnull", "local_unnamed_addr"):
-            if text.peek() == "range":
-                text.next()
-                text.past_group()
-            else:
-                self.is_export &= text.next() not in ("internal", "private")
-        self.answer = text.type()
-        self.name = text.next()
-        self.parameters = []
+        self.is_export = not (text.take("internal") or text.take("private"))
+        self.answer, self.name, self.parameters = text.type(), text.next(), []
         text.want("(")
         while not text.take(")"):
-            kind = text.type()
-            text.flags()
-            self.parameters.append((kind, text.next()))
+            self.parameters.append((text.type(), text.next()))
             text.take(",")
         self.kinds = {name: kind for kind, name in self.parameters}
         self.names = {name: f"a{i}" for i, (_, name) in enumerate(self.parameters)}
-        self.blocks, self.entry = self.split()
+        self.count = collections.Counter(re.findall(r"%" + NAME, "\n".join(lines)))
+        self.blocks = self.split("\n".join(lines))
         self.labels = {name: f"b{i}" for i, name in enumerate(self.blocks)}
-        self.phis = {name: [it for it in body if re.match(r"\s*%s = phi " % ("%" + NAME), it)]
-                     for name, body in self.blocks.items()}
-        self.uses = re.findall(r"%" + NAME, "\n".join(lines))
-        self.count = {}
-        for it in self.uses:
-            self.count[it] = self.count.get(it, 0) + 1
+        self.phis = {name: [it for it in body if it.op == "phi"] for name, body in self.blocks.items()}
         self.declared, self.out = [], []
 
-    def split(self):
-        """The lines of each block, by its label; a switch is one line."""
-        joined = re.sub(r"\[\n((?:[^\]]*\n)*?)\s*\]", lambda it: "[" + it[1].replace("\n", " ") + "]", "\n".join(self.lines))
-        blocks, here = {}, None
-        first = None
-        for line in joined.split("\n"):
-            line = re.sub(r"\s+; preds = .*", "", line)
-            label = re.fullmatch(r"(%s):" % NAME, line)
+    @staticmethod
+    def split(text):
+        """The steps of each block, by its label; a switch is one line."""
+        text = re.sub(r"\[\n((?:[^\]]*\n)*?)\s*\]", lambda it: "[" + it[1].replace("\n", " ") + "]", text)
+        blocks = {}
+        here = None
+        for line in text.split("\n"):
+            label = re.fullmatch(r"(%s):" % NAME, BESIDE.sub("", line))
             if label or here is None:
-                here = "%" + label[1] if label else "%0"
-                first = first or here
-                blocks[here] = []
-                if label:
-                    continue
-            if line.strip():
-                blocks[here].append(line)
-        return blocks, first
+                here = blocks.setdefault("%" + label[1] if label else "%0", [])
+            if line.strip() and not label:
+                here.append(Step(line))
+        return blocks
 
-    def of(self, kind, word, text=None):
+    def of(self, operand):
         """An operand in C."""
-        if word in ("undef", "poison", "zeroinitializer"):
-            if is_pair(kind):
-                return f"({c_type(kind).strip()}){{0}}"
-            return "NULL" if kind == "ptr" else number(kind, 0)
-        if word == "null":
-            return "NULL"
-        if word in ("true", "false"):
-            return word
-        if re.fullmatch(r"-?\d+", word):
-            return number(kind, int(word))
-        if word in self.names:
-            return self.names[word]
-        if word.startswith("@") and kind == "ptr":
-            return f"(char *){self.module.constant(word)}"
-        if word == "{" and text:
-            parts = [self.operand(text)[1]]
-            while text.take(","):
-                parts.append(self.operand(text)[1])
-            text.want("}")
-            return f"({c_type(kind).strip()}){{{', '.join(parts)}}}"
-        if word == "inttoptr" and text:
-            text.want("(")
-            wide_of, inner = self.operand(text)
-            text.want("to")
-            text.want("ptr")
-            text.want(")")
-            return f"(char *)(uintptr_t){inner}"
-        raise Unknown(f"the operand {word} of {self.name}")
-
-    def operand(self, text):
-        """A type and a value."""
-        kind = text.type()
-        text.flags()
-        return kind, self.of(kind, text.next(), text)
-
-    def value(self, text, kind):
-        return self.of(kind, text.next(), text)
+        kind, value = operand
+        if isinstance(value, list):
+            return f"{cast_to(kind)}{{{', '.join(map(self.of, value))}}}"
+        if value in ("undef", "poison", "zeroinitializer"):
+            return f"{cast_to(kind)}{{0}}" if is_pair(kind) else "NULL" if kind == "ptr" else number(kind, 0)
+        if value in ("null", "true", "false"):
+            return value.replace("null", "NULL")
+        if re.fullmatch(r"-?\d+", value):
+            return number(kind, int(value))
+        if value in self.names:
+            return self.names[value]
+        if value.startswith("@") and kind == "ptr":
+            return f"(char *){self.module.constant(value)}"
+        raise Unknown(f"the operand {value} of {self.name}")
 
     def declare(self, name, kind):
         self.kinds[name], self.names[name] = kind, f"v{len(self.declared)}"
         self.declared.append(f"    {c_type(kind)}{self.names[name]};")
 
-    def kind_of(self, line):
-        """The type of the value that a line makes."""
-        text = Text(line.split("=", 1)[1])
-        op = text.next()
-        text.flags()
-        if op in ("tail", "musttail", "notail"):
-            op = text.next()
-            text.flags()
-        if op in ("add", "sub", "mul", "and", "or", "xor", "shl", "lshr", "ashr", "udiv", "urem", "sdiv", "srem", "phi",
-                  "freeze"):
-            return text.type()
-        if op == "icmp":
-            return 1
-        if op in ("getelementptr", "alloca"):
-            return "ptr"
-        if op in ("zext", "sext", "trunc", "ptrtoint", "ptrtoaddr", "inttoptr"):
-            return Text(line.rsplit(" to ", 1)[1]).type()
-        if op == "select":
-            text.type(), text.next(), text.want(",")
-            return text.type()
-        if op == "load":
-            text.take("atomic")
-            return text.type()
-        if op == "call":
-            return text.type()
-        if op == "cmpxchg":
-            text.take("weak")
-            text.type(), text.next(), text.want(",")
-            return (text.type(), 1)
-        if op == "atomicrmw":
-            text.next(), text.type(), text.next(), text.want(",")
-            return text.type()
-        if op in ("extractvalue", "insertvalue"):
-            kind = text.type()
-            return kind if op == "insertvalue" else kind[int(line.rsplit(",", 1)[1].split("!")[0])]
-        raise Unknown(f"the instruction {op}: {line.strip()}")
-
     def say(self, text):
         self.out.append("    " + text)
 
-    def jump(self, here, there):
+    def jump(self, there):
         """The values that a block's phis take from here, and the step to it."""
         steps = []
-        for line in self.phis[there]:
-            name = line.split("=", 1)[0].strip()
-            for value, block in re.findall(r"\[ (.*?), (%%%s) \]" % NAME, line):
-                if block == here:
-                    words = Text(value)
-                    steps.append(f"{self.names[name]}_in = {self.of(self.kinds[name], words.next(), words)};")
-                    break
-            else:
-                raise Unknown(f"a phi without {here}: {line.strip()}")
+        for step in self.phis[there]:
+            values = {block: value for value, block in re.findall(r"\[ (.*?), (%%%s) \]" % NAME, step.line)}
+            if self.here not in values:
+                raise Unknown(f"a phi without {self.here}: {step.line.strip()}")
+            steps.append(f"{self.names[step.name]}_in = {self.of((step.parts[0], Text(values[self.here]).value()))};")
         return " ".join([*steps, f"goto {self.labels[there]};"])
 
+    def declare_all(self):
+        for step in (it for body in self.blocks.values() for it in body if it.name):
+            kind = KINDS[step.op](step.parts)
+            if step.op == "alloca":
+                self.alloca(step, kind)
+            elif self.count[step.name] > 1:
+                self.declare(step.name, kind)
+                if step.op == "phi":
+                    self.declared.append(f"    {c_type(kind)}{self.names[step.name]}_in;")
+
     def write(self):
-        for body in self.blocks.values():
-            for line in body:
-                made = re.match(r"\s*(%%%s) = " % NAME, line)
-                if not made:
-                    continue
-                kind = self.kind_of(line)
-                if " = alloca " in line:
-                    self.alloca(made[1], line)
-                elif self.count[made[1]] > 1:
-                    self.declare(made[1], kind)
-                    if re.match(r"\s*%%%s = phi " % NAME, line):
-                        self.declared.append(f"    {c_type(kind)}{self.names[made[1]]}_in;")
-        for here, body in self.blocks.items():
-            if here != self.entry:
-                self.out.append(f"{self.labels[here]}:;")
-            for line in self.phis[here]:
-                name = line.split("=", 1)[0].strip()
-                self.say(f"{self.names[name]} = {self.names[name]}_in;")
-            for line in body:
-                if line not in self.phis[here]:
-                    self.line(here, line)
-        used = {it for it in self.uses}
-        idle = [f"    (void){self.names[name]};" for _, name in self.parameters if name not in used]
+        self.declare_all()
+        for place, (self.here, body) in enumerate(self.blocks.items()):
+            if place:
+                self.out.append(f"{self.labels[self.here]}:;")
+            for step in self.phis[self.here]:
+                self.say(f"{self.names[step.name]} = {self.names[step.name]}_in;")
+            for step in body:
+                to = self.names.get(step.name)
+                if to or not step.name or step.op in ("call", "load", "cmpxchg", "atomicrmw"):
+                    self.write_step(step, to)
+        idle = [f"    (void){self.names[name]};" for _, name in self.parameters if name not in self.count]
         return [f"/* {re.sub('::<#[0-9a-f]+>', '', self.name.strip('@' + chr(34)))} */" if not self.is_export else "",
                 f"{self.prototype()} {{", *self.declared, *idle, *self.out, "}", ""]
 
@@ -352,276 +314,130 @@ class Function:
         given = ", ".join(f"{c_type(kind)}a{i}" for i, (kind, _) in enumerate(self.parameters)) or "void"
         return f"static {c_type(self.answer)}{self.module.function(self.name)}({given})"
 
-    def alloca(self, name, line):
-        if line not in self.blocks[self.entry]:
-            raise Unknown(f"room that is taken on the way: {line.strip()}")
-        text = Text(line.split("=", 1)[1])
-        text.want("alloca")
-        kind = text.type()
-        text.want(",")
-        text.want("align")
-        align = int(text.next())
-        self.kinds[name], self.names[name] = "ptr", f"(char *)r{len(self.declared)}"
-        self.declared.append(f"    _Alignas({align}) char r{len(self.declared)}[{max(1, size(kind))}];")
+    def alloca(self, step, kind):
+        if step not in next(iter(self.blocks.values())):
+            raise Unknown(f"room that is taken on the way: {step.line.strip()}")
+        self.names[step.name] = f"(char *)r{len(self.declared)}"
+        room = max(1, size(step.parts[0]))
+        self.declared.append(f"    _Alignas({step.align[0]}) char r{len(self.declared)}[{room}];")
 
-    def line(self, here, line):
-        made = re.match(r"\s*(%%%s) = (.*)" % NAME, line)
-        text = Text(made[2] if made else line)
-        op = text.next()
-        while op in ("tail", "musttail", "notail"):
-            op = text.next()
-        to = self.names.get(made[1]) if made else None
-        method = getattr(self, "do_" + op, None)
-        if op == "alloca" or (made and not to and op not in ("call", "load", "cmpxchg", "atomicrmw")):
-            return None
-        if op in ("add", "sub", "mul", "and", "or", "xor", "shl", "lshr", "udiv", "urem"):
-            return self.arithmetic(op, to, text)
-        if op in ("zext", "sext", "trunc", "ptrtoint", "ptrtoaddr", "inttoptr"):
-            return self.cast(op, to, text)
-        if method is None:
-            raise Unknown(f"the instruction {op}: {line.strip()}")
-        return method(here, to, text)
+    def write_step(self, step, to):
+        op, parts = step.op, step.parts
+        if op in ("phi", "alloca"):
+            return
+        if op in SIGNS:
+            self.say(f"{to} = {self.arithmetic(op, *parts)};")
+        elif op in CASTS:
+            self.say(f"{to} = {self.cast(op, *parts)};")
+        elif op in KNOWN["lines"]:
+            self.say(KNOWN["lines"][op].format(*(self.of(it) if isinstance(it, tuple) else it for it in parts), to=to))
+        elif op in ("switch", "call"):
+            getattr(self, "do_" + op)(step, to, *parts)
+        else:
+            getattr(self, "do_" + op)(to, *parts)
 
-    def arithmetic(self, op, to, text):
-        text.flags()
-        kind, left = self.operand(text)
-        text.want(",")
-        right = self.value(text, kind)
-        text.end()
-        sign = {"add": "+", "sub": "-", "mul": "*", "and": "&", "or": "|", "xor": "^", "shl": "<<", "lshr": ">>",
-                "udiv": "/", "urem": "%"}[op]
+    def arithmetic(self, op, left, right):
+        kind = left[0]
         if op in ("shl", "lshr"):
-            if kind not in WIDTHS:
-                raise Unknown(f"a shift of {kind} bits")
-            right = f"({right} & {kind - 1}u)" if not right[0].isdigit() else right
+            right = self.of((known(kind, "a shift", WIDTHS), right[1]))
+            right = right if right[0].isdigit() else f"({right} & {kind - 1}u)"
         else:
-            right = wide(kind, right)
-        self.say(f"{to} = {fit(kind, f'{wide(kind, left)} {sign} {right}')};")
+            right = wide(kind, self.of(right))
+        return fit(kind, f"{wide(kind, self.of(left))} {SIGNS[op]} {right}")
 
-    def cast(self, op, to, text):
-        text.flags()
-        kind, value = self.operand(text)
-        text.want("to")
-        other = text.type()
-        text.end()
+    def cast(self, op, operand, other):
+        kind, value = operand[0], self.of(operand)
         if op == "inttoptr":
-            self.say(f"{to} = (char *)(uintptr_t){value};")
-        elif op in ("ptrtoint", "ptrtoaddr"):
-            self.say(f"{to} = {fit(other, f'(uintptr_t){value}')};")
-        elif op == "sext":
-            if kind == 1:
-                self.say(f"{to} = {fit(other, f'{number(other, 0)} - ({c_type(other).strip()}){value}')};")
-            elif other not in WIDTHS:
-                raise Unknown(f"a signed number of {other} bits")
-            else:
-                self.say(f"{to} = ({c_type(other).strip()}){signed(kind, value)};")
-        elif op == "zext":
-            self.say(f"{to} = {value};")
-        else:
-            self.say(f"{to} = {fit(other, value)};")
+            return f"(char *)(uintptr_t){value}"
+        if op in ("ptrtoint", "ptrtoaddr"):
+            return fit(other, f"(uintptr_t){value}")
+        return value if op == "zext" else fit(other, value)
 
-    def do_icmp(self, here, to, text):
-        text.flags()
-        how = text.next()
-        kind, left = self.operand(text)
-        text.want(",")
-        right = self.value(text, kind)
-        text.end()
-        sign = {"eq": "==", "ne": "!=", "lt": "<", "le": "<=", "gt": ">", "ge": ">="}[how if how in ("eq", "ne") else how[1:]]
-        if how[0] == "s" and len(how) == 3:
-            left, right = signed(kind, left), signed(kind, right)
-        elif kind == "ptr" and len(how) == 3:
-            left, right = f"(uintptr_t){left}", f"(uintptr_t){right}"
-        self.say(f"{to} = {left} {sign} {right};")
+    def do_icmp(self, to, how, left, right):
+        if how not in KNOWN["comparisons"] or left[0] == "ptr" and how[0] == "u":
+            raise Unknown(f"the comparison {how} of {left[0]}")
+        self.say(f"{to} = {self.of(left)} {KNOWN['comparisons'][how]} {self.of(right)};")
 
-    def do_select(self, here, to, text):
-        text.flags()
-        _, choice = self.operand(text)
-        text.want(",")
-        _, left = self.operand(text)
-        text.want(",")
-        _, right = self.operand(text)
-        text.end()
-        self.say(f"{to} = {choice} ? {left} : {right};")
-
-    def do_freeze(self, here, to, text):
-        _, value = self.operand(text)
-        text.end()
-        self.say(f"{to} = {value};")
-
-    def do_getelementptr(self, here, to, text):
-        inside = "inbounds" in (text.peek(),)
-        text.flags()
-        kind = text.type()
-        text.want(",")
-        _, base = self.operand(text)
-        text.want(",")
-        wide_of, index = self.operand(text)
-        if wide_of != 64:
-            raise Unknown(f"an index of {wide_of} bits: {text.line.strip()}")
-        text.end()
-        steps = index if size(kind) == 1 else f"{index} * {size(kind)}u"
+    def do_getelementptr(self, to, *parts):
+        kind, base, index = parts[-3:]
+        known(index[0], "an index", (64,))
+        steps = self.of(index) if size(kind) == 1 else f"{self.of(index)} * {size(kind)}u"
         # A pointer of C stays within what it points into, which only the flag says.
-        if inside:
-            self.say(f"{to} = {base} + {f'({steps})' if ' ' in steps else steps};")
+        if parts[0] == "inbounds":
+            self.say(f"{to} = {self.of(base)} + {f'({steps})' if ' ' in steps else steps};")
         else:
-            self.say(f"{to} = (char *)((uintptr_t){base} + {steps});")
+            self.say(f"{to} = (char *)((uintptr_t){self.of(base)} + {steps});")
 
-    def do_load(self, here, to, text):
-        atomic = text.take("atomic")
-        kind = text.type()
-        text.want(",")
-        _, at = self.operand(text)
-        if atomic:
-            order = ORDERS[text.next()]
-            text.end()
-            if kind not in (8, 16, 32, 64):
-                raise Unknown(f"an atomic load of {kind}")
-            step = f"__atomic_load_n((uint{kind}_t *){at}, {order});"
+    def do_load(self, to, *parts):
+        if parts[0] == "atomic":
+            _, kind, at, order = parts
+            step = f"__atomic_load_n((uint{known(kind, 'an atomic load')}_t *){self.of(at)}, {ORDERS[order]});"
             self.say(f"{to} = {step}" if to else f"(void){step}")
-            return
-        text.end()
-        if to:
-            name = "ptr" if kind == "ptr" else kind
-            if name not in ("ptr", 8, 16, 32, 64, 128):
-                raise Unknown(f"a load of {kind}")
-            self.say(f"{to} = load_{name}({at});")
+        elif to:
+            kind, at = parts
+            self.say(f"{to} = load_{known(kind, 'a load', ('ptr', *WIDTHS))}({self.of(at)});")
 
-    def do_store(self, here, to, text):
-        atomic = text.take("atomic")
-        kind, value = self.operand(text)
-        text.want(",")
-        _, at = self.operand(text)
-        if atomic:
-            order = ORDERS[text.next()]
-            text.end()
-            if kind not in (8, 16, 32, 64):
-                raise Unknown(f"an atomic store of {kind}")
-            self.say(f"__atomic_store_n((uint{kind}_t *){at}, {value}, {order});")
-            return
-        text.end()
-        if kind not in ("ptr", 8, 16, 32, 64, 128):
-            raise Unknown(f"a store of {kind}")
-        self.say(f"store_{kind}({at}, {value});")
+    def do_store(self, to, *parts):
+        if parts[0] == "atomic":
+            _, value, at, order = parts
+            kind = known(value[0], "an atomic store")
+            self.say(f"__atomic_store_n((uint{kind}_t *){self.of(at)}, {self.of(value)}, {ORDERS[order]});")
+        else:
+            value, at = parts
+            self.say(f"store_{known(value[0], 'a store', ('ptr', *WIDTHS))}({self.of(at)}, {self.of(value)});")
 
-    def do_cmpxchg(self, here, to, text):
-        weak = "true" if text.take("weak") else "false"
-        _, at = self.operand(text)
-        text.want(",")
-        kind, wanted = self.operand(text)
-        text.want(",")
-        _, new = self.operand(text)
-        won, lost = ORDERS[text.next()], ORDERS[text.next()]
-        text.end()
-        if kind not in (8, 16, 32, 64):
-            raise Unknown(f"an exchange of {kind}")
-        to = to or self.spare((kind, 1))
+    def do_cmpxchg(self, to, *parts):
+        weak, (at, wanted, new, won, lost) = "true" if parts[0] == "weak" else "false", parts[-5:]
+        kind = known(wanted[0], "an exchange")
+        if not to:
+            name = f"unused {len(self.declared)}"
+            self.declare(name, (kind, 1))
+            to = self.names[name]
         # A variable of its own stays in a register, which a field whose address is taken doesn't.
-        self.say(f"{{ uint{kind}_t seen = {wanted};")
-        self.say(f"{to}.f1 = __atomic_compare_exchange_n((uint{kind}_t *){at}, &seen, {new}, {weak}, {won}, {lost});")
+        self.say(f"{{ uint{kind}_t seen = {self.of(wanted)};")
+        self.say(f"{to}.f1 = __atomic_compare_exchange_n((uint{kind}_t *){self.of(at)}, &seen, {self.of(new)}, {weak}, "
+                 f"{ORDERS[won]}, {ORDERS[lost]});")
         self.say(f"{to}.f0 = seen; }}")
 
-    def spare(self, kind):
-        name = f"unused {len(self.declared)}"
-        self.declare(name, kind)
-        return self.names[name]
-
-    def do_atomicrmw(self, here, to, text):
-        op = text.next()
-        _, at = self.operand(text)
-        text.want(",")
-        kind, value = self.operand(text)
-        order = ORDERS[text.next()]
-        text.end()
-        names = {"add": "fetch_add", "sub": "fetch_sub", "and": "fetch_and", "or": "fetch_or", "xor": "fetch_xor",
-                 "xchg": "exchange_n"}
-        if kind not in (8, 16, 32, 64) or op not in names:
-            raise Unknown(f"the atomic step {op} of {kind}")
-        step = f"__atomic_{names[op]}((uint{kind}_t *){at}, {value}, {order});"
+    def do_atomicrmw(self, to, op, at, value, order):
+        kind = known(value[0], "an atomic step")
+        if op not in KNOWN["steps"]:
+            raise Unknown(f"the atomic step {op}")
+        step = f"__atomic_{KNOWN['steps'][op]}((uint{kind}_t *){self.of(at)}, {self.of(value)}, {ORDERS[order]});"
         self.say(f"{to} = {step}" if to else f"(void){step}")
 
-    def do_fence(self, here, to, text):
-        order = text.next()
-        text.end()
-        self.say(f"__atomic_thread_fence({ORDERS[order]});")
+    def do_br(self, to, first, *rest):
+        if rest:
+            self.say(f"if ({self.of(first)}) {{ {self.jump(rest[0])} }}")
+        self.say(self.jump(rest[1] if rest else first))
 
-    def do_extractvalue(self, here, to, text):
-        _, value = self.operand(text)
-        text.want(",")
-        at = text.next()
-        text.end()
-        self.say(f"{to} = {value}.f{at};")
-
-    def do_insertvalue(self, here, to, text):
-        _, whole = self.operand(text)
-        text.want(",")
-        _, part = self.operand(text)
-        text.want(",")
-        at = text.next()
-        text.end()
-        self.say(f"{to} = {whole};")
-        self.say(f"{to}.f{at} = {part};")
-
-    def do_br(self, here, to, text):
-        if text.take("label"):
-            there = text.next()
-            text.end()
-            self.say(self.jump(here, there))
-            return
-        kind, choice = self.operand(text)
-        text.want(",")
-        text.want("label")
-        yes = text.next()
-        text.want(",")
-        text.want("label")
-        no = text.next()
-        text.end()
-        self.say(f"if ({choice}) {{ {self.jump(here, yes)} }}")
-        self.say(self.jump(here, no))
-
-    def do_switch(self, here, to, text):
-        kind, value = self.operand(text)
-        text.want(",")
-        text.want("label")
-        other = text.next()
-        text.want("[")
-        self.say(f"switch ({value}) {{")
-        while not text.take("]"):
-            of, case = self.operand(text)
-            text.want(",")
-            text.want("label")
-            self.say(f"case {case}: {self.jump(here, text.next())}")
-        text.end()
-        self.say(f"default: {self.jump(here, other)}")
+    def do_switch(self, step, to, value, other):
+        self.say(f"switch ({self.of(value)}) {{")
+        while not step.text.take("]"):
+            case = self.of(step.text.operand())
+            step.text.want(",", "label")
+            self.say(f"case {case}: {self.jump(step.text.next())}")
+        self.say(f"default: {self.jump(other)}")
         self.say("}")
 
-    def do_ret(self, here, to, text):
-        if text.take("void"):
-            self.say("return;")
-        else:
-            _, value = self.operand(text)
-            self.say(f"return {value};")
-        text.end()
+    def do_ret(self, to, value=None):
+        self.say(f"return {self.of(value)};" if value else "return;")
 
-    def do_unreachable(self, here, to, text):
-        self.say("__builtin_unreachable();")
-
-    def do_call(self, here, to, text):
-        text.flags()
-        answer = text.type()
-        text.flags()
+    def do_call(self, step, to, answer):
+        text = step.text
         if text.peek() == "asm":
-            if re.search(r'asm sideeffect "", "~\{memory\}"\(\)', text.line):
-                self.say("__atomic_signal_fence(__ATOMIC_SEQ_CST);")
-                return
-            raise Unknown(f"assembly: {text.line.strip()}")
+            if 'asm sideeffect "", "~{memory}"()' not in step.line:
+                raise Unknown(f"assembly: {step.line.strip()}")
+            self.say("__atomic_signal_fence(__ATOMIC_SEQ_CST);")
+            return
         name = text.next()
         text.want("(")
         given = []
         while not text.take(")"):
-            given.append(self.operand(text)[1])
+            given.append(self.of(text.operand()))
             text.take(",")
-        text.end()
+        if text.peek():
+            raise Unknown(f"'{text.peek()}' at the end: {step.line.strip()}")
         call = self.intrinsic(name, answer, given) if name.startswith("@llvm.") else (
             f"{self.module.function(name)}({', '.join(given)})")
         if call:
@@ -629,56 +445,37 @@ class Function:
 
     def intrinsic(self, name, answer, given):
         base = re.sub(r"(\.[pi]\d+)+$", "", name[6:])
-        if base.startswith("lifetime.") or base in ("assume", "experimental.noalias.scope.decl"):
-            return None
-        if base in ("trap",):
-            return "__builtin_trap()"
-        if base in ("memcpy", "memmove", "memset"):
-            if given[3] != "false":
-                raise Unknown("a volatile copy")
+        if base in ("memcpy", "memmove", "memset") and given[3] == "false":
             return f"{base}({', '.join(given[:3])})"
-        if base in ("umin", "umax"):
-            sign = "<" if base == "umin" else ">"
-            return f"{given[0]} {sign} {given[1]} ? {given[0]} : {given[1]}"
-        if base == "usub.sat":
-            return f"{given[0]} > {given[1]} ? {fit(answer, f'{given[0]} - {given[1]}')} : 0u"
-        if base == "uadd.sat" and answer in WIDTHS[2:]:
-            most = number(answer, -1)
-            return f"{given[0]} > {most} - {given[1]} ? {most} : {given[0]} + {given[1]}"
-        if base in ("ctlz", "cttz", "ctpop") and answer in (32, 64):
-            return f"{base}_{answer}({given[0]})"
-        if base == "umul.with.overflow" and answer == (64, 1):
-            return f"umul_64({given[0]}, {given[1]})"
-        if base == "uadd.with.overflow" and answer == (64, 1):
-            return f"uadd_64({given[0]}, {given[1]})"
-        raise Unknown(f"the call {name}")
+        answers, form = KNOWN["intrinsics"].get(base, ((), ""))
+        if answer not in answers:
+            raise Unknown(f"the call {name}")
+        is_number = answer in WIDTHS
+        less = is_number and len(given) == 2 and fit(answer, f"{given[0]} - {given[1]}")
+        return form.format(*given, kind=answer, less=less, most=is_number and number(answer, -1))
 
 
 class Module:
     def __init__(self, text):
-        self.functions, self.names, self.constants = [], {}, {}
         target = re.search(r'^target datalayout = "([^"]*)"', text, re.M)
         if not target or not target[1].startswith("e-") or "p:" in target[1]:
             raise Unknown("the layout of another target")
+        self.names, self.used = {}, []
+        self.constants = dict(re.findall(r"^(@%s) = (.*)$" % NAME, text, re.M))
+        self.functions = []
         for found in re.finditer(r"^(define [^\n]*)\{\n(.*?)^\}\n", text, re.M | re.S):
             head = re.sub(r"\)[^()]*$", ")", found[1].rsplit("#", 1)[0].strip())
             self.functions.append(Function(self, head, found[2].rstrip("\n").split("\n")))
-        for found in re.finditer(r"^(@%s) = (.*)$" % NAME, text, re.M):
-            self.constants[found[1]] = found[2]
-        self.used = []
+        self.known = {it.name for it in self.functions}
 
     def function(self, name):
+        """The name of a function in C, with a number where several would have the same."""
+        base = plain(name)
+        if name not in self.known and base not in HEAP:
+            raise Unknown(f"the function {name}, which the module doesn't have")
         if name not in self.names:
-            base = plain(name)
-            known = {it.name for it in self.functions}
-            if name not in known:
-                if base not in ("rattle_alloc", "rattle_realloc", "rattle_dealloc"):
-                    raise Unknown(f"the function {name}, which the module doesn't have")
-                self.names[name] = base
-                return base
-            taken, count = set(self.names.values()), 1
-            fresh = f"in_{base}"
-            while fresh in taken:
+            fresh, count = f"in_{base}" if name in self.known else base, 1
+            while fresh in self.names.values() and name in self.known:
                 count += 1
                 fresh = f"in_{base}_{count}"
             self.names[name] = fresh
@@ -686,8 +483,7 @@ class Module:
 
     def constant(self, name):
         said = self.constants.get(name, "nothing")
-        found = re.fullmatch(r"(?:private |internal )?(?:unnamed_addr )?constant \[(\d+) x i(8|16|32|64)\] \[(.*)\](?:, align \d+)?", said)
-        if not found:
+        if not ARRAY.fullmatch(said):
             raise Unknown(f"the constant {name}: {said}")
         if name not in self.used:
             self.used.append(name)
@@ -695,13 +491,9 @@ class Module:
 
     def constant_lines(self):
         for i, name in enumerate(self.used):
-            found = re.search(r"\[(\d+) x i(\d+)\] \[(.*)\]", self.constants[name])
+            found = ARRAY.fullmatch(self.constants[name])
             values = [number(int(found[2]), int(it.split()[1])) for it in found[3].split(", ")]
             yield f"static const uint{found[2]}_t constant_{i}[{found[1]}] = {{{', '.join(values)}}};"
-
-    def pairs(self, text):
-        """The types of pairs that the C uses."""
-        return sorted(set(re.findall(r"struct (of(?:_\w+)+)", text)))
 
 
 def pair_line(name):
@@ -714,7 +506,6 @@ def bodies(text):
     """The functions of a module as C: the types they need, their prototypes and bodies, and the exported ones."""
     module = Module(text)
     written = [line for it in module.functions for line in it.write()]
-    prototypes = [f"{it.prototype()};" for it in module.functions]
-    lines = [*module.constant_lines(), *prototypes, "", *written]
-    pairs = [pair_line(name) for name in module.pairs("\n".join(lines)) if name not in ("of_64_64", "of_64_1")]
-    return [*pairs, *lines], [it for it in module.functions if it.is_export], module
+    lines = [*module.constant_lines(), *(f"{it.prototype()};" for it in module.functions), "", *written]
+    pairs = set(re.findall(r"struct (of(?:_\w+)+)", "\n".join(lines))) - {"of_64_64", "of_64_1"}
+    return [*map(pair_line, sorted(pairs)), *lines], [it for it in module.functions if it.is_export], module

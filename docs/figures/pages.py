@@ -3,8 +3,8 @@
 A mark is a comment that a reader of the page does not see:
 
     <!-- table NAME --> .. <!-- end --> all between is made by the script
-    <!-- from FILE: NAME -->            the fenced block below is that definition (`NAME CLAUSE`: one clause of it;
-                                        `fn NAME..`: functions); with `FILE` alone it stands in the file as it is
+    <!-- from FILE: NAME -->            the fenced block below is that definition (`NAME CLAUSE`: one clause of it); with
+                                        `FILE` alone it stands in the file as it is
     <!-- carried by FILE: FUNCTION -->  the contract of that function cites the statement above, or leads to it
     <!-- names of others: Stream -->    these names in code font, and files, are none of this repository
 """
@@ -16,7 +16,7 @@ import tree
 import source
 from tree import TOP, text_of
 
-TABLE = re.compile(r"(<!-- table ([^>]*?) -->\n).*?(<!-- end -->)", re.S)
+TABLE = re.compile(r"(<!-- table ([^>]*?) -->\n)(.*?)(<!-- end -->)", re.S)
 QUOTE = re.compile(r"(<!-- from ([^>]*?) -->\n+```[a-z]*\n)((?:(?!```).*\n)*)(```)")
 CARRIER = re.compile(r"<!-- carried by (\S+): (\w+) -->")
 OTHERS = re.compile(r"<!-- names of others: ([^>]*?) -->")

@@ -34,33 +34,12 @@ def definition(path, name, clause=None):
     raise LookupError(f"{path}: {name} has no clause of {clause}")
 
 
-def found(path, name):
-    """A function of a file, the first of its name."""
-    its = [it for it in tree.file_of(TOP / path).functions if it.name.rpartition("::")[2] == name]
-    if not its:
-        raise LookupError(f"{path} has no function {name}")
-    return its[0]
-
-
-def function(path, name):
-    """A function with its comment, its attributes, its contract and its body."""
-    text, its = text_of(TOP / path), found(path, name)
-    return textwrap.dedent(text[text.rfind("\n", 0, its.above) + 1:its.end])
-
-
 def contract(path, name):
-    """The head and the clauses of a function, without its body."""
-    its = found(path, name)
-    return text_of(TOP / path)[its.begin:its.body]
-
-
-def quoted(words):
-    """The text that a quote's words name: FILE: NAME [CLAUSE], or FILE: fn NAME.. (one function behind the other)."""
-    path, _, what = words.partition(": ")
-    parts = what.split()
-    if parts[0] == "fn":
-        return "\n\n".join(function(path, name) for name in parts[1:])
-    return definition(path, *parts)
+    """The head and the clauses of a function of a file, the first of its name, without its body."""
+    for it in tree.file_of(TOP / path).functions:
+        if it.name.rpartition("::")[2] == name:
+            return text_of(TOP / path)[it.begin:it.body]
+    raise LookupError(f"{path} has no function {name}")
 
 
 def stands_in(path, quote):

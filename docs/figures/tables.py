@@ -6,12 +6,16 @@ import math
 import re
 import statistics
 import textwrap
+import tomllib
 
 import tree
 from tree import TOP, text_of
 
 RESULTS = TOP / "bench" / "results"
-SIZES = ("1000", "10000", "65536")
+SIZES, TOUCHES = ("1000", "10000", "65536"), ("extend", "reset", "cancel")
+PIECE_WAYS = ("whole", "pieces-16", "pieces-64", "pieces-256")
+# The rows and the peers of the tables, by the table.
+PLAN = tomllib.loads(text_of(TOP / "bench" / "plan.toml"))["tables"]
 
 
 def row(*cells):
@@ -53,50 +57,21 @@ def us_text(value):
     return f"{value / 1000:,.0f}" if value >= 10000 else f"{value / 1000:.1f}" if value >= 95 else f"{value / 1000:.2f}"
 
 
-# The rows of the bench's table, each with its words.
-SPEED = {
-    "insert": "insert",
-    "extend": "extend",
-    "poll": "poll",
-    "cancel": "cancel, and its freeing",
-    "insert+poll": "insert, and its poll",
-    "reset+poll": "reset, and its poll",
-    "remove+poll": "remove, and what it leaves to polls",
-    "mixed": "idle timeouts, 100 extends a session",
-    "heartbeat": "idle timeouts, 30 resets a session",
-    "churn": "requests that end before their time limit",
-}
-
-
 def speed():
     """The bench's table: medians at 10,000 entries."""
-    peers = {"ours-owned": "ours, one owner", "ours": "ours, shared words", "heap-note": "a lazy heap", "delay-queue": "`DelayQueue`",
-             "delay-queue-locked": "`Mutex<DelayQueue>`"}
-    return grid(["", *peers.values()], ([words, *(ns_text(ns(name, it)) for it in peers)] for name, words in SPEED.items()))
+    peers = PLAN["speed_peers"]
+    return grid(["", *peers.values()], ([words, *(ns_text(ns(name, it)) for it in peers)] for name, words in PLAN["speed"].items()))
 
 
 def shared_speed():
     """The bench's table of the shared queue: medians of one shard in one thread, and of four shards in four."""
-    peers = {"ours-shards": "ours", "heap-note-locked": "a heap in a `Mutex`", "delay-queue-locked": "`Mutex<DelayQueue>`"}
+    peers = PLAN["shared_peers"]
     heads = [*peers.values()] * 2
     heads[0], heads[3] = f"1 shard, 1 thread: {heads[0]}", f"4 shards, 4 threads: {heads[3]}"
     names = {"insert-burst": "insert, 64 under one lock", "poll-burst": "poll, 64 under one lock"}
     calls = ("insert", "extend", "reset", "remove", "poll", *names)
     return grid(["", *heads], ([names.get(it, it), *(ns_text(ns(f"{it}/{many}", peer, threads=many)) for many in ("1", "4") for peer in peers)]
                                for it in calls))
-
-
-# The columns of the front page's table: the cargo crates with their default features, and what others use. Our first one has two
-# names in the run, one of a queue with callers and one of shards that are called by name.
-FRONT = {"`hontkhale`": ("rust-checked", "rust-checked-shards"), "`hontkhale-tokio`": ("adapter-handle",),
-         "best heap in a `Mutex`": ("heap-best-locked",), "`Mutex<DelayQueue>`": ("delay-queue-locked",)}
-# Its rows, the worst for us first: by the words of each the row of the run, and the threads.
-FRONT_ROWS = {
-    **{f"{call}, 4 threads over 4 shards": (f"{call}/4", "4") for call in ("insert", "extend")},
-    **{f"{call}, one owner": (call, "1") for call in ("insert", "reset", "remove", "poll")},
-    "cancel, with its freeing": ("cancel", "1"), "idle timeouts, by resets": ("heartbeat", "1"), "idle timeouts, by extends": ("mixed", "1"),
-    "extend, 4 threads beside the owner's polls": ("callers", "4"),
-}
 
 
 def headline():
@@ -106,13 +81,8 @@ def headline():
         return f"{ns_text(run()[its[0]])} ({ns_text(run(min)[its[0]])})" if its else ""
 
     rows = [[f"longest poll after 65,536 {call}s, no locks", *(f"{us_text(longest_of(f'longest-{call}', its[0].removesuffix('-locked'), '65536'))} µs"
-                                                               for its in FRONT.values())] for call in ("cancel", "extend")]
-    return grid(["", *FRONT], [*rows, *([words, *(both(*its, peers) for peers in FRONT.values())] for words, its in FRONT_ROWS.items())])
-
-
-# What a reader links, by its name in the stored run.
-PRODUCTS = {"`hontkhale`": "rust-checked", "the same without bounds checks": "rust", "the drop-in": "adapter",
-            "the drop-in, by a handle": "adapter-handle"}
+                                                               for its in PLAN["front"].values())] for call in ("cancel", "extend")]
+    return grid(["", *PLAN["front"]], [*rows, *([words, *(both(*its, peers) for peers in PLAN["front"].values())] for words, its in PLAN["front_rows"].items())])
 
 
 def beside_delay_queue():
@@ -124,7 +94,7 @@ def beside_delay_queue():
         ratios = [ns(name, "delay-queue", it) / ns(name, ours, it) for it in SIZES]
         return f"{math.floor(min(ratios) * 10) / 10:.1f} to {math.ceil(max(ratios) * 10) / 10:.1f}"
 
-    return grid(["", *calls.values()], ([words, *(span(it, ours) for it in calls)] for words, ours in PRODUCTS.items()))
+    return grid(["", *calls.values()], ([words, *(span(it, ours) for it in calls)] for words, ours in PLAN["products"].items()))
 
 
 # Rows in which a peer pays for all that its calls leave behind.
@@ -152,8 +122,7 @@ def lost(ours, cells):
 
 def standing():
     """Where each peer stands in the rows that charge it for all that its calls leave behind."""
-    peers = {"heap-best": "best heap", "heap-note": "lazy heap", "heap-indexed": "indexed heap", "hashed-wheel": "hashed wheel",
-             "kit-wheel": "the kit's wheel", "kit-delay-queue": "the kit's `DelayQueue`", "delay-queue": "`DelayQueue`"}
+    peers = PLAN["standing_peers"]
     rows = []
     for peer, words in peers.items():
         its = list(itertools.product([peer], WHOLE, SIZES, ["1"]))
@@ -163,18 +132,14 @@ def standing():
     return grid(["Peer", "Ahead of one owner's", "Ahead of shared words", "Its best row", "Its worst row"], rows)
 
 
-LOCKED = {"heap-best-locked": "best heap", "heap-note-locked": "lazy heap", "heap-indexed-locked": "indexed heap",
-          "hashed-wheel-locked": "hashed wheel", "delay-queue-locked": "`DelayQueue`"}
-
-
 def ahead(ours, kind, calls):
     """In how many rows of shards each peer in a `Mutex` is ahead, by calls or by whole lives."""
-    peers = [it for it in LOCKED if cells_of(it, kind)]
+    peers = [it for it in PLAN["locked"] if cells_of(it, kind)]
     counts = {words: {len(cells_of(peer, kind, it)) for peer in peers} for words, it in calls.items()}
     if any(len(it) != 1 for it in counts.values()):
         raise LookupError("the peers have not as many rows as one another")
     return grid(["In a `Mutex`", *(f"{words}: of {min(its)}" for words, its in counts.items())],
-                ([LOCKED[peer], *(lost(ours, cells_of(peer, kind, it)) for it in calls.values())] for peer in peers))
+                ([PLAN["locked"][peer], *(lost(ours, cells_of(peer, kind, it)) for it in calls.values())] for peer in peers))
 
 
 def shard_standing():
@@ -194,23 +159,21 @@ def longest_of(name, peer, entries):
     raise LookupError(f"the stored run has no poll of {peer} in {name} at {entries}")
 
 
+def touched(peers, cell):
+    """A table of the longest call, after sessions were touched in some way."""
+    rows = ([f"{call}s", f"{int(size):,}", *(cell(call, it, size) for it in peers)] for call in TOUCHES for size in SIZES)
+    return grid(["Touched by", "Entries", *peers.values()], rows)
+
+
 def longest():
     """The longest poll of each kind, in microseconds."""
-    peers = {"ours-owned": "ours, one owner", "ours": "ours, shared words", "ours-shards": "ours, a shard", "heap-best": "best heap",
-             "heap-indexed": "indexed heap", "hashed-wheel": "hashed wheel", "delay-queue": "`DelayQueue`"}
-    return grid(["Touched by", "Entries", *peers.values()], ([f"{call}s", f"{int(size):,}", *(us_text(longest_of(f"longest-{call}", it, size)) for it in peers)]
-                                                             for call in ("extend", "reset", "cancel") for size in SIZES))
-
-
-PIECE_WAYS = ("whole", "pieces-16", "pieces-64", "pieces-256")
+    return touched(PLAN["longest_peers"], lambda call, peer, size: us_text(longest_of(f"longest-{call}", peer, size)))
 
 
 def pieces():
     """Polls whole and in pieces: the longest call."""
     found = {tuple(it[:3]): it for it in rows_of("pieces") if it[1].startswith("pieces-") and it[3] == "poll"}
-    return grid(["Touched by", "Entries", *PIECE_WAYS],
-                ([f"{call}s", f"{int(size):,}", *(ns_text(float(found[way, f"pieces-{call}", size][9])) for way in PIECE_WAYS)]
-                 for call in ("extend", "reset", "cancel") for size in SIZES))
+    return touched({it: it for it in PIECE_WAYS}, lambda call, way, size: ns_text(float(found[way, f"pieces-{call}", size][9])))
 
 
 def beside():
@@ -321,15 +284,17 @@ def evidence():
     calls = re.search(r"const CALLS: u64 = if cfg!.debug_assertions. \{ ([\d_]+) \}", text_of(TOP / "rust/hontkhale/tests/models/draw.rs"))[1]
     lines, answers = script_rows(scripts, "const THREE_NAMES")
     ends = len(script_rows(refused, r"fn refused_memory\b")[0]) + 2 * len(script_rows(scripts, "const EVERY_COMMAND")[0])
+    functions = [tree.total("queue", lambda it: it.functions(only_public)) for only_public in (False, True)]
+    definitions = tree.total("queue", lambda it: sum(not indent for indent, _ in it.definitions()))
     told = {
         "Lines of code that a user runs, each function proved safe, total and true to its contract":
-            f"{code:,} in {tree.functions('queue'):,} functions, {tree.functions('queue', only_public=True):,} of them public",
+            f"{code:,} in {functions[0]:,} functions, {functions[1]:,} of them public",
         "Lines of proofs, definitions and contracts about them": f"{proofs:,}, {proofs / code:.1f} to a line of code",
-        "Definitions, which a reader has to believe in": f"{tree.definitions('queue'):,}",
-        "Lines of tests in Rattle, proved safe too": f"{tests:,} in {tree.tests('all'):,} functions",
+        "Definitions, which a reader has to believe in": f"{definitions:,}",
+        "Lines of tests in Rattle, proved safe too": f"{tests:,} in {tree.tests():,} functions",
         "Tests in plain Rust over the erased crate that the gate runs by name":
             f"{len(tree.plain_tests()):,}, {len(tree.plain_tests([tree.ERASED_ONCE])):,} of them once erased from tests in Rattle",
-        "Mutations, each named for its bug, that each gate tries and the prover refuses": f"{tree.edits('all'):,}",
+        "Mutations, each named for its bug, that each gate tries and the prover refuses": f"{tree.edits():,}",
         "Bodies planted by `rt plant`": f"{planted[0]} refused, {planted[1]} let through and seen by a test, {planted[2]} not judged (the tactics met a limit)",
         "Calls beside a slow model, every answer and count compared": f"{queues * int(calls.replace('_', '')):,}; five times as many in a release build",
         "Faults at each byte of a script and of its answers": f"{text_bytes(['delay 1', *lines]) + 1} of reading, {text_bytes(answers)} of writing",
@@ -385,11 +350,7 @@ def lasts(*sizes):
                 ([f"{capacity:,}", shards, *(told(capacity * shards * stamps / it) for it in RATES)] for capacity, shards in shapes), 0)
 
 
-TABLES = (adapter, adapter_memory, adapter_soak, adapter_stack, ahead, beside, beside_delay_queue, edit, evidence, fair, gate, headline, instructions, lasts, life_standing, longest,
-          pieces, renewing, shard_standing, shared_speed, sizes, speed, standing)
-
-
 def made(name):
     """A table by the words of its mark."""
     name, *arguments = name.split()
-    return {it.__name__.replace("_", "-"): it for it in TABLES}[name](*arguments)
+    return globals()[name.replace("-", "_")](*arguments)

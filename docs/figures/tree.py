@@ -7,8 +7,9 @@ import re
 import sys
 
 TOP = pathlib.Path(__file__).resolve().parents[2]
-sys.path[:0] = [str(TOP / "tools"), str(TOP / "tools" / "edits")]
+sys.path[:0] = [str(TOP / it) for it in ("tools", "tools/edits", "rust/eraser")]
 
+import ghosts
 import rattle
 import source
 
@@ -49,15 +50,14 @@ def piece(tokens, at):
         while tokens[at].text not in ("{", ";"):
             at += 1
         return "test", rattle.close_of(tokens, at) + 1 if tokens[at].text == "{" else at + 1
-    is_inner = rattle.words_at(tokens, at, "#", "!", "[", "tactic")
-    if is_inner or rattle.words_at(tokens, at, "#", "[", "tactic"):
-        return "proofs", rattle.close_of(tokens, at + 1 + is_inner) + 1
     if tokens[at].kind == "word" and tokens[at].text == "ghost":
         while tokens[at].text not in (";", ",", "}"):
             at = rattle.close_of(tokens, at) + 1 if tokens[at].text in rattle.OPENS else at + 1
         return "contract", at + 1
-    behind = rattle.clause(tokens, at)
-    return ("contract", behind) if behind else ("", at + 1) if tokens[at].kind == "doc" else ("code", at + 1)
+    for kind, rule in (("proofs", ghosts.tactic), ("contract", rattle.clause)):
+        if behind := rule(tokens, at):
+            return kind, behind
+    return "" if tokens[at].kind == "doc" else "code", at + 1
 
 
 def kinds_of(path):
@@ -147,24 +147,21 @@ def crates(which="all"):
     return [it for it in every_crate() if which in ("all", it.role, it.name)]
 
 
+def total(which, count):
+    """A number of crates, all together."""
+    return sum(map(count, crates(which)))
+
+
 def lines(kind, which):
-    return sum(it.lines()[name] for it in crates(which) for name in kind.split("+"))
+    return total(which, lambda it: sum(it.lines()[name] for name in kind.split("+")))
 
 
-def edits(which):
-    return sum(len(it.edits()) for it in crates(which))
+def edits(which="all"):
+    return total(which, lambda it: len(it.edits()))
 
 
-def functions(which, only_public=False):
-    return sum(it.functions(only_public) for it in crates(which))
-
-
-def definitions(which):
-    return sum(not indent for it in crates(which) for indent, _ in it.definitions())
-
-
-def tests(which):
-    return sum(text_of(path).count("#[test]") for it in crates(which) for path in it.sources)
+def tests():
+    return total("all", lambda it: sum(text_of(path).count("#[test]") for path in it.sources))
 
 
 def plain_tests(folders=PLAIN):

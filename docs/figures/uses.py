@@ -2,36 +2,34 @@
 
 import re
 
+import source
 import tree
 
 TOP = tree.TOP
-LINE = re.compile(r"^(\w+)[^:\n]*:(.*)$", re.M)
 ROW = re.compile(r"^\| `(\w+)` \|[^|\n]*\|$", re.M)
 
 
 def listed(text):
     """Each crate of a crates.txt, with what it lists."""
-    return {found[1]: found[2].split() for found in LINE.finditer(text) if not found[0].startswith("#")}
+    return {name: libraries for name, (_, libraries) in source.lines_of_crates(text).items()}
 
 
 def named(crate):
     """The words before `::` in a crate's code, and the libraries that its contracts and proofs import."""
-    folder = TOP / "crates" / crate
-    words = set()
-    for path in [*folder.glob("src/**/*.rt"), *folder.glob("specs/**/*.antt"), *folder.glob("proofs/**/*.antt")]:
-        text = tree.text_of(path)
-        words |= set(re.findall(r"\b(\w+)::", text)) | set(re.findall(r"\bRattle\.(\w+)\.", text))
-    return words
+    text = "".join(map(tree.text_of, [*crate.sources, *tree.files(crate.folder / "specs", ".antt"),
+                                      *tree.files(crate.folder / "proofs", ".antt")]))
+    return set(re.findall(r"\b(\w+)::", text)) | set(re.findall(r"\bRattle\.(\w+)\.", text))
 
 
 def faults():
     """Pairs of a file and what it says wrongly."""
     crates = listed(tree.text_of(TOP / "crates.txt"))
-    for crate, parts in crates.items():
+    load = listed(tree.text_of(tree.LOAD / "crates.line"))
+    for crate in tree.crates():
         words = named(crate)
-        for part in parts:
+        for part in {**crates, **load}[crate.name]:
             if part not in words:
-                yield "crates.txt", f"{crate} lists {part}, which none of its sources names"
+                yield "crates.txt", f"{crate.name} lists {part}, which none of its sources names"
     page = tree.text_of(TOP / "docs" / "ARCHITECTURE.md").partition("## The crates")[2].partition("\n## ")[0]
     for crate in sorted(set(crates) ^ set(ROW.findall(page))):
         yield "docs/ARCHITECTURE.md", f"its table and crates.txt don't both have `{crate}`"

@@ -1,7 +1,7 @@
 """What has a `requires` and is reached from safe Rust, and how the list `rust/closed` says that it is closed."""
 import re
 
-from kit import made
+from patterns import made
 from rattle import Refused, angle_close_of, clause, close_of, functions, homes
 
 WAYS = {"inside", "checked", "user code"}
@@ -11,12 +11,8 @@ class Closed:
     """The list: for each name how it is closed, and the lines that check it; and what the crate gives away."""
 
     def __init__(self, text, lib):
-        self.ways = {}
-        self.checks = {}
-        self.lib = lib
-        self.given = {}
-        self.exported = set()
-        self.found = set()
+        self.ways, self.checks, self.lib = {}, {}, lib
+        self.given, self.exported, self.found = {}, set(), set()
         name = None
         for number, line in enumerate(text.splitlines(), 1):
             if line.startswith("    ") and name:
@@ -25,8 +21,7 @@ class Closed:
                 name, _, way = line.partition(": ")
                 if way not in WAYS or name in self.ways:
                     raise Refused(f"rust/closed: line {number}: `{line}` says nothing")
-                self.ways[name] = way
-                self.checks[name] = []
+                self.ways[name], self.checks[name] = way, []
 
     def learn(self, roots):
         """Learns what the crate gives away, from the text of the root of each module of the sources."""
@@ -53,9 +48,8 @@ class Closed:
                 raise Refused(f"line {line}: `{full}` has a `requires`, is reached, and isn't in rust/closed")
 
     def all_found(self):
-        for name in self.ways:
-            if name not in self.found:
-                raise Refused(f"rust/closed: `{name}` isn't there, or requires nothing")
+        for name in self.ways.keys() - self.found:
+            raise Refused(f"rust/closed: `{name}` isn't there, or requires nothing")
 
 
 GIVES = re.compile(r"^pub mod (\w+)(;| \{)|^(\})|pub use crate::(\w+)::([^;]*);", re.M)

@@ -9,24 +9,13 @@ import kit
 import laws
 import links
 import paths
+from patterns import TABLES, made
 from rattle import Refused, item_start, text_of, tokens_of
 
 TOP = Path(__file__).resolve().parent.parent.parent
 OUT = TOP / "rust" / "hontkhale" / "src"
 
-# The crates, and the modules that they become.
-MODULES = {
-    "dq_ticks": "ticks",
-    "dq_wheel": "wheels",
-    "dq_core": "core",
-    "dq_words": "words",
-    "dq_parking": "parking",
-    "dq_shards": "shards",
-    "dq_stream": "stream",
-    "dq_apps": "apps",
-    "dq_lasting": "lasting",
-    "dq_replay": "replay",
-}
+MODULES = dict(TABLES["modules"])
 # What is told where another shard's state stands in a shard's place: a closure of `lend`, or who entered both, put it there.
 SWAPPED = "the state of another shard was put here"
 
@@ -40,16 +29,13 @@ class Source:
         self.inner = path.relative_to(TOP / "crates" / crate / "src")
         self.text = text
         self.tokens = tokens_of(text)
-        self.empty = False
-
-    def out(self):
-        module = MODULES[self.crate]
-        parts = list(self.inner.with_suffix("").parts)
-        return Path(f"{module}.rs") if parts == ["lib"] else Path(module, *parts).with_suffix(".rs")
 
     def module_path(self):
-        parts = list(self.inner.with_suffix("").parts)
-        return () if parts == ["lib"] else tuple(parts)
+        parts = self.inner.with_suffix("").parts
+        return () if parts == ("lib",) else parts
+
+    def out(self):
+        return Path(MODULES[self.crate], *self.module_path()).with_suffix(".rs")
 
 
 def guarded(source, rule, *arguments):
@@ -61,28 +47,18 @@ def guarded(source, rule, *arguments):
 
 
 def sources(hand):
-    found = []
-    for crate in MODULES:
-        for path in sorted((TOP / "crates" / crate / "src").rglob("*.rt")):
-            if hand.leaves_out(path):
-                continue
-            found.append(Source(crate, path, hand.applied(path, path.read_text(encoding="utf-8"))))
+    found = [(crate, path) for crate in MODULES for path in sorted((TOP / "crates" / crate / "src").rglob("*.rt"))]
+    found = [Source(*it, hand.applied(it[1], it[1].read_text(encoding="utf-8"))) for it in found if not hand.leaves_out(it[1])]
     hand.all_used()
     return found
 
 
-def erase_modules(source, gone, names):
-    """Takes out `mod` and `use` of modules that are empty now, and of names that are gone."""
+def erase_modules(source, gone):
+    """Takes out the `mod` of each module that is empty now."""
     tokens = source.tokens
-    at = 0
-    while at < len(tokens) - 2:
-        if tokens[at].text == "mod" and tokens[at + 2].text == ";":
-            if (source.crate, source.module_path() + (tokens[at + 1].text,)) in gone:
-                start = item_start(tokens, at)
-                del tokens[start:at + 3]
-                at = start
-                continue
-        at += 1
+    for at in reversed(range(len(tokens) - 2)):
+        if tokens[at].text == "mod" and (source.crate, source.module_path() + (tokens[at + 1].text,)) in gone:
+            del tokens[item_start(tokens, at):at + 3]
 
 
 def rebuilt_uses(source, gone, names):
@@ -92,35 +68,25 @@ def rebuilt_uses(source, gone, names):
     spans = paths.uses_of(tokens)
     words, wanted = paths.named(tokens, spans), []
     for start, end, vis, found in reversed(spans):
-        kept = []
-        for path in found:
-            if paths.last(path) in names or is_gone(source, path, gone):
-                continue
-            new = guarded(source, paths.moved, path, module, MODULES)
-            name = paths.last(new)
-            if not new:
-                continue
-            if vis:
-                kept.append(new)
-            elif name in words or name in TRAITS:
-                wanted.append(new)
-        replace_use(tokens, start, end, vis, kept)
+        found = [it for it in found if paths.last(it) not in names and not is_gone(source, it, gone)]
+        kept = list(filter(None, (guarded(source, paths.moved, it, module, MODULES) for it in found)))
+        if not vis:
+            wanted += [it for it in kept if paths.last(it) in words or paths.last(it) in TRAITS]
+        replace_use(tokens, start, end, vis, kept if vis else [])
     defined = defined_names(tokens)
-    for word, path in paths.PROVIDED.items():
-        if word in words and word not in defined:
-            wanted.append(path)
-    put_uses(tokens, sorted(set(wanted)))
+    wanted += [path for word, path in paths.PROVIDED.items() if word in words and word not in defined]
+    put_uses(tokens, wanted)
 
 
 def defined_names(tokens):
     """The names that a file defines at its top."""
     found = set()
     depth = 0
-    for at, token in enumerate(tokens):
+    for token, behind in zip(tokens, tokens[1:]):
         if token.kind == "other":
             depth += (token.text == "{") - (token.text == "}")
-        if depth == 0 and token.kind == "word" and token.text in ("fn", "struct", "type", "enum", "trait", "const"):
-            found.add(tokens[at + 1].text)
+        if depth == 0 and token.kind == "word" and token.text in paths.DEFINES:
+            found.add(behind.text)
     return found
 
 
@@ -143,22 +109,17 @@ def is_gone(source, path, gone):
 
 
 def grouped(found):
+    """The lines of uses, one for each parent."""
     groups = {}
-    for path in found:
+    for path in sorted(set(found)):
         parent, _, name = path.rpartition("::")
         groups.setdefault(parent, []).append(name)
-    lines = []
     for parent, names in sorted(groups.items()):
-        names = sorted(set(names))
-        lines.append(f"use {parent}::{names[0]};" if len(names) == 1 else f"use {parent}::{{{', '.join(names)}}};")
-    return lines
+        yield f"use {parent}::{names[0]};" if len(names) == 1 else f"use {parent}::{{{', '.join(names)}}};"
 
 
 def replace_use(tokens, start, end, vis, kept):
-    new = []
-    for line in grouped(kept):
-        piece = kit.made(vis + line, tokens[start], "\n")
-        new += piece
+    new = [token for line in grouped(kept) for token in made(vis + line, tokens[start], "\n")]
     if new:
         new[0].before = tokens[start].before
     elif tokens[end].before.count("\n") < 2 and "//" not in tokens[end].before:
@@ -167,58 +128,43 @@ def replace_use(tokens, start, end, vis, kept):
 
 
 def put_uses(tokens, found):
-    at = 0
-    while tokens[at].kind == "doc" and tokens[at].text.startswith("//!"):
-        at += 1
     # A module is told first, as in its source.
-    new = []
-    for line in grouped(found):
-        new += kit.made(line, tokens[at], "\n")
-    if not new:
-        return
-    new[0].before = "\n\n" if at else ""
-    rest = tokens[at]
-    if not rest.before.startswith("\n\n"):
-        rest.before = "\n\n" + rest.before.lstrip("\n")
-    tokens[at:at] = new
+    at = next(place for place, token in enumerate(tokens) if not token.text.startswith("//!"))
+    new = [token for line in grouped(found) for token in made(line, tokens[at], "\n")]
+    if new:
+        new[0].before = "\n\n" if at else ""
+        if not tokens[at].before.startswith("\n\n"):
+            tokens[at].before = "\n\n" + tokens[at].before.lstrip("\n")
+        tokens[at:at] = new
+
+
+def changed(source, rule, *arguments):
+    source.tokens = guarded(source, rule, source.tokens, *arguments)
 
 
 def erased(hand, closed):
     """The erased text of each file, by its path in the crate."""
-    found = sources(hand)
+    found, fields = sources(hand), {}
     closed.learn({MODULES[source.crate]: source.text for source in found if source.module_path() == ()})
     for source in found:
-        source.tokens = guarded(source, without_ghosts_but_clauses, source.tokens)
+        changed(source, ghosts.erased, (ghosts.ghost, ghosts.model, ghosts.tactic))
     names = laws.law_names([source.tokens for source in found])
     for source in found:
-        source.tokens = guarded(source, laws.without_laws, source.tokens, names)
-    fields = {}
-    for source in found:
-        fields.setdefault(source.crate, set()).update(
-            guarded(source, lambda tokens: handed.erased_fields(tokens, handed.erased_types(tokens)), source.tokens)
-        )
-    for source in found:
+        changed(source, laws.without_laws, names)
+        fields.setdefault(source.crate, set()).update(guarded(source, handed.without_fields, source.tokens))
         guarded(source, closed.close, source)
     closed.all_found()
     for source in found:
-        source.tokens = guarded(source, ghosts.erased, source.tokens)
+        changed(source, ghosts.erased)
         guarded(source, kit.early, source.tokens, SWAPPED)
-        source.tokens = guarded(source, handed.without_handed, source.tokens, fields[source.crate])
-        guarded(source, kit.rewritten, source.tokens)
+        changed(source, handed.without_handed, fields[source.crate])
+        guarded(source, kit.by_std, source.tokens)
         guarded(source, errors.with_errors, source.tokens)
         if source.crate != "dq_replay":
             guarded(source, indexes.with_indexes, source.tokens)
     gone = {(source.crate, source.module_path()) for source in found if not laws.has_items(source.tokens)}
     for source in found:
-        guarded(source, erase_modules, source, gone, names)
+        guarded(source, erase_modules, source, gone)
         rebuilt_uses(source, gone, names)
         guarded(source, links.with_links, source.tokens, MODULES[source.crate], closed.given)
-    return {
-        source.out(): text_of(source.tokens)
-        for source in found
-        if (source.crate, source.module_path()) not in gone
-    }
-
-
-def without_ghosts_but_clauses(tokens):
-    return ghosts.erased(tokens, (ghosts.ghost, ghosts.model, ghosts.tactic))
+    return {it.out(): text_of(it.tokens) for it in found if (it.crate, it.module_path()) not in gone}

@@ -2,69 +2,38 @@
 one day, so each is `#[non_exhaustive]`. An error that is said by another's text has that one as its source."""
 import re
 
-import kit
+from lists import elements
+from patterns import made, rewritten
 from rattle import Refused, close_of, tokens_of, words_at
 
 
-def fields_of(tokens, brace):
-    """The names of the fields between braces."""
-    return [
-        tokens[i].text for i in range(brace + 1, close_of(tokens, brace))
-        if tokens[i].kind == "word" and tokens[i + 1].text == ":" and tokens[i - 1].text != ":"
-    ]
+def fields_of(tokens):
+    """The names of the fields of a struct or a variant."""
+    return [token.text for token, behind in zip(tokens, tokens[1:]) if token.kind == "word" and behind.text == ":"]
 
 
-def variants_of(tokens, body):
-    """The variants of an enum with their texts: name, form, names of their fields, text."""
-    found = []
-    text = None
-    at = body + 1
-    end = close_of(tokens, body)
-    while at < end:
-        token = tokens[at]
-        if token.kind == "doc":
-            at += 1
-        elif words_at(tokens, at, "#", "[", "error", "("):
-            text = tokens[at + 4].text
-            del tokens[at:at + 7]
-            end -= 7
-        elif token.kind == "word":
-            name = token.text
-            if text is None:
-                raise Refused(f"line {token.line}: `{name}` has no text of an error")
-            form, fields = "", []
-            at += 1
-            if tokens[at].text in ("{", "("):
-                form = tokens[at].text
-                close = close_of(tokens, at)
-                if form == "{":
-                    fields = fields_of(tokens, at)
-                else:
-                    fields = ["it"]
-                at = close + 1
-            found.append((name, form, fields, text))
-            text = None
-            if tokens[at].text == ",":
-                at += 1
-        else:
-            raise Refused(f"line {token.line}: an error of another form")
-    return found
+def variant_of(element):
+    """A variant of an enum with its text: name, form, names of its fields, text."""
+    its = [token for token in element if token.kind != "doc"]
+    if not words_at(its, 0, "#", "[", "error", "("):
+        raise Refused(f"line {its[0].line}: a variant that has no text of an error")
+    form = its[8].text if its[8:] else ""
+    fields = fields_of(its[9:]) if form == "{" else ["it"] if form else []
+    return its[7].text, form, fields, its[4].text
+
+
+def pattern(fields, text):
+    """The fields that a text names, and dots for others."""
+    used = [field for field in fields if re.search(r"\{" + field + r"[}:]", text)]
+    return ", ".join(used if len(used) == len(fields) else [*used, ".."])
 
 
 def arm(name, variant):
     variant, form, fields, text = variant
     text = text.replace("{0}", "{it}")
-    used = [field for field in fields if re.search(r"\{" + field + r"[}:]", text)]
-    if form == "{":
-        if len(used) < len(fields):
-            used.append("..")
-        pattern = f"{name}::{variant} {{ {', '.join(used)} }}"
-    elif form == "(":
-        pattern = f"{name}::{variant}({'it' if used else '_'})"
-    else:
-        pattern = f"{name}::{variant}"
+    its = {"{": f" {{ {pattern(fields, text)} }}", "(": f"({pattern(fields, text).replace('..', '_')})", "": ""}[form]
     write = f"write!(f, {text})" if "{" in text else f"f.write_str({text})"
-    return f"            {pattern} => {write},\n"
+    return f"            {name}::{variant}{its} => {write},\n"
 
 
 def source_of(name, variants):
@@ -89,50 +58,29 @@ def impls(name, arms, source):
 
 
 def with_errors(tokens):
-    at = 0
-    while at < len(tokens):
+    for at in reversed(range(len(tokens))):
         if words_at(tokens, at, "#", "[", "derive", "("):
             close = close_of(tokens, at + 3)
-            names = [token.text for token in tokens[at + 4:close]]
-            if "Error" in names:
-                where = at + 4 + names.index("Error")
-                if names.index("Error") > 0:
-                    del tokens[where - 1:where + 1]
-                else:
-                    raise Refused(f"line {tokens[at].line}: an error that derives nothing else")
-                at = one_error(tokens, at)
-                continue
-        at += 1
-    return tokens
+            if tokens[close - 1].text == "Error":
+                one_error(tokens, close + 2)
+    rewritten(tokens, "errors")
 
 
 def one_error(tokens, at):
-    text = None
-    index = at
-    while tokens[index].text not in ("enum", "struct"):
-        if words_at(tokens, index, "#", "[", "error", "("):
-            text = tokens[index + 4].text
-            del tokens[index:index + 7]
-            continue
-        index += 1
-    name = tokens[index + 1].text
-    body = index + 2
+    """Writes out an error, behind whose derive its text or its enum stands."""
+    word = next(index for index in range(at, len(tokens)) if tokens[index].text in ("enum", "struct"))
+    name, body = tokens[word + 1].text, word + 2
     if tokens[body].text != "{":
-        raise Refused(f"line {tokens[index].line}: an error of another form")
-    source, variants = "", None
-    if tokens[index].text == "enum":
-        variants = variants_of(tokens, body)
+        raise Refused(f"line {tokens[word].line}: an error of another form")
+    end = close_of(tokens, body)
+    if tokens[word].text == "enum":
+        variants = [variant_of(it) for it in elements(tokens, body + 1, end)]
         arms = "        match self {\n" + "".join(arm(name, one) for one in variants) + "        }\n"
-        source = source_of(name, variants)
-    else:
-        used = re.findall(r"\{(\w+)\}", text)
-        names = ", ".join(used if len(used) == len(fields_of(tokens, body)) else [*used, ".."])
-        arms = f"        let {name} {{ {names} }} = self;\n        write!(f, {text})\n"
-    end = close_of(tokens, body) + 1
-    new = tokens_of(impls(name, arms, source))[:-1]
-    tokens[end:end] = new
-    if variants:
+        tokens[end + 1:end + 1] = tokens_of(impls(name, arms, source_of(name, variants)))[:-1]
         # Behind the derive, before what is public.
-        start = index - (tokens[index - 1].text == "pub")
-        tokens[start:start] = kit.made("#[non_exhaustive]", tokens[start], "\n")
-    return end + len(new)
+        start = word - (tokens[word - 1].text == "pub")
+        tokens[start:start] = made("#[non_exhaustive]", tokens[start], "\n")
+    else:
+        text = tokens[at + 4].text
+        arms = f"        let {name} {{ {pattern(fields_of(tokens[body:end]), text)} }} = self;\n        write!(f, {text})\n"
+        tokens[end + 1:end + 1] = tokens_of(impls(name, arms, ""))[:-1]

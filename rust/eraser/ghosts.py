@@ -3,11 +3,6 @@ from lists import next_of
 from rattle import clause, close_of, words_at
 
 
-def end_of_statement(tokens, at):
-    """The index behind the semicolon that ends what begins at an index."""
-    return next_of(tokens, at, (";",)) + 1
-
-
 def ghost(tokens, at):
     """A ghost item ends at its semicolon, a ghost field of a struct at its comma."""
     start = at + (tokens[at].text == "pub")
@@ -19,21 +14,16 @@ def ghost(tokens, at):
             return behind + 1
         if tokens[behind].text == "}":
             return behind
-    return end_of_statement(tokens, at)
+    return next_of(tokens, at, (";",)) + 1
 
 
 def model(tokens, at):
     """`impl Model for ..`, whole."""
     if tokens[at].text != "impl":
         return None
-    index = at + 1
-    named = False
-    while tokens[index].text != "{":
-        named = named or (tokens[index].text == "Model" and tokens[index + 1].text == "for")
-        if tokens[index].kind == "end" or tokens[index].text == ";":
-            return None
-        index += 1
-    return close_of(tokens, index) + 1 if named else None
+    end = next_of(tokens, at, ("{", ";"))
+    is_it = any(words_at(tokens, index, "Model", "for") for index in range(at, end))
+    return close_of(tokens, end) + 1 if is_it and tokens[end].text == "{" else None
 
 
 def tactic(tokens, at):

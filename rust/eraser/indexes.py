@@ -1,5 +1,5 @@
 """Each index of a row goes through the module `index`, whose bounds check may be turned off since it is proved."""
-from kit import made
+from patterns import made
 from rattle import Refused, close_of, functions
 
 ASSIGNS = {"=", "+=", "-=", "|=", "&=", "^="}
@@ -31,26 +31,16 @@ def is_index(tokens, at):
 
 
 def with_indexes(tokens):
-    used = set()
-    known = {}
-    for start, _, _, head, body in functions(tokens):
-        if tokens[body].text == "{":
-            for at in range(body, close_of(tokens, body)):
-                known[id(tokens[at])] = (tokens[body], references(tokens, head))
-    at = len(tokens) - 1
-    while at > 0:
-        token = tokens[at]
-        if token.text == "[" and token.kind == "other" and id(token) in known and is_index(tokens, at):
-            one_index(tokens, at, known[id(token)][1], used)
-        elif token.text == "[" and id(token) in known and tokens[at - 1].text in (")", "]"):
-            if tokens[at - 1].kind == "other" and is_index_of_call(tokens, at):
-                raise Refused(f"line {token.line}: an index of what a call or an index gives")
-        at -= 1
-    return used
-
-
-def is_index_of_call(tokens, at):
-    return tokens[at - 1].line == tokens[at].line and tokens[at].before == ""
+    # From the last to the first, so that what was found before stays where it is.
+    for _, _, _, head, body in reversed(functions(tokens)):
+        refs = references(tokens, head)
+        for at in reversed(range(body, close_of(tokens, body) if tokens[body].text == "{" else body)):
+            if tokens[at].text != "[" or tokens[at].kind != "other":
+                continue
+            if is_index(tokens, at):
+                one_index(tokens, at, refs)
+            elif tokens[at - 1].text in (")", "]") and tokens[at - 1].line == tokens[at].line and tokens[at].before == "":
+                raise Refused(f"line {tokens[at].line}: an index of what a call or an index gives")
 
 
 def base_start(tokens, at):
@@ -63,7 +53,7 @@ def base_start(tokens, at):
     return start
 
 
-def one_index(tokens, at, refs, used):
+def one_index(tokens, at, refs):
     start = base_start(tokens, at)
     close = close_of(tokens, at)
     base = tokens[start:at]
@@ -90,6 +80,5 @@ def one_index(tokens, at, refs, used):
     mark = "" if is_ref else "&mut " if call == "nth_mut" else "&"
     head = made(f"{star}{call}({mark}", tokens[from_])
     base[0].before = " " if mark == "&mut " else ""
-    used.add(call)
     tokens[from_:close + 1] = head + base + made(", ", base[0], "") + inner + made(")", base[0], "")
     inner[0].before = " "

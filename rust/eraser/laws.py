@@ -1,5 +1,6 @@
 """Laws: functions that do nothing and are there for what they promise. They go, with the statements that call them."""
-from rattle import Refused, close_of, functions
+from paths import uses_of
+from rattle import Refused, close_of, functions, words_at
 
 STARTS = {"{", "}", ";"}
 # What a statement that only calls something doesn't begin with.
@@ -77,12 +78,12 @@ def idle_statement(tokens, at, laws):
         return at + 8 if tokens[at + 7].text == ";" else None
     if tokens[at].kind != "word" or tokens[at].text in OTHER_STATEMENTS:
         return None
-    index = at
-    called = None
+    index, called = at, None
     while tokens[index].text != ";":
         token = tokens[index]
+        if token.kind == "word" and (tokens[index + 1].text == "(" or words_at(tokens, index + 1, "::", "<")):
+            called = token.text
         if token.text == "(":
-            called = called_name(tokens, index)
             index = close_of(tokens, index)
             if tokens[index + 1].text not in (";", "."):
                 return None
@@ -92,31 +93,10 @@ def idle_statement(tokens, at, laws):
     return index + 1 if called in laws else None
 
 
-def called_name(tokens, at):
-    """The name of what is called by the bracket at an index, behind its type arguments."""
-    index = at - 1
-    if tokens[index].text == ">":
-        depth = 0
-        while True:
-            depth += (tokens[index].text == ">") - (tokens[index].text == "<")
-            index -= 1
-            if depth == 0:
-                break
-        if tokens[index].text == "::":
-            index -= 1
-    return tokens[index].text
-
-
 def has_items(tokens):
     """Whether a file has more than docs and uses."""
+    ends = {start: end for start, end, _, _ in uses_of(tokens)}
     at = 0
-    while tokens[at].kind != "end":
-        if tokens[at].kind == "doc":
-            at += 1
-        elif tokens[at].text in ("use", "pub") and "use" in (tokens[at].text, tokens[at + 1].text):
-            while tokens[at].text != ";":
-                at += 1
-            at += 1
-        else:
-            return True
-    return False
+    while tokens[at].kind == "doc" or at in ends:
+        at = ends.get(at, at + 1)
+    return tokens[at].kind != "end"

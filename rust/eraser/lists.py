@@ -1,33 +1,50 @@
-"""Lists between brackets or angles: where their elements begin and end, and how one is taken out."""
-from rattle import CLOSES, OPENS, angle_close_of, close_of
+"""Lists between brackets or angles: where their elements begin and end, and how some are taken out."""
+from rattle import OPENS, Refused, angle_close_of, close_of, tokens_of
 
 ENDS = {",", ")", "]", "}", ">", ";"}
 
 
-def element_end(tokens, at):
-    """The index of the comma or the bracket that ends the element at an index; angles are those of types."""
-    index = at
+def element_end(tokens, at, are_values):
+    """The index of the comma or the bracket that ends the element at an index; an angle compares values, and encloses types."""
     while True:
-        token = tokens[index]
+        token = tokens[at]
         if token.kind == "other" and token.text in OPENS:
-            index = close_of(tokens, index)
-        elif token.text == "<":
-            index = angle_close_of(tokens, index)
-        elif token.text in ENDS:
-            return index
-        index += 1
+            at = close_of(tokens, at)
+        elif token.text == "<" and not are_values:
+            at = angle_close_of(tokens, at)
+        elif token.text in ENDS and not (are_values and token.text == ">"):
+            return at
+        at += 1
 
 
-def value_end(tokens, at):
-    """As `element_end`, for a list of values, where an angle compares."""
-    index = at
-    while True:
-        token = tokens[index]
-        if token.kind == "other" and token.text in OPENS:
-            index = close_of(tokens, index)
-        elif token.text == "," or token.text in CLOSES or token.text == ";":
-            return index
-        index += 1
+def elements(tokens, at, end, are_values=False):
+    """The elements of a list from an index to its end, each as its tokens."""
+    while at < end:
+        stop = min(element_end(tokens, at, are_values), end)
+        yield tokens[at:stop]
+        at = stop + 1
+
+
+def joined(its):
+    """The tokens of elements with commas between them, and none behind the last. Nothing has no comma."""
+    new = []
+    for it in filter(None, its):
+        new += [*tokens_of(",")[:-1], *it] if new else it
+    return new
+
+
+def type_lists(tokens):
+    """The lists of types, from the last to the first, as they are then: where each opens and where it ends."""
+    for at in reversed(range(len(tokens))):
+        if tokens[at].text == "where" and tokens[at].kind == "word":
+            yield at, next_of(tokens, at, ("{", ";"))
+        elif tokens[at].text == "<":
+            try:
+                end = angle_close_of(tokens, at)
+            except Refused:
+                # it compares
+                continue
+            yield at, end
 
 
 def next_of(tokens, at, texts):
@@ -37,29 +54,3 @@ def next_of(tokens, at, texts):
             at = close_of(tokens, at)
         at += 1
     return at
-
-
-def begins_element(tokens, at, openings=("(", "{", "<", "[", "|")):
-    return at > 0 and tokens[at - 1].text in openings + (",",)
-
-
-def without(tokens, at, end):
-    """The tokens without the element from an index up to the comma or bracket at `end`, and without one comma.
-
-    What stands before the element stays before what follows it, where it is a comment.
-    """
-    left, right = tokens[:at], tokens[end:]
-    if right[0].text == ",":
-        right = right[1:]
-        if tokens[at - 1].text == "," or right[0].kind != "other" or right[0].text not in CLOSES:
-            right[0].before = tokens[at].before
-        if right[0].text in (")", "]", "}", ">") and left[-1].text == ",":
-            right[0].before = ""
-    elif left[-1].text == ",":
-        left = left[:-1]
-    if left[-1].text == "<" and right[0].text == ">":
-        right[1].before = right[1].before or ""
-        left, right = left[:-1], right[1:]
-        if left[-1].text == "::":
-            left = left[:-1]
-    return left + right

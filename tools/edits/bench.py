@@ -18,7 +18,7 @@ class Bench:
 
     def __init__(self, room, crates, graph, lines, asks):
         self.room, self.crates, self.graph, self.lines, self.is_over = room, crates, graph, lines, False
-        self.logs, self.notes_goals = asks.logs, asks.goals
+        self.notes_goals = asks.goals
         self.checks, self.numbers, self.lock = set(), itertools.count(1), threading.Lock()
         self.seconds = {}
 
@@ -110,9 +110,6 @@ class Bench:
                 status, said = self.ran(crate.name, folder, self.rattle(crate.name, folder, ()))
             if not any(it.reaches_further for it in edits):
                 keep_work(folder / "out" / "incremental", kept, [crate.name_of(name) for it in edits for name in it.wrong()])
-            if self.logs:
-                text = "".join(f"-- {it.name}\n" for it in edits) + said
-                (self.logs / f"{crate.name}-{at.name}.log").write_text(text, encoding="utf-8")
             answer = answers.Answer(crate.name, status, said, searched, taken)
             answer.controls = [answer.name_of(it.wrong()[0]) for it in controls]
             return answer
@@ -183,15 +180,8 @@ def leave_out(folder, module, goals):
 
 
 def link(one, other):
-    """Gives a file that a check made a second name: a check replaces such a file, and never writes into it."""
-    try:
-        if one.endswith(".oantt"):
-            os.link(one, other)
-            return other
-    except OSError:
-        # the copies lie on another disk
-        pass
-    return shutil.copy2(one, other)
+    """Gives a file that a check made a second name, if a check only ever replaces such a file, or copies it."""
+    return os.link(one, other) if one.endswith(".oantt") else shutil.copy2(one, other)
 
 
 def has_room(checks, room):

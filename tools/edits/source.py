@@ -2,6 +2,7 @@
 
 import dataclasses
 import functools
+import graphlib
 import pathlib
 import re
 
@@ -251,46 +252,29 @@ class Crate:
         return found and found.name
 
     def rounds(self, edits):
-        """Packs edits into rounds in which no function is edited twice in its place: next the edit that the fewest rounds
-        can take, of those the one that the most others meet."""
+        """Packs edits into rounds in which no function is edited twice in its place, each into the first that takes it: first
+        those that the most others meet."""
         def meet(one, other):
-            return bool(one.bodies.keys() & other.bodies.keys()) and not (one.copy and other.copy)
+            return one is not other and bool(one.bodies.keys() & other.bodies.keys()) and not (one.copy and other.copy)
 
-        rounds = [[it] for it in edits if it.is_alone()]
-        free = [it for it in edits if not it.is_alone()]
-        met = {id(one): {id(it) for it in free if it is not one and meet(one, it)} for one in free}
-        closed = {id(it): set() for it in free}
-        while free:
-            edit = max(free, key=lambda it: (len(closed[id(it)]), len(met[id(it)])))
-            free.remove(edit)
-            for number, it in enumerate(rounds):
-                if len(it) < min(other.most for other in [*it, edit]) and not any(id(other) in met[id(edit)] for other in it):
-                    it.append(edit)
-                    break
-            else:
-                number = len(rounds)
-                rounds.append([edit])
-            for it in met[id(edit)]:
-                closed[it].add(number)
+        rounds = []
+        for edit in sorted(edits, key=lambda one: -sum(meet(one, it) for it in edits)):
+            fitting = (its for its in rounds if len(its) < min(it.most for it in [*its, edit]))
+            into = next((its for its in fitting if not any(meet(edit, it) for it in its)), None)
+            if into is None:
+                rounds.append(into := [])
+            into.append(edit)
         return sorted(rounds, key=len, reverse=True)
 
 
-def lines_of_crates():
-    """The lines of crates.txt: by a crate's name the words behind it, and the libraries that it uses."""
-    lines = [re.match(r"(\w+)([^:#]*):(.*)", it) for it in (TOP / "crates.txt").read_text(encoding="utf-8").splitlines()]
-    return {it[1]: (it[2].split(), it[3].split()) for it in lines if it}
+def lines_of_crates(text=None):
+    """The lines of a crates.txt, ours if none is given: by a crate's name the words behind it, and the libraries that it uses."""
+    text = (TOP / "crates.txt").read_text(encoding="utf-8") if text is None else text
+    return {it[1]: (it[2].split(), it[3].split()) for it in re.finditer(r"^(\w+)([^:#\n]*):(.*)$", text, re.M)}
 
 
 def graph_of():
     """The crates of crates.txt, lowest first: which of the repository each stands on."""
-    named, graph = {name: libraries for name, (_, libraries) in lines_of_crates().items()}, {}
-
-    def add(name):
-        for it in named[name]:
-            if it in named and it not in graph:
-                add(it)
-        graph.setdefault(name, [it for it in named[name] if it in named])
-
-    for name in named:
-        add(name)
-    return graph
+    lines = lines_of_crates()
+    graph = {name: [it for it in libraries if it in lines] for name, (_, libraries) in lines.items()}
+    return {name: graph[name] for name in graphlib.TopologicalSorter(graph).static_order()}

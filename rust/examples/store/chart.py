@@ -1,4 +1,4 @@
-"""The chart of a stored run: bars of both servers beside each other, as SVG of 900 pixels."""
+"""The chart of a stored run, as SVG of 900 pixels: bars of both servers, or dots on a logarithmic axis."""
 
 import math
 from xml.sax.saxutils import escape
@@ -22,7 +22,7 @@ def rectangle(x, y, wide, tall, fill):
 
 
 class Panel:
-    """Pairs of bars under a title, on an axis of their own."""
+    """Pairs of bars or dots under a title, on an axis of their own."""
 
     def __init__(self, title, about, rows, places=0, is_logarithmic=False):
         self.title, self.about, self.rows = title, about, rows
@@ -50,9 +50,14 @@ class Panel:
                 turns, figure = run.turns[what, server], run.figure(what, server)
                 bar, least, most = (max(axis(it) * room, 1) for it in (figure, min(turns), max(turns)))
                 above = top + at * (BAR + 1)
-                yield rectangle(left, above, bar, BAR, COLOURS[server])
+                if not self.is_logarithmic:
+                    yield rectangle(left, above, bar, BAR, COLOURS[server])
                 yield rectangle(left + least, above + BAR / 2 - 0.5, most - least, 1, "#222")
-                yield text(left + max(bar, most) + 5, above + BAR - 1.5, told(figure, self.places), 11, fill="#333")
+                if self.is_logarithmic:
+                    # a bar has no length on an axis without a zero
+                    yield f'<circle cx="{left + bar:.1f}" cy="{above + BAR / 2:.1f}" r="4.5" fill="{COLOURS[server]}"/>'
+                end = max(bar + 5 * self.is_logarithmic, most)
+                yield text(left + end + 5, above + BAR - 1.5, told(figure, self.places), 11, fill="#333")
 
 
 RATES = (("SET", "set"), ("GET", "get"), ("SET with PX", "set-px"), ("PEXPIRE GT", "extend"), ("EXPIRE", "expire"), ("DEL", "del"))
@@ -77,7 +82,7 @@ def draw(run):
     columns = [(MARGIN, LEFT), ((WIDTH + GAP) / 2, RIGHT)]
     wide = (WIDTH - GAP) / 2 - MARGIN
     height = HEAD + max(sum(it.height() for it in panels) for _, panels in columns) + 4
-    words = f"{about['day']}, {about['machine']}; the line in a bar goes from its least turn to its greatest"
+    words = f"{about['day']}, {about['machine']}; each line goes from the least turn to the greatest"
     lines = [
         f'<svg xmlns="http://www.w3.org/2000/svg" width="{WIDTH}" height="{height}" viewBox="0 0 {WIDTH} {height}" '
         'font-family="Helvetica, Arial, sans-serif">',

@@ -63,7 +63,8 @@ use waking::NEVER;
 /// A clone is the same queue. Every call takes `&self`, and any thread may make it at any time.
 ///
 /// # Deadlines
-/// A deadline is rounded up to whole milliseconds from the queue's making, and nothing comes out before it. A deadline that is
+/// A deadline is rounded up to whole milliseconds from the queue's making, or from a [moment](Builder::ticks_from) that is told,
+/// and nothing comes out before it. A deadline that is
 /// over is due at once. Of several entries that are due the order is that of their deadlines, as far as they stand in one shard.
 /// A deadline may be up to 139 years after the queue's making.
 ///
@@ -243,6 +244,34 @@ impl<T> DelayQueue<T> {
         self.shared.remove(key).map(|removed| removed.value)
     }
 
+    /// Takes an entry out if its deadline is over by now, and returns its value. It returns none where the entry isn't due, which
+    /// then stays as it is. So a reader ends what is over before a receiver comes to it: of those who want the entry one gets it.
+    /// An [`extend`](DelayQueue::extend) that was accepted counts: the entry isn't taken out before the deadline that it returned.
+    ///
+    /// Where the entry isn't due it takes a lock only as [`deadline`](DelayQueue::deadline) does: by a thread's first calls, or by
+    /// a key from before a reset.
+    ///
+    /// # Errors
+    /// WrongQueue, Ended, and NoMemory: that only where no shard has a free slot and the entry's has had its last stamp.
+    ///
+    /// ```
+    /// use hontkhale::delay_queue::{KeyError, ManualClock};
+    /// use hontkhale::DelayQueue;
+    /// use std::time::Duration;
+    ///
+    /// let clock = ManualClock::new();
+    /// let cache = DelayQueue::builder().clock(&clock).build();
+    /// let key = cache.insert("page", Duration::from_secs(30))?;
+    /// assert_eq!(cache.remove_if_due(&key)?, None);
+    /// clock.advance(Duration::from_secs(30));
+    /// assert_eq!(cache.remove_if_due(&key)?, Some("page"));
+    /// assert_eq!(cache.remove_if_due(&key), Err(KeyError::Ended));
+    /// # Ok::<(), Box<dyn std::error::Error>>(())
+    /// ```
+    pub fn remove_if_due(&self, key: &Key) -> Result<Option<T>, KeyError> {
+        self.shared.remove_if_due(key)
+    }
+
     /// The deadline of an entry.
     ///
     /// # Errors
@@ -356,6 +385,29 @@ impl<T> DelayQueue<T> {
     /// ```
     pub fn stats(&self) -> Stats {
         self.shared.stats()
+    }
+
+    /// Takes memory for so many entries in all, those that wait among them, and keeps it for good. While fewer wait, no insert
+    /// takes memory or is refused as NoMemory, and none waits until the queue has grown, but for two cases: entries that were
+    /// cancelled hold their slots until their values are dropped; and a shard of which half the slots are worn, by a million
+    /// inserts or resets each, takes its memory anew and has no room meanwhile. A larger number counts from then on, and a
+    /// smaller one changes nothing.
+    ///
+    /// # Errors
+    /// - Full beyond the queue's bound, or beyond the 3 million entries a shard that a queue may grow to.
+    /// - NoMemory where memory is refused. The queue goes on as before.
+    ///
+    /// ```
+    /// use hontkhale::delay_queue::InsertErrorKind;
+    /// use hontkhale::DelayQueue;
+    ///
+    /// let queue: DelayQueue<u64> = DelayQueue::builder().max_entries(100_000).build();
+    /// queue.reserve(100_000)?;
+    /// assert_eq!(queue.reserve(100_001), Err(InsertErrorKind::Full));
+    /// # Ok::<(), Box<dyn std::error::Error>>(())
+    /// ```
+    pub fn reserve(&self, entries: usize) -> Result<(), InsertErrorKind> {
+        self.shared.reserve(entries)
     }
 
     /// Takes out all that waits, and drops it. It returns how many entries these were.

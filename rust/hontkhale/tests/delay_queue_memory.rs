@@ -251,3 +251,126 @@ fn a_refused_insert_gives_its_value_back_and_changes_nothing() {
     }
     assert!(refusals > 20, "{refusals}");
 }
+
+/// With every allocation refused: as many entries go in as were told, again and again, and the memory stays.
+#[test]
+fn no_insert_takes_memory_where_it_was_taken_ahead() {
+    let _alone = alone();
+    for (entries, shards) in [(1, 2), (129, 4), (100_000, 2), (300_000, 3), (1_000_000, 16)] {
+        let queue = DelayQueue::builder().shards(shards).build();
+        assert_eq!(queue.reserve(entries), Ok(()));
+        let memory = queue.stats().memory;
+        let mut keys = Vec::with_capacity(entries);
+        for _ in 0..3 {
+            GRANTS.with(|left| left.set(Some(0)));
+            keys.extend((0..entries).map_while(|number| queue.insert(number, FAR).ok()));
+            GRANTS.with(|left| left.set(None));
+            assert_eq!((keys.len(), queue.stats().memory), (entries, memory));
+            keys.drain(..).for_each(|key| assert!(queue.remove(&key).is_ok()));
+            assert_eq!((queue.len(), queue.stats().memory), (0, memory));
+        }
+    }
+}
+
+/// Room for so many entries takes what they would take.
+#[test]
+fn room_that_is_taken_ahead_is_no_more_than_what_entries_take() {
+    let _alone = alone();
+    for entries in [1_usize, 1_000, 70_000, 262_144, 300_000, MILLION] {
+        let before = used();
+        let queue: DelayQueue<u64> = DelayQueue::builder().shards(4).build();
+        queue.reserve(entries).expect("memory");
+        let taken = (used() - before) as usize;
+        assert!(taken <= 64 * 2 * entries.next_power_of_two().max(1_000), "{taken}");
+        assert!(entries < MILLION || taken <= (64 + 8) * MILLION, "{taken}");
+        let is_same = || (used() - before) as usize == taken;
+        assert!(queue.reserve(entries / 2).is_ok() && queue.reserve(entries).is_ok() && is_same());
+        println!("{entries}: {} bytes an entry", taken / entries);
+    }
+}
+
+/// Where a part of it is refused, the rest goes, and the queue is as it was.
+#[test]
+fn room_that_is_refused_is_given_back() {
+    let _alone = alone();
+    let mut refusals = 0;
+    for grants in 0.. {
+        let queue = DelayQueue::builder().shards(2).build();
+        let keys: Vec<Key> = (0..128)
+            .map(|number| queue.insert(number, FAR).expect("room"))
+            .collect();
+        let memory = queue.stats().memory;
+        GRANTS.with(|left| left.set(Some(grants)));
+        let reserved = queue.reserve(200_000);
+        let is_done = GRANTS.with(Cell::take).is_some();
+        assert_eq!(reserved.is_ok(), is_done, "a refusal of memory isn't told");
+        if is_done {
+            break;
+        }
+        assert_eq!(reserved, Err(InsertErrorKind::NoMemory));
+        refusals += 1;
+        assert!(queue.stats().memory == memory, "{} of {memory}", queue.stats());
+        assert!((0..128).zip(&keys).all(|(number, key)| queue.remove(key) == Ok(number)));
+        assert!((0..1_000).all(|number| queue.insert(number, FAR).is_ok()));
+    }
+    assert!(refusals > 20, "{refusals}");
+}
+
+#[test]
+fn room_beyond_all_bounds_is_refused_at_once() {
+    let _alone = alone();
+    let queue: DelayQueue<u64> = DelayQueue::builder().shards(2).build();
+    for entries in [usize::MAX, 1 << 40, 9_000_000] {
+        assert_eq!(queue.reserve(entries), Err(InsertErrorKind::Full));
+    }
+    let bounded: DelayQueue<u64> = DelayQueue::builder().max_entries(10).build();
+    assert_eq!(
+        (bounded.reserve(10), bounded.reserve(11)),
+        (Ok(()), Err(InsertErrorKind::Full))
+    );
+    assert_eq!(queue.reserve(0), Ok(()));
+    assert!(queue.stats().memory < 10_000);
+}
+
+/// Where each allocation is refused, of which a thread's first look would take some.
+#[test]
+fn what_is_due_is_taken_out_without_memory() {
+    let _alone = alone();
+    for grants in 0..10 {
+        let clock = ManualClock::new();
+        let queue = DelayQueue::builder().shards(2).clock(&clock).build();
+        let keys: Vec<Key> = (0..128)
+            .map(|number| queue.insert(number, FAR).expect("room"))
+            .collect();
+        for due in [false, true] {
+            clock.advance(if due { FAR } else { Duration::ZERO });
+            for (number, key) in (0..).zip(&keys) {
+                GRANTS.with(|left| left.set(Some(grants)));
+                let ended = queue.remove_if_due(key);
+                GRANTS.with(|left| left.set(None));
+                assert_eq!(ended, Ok(Some(number).filter(|_| due)));
+            }
+        }
+    }
+}
+
+/// Threads that reserve, fill and empty the queue at once lose nothing.
+#[test]
+fn room_is_taken_ahead_while_others_fill_and_empty_the_queue() {
+    let _alone = alone();
+    let queue = DelayQueue::builder().shards(4).build();
+    thread::scope(|scope| {
+        for thread in 0..4_u64 {
+            let queue = &queue;
+            scope.spawn(move || {
+                for round in 0..20 {
+                    queue.reserve(1_000 * (round as usize + 1)).expect("memory");
+                    let keys: Vec<Key> = (0..2_000).map(|_| queue.insert(thread, FAR).expect("room")).collect();
+                    assert!(keys.iter().all(|key| queue.remove(key) == Ok(thread)));
+                }
+            });
+        }
+    });
+    let memory = queue.stats().memory;
+    assert!(queue.is_empty() && memory >= 56 * 20_000, "{memory}");
+}

@@ -57,7 +57,8 @@ def run(*words, url=None, env=None):
 
 
 class Cluster:
-    def __init__(self, settings=()):
+    def __init__(self, settings=(), env=None):
+        self.env = env
         self.room = pathlib.Path(tempfile.mkdtemp(prefix="jobs-"))
         self.port = free_port()
         self.processes = []
@@ -102,7 +103,8 @@ class Cluster:
             self.options,
             "start",
         ]
-        if subprocess.run(command, cwd="/", stdout=subprocess.DEVNULL, stderr=subprocess.DEVNULL).returncode:
+        quiet = {"stdout": subprocess.DEVNULL, "stderr": subprocess.DEVNULL}
+        if subprocess.run(command, cwd="/", env=self.env, **quiet).returncode:
             raise AssertionError(f"the server doesn't start: {log.read_text()[-2000:] if log.exists() else command}")
 
     def stop(self, how="fast"):
@@ -179,10 +181,10 @@ class Cluster:
 
 
 @contextlib.contextmanager
-def cluster(settings=()):
+def cluster(settings=(), env=None):
     # A test that is told to end cleans up as one that fails.
     signal.signal(signal.SIGTERM, lambda *_: sys.exit("ended by a signal"))
-    it = Cluster(settings)
+    it = Cluster(settings, env)
     try:
         it.start()
         it.setup()

@@ -1,6 +1,6 @@
 """What does harm.
 
-Workers of one name, a clock that is wrong, great payloads, a lost lock, a flood of notifications, a table that is full
+Workers of one name, a clock that is wrong or is set, great payloads, a lost lock, a flood of notifications, a table that is full
 at the start, a bad job among good ones, and clients that say nonsense.
 """
 import contextlib
@@ -11,6 +11,7 @@ import signal
 import socket
 import subprocess
 import sys
+import tempfile
 import threading
 import time
 
@@ -53,12 +54,46 @@ def one_name(it):
     print("hostile: two workers of one name shared 5,000 jobs, each done once", flush=True)
 
 
-def wrong_clock(it):
+def shifted(**more):
+    """The environment of a process whose clock of the day isn't this machine's."""
     library = glob.glob("/usr/lib/*/faketime/libfaketime.so.1")
     assert library, "libfaketime is missing"
+    return dict(os.environ, LD_PRELOAD=library[0], DONT_FAKE_MONOTONIC="1", **more)
+
+
+def stepped_clock():
+    """The database's clock is set while jobs run, back and ahead, by up to an hour: each job is done once."""
+    with tempfile.NamedTemporaryFile("w+") as told:
+        os.chmod(told.name, 0o644)
+
+        def step(shift):
+            told.seek(0)
+            told.write(f"{shift:<8}")
+            told.flush()
+
+        step("+0s")
+        with cluster(env=shifted(FAKETIME_TIMESTAMP_FILE=told.name, FAKETIME_NO_CACHE="1")) as it:
+            workers = [it.spawn("worker", "--effect", EFFECT) for _ in range(2)]
+            it.wait_for_owners(2)
+            it.jobs("enqueue", "4000", "--spread", "20000")
+            seen = []
+            for shift in ("-20s", "+3s", "-3600s", "+5s", "+0s", "+60s"):
+                time.sleep(2)
+                step(shift)
+                ahead = it.number("SELECT extract(epoch FROM clock_timestamp())") - time.time()
+                assert abs(ahead - float(shift[:-1])) < 1, (shift, ahead)
+                seen.append(f"{it.number('SELECT count(*) FROM effects'):.0f}")
+            it.wait_for_number("SELECT count(*) FROM jobs WHERE state = 'done'", 4000, 60)
+            rows = it.sql("SELECT count(*), count(DISTINCT job) FROM effects")
+            assert rows == [["4000", "4000"]], f"effects, of jobs: {rows}"
+            end(*workers)
+    print(f"hostile: the database's clock was set six times; {', '.join(seen)} of 4,000 jobs were done by then, all once", flush=True)
+
+
+def wrong_clock(it):
     for shift in ("+1h", "-1h"):
         empty(it)
-        env = dict(os.environ, LD_PRELOAD=library[0], FAKETIME=shift, DONT_FAKE_MONOTONIC="1")
+        env = shifted(FAKETIME=shift)
         seen = subprocess.run(["date", "+%s"], capture_output=True, text=True, env=env)
         assert abs(abs(int(seen.stdout) - time.time()) - 3600) < 60, "the clock is an hour off"
         worker = it.spawn("worker", "--effect", EFFECT, env=env)
@@ -436,6 +471,7 @@ def main(quick):
         ]:
             case(it)
         full_table(it, 100_000 if quick else 1_000_000)
+    stepped_clock()
 
 
 if __name__ == "__main__":

@@ -100,13 +100,17 @@ def older_tables(it):
         assert setup.poll() is None, "there was nothing to wait for"
     assert setup.wait(60) == 0, it.logged()
     assert longest < 10, f"an insert waited {longest:.1f} s for the setup"
+    # A second one has nothing to change, and waits for nobody.
+    with held(it, "INSERT INTO older.jobs (state, due) VALUES ('waiting', '2100-01-01')"):
+        begun = time.monotonic()
+        assert "stands" in it.jobs("setup", "--schema", "older") and time.monotonic() - begun < 5
     effect = "INSERT INTO public.effects (job) SELECT id FROM taken"
     worker = it.spawn("worker", "--schema", "older", "--effect", effect)
     it.wait_for_number("SELECT count(*) FROM older.jobs WHERE state = 'done'", 31)
     end(worker)
     print(
         f"operator: tables of the first form were changed beside 30 inserts, of which none waited {longest:.1f} s, and "
-        "all jobs were done",
+        "all jobs were done; a second setup beside an open insert had nothing to wait for",
         flush=True,
     )
 
@@ -211,24 +215,37 @@ def schedules(it):
     )
 
 
-def many_done(it, rows):
-    """The status of very many done jobs is soon told."""
+def status_of_done(it, rows):
+    """The status of so many done jobs, how long each of some took, and how many pages the database touched for one."""
     it.sql(
         "TRUNCATE jobs, effects; INSERT INTO jobs (state, due, attempt, started, ended) SELECT 'done', at, 1, at + "
         f"interval '3 ms', at + interval '4 ms' FROM generate_series(1, {rows}) i, LATERAL (SELECT now() - i * interval "
         "'100 us' AS at) it; ANALYZE jobs"
     )
-    took = []
+    touched = "SELECT blks_hit + blks_read FROM pg_stat_database WHERE datname = current_database()"
+    # What a session touched is told shortly after its end.
+    time.sleep(1)
+    before, took = it.number(touched), []
     for _ in range(10):
         begun = time.monotonic()
         status = it.jobs("status")
         took.append(time.monotonic() - begun)
+    time.sleep(1)
+    return status, sorted(took), (it.number(touched) - before) / len(took)
+
+
+def many_done(it, rows):
+    """The status of very many done jobs is told as soon as that of few: it touches no more pages. How long that takes hangs
+    on what else runs, so that half of them at most may take a second."""
+    _, _, few = status_of_done(it, 20_000)
+    status, took, pages = status_of_done(it, rows)
     done = int(re.search(r"done about (\d+),", status)[1])
     assert abs(done - rows) < rows / 20 and "of the last 4000 first attempts: p50 3.0 ms" in status, status
-    assert min(took) < 0.1, took
+    assert pages < 1.3 * few and took[5] < 1, (pages, few, took)
     it.sql("TRUNCATE jobs")
     print(
-        f"operator: the status of {rows} done jobs was told after {min(took) * 1000:.0f} to {max(took) * 1000:.0f} ms",
+        f"operator: the status of {rows} done jobs was told after {took[0] * 1000:.0f} to {took[-1] * 1000:.0f} ms, by {pages:.0f} "
+        f"pages; by {few:.0f} of 20000",
         flush=True,
     )
 

@@ -5,31 +5,36 @@ use std::time::{Duration, Instant, SystemTime};
 /// A tick of one millisecond.
 pub type Tick = u64;
 
-const NANOS: u128 = 1_000_000;
-
 pub struct Clock {
+    /// A moment shortly before it began, in which a tick began.
     begun: Instant,
-    /// The nanoseconds since 1970 when it began.
-    since: u128,
+    since: Tick,
 }
 
 impl Clock {
     pub fn new() -> Clock {
-        let since = SystemTime::now().duration_since(SystemTime::UNIX_EPOCH).map_or(0, |it| it.as_nanos());
-        Clock { begun: Instant::now(), since }
-    }
-
-    fn nanos(&self) -> u128 {
-        self.since + self.begun.elapsed().as_nanos()
+        let since = SystemTime::now().duration_since(SystemTime::UNIX_EPOCH).unwrap_or_default();
+        let (now, part) = (Instant::now(), Duration::from_nanos(u64::from(since.subsec_nanos()) % 1_000_000));
+        Clock { begun: now.checked_sub(part).unwrap_or(now), since: since.as_millis() as Tick }
     }
 
     pub fn now(&self) -> Tick {
-        (self.nanos() / NANOS) as Tick
+        self.tick(Instant::now())
     }
 
-    /// How long it is until a tick begins.
-    pub fn until(&self, tick: Tick) -> Duration {
-        let nanos = (tick as u128 * NANOS).saturating_sub(self.nanos());
-        Duration::from_nanos(nanos.min(u64::MAX as u128) as u64)
+    /// The moment in which its first tick began.
+    pub fn begun(&self) -> Instant {
+        self.begun
+    }
+
+    /// The moment in which a tick begins, or its first one where that was before.
+    pub fn moment(&self, tick: Tick) -> Instant {
+        self.begun + Duration::from_millis(tick.saturating_sub(self.since))
+    }
+
+    /// The tick of a moment.
+    pub fn tick(&self, moment: Instant) -> Tick {
+        let passed = moment.saturating_duration_since(self.begun);
+        self.since + passed.as_secs() * 1_000 + Tick::from(passed.subsec_millis())
     }
 }

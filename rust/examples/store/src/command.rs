@@ -8,13 +8,12 @@ mod refusal;
 mod scan;
 mod transaction;
 
-use crate::handle::Handle;
-use crate::keyspace::Keyspace;
+use crate::keyspace::{Keyspace, Turn};
 use crate::output::Output;
 use crate::resp::{Protocol, Reply};
 use crate::seats::{Guest, Seats};
 use crate::settings::Settings;
-use hontkhale::owner::Key;
+use hontkhale::delay_queue::Key;
 use refusal::Refusal;
 use std::collections::HashMap;
 use std::net::SocketAddr;
@@ -33,7 +32,7 @@ pub struct Desk {
     keyspace: Arc<Keyspace>,
     seats: Arc<Seats>,
     settings: Arc<Settings>,
-    handle: Handle,
+    turn: Turn,
     /// The entries of names that were extended. An entry that isn't the name's any more refuses its key.
     known: HashMap<Vec<u8>, Key>,
     warned: Option<Instant>,
@@ -135,8 +134,9 @@ const OPEN: [&str; 3] = ["auth", "hello", QUIT];
 const ATTACKS: [&[u8]; 2] = [b"post", b"host:"];
 
 impl Desk {
-    pub fn new(keyspace: Arc<Keyspace>, seats: Arc<Seats>, settings: Arc<Settings>, handle: Handle) -> Desk {
-        Desk { keyspace, seats, settings, handle, known: HashMap::new(), warned: None }
+    pub fn new(keyspace: Arc<Keyspace>, seats: Arc<Seats>, settings: Arc<Settings>) -> Desk {
+        let turn = keyspace.turn();
+        Desk { keyspace, seats, settings, turn, known: HashMap::new(), warned: None }
     }
 
     /// The session of a connection that begins.
@@ -194,7 +194,7 @@ impl Client<'_> {
     /// them unread holds one value, and not all that it named, which others may have overwritten since. `told` counts
     /// what is told of a request from one call to the next.
     pub fn serve(&mut self, words: Words<'_>, told: &mut usize, output: &mut Output) -> Served {
-        let turn = self.desk.handle.turn();
+        let turn = self.desk.turn.clone();
         let _taken = (!takes_all_turns(words)).then(|| turn.lock().unwrap_or_else(PoisonError::into_inner));
         if *told == 0 {
             if ATTACKS.iter().any(|it| words[0].eq_ignore_ascii_case(it)) {

@@ -1,8 +1,8 @@
-//! The keys: names with values in shards, and a delay queue in each that has the deadline of each name that expires.
+//! The keys: names with values in shards, and one delay queue that has the deadline of each name that expires.
 //!
-//! A name goes to a shard by its hash. Whoever changes a shard's names, or which entries its queue has, holds the
-//! shard to write. Whoever reads holds it to read, and asks a handle for the deadline, which takes no lock. A key is
-//! told to be gone only after its entry came out of the queue, so that no extend brings back what was seen to be gone.
+//! A name goes to a shard by its hash. Whoever changes a shard's names holds the shard to write. Whoever reads holds it to
+//! read, and asks the queue for the deadline, which takes no lock. A key is told to be gone only after its entry came out
+//! of the queue, so that no extend brings back what was seen to be gone.
 
 mod place;
 mod shard;
@@ -15,21 +15,29 @@ pub use shard::SMALL_TABLE;
 pub use walk::Held;
 
 use crate::clock::{Clock, Tick};
-use crate::handle::Handle;
-use crate::keeper::Alarm;
 use crate::room::Room;
-use hontkhale::owner::{CoreConfig, CoreError, WordsError, CAPACITY_LIMIT, LAST_STAMP};
+use hontkhale::delay_queue::{AsyncReceiver, Builder, Expired, InsertErrorKind, Key, KeyError};
+use hontkhale::DelayQueue;
 use shard::{Shard, Writer};
+use std::alloc::{handle_alloc_error, Layout};
 use std::collections::hash_map::RandomState;
 use std::hash::{BuildHasher, Hasher};
-use std::sync::{Arc, Mutex, PoisonError, RwLock};
+use std::sync::{Arc, Mutex, MutexGuard, PoisonError, RwLock};
+use std::task::Poll;
 
 pub const SHARDS: usize = 64;
-/// The threads that take out what is due, each of which has every so many shards.
-pub const KEEPERS: usize = 4;
+/// The threads that take off what is due.
+pub const KEEPERS: usize = 2;
+/// How many keys a keeper takes off before whoever waits for it goes on.
+const TAKEN_AT_ONCE: usize = 64;
+/// The shards of the queue, each behind a lock of its own.
+const QUEUE_SHARDS: usize = 16;
 
 pub type Name = Arc<[u8]>;
 pub type Value = Arc<[u8]>;
+
+/// A thread's turn, which it has while it serves a request. Whoever has the turns of all is alone.
+pub type Turn = Arc<Mutex<()>>;
 
 /// Why a key isn't written.
 #[derive(Clone, Copy, Debug, PartialEq, Eq)]
@@ -38,7 +46,7 @@ pub enum NoRoom {
     Memory,
     /// The process holds as much as it may, the holes that are between the keys among it.
     Process,
-    /// The shard has as many keys that expire as it may.
+    /// As many keys expire as may.
     Deadlines,
 }
 
@@ -59,56 +67,53 @@ pub enum Life {
 
 pub struct Keyspace {
     shards: Vec<Shard>,
-    alarms: Vec<Alarm>,
+    /// The deadlines, each with its name.
+    queue: DelayQueue<Name>,
     hasher: RandomState,
     room: Arc<Room>,
-    /// The turns of all handles.
-    turns: RwLock<Vec<Arc<Mutex<()>>>>,
-    /// The stamp after which a slot is worn.
-    last_stamp: u32,
+    turns: RwLock<Vec<Turn>>,
+    /// Who takes entries out of the queue, and then their names off: each keeper, and after them anybody else.
+    takers: [Mutex<()>; KEEPERS + 1],
     pub clock: Clock,
 }
 
+fn lock(one: &Mutex<()>) -> MutexGuard<'_, ()> {
+    one.lock().unwrap_or_else(PoisonError::into_inner)
+}
+
 impl Keyspace {
-    /// Room for about so many keys that expire, and for their bytes.
-    pub fn new(keys: usize, room: Room) -> Result<Keyspace, CoreError> {
-        Keyspace::of(keys, room, LAST_STAMP)
+    /// Room for so many keys that expire, and for their bytes.
+    pub fn new(keys: usize, room: Room) -> Result<Keyspace, InsertErrorKind> {
+        Keyspace::of(keys, room, DelayQueue::builder())
     }
 
-    /// The same, whose slots are worn after so many entries.
-    pub fn of(keys: usize, room: Room, last_stamp: u32) -> Result<Keyspace, CoreError> {
-        // By chance a shard gets some more than its share.
-        let capacity = (keys / SHARDS + keys / SHARDS / 16 + 100).min(CAPACITY_LIMIT);
+    fn of(keys: usize, room: Room, queue: Builder<Name>) -> Result<Keyspace, InsertErrorKind> {
         let (clock, room) = (Clock::new(), Arc::new(room));
-        let shard = |shard| Shard::new(CoreConfig { shard, capacity, last_stamp }, clock.now(), &room);
+        let queue = queue.max_entries(keys).shards(QUEUE_SHARDS).ticks_from(clock.begun()).build();
+        queue.reserve(keys)?;
         Ok(Keyspace {
-            shards: (0..SHARDS as u32).map(shard).collect::<Result<_, _>>()?,
-            alarms: (0..KEEPERS).map(|_| Alarm::default()).collect(),
+            shards: (0..SHARDS).map(|_| Shard::new(&room)).collect(),
+            queue,
             hasher: RandomState::new(),
             room,
             turns: RwLock::default(),
-            last_stamp,
+            takers: Default::default(),
             clock,
         })
     }
 
-    /// A handle of every shard, for one thread.
-    pub fn handle(&self) -> Result<Handle, WordsError> {
-        let callers = (0..SHARDS).map(|shard| self.write(shard).numbered_caller());
-        let handle = Handle::new(callers.collect::<Result<_, _>>()?);
-        self.turns.write().unwrap_or_else(PoisonError::into_inner).push(handle.turn());
-        Ok(handle)
+    /// The turn of a thread that serves.
+    pub fn turn(&self) -> Turn {
+        let turn = Turn::default();
+        self.turns.write().unwrap_or_else(PoisonError::into_inner).push(turn.clone());
+        turn
     }
 
-    /// Does something while no handle's thread has its turn, so that no request is served meanwhile.
+    /// Does something while no thread has its turn, so that no request is served meanwhile.
     pub fn alone<O>(&self, act: impl FnOnce() -> O) -> O {
         let turns = self.turns.read().unwrap_or_else(PoisonError::into_inner);
-        let _taken: Vec<_> = turns.iter().map(|it| it.lock().unwrap_or_else(PoisonError::into_inner)).collect();
+        let _taken: Vec<_> = turns.iter().map(|it| lock(it)).collect();
         act()
-    }
-
-    pub fn alarm(&self, keeper: usize) -> &Alarm {
-        &self.alarms[keeper]
     }
 
     /// The room of keys and values.
@@ -130,60 +135,110 @@ impl Keyspace {
         self.shards[shard].write()
     }
 
+    /// The deadline of an entry, none where it is over.
+    pub fn deadline(&self, entry: &Key) -> Option<Tick> {
+        match self.queue.deadline(entry) {
+            Ok(deadline) => Some(self.clock.tick(deadline)),
+            // A thread takes some at its first look at a part of the queue.
+            Err(KeyError::NoMemory) => handle_alloc_error(Layout::new::<Key>()),
+            Err(_) => None,
+        }
+    }
+
+    /// Raises the deadline of a live entry, and answers the one in force.
+    pub fn extend(&self, entry: &Key, when: Tick) -> Option<Tick> {
+        let in_force = self.queue.extend_at(entry, self.clock.moment(when)).ok()?;
+        Some(self.clock.tick(in_force))
+    }
+
+    /// How long a record lives, none where it is over.
+    fn life(&self, record: &Record, now: Tick) -> Option<Life> {
+        match record.entry() {
+            None => Some(Life::Endless),
+            Some(entry) => self.deadline(&entry).filter(|deadline| now < *deadline).map(Life::Until),
+        }
+    }
+
     /// Reads a live key, while others may read its shard too.
-    pub fn view<O>(&self, handle: &mut Handle, name: &[u8], read: impl FnOnce(&Record, Life) -> O) -> Option<O> {
+    pub fn view<O>(&self, name: &[u8], read: impl FnOnce(&Record, Life) -> O) -> Option<O> {
         let (shard, now) = (self.shard_of(name), self.clock.now());
         let names = self.shards[shard].read();
         let record = names.records.get(name)?;
-        if let Some(life) = record.life(handle, now) {
+        if let Some(life) = self.life(record, now) {
             return Some(read(record, life));
         }
         drop(names);
-        let names = self.write_now(shard, now, handle, name);
-        let record = names.records.get(name)?;
-        Some(read(record, record.life(handle, now)?))
+        let mut names = self.write(shard);
+        let life = self.settle(&mut names, name, now)?;
+        names.records.get(name).map(|record| read(record, life))
     }
 
-    /// A shard to write, where the named key isn't over, and whose handle is of its present queue.
-    fn write_now(&self, shard: usize, now: Tick, handle: &mut Handle, name: &[u8]) -> Writer<'_> {
-        loop {
-            let mut names = self.write(shard);
-            names.tell(handle);
-            match names.records.get(name) {
-                Some(record) if record.life(handle, now).is_none() => {}
-                _ => return names,
-            }
-            drop(names);
-            self.take_out(shard, now);
+    /// How long a key lives whose shard is held. Where its deadline is over it is taken off, unless it was extended meanwhile.
+    fn settle(&self, names: &mut Writer<'_>, name: &[u8], now: Tick) -> Option<Life> {
+        let record = names.records.get(name)?;
+        if let Some(life) = self.life(record, now) {
+            return Some(life);
         }
+        let entry = record.entry()?;
+        names.begin_end();
+        let is_extended = matches!(self.queue.remove_if_due(&entry), Ok(None));
+        let life = self.deadline(&entry).filter(|_| is_extended).map(Life::Until);
+        if life.is_none() {
+            names.expire(name);
+        }
+        life
     }
 
     /// Changes a key, or makes it, while nobody else reads or changes its shard.
-    pub fn change<O>(&self, handle: &mut Handle, name: &[u8], change: impl FnOnce(&mut Place<'_>) -> O) -> O {
+    pub fn change<O>(&self, name: &[u8], change: impl FnOnce(&mut Place<'_, '_>) -> O) -> O {
         let (shard, now) = (self.shard_of(name), self.clock.now());
-        let mut names = self.write_now(shard, now, handle, name);
-        let life = names.records.get(name).and_then(|record| record.life(handle, now));
-        change(&mut Place { keyspace: self, handle, names: &mut names, shard, name, now, life })
+        let mut names = self.write(shard);
+        let life = self.settle(&mut names, name, now);
+        change(&mut Place { keyspace: self, names: &mut names, name, now, life })
     }
 
-    /// Takes out every key of a shard that is due, and answers the next tick at which there is something to do.
-    pub fn take_out(&self, shard: usize, now: Tick) -> Option<Tick> {
-        let mut gone = Vec::new();
-        loop {
-            let mut names = self.write(shard);
-            if let Some(turn) = names.take_out(now, &mut gone) {
-                names.shrink();
-                return turn;
+    /// What a keeper receives by.
+    pub fn receiver(&self) -> AsyncReceiver<Name> {
+        self.queue.receiver()
+    }
+
+    /// Takes off some of what comes out, and tells whether more may.
+    pub fn take_off(&self, keeper: usize, mut next: impl FnMut() -> Poll<Option<Expired<Name>>>) -> bool {
+        let _taker = lock(&self.takers[keeper]);
+        for _ in 0..TAKEN_AT_ONCE {
+            match next() {
+                Poll::Ready(Some(out)) => self.lose(&out),
+                _ => return false,
             }
-            drop(names);
-            gone.clear();
         }
+        true
+    }
+
+    /// Takes off every key that is due by now. Those that others take out of the queue meanwhile are off too then.
+    fn take_off_all(&self) {
+        let taker = lock(&self.takers[KEEPERS]);
+        while let Some(out) = self.queue.try_recv() {
+            self.lose(&out);
+        }
+        drop(taker);
+        self.takers[..KEEPERS].iter().for_each(|it| drop(lock(it)));
+    }
+
+    /// Takes off the name of an entry that came out, unless it has another one since. The memory is given back once the
+    /// shard is let go.
+    fn lose(&self, out: &Expired<Name>) {
+        let mut names = self.write(self.shard_of(&out.value));
+        let is_its = names.records.get(&out.value).is_some_and(|it| it.entry() == Some(out.key));
+        let _gone = is_its.then(|| names.expire(&out.value));
+        drop(names);
     }
 
     /// Takes all keys out, while nobody reads or changes any.
     pub fn clear(&self) {
         let mut all: Vec<_> = (0..SHARDS).map(|shard| self.write(shard)).collect();
+        all.iter().for_each(|names| names.begin_end());
         let old: Vec<_> = all.iter_mut().map(|names| names.clear()).collect();
+        self.queue.clear();
         drop(all);
         drop(old);
     }
@@ -191,6 +246,11 @@ impl Keyspace {
 
 #[cfg(test)]
 impl Keyspace {
+    /// Each slot of whose queue is worn after so many entries.
+    pub fn worn_after(last_stamp: u32, keys: usize, room: Room) -> Keyspace {
+        Keyspace::of(keys, room, DelayQueue::builder().last_stamp(last_stamp)).unwrap()
+    }
+
     /// Calls `f` while the shard of a name is locked.
     pub fn while_held(&self, name: &[u8], f: impl FnOnce()) {
         let _names = self.write(self.shard_of(name));

@@ -4,7 +4,6 @@ mod clock;
 mod command;
 mod connection;
 mod event_loop;
-mod handle;
 mod keeper;
 mod keyspace;
 mod options;

@@ -17,7 +17,7 @@ pub const HELP: &str = "store [OPTION..]: a server of expiring keys, to which re
                 what clients have to tell first is its first line; where none is given STORE_PASSWORD of the environment
   --protected-mode no
                 serves an address that isn't the machine's own without a password
-  --keys N      room for about so many keys that expire, 1000000 where none is given, 4000000 at most
+  --keys N      room for so many keys that expire, 1000000 where none is given, 4000000 at most
   --memory MIB  room for keys, values and connections, 1024 where none is given: a quarter is for what connections hold
   --most MIB    the most that the process may hold; where none is given twice --memory, 100 bytes for each of --keys,
                 and 32 MiB

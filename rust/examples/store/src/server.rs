@@ -40,8 +40,8 @@ pub fn serve(
         let keyspace = keyspace.clone();
         thread::Builder::new().name(format!("keeper {keeper}")).spawn(move || keep(&keyspace, keeper))?;
     }
-    let desk = || Ok::<_, Failure>(Desk::new(keyspace.clone(), seats.clone(), settings.clone(), keyspace.handle()?));
-    let servers = (0..threads).map(|at| server(at, desk()?)).collect::<Result<Vec<_>, _>>()?;
+    let desk = || Desk::new(keyspace.clone(), seats.clone(), settings.clone());
+    let servers = (0..threads).map(|at| server(at, desk())).collect::<Result<Vec<_>, _>>()?;
     welcome_all(listener, seats, &servers)?;
     servers.iter().try_for_each(|it| it.mailbox.end())?;
     for server in servers {

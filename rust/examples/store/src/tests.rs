@@ -1,17 +1,18 @@
 //! What can be seen from within alone: which locks a call takes, when a key is gone, and what the keepers do.
 
+use crate::clock::{Clock, Tick};
 use crate::command::{Client, Desk, Served, Session};
 use crate::keeper::keep;
-use crate::keyspace::{Keyspace, KEEPERS};
+use crate::keyspace::{Keyspace, Lifetime, Place, KEEPERS};
 use crate::output::Output;
 use crate::resp::{integer, Broken, Parser, Protocol, Reply};
 use crate::room::Room;
 use crate::seats::{Guest, Seats};
 use crate::settings::Settings;
-use std::sync::atomic::{AtomicBool, Ordering::SeqCst};
+use std::sync::atomic::{AtomicBool, AtomicU64, Ordering::SeqCst};
 use std::sync::{mpsc, Arc};
 use std::thread;
-use std::time::{Duration, Instant};
+use std::time::{Duration, Instant, SystemTime};
 
 mod commands;
 
@@ -31,7 +32,7 @@ fn client(keyspace: &Arc<Keyspace>) -> Asker {
 
 fn client_by(keyspace: &Arc<Keyspace>, settings: Settings) -> Asker {
     let seats = Arc::new(Seats::new(10, 1 << 20));
-    let desk = Desk::new(keyspace.clone(), seats, Arc::new(settings), keyspace.handle().unwrap());
+    let desk = Desk::new(keyspace.clone(), seats, Arc::new(settings));
     Asker { session: desk.session(&Guest::new(7, ([127, 0, 0, 1], 7).into())), desk }
 }
 
@@ -136,13 +137,130 @@ fn what_was_seen_to_be_gone_is_never_extended() {
     }
 }
 
-#[test]
-fn keepers_give_back_what_nobody_asks_for() {
+/// A keyspace whose keepers never end.
+fn kept() -> Arc<Keyspace> {
     let keyspace = keyspace();
     for keeper in 0..KEEPERS {
         let keyspace = keyspace.clone();
         thread::spawn(move || keep(&keyspace, keeper));
     }
+    keyspace
+}
+
+#[test]
+fn the_clock_is_the_machines() {
+    let now = || SystemTime::now().duration_since(SystemTime::UNIX_EPOCH).unwrap().as_millis() as Tick;
+    for pause in 0..500 {
+        let clock = Clock::new();
+        thread::sleep(Duration::from_micros(pause));
+        let before = now();
+        let told = clock.now();
+        assert!((before..=now()).contains(&told), "{told} at {before}");
+        assert_eq!(clock.tick(clock.moment(told + pause)), told + pause);
+    }
+}
+
+/// A key is extended by a tick at a time, at its last moment: what is told to be done is kept.
+#[test]
+fn no_key_is_gone_before_the_deadline_that_was_accepted_last() {
+    let keyspace = keyspace();
+    for round in 0..300 {
+        let name = format!("key:{round}");
+        let mut deadline = keyspace.clock.now() + 3;
+        is_ok(&mut client(&keyspace), &format!("SET {name} value PXAT {deadline}"));
+        let (gone, accepted) = thread::scope(|scope| {
+            let reader = scope.spawn(|| {
+                let mut client = client(&keyspace);
+                while ask(&mut client, &format!("GET {name}")) != Reply::Nil {}
+                keyspace.clock.now()
+            });
+            let mut client = client(&keyspace);
+            for _ in 0..20 {
+                // The queue is asked, and not what stands in the table.
+                while keyspace.clock.now() + 1 < deadline {}
+                if ask(&mut client, &format!("PEXPIREAT {name} {} GT", deadline + 1)) == Reply::Integer(0) {
+                    break;
+                }
+                deadline += 1;
+            }
+            (reader.join().unwrap(), deadline)
+        });
+        assert!(gone >= accepted, "gone at {gone}, its deadline is {accepted}");
+    }
+}
+
+/// A key comes to its deadline, and a keeper has its entry in hand, while its shard is held by whoever found it live: it is
+/// told to be gone then, or stays.
+fn changed_at_the_end(request: &str, change: impl Fn(&mut Place<'_, '_>) -> bool, is_there: bool) {
+    let keyspace = kept();
+    let mut client = client(&keyspace);
+    for round in 0..5 {
+        is_ok(&mut client, "SET key value PX 20");
+        let is_done = keyspace.change(b"key", |place| {
+            assert!(place.life().is_some(), "{request}: it is gone too soon");
+            thread::sleep(Duration::from_millis(25));
+            change(place)
+        });
+        assert_eq!(is_done, is_there, "{request}");
+        // So that the keeper has its turn at the shard.
+        thread::sleep(Duration::from_millis(5));
+        let count = i64::from(is_there);
+        assert_eq!(ask(&mut client, "EXISTS key"), Reply::Integer(count), "{request}");
+        let held = keyspace.held();
+        assert_eq!((held.keys as i64, held.expired), (count, if is_there { 0 } else { round + 1 }), "{request}");
+        assert_eq!(ask(&mut client, "DEL key"), Reply::Integer(count));
+        assert_eq!((keyspace.held().keys, keyspace.held().expires, keyspace.held().bytes), (0, 0, 0));
+    }
+}
+
+#[test]
+fn a_key_that_ends_while_it_is_changed_is_gone_or_stays() {
+    let later = |place: &Place<'_, '_>| Lifetime::Until(place.now() + 60_000);
+    changed_at_the_end("PERSIST", |place| place.persist(), false);
+    changed_at_the_end("PEXPIRE", |place| place.expire(place.now() + 60_000) == Ok(true), false);
+    changed_at_the_end("SET KEEPTTL", |place| place.set(b"other", Lifetime::Kept).is_err(), false);
+    changed_at_the_end("SET PX", |place| place.set(b"other", later(place)).is_ok(), true);
+    changed_at_the_end("SET", |place| place.set(b"other", Lifetime::Endless).is_ok(), true);
+}
+
+/// Nor one whose entry is in a keeper's hands, or in those of a client who takes it off.
+#[test]
+fn no_key_is_counted_at_its_deadline() {
+    let keyspace = kept();
+    let deadline = AtomicU64::new(0);
+    let is_over = AtomicBool::new(false);
+    thread::scope(|scope| {
+        for request in ["GET key", "DBSIZE", "DBSIZE"] {
+            let (keyspace, deadline, is_over) = (&keyspace, &deadline, &is_over);
+            scope.spawn(move || {
+                let mut client = client(keyspace);
+                while !is_over.load(SeqCst) {
+                    let (until, before) = (deadline.load(SeqCst), keyspace.clock.now());
+                    let told = ask(&mut client, request);
+                    // The same key was there all the time.
+                    if before >= until && deadline.load(SeqCst) == until {
+                        assert!(
+                            matches!(told, Reply::Integer(0) | Reply::Nil),
+                            "{request} at {before}: {told:?}, until {until}"
+                        );
+                    }
+                }
+            });
+        }
+        let mut client = client(&keyspace);
+        for round in 0..1_500 {
+            let until = keyspace.clock.now() + 1 + round % 2;
+            deadline.store(until, SeqCst);
+            is_ok(&mut client, &format!("SET key value PXAT {until}"));
+            while keyspace.clock.now() <= until {}
+        }
+        is_over.store(true, SeqCst);
+    });
+}
+
+#[test]
+fn keepers_give_back_what_nobody_asks_for() {
+    let keyspace = kept();
     let mut client = client(&keyspace);
     for at in 0..1_000 {
         is_ok(&mut client, &format!("SET far:{at} value PX 3600000"));

@@ -322,9 +322,8 @@ fn fewer_clients_are_served_where_files_are_lacking() {
 
 #[test]
 fn no_room_is_an_error_by_name_and_nothing_is_lost() {
-    let store = Store::new(&["--keys", "0", "--memory", "64"]);
+    let store = Store::new(&["--keys", "6400", "--memory", "64"]);
     let mut stream = store.connect();
-    // A shard has a hundred places for keys that expire: 64 shards have 6,400.
     let mut refused = 0;
     for at in 0..20_000 {
         let name = format!("name:{at}");

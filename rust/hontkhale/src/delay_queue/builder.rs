@@ -24,6 +24,7 @@ use std::time::Instant;
 pub struct Builder<T> {
     limits: Limits,
     clock: Source,
+    start: Option<Instant>,
     values: PhantomData<fn() -> T>,
 }
 
@@ -38,6 +39,7 @@ impl<T> Builder<T> {
         Builder {
             limits,
             clock: Source::System,
+            start: None,
             values: PhantomData,
         }
     }
@@ -77,6 +79,26 @@ impl<T> Builder<T> {
         self
     }
 
+    /// From which moment the queue counts its milliseconds, in the place of its making. A deadline that is whole milliseconds
+    /// after it isn't rounded, so that the ticks of another clock are kept. Deadlines may be up to 139 years after it. A moment
+    /// that is yet to come counts as the making.
+    ///
+    /// ```
+    /// use hontkhale::DelayQueue;
+    /// use std::time::{Duration, Instant};
+    ///
+    /// let start = Instant::now();
+    /// let queue = DelayQueue::builder().ticks_from(start).build();
+    /// let deadline = start + Duration::from_millis(30_000);
+    /// let key = queue.insert_at("session", deadline)?;
+    /// assert_eq!(queue.deadline(&key)?, deadline);
+    /// # Ok::<(), Box<dyn std::error::Error>>(())
+    /// ```
+    pub fn ticks_from(mut self, start: Instant) -> Builder<T> {
+        self.start = Some(start);
+        self
+    }
+
     /// After how many inserts and resets a slot is worn, 1 to [`LAST_STAMP`]: for tests of what is done then.
     #[doc(hidden)]
     pub fn last_stamp(mut self, last: u32) -> Builder<T> {
@@ -87,7 +109,8 @@ impl<T> Builder<T> {
     /// The queue, which is empty, and takes memory as entries come.
     #[must_use]
     pub fn build(self) -> DelayQueue<T> {
-        let front = Arc::new(Front::new(Time::new(self.clock.clone()), self.limits.max_entries));
+        let time = Time::new(self.clock.clone(), self.start);
+        let front = Arc::new(Front::new(time, self.limits.max_entries));
         if let Source::Manual(clock) = &self.clock {
             let weak = Arc::downgrade(&front);
             clock.wakes(move || weak.upgrade().map(|front| front.wake_all()).is_some());
@@ -103,6 +126,7 @@ impl<T> fmt::Debug for Builder<T> {
         f.debug_struct("Builder")
             .field("limits", &self.limits)
             .field("clock", &self.clock)
+            .field("start", &self.start)
             .finish_non_exhaustive()
     }
 }

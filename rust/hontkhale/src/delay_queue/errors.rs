@@ -3,7 +3,7 @@
 use std::error::Error;
 use std::fmt;
 
-/// Why a [`DelayQueue`](crate::DelayQueue) doesn't take a value.
+/// Why a [`DelayQueue`](crate::DelayQueue) doesn't take a value, or makes no room.
 #[derive(Clone, Copy, Debug, PartialEq, Eq)]
 #[non_exhaustive]
 pub enum InsertErrorKind {
@@ -27,6 +27,8 @@ impl fmt::Display for InsertErrorKind {
         })
     }
 }
+
+impl Error for InsertErrorKind {}
 
 /// An insert that was refused, with the value.
 ///

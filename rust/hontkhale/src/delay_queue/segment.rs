@@ -98,8 +98,13 @@ impl<T> Segment<T> {
         if self.is_closed() {
             0
         } else {
-            self.config.shards * self.config.capacity
+            self.slots()
         }
+    }
+
+    /// The same, once it is open.
+    pub fn slots(&self) -> usize {
+        self.config.shards * self.config.capacity
     }
 
     /// The place of a shard's number.
@@ -320,6 +325,14 @@ impl<T> Locked<'_, T> {
     pub fn has_room(&self) -> bool {
         let core = self.core();
         self.shard.takes && core.len() + core.worn() < core.capacity()
+    }
+
+    /// Whether it takes an entry of its own again once that is removed, and drops no value then. The slot is free for it unless
+    /// it has had its last stamp.
+    pub fn takes_again(&self, entry: &EntryId) -> bool {
+        let core = self.core();
+        let is_free = || self.shard.takes && core.slots.stamp(entry.index() as usize) < core.last_stamp();
+        core.aside() == 0 && (self.has_room() || is_free())
     }
 
     /// How many entries of the shard were cancelled and freed.

@@ -1,5 +1,8 @@
 //! What the clones of a queue share: its segments, and the calls by key.
 
+mod due;
+mod reserve;
+
 use crate::core::{CallError, CoreError, Look, Removed};
 use crate::delay_queue::callers::{route, Bound, Front, Handles, Quick};
 use crate::delay_queue::dropping::{Dropping, LetGo};
@@ -52,6 +55,8 @@ pub(crate) struct Shared<T> {
     open: AtomicUsize,
     /// How often one was made, or opened again.
     grown: AtomicUsize,
+    /// For how many entries memory is kept.
+    reserved: AtomicUsize,
     /// Held while a segment is made.
     grows: Mutex<()>,
     moves: Mutex<Moves>,
@@ -234,6 +239,7 @@ impl<T> Shared<T> {
             segments: std::array::from_fn(|_| OnceLock::new()),
             open: AtomicUsize::new(0),
             grown: AtomicUsize::new(0),
+            reserved: AtomicUsize::new(0),
             grows: Mutex::default(),
             moves: Mutex::new(Moves::new()),
             let_go: Arc::new(LetGo::new()),
@@ -406,26 +412,38 @@ impl<T> Shared<T> {
         if self.grown.load(SeqCst) > seen {
             return Ok(());
         }
-        let open = self.open.load(SeqCst);
-        if let Some((at, segment)) = self.segments().find(|(_, segment)| segment.is_closed()) {
-            // A thread that comes late to renew it has it for a moment: the caller looks again.
-            let Some(claim) = segment.claim() else {
-                thread::yield_now();
-                return Ok(());
-            };
-            if !segment.open(&claim) {
-                return Err(InsertErrorKind::NoMemory);
-            }
-            self.front.note_closed(at, false);
-        } else {
-            let slot = self.segments.get(open).ok_or(InsertErrorKind::Full)?;
-            let mut row = room_for(1).map_err(|_| InsertErrorKind::NoMemory)?;
-            let config = self.limits.of_segment(open);
-            row.push(Segment::new(config, &self.let_go).map_err(|_| InsertErrorKind::NoMemory)?);
-            let _ = slot.set(row);
-            self.open.store(open + 1, SeqCst);
+        match self.segments().find(|(_, segment)| segment.is_closed()) {
+            Some((at, segment)) => self.open_again(at, segment)?,
+            None => self.add(self.make(self.open.load(SeqCst))?)?,
         }
         self.grown.fetch_add(1, SeqCst);
+        Ok(())
+    }
+
+    /// Opens a segment that was closed. A thread that comes late to renew it has it for a moment: then the caller looks again.
+    /// Whoever calls it holds `grows`.
+    fn open_again(&self, at: usize, segment: &Segment<T>) -> Result<(), InsertErrorKind> {
+        match segment.claim() {
+            None => thread::yield_now(),
+            Some(claim) if segment.open(&claim) => self.front.note_closed(at, false),
+            Some(_) => return Err(InsertErrorKind::NoMemory),
+        }
+        Ok(())
+    }
+
+    /// A segment of the size of the one at a place.
+    fn make(&self, size: usize) -> Result<Vec<Segment<T>>, InsertErrorKind> {
+        let mut row = room_for(1).map_err(|_| InsertErrorKind::NoMemory)?;
+        let config = self.limits.of_segment(size);
+        row.push(Segment::new(config, &self.let_go).map_err(|_| InsertErrorKind::NoMemory)?);
+        Ok(row)
+    }
+
+    /// Adds a segment as the last. Whoever calls it holds `grows`.
+    fn add(&self, segment: Vec<Segment<T>>) -> Result<(), InsertErrorKind> {
+        let open = self.open.load(SeqCst);
+        let _ = self.segments.get(open).ok_or(InsertErrorKind::Full)?.set(segment);
+        self.open.store(open + 1, SeqCst);
         Ok(())
     }
 
@@ -441,7 +459,8 @@ impl<T> Shared<T> {
                 let of_rows: usize = segment.rows.iter().map(Row::linked).sum();
                 (capacity + segment.capacity(), linked + of_rows)
             });
-            if at == 0 || !segment.is_empty() || linked > capacity / 2 {
+            let is_kept = capacity < self.reserved.load(SeqCst);
+            if at == 0 || is_kept || !segment.is_empty() || linked > capacity / 2 {
                 return;
             }
             match segment.claim() {
@@ -507,7 +526,7 @@ impl<T> Shared<T> {
             let grown = self.grown.load(SeqCst);
             let mut moves = self.moves();
             let place = moves.place(key).unwrap_or(*key);
-            let moved = self.move_entry(&mut moves, &place, Some(tick));
+            let moved = self.move_entry(&mut moves, &place, |_| Some(tick));
             drop(moves);
             match moved {
                 Ok(_) => return Ok(*key),
@@ -548,6 +567,13 @@ impl<T> Shared<T> {
     }
 }
 
+/// What became of an entry that was taken out of its slot.
+enum Moved<T> {
+    /// It waits there until a tick.
+    To(Key, u64),
+    Out(Removed<T>),
+}
+
 /// Why an entry isn't moved.
 enum Unmoved {
     Ended,
@@ -555,9 +581,15 @@ enum Unmoved {
 }
 
 impl<T> Shared<T> {
-    /// Moves a live entry to a slot that has stamps, and gives it a deadline, or leaves it the one that it has. Nobody else
-    /// holds two locks of shards, and whoever holds one waits for nothing, so the order of the two is free.
-    fn move_entry(&self, moves: &mut Moves, place: &Key, tick: Option<u64>) -> Result<u64, Unmoved> {
+    /// Moves a live entry to a slot that has stamps, and gives it the deadline that `until` makes of its own; or takes it out,
+    /// where that is none. Nobody else holds two locks of shards, and whoever holds one waits for nothing, so the order of the
+    /// two is free.
+    fn move_entry(
+        &self,
+        moves: &mut Moves,
+        place: &Key,
+        until: impl FnOnce(u64) -> Option<u64>,
+    ) -> Result<Moved<T>, Unmoved> {
         let segment = self.segment(place.segment()).ok_or(Unmoved::Ended)?;
         let at = segment.place_of(place.number());
         let mut source = segment.enter(at);
@@ -565,29 +597,32 @@ impl<T> Shared<T> {
         let key = moves.key(place);
         // From here on whoever doesn't find the entry at its place asks for where it was moved.
         self.moved.store(moves.len() + 1, SeqCst);
-        let moved = self.put_elsewhere(&mut source, (place.segment(), at), &place.entry(), tick);
-        if let Ok((present, _)) = &moved {
-            moves.note(key, *present);
-            self.moves_made.fetch_add(1, SeqCst);
+        let moved = self.put_elsewhere(&mut source, (place.segment(), at), &place.entry(), until);
+        match &moved {
+            Ok(Moved::To(present, _)) => {
+                moves.note(key, *present);
+                self.moves_made.fetch_add(1, SeqCst);
+            }
+            Ok(Moved::Out(_)) => drop(moves.end(place)),
+            Err(_) => {}
         }
         drop(source);
         self.moved.store(moves.len(), SeqCst);
-        moved.map(|(_, tick)| tick)
+        moved
     }
 
     /// Takes an entry out of a shard whose lock is held, and puts it in anew: there, or in the first shard that has room. No
-    /// value is dropped meanwhile: a shard where some are set aside isn't taken. It gives the entry's present key and deadline.
+    /// value is dropped meanwhile: a shard where some are set aside isn't taken.
     fn put_elsewhere(
         &self,
         source: &mut Locked<'_, T>,
         from: (usize, usize),
         entry: &EntryId,
-        tick: Option<u64>,
-    ) -> Result<(Key, u64), Unmoved> {
-        let takes = |shard: &Locked<'_, T>| shard.has_room() && shard.core().aside() == 0;
-        if takes(source) {
+        until: impl FnOnce(u64) -> Option<u64>,
+    ) -> Result<Moved<T>, Unmoved> {
+        if source.takes_again(entry) {
             let removed = source.core_mut().remove(entry).map_err(|_| Unmoved::Ended)?;
-            return Ok(self.put(source, from.0, removed, tick));
+            return Ok(self.put(source, from.0, removed, until));
         }
         for (at, segment) in self.segments() {
             for place in 0..segment.rows.len() {
@@ -595,20 +630,28 @@ impl<T> Shared<T> {
                     continue;
                 }
                 let mut other = segment.enter(place);
-                if takes(&other) {
+                if other.has_room() && other.core().aside() == 0 {
                     let removed = source.core_mut().remove(entry).map_err(|_| Unmoved::Ended)?;
-                    return Ok(self.put(&mut other, at, removed, tick));
+                    return Ok(self.put(&mut other, at, removed, until));
                 }
             }
         }
         Err(Unmoved::NoRoom)
     }
 
-    fn put(&self, shard: &mut Locked<'_, T>, at: usize, removed: Removed<T>, tick: Option<u64>) -> (Key, u64) {
+    fn put(
+        &self,
+        shard: &mut Locked<'_, T>,
+        at: usize,
+        removed: Removed<T>,
+        until: impl FnOnce(u64) -> Option<u64>,
+    ) -> Moved<T> {
         // An extend takes no lock: the deadline that counts is the one with which the entry was taken out.
-        let tick = tick.unwrap_or(removed.deadline);
+        let Some(tick) = until(removed.deadline) else {
+            return Moved::Out(removed);
+        };
         match shard.insert(removed.value, tick) {
-            Ok(key) => (self.key(at, &key), tick),
+            Ok(key) => Moved::To(self.key(at, &key), tick),
             Err(_) => unreachable!("a shard that has a free slot"),
         }
     }
@@ -723,12 +766,12 @@ impl<T> Shared<T> {
                     continue;
                 }
             }
-            let moved = self.move_entry(&mut moves, &self.key(at, &key), None);
+            let moved = self.move_entry(&mut moves, &self.key(at, &key), Some);
             // A task's waker is the program's code.
             drop(moves);
             match moved {
-                Ok(tick) => self.front.ring_before(tick),
-                Err(Unmoved::Ended) => {}
+                Ok(Moved::To(_, tick)) => self.front.ring_before(tick),
+                Ok(Moved::Out(_)) | Err(Unmoved::Ended) => {}
                 Err(Unmoved::NoRoom) => return false,
             }
         }

@@ -115,9 +115,11 @@ impl Source {
 }
 
 impl Time {
-    pub fn new(clock: Source) -> Time {
+    /// The time from a moment on that isn't to come, or from now.
+    pub fn new(clock: Source, start: Option<Instant>) -> Time {
+        let now = clock.now();
         Time {
-            start: clock.now(),
+            start: start.map_or(now, |start| start.min(now)),
             clock,
         }
     }

@@ -161,6 +161,23 @@ impl Run {
         caught(|| drop(made));
     }
 
+    fn remove_if_due(&mut self, key: Key) {
+        let Some(made) = caught(|| self.queue.remove_if_due(&key)) else {
+            return;
+        };
+        let known = self.known(&key);
+        let is_due = known.is_ok_and(|deadline| deadline <= self.clock.now());
+        let number = self.waits.get(&key).filter(|_| is_due).map(|waits| waits.1);
+        assert_eq!(
+            made.as_ref().map(|value| value.as_ref().map(|it| it.number)),
+            known.as_ref().map(|_| number)
+        );
+        if is_due {
+            self.waits.remove(&key);
+        }
+        caught(|| drop(made));
+    }
+
     fn came_out(&mut self, expired: hontkhale::delay_queue::Expired<Value>) {
         let (deadline, number) = self.waits.remove(&expired.key).expect("an entry that waits");
         assert_eq!((expired.deadline, expired.value.number), (deadline, number));
@@ -219,7 +236,8 @@ impl Run {
             (30..=49, Some(key)) => self.extend(key),
             (50..=64, Some(key)) => self.reset(key),
             (65..=71, Some(key)) => self.cancel(key),
-            (72..=78, Some(key)) => self.remove(key),
+            (72..=74, Some(key)) => self.remove(key),
+            (75..=78, Some(key)) => self.remove_if_due(key),
             (79..=84, Some(key)) => self.look(key),
             (85..=93, Some(_)) => self.receive(),
             (94..=98, Some(_)) => self.clock.advance(ms(self.draw.below(self.setting.reach / 4 + 2))),

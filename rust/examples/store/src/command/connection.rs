@@ -265,11 +265,10 @@ pub fn command(_: &mut Client<'_>, words: Words<'_>) -> Answer {
     }
 }
 
-/// It takes nothing out, so that it tells what the keepers did by themselves. The store removes entries, and cancels none:
-/// none that was cancelled waits to be freed.
+/// It takes nothing out, so that it tells what the keepers did by themselves.
 pub fn info(client: &mut Client<'_>, _: Words<'_>) -> Answer {
     let (keyspace, seats) = (&client.desk.keyspace, &client.desk.seats);
-    let Held { keys, expires, bytes, expired, queue } = keyspace.held();
+    let Held { keys, expires, bytes, expired, late } = keyspace.held();
     let (version, held, room) = (env!("CARGO_PKG_VERSION"), seats.bytes(), keyspace.room().most() + seats.room());
     let (clients, resident) = (seats.taken(), keyspace.room().resident().unwrap_or(0));
     Ok(Reply::Text(format!(
@@ -279,12 +278,9 @@ pub fn info(client: &mut Client<'_>, _: Words<'_>) -> Answer {
          used_memory_rss:{resident}\r\nmaxmemory:{room}\r\n\r\n\
          # Stats\r\nexpired_keys:{expired}\r\n\r\n\
          # Replication\r\nrole:master\r\n\r\n\
-         # Queue\r\nwaiting:{}\r\ncancelled_not_freed:0\r\nslots_worn:{}\r\nlate_ms:{}\r\n\r\n\
+         # Queue\r\nwaiting:{expires}\r\nlate_ms:{late}\r\n\r\n\
          # Keyspace\r\n{}",
         bytes + held,
-        queue.waiting,
-        queue.worn,
-        queue.late,
         if keys > 0 { format!("db0:keys={keys},expires={expires},avg_ttl=0\r\n") } else { String::new() }
     )))
 }

@@ -4,7 +4,8 @@ use super::{count, repeated, Answer, Client, Desk, Refusal, Words};
 use crate::clock::Tick;
 use crate::keyspace::Life;
 use crate::resp::{integer, Reply};
-use hontkhale::owner::{Key, Look, LAST_TICK};
+use hontkhale::delay_queue::Key;
+use hontkhale::owner::LAST_TICK;
 
 #[derive(Clone, Copy, PartialEq, Eq)]
 pub enum Unit {
@@ -107,12 +108,9 @@ pub fn expire(client: &mut Client<'_>, words: Words<'_>, how: &Expire) -> Answer
     if only.gt && when > now as i64 {
         return Ok(count(extend(client.desk, name, when as Tick) as usize));
     }
-    client.desk.keyspace.change(&mut client.desk.handle, name, |place| {
+    client.desk.keyspace.change(name, |place| {
         let is_allowed = place.life().is_some_and(|life| only.allow(life, when));
-        if is_allowed {
-            place.expire(when.max(0) as Tick)?;
-        }
-        Ok(count(is_allowed as usize))
+        Ok(count(usize::from(is_allowed && place.expire(when.max(0) as Tick)?)))
     })
 }
 
@@ -126,7 +124,7 @@ fn extend(desk: &mut Desk, name: &[u8], when: Tick) -> bool {
         desk.known.remove(name);
     }
     loop {
-        let entry = desk.keyspace.view(&mut desk.handle, name, |record, _| record.entry());
+        let entry = desk.keyspace.view(name, |record, _| record.entry());
         let entry = match entry.flatten() {
             None => return false,
             Some(entry) => entry,
@@ -139,19 +137,18 @@ fn extend(desk: &mut Desk, name: &[u8], when: Tick) -> bool {
 }
 
 /// None where the entry isn't the name's any more, or is over.
-fn extend_entry(desk: &mut Desk, entry: &Key, when: Tick) -> Option<bool> {
-    match desk.handle.look(entry) {
-        Ok(Look::StillLive(until)) if desk.keyspace.clock.now() >= until => None,
-        Ok(Look::StillLive(until)) if when <= until => Some(false),
-        Ok(Look::StillLive(_)) => desk.handle.extend(entry, when).ok().map(|in_force| in_force == when),
-        _ => None,
+fn extend_entry(desk: &Desk, entry: &Key, when: Tick) -> Option<bool> {
+    match desk.keyspace.deadline(entry)? {
+        until if desk.keyspace.clock.now() >= until => None,
+        until if when <= until => Some(false),
+        _ => desk.keyspace.extend(entry, when).map(|in_force| in_force == when),
     }
 }
 
 /// What is left of a key's life, or when it ends: -1 where it has no end, -2 where there is no key.
 pub fn life(client: &mut Client<'_>, words: Words<'_>, tell: fn(Tick, Tick) -> Tick) -> Answer {
-    let Desk { keyspace, handle, .. } = &mut *client.desk;
-    Ok(Reply::Integer(match keyspace.view(handle, words[1], |_, life| life) {
+    let keyspace = &client.desk.keyspace;
+    Ok(Reply::Integer(match keyspace.view(words[1], |_, life| life) {
         None => -2,
         Some(Life::Endless) => -1,
         Some(Life::Until(until)) => tell(until, keyspace.clock.now().min(until)) as i64,

@@ -6,12 +6,12 @@ use crate::clock::Tick;
 use crate::keyspace::{Lifetime, Place};
 use crate::resp::{integer, Reply};
 
-pub fn change<O>(client: &mut Client<'_>, name: &[u8], change: impl FnOnce(&mut Place<'_>) -> O) -> O {
-    client.desk.keyspace.change(&mut client.desk.handle, name, change)
+pub fn change<O>(client: &mut Client<'_>, name: &[u8], change: impl FnOnce(&mut Place<'_, '_>) -> O) -> O {
+    client.desk.keyspace.change(name, change)
 }
 
 pub fn value(client: &mut Client<'_>, name: &[u8]) -> Reply {
-    let value = client.desk.keyspace.view(&mut client.desk.handle, name, |record, _| record.value.clone());
+    let value = client.desk.keyspace.view(name, |record, _| record.value.clone());
     value.map_or(Reply::Nil, Reply::Bulk)
 }
 
@@ -20,7 +20,7 @@ pub fn get(client: &mut Client<'_>, words: Words<'_>) -> Answer {
 }
 
 fn is_there(client: &mut Client<'_>, name: &[u8]) -> bool {
-    client.desk.keyspace.view(&mut client.desk.handle, name, |_, _| ()).is_some()
+    client.desk.keyspace.view(name, |_, _| ()).is_some()
 }
 
 pub fn exists(client: &mut Client<'_>, words: Words<'_>) -> Answer {
@@ -233,7 +233,9 @@ pub fn get_and_expire(client: &mut Client<'_>, words: Words<'_>) -> Answer {
         if options.is_endless {
             place.persist();
         } else if let Some(time) = &options.time {
-            place.expire(time.positive(place.now(), "getex")?)?;
+            if !place.expire(time.positive(place.now(), "getex")?)? {
+                return Ok(Reply::Nil);
+            }
         }
         Ok(Reply::Bulk(value))
     })

@@ -8,7 +8,7 @@ use crate::resp::integer;
 use hontkhale::owner::LAST_TICK;
 
 /// A script that clients call by its digest, and what it does with a key: the other words are its arguments.
-struct Script(&'static str, fn(&mut Place<'_>, &[&[u8]]) -> Result<bool, Refusal>);
+struct Script(&'static str, fn(&mut Place<'_, '_>, &[&[u8]]) -> Result<bool, Refusal>);
 
 /// The scripts of redis-py's Lock, by which it is released, extended and acquired again.
 const SCRIPTS: [Script; 3] = [
@@ -18,7 +18,7 @@ const SCRIPTS: [Script; 3] = [
 ];
 
 /// The second argument is a time, which counts from the deadline where the third is 0, and from now elsewhere.
-fn extend(place: &mut Place<'_>, args: &[&[u8]]) -> Result<bool, Refusal> {
+fn extend(place: &mut Place<'_, '_>, args: &[&[u8]]) -> Result<bool, Refusal> {
     match place.life() {
         Some(Life::Until(until)) if args.get(2) == Some(&&b"0"[..]) => expire(place, args, |_, _| until),
         Some(Life::Until(_)) => expire(place, args, |_, now| now),
@@ -27,11 +27,14 @@ fn extend(place: &mut Place<'_>, args: &[&[u8]]) -> Result<bool, Refusal> {
 }
 
 /// Gives a key a deadline that is so many milliseconds after another tick.
-fn expire(place: &mut Place<'_>, args: &[&[u8]], from: impl Fn(&Place<'_>, Tick) -> Tick) -> Result<bool, Refusal> {
+fn expire(
+    place: &mut Place<'_, '_>,
+    args: &[&[u8]],
+    from: impl Fn(&Place<'_, '_>, Tick) -> Tick,
+) -> Result<bool, Refusal> {
     let time = args.get(1).and_then(|it| integer(it)).ok_or(Refusal::NOT_AN_INTEGER)?;
     let when = time.checked_add(from(place, place.now()) as i64).filter(|it| *it <= LAST_TICK as i64);
-    place.expire(when.ok_or(Refusal::ExpireTime("pexpire"))?.max(0) as Tick)?;
-    Ok(true)
+    Ok(place.expire(when.ok_or(Refusal::ExpireTime("pexpire"))?.max(0) as Tick)?)
 }
 
 /// EVALSHA of a script that is known. It does nothing where the first argument isn't the key's value.

@@ -30,8 +30,8 @@ struct Queue {
 /// sets it, sets another.
 type Seen = Option<(Value, Life)>;
 
-fn seen(desk: &mut Desk, name: &[u8]) -> Seen {
-    desk.keyspace.view(&mut desk.handle, name, |record, life| (record.value.clone(), life))
+fn seen(desk: &Desk, name: &[u8]) -> Seen {
+    desk.keyspace.view(name, |record, life| (record.value.clone(), life))
 }
 
 fn is_same(one: &Seen, other: &Seen) -> bool {

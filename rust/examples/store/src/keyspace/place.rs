@@ -1,23 +1,20 @@
 //! A key by its name, while its shard is held: what it is, and what becomes of it.
 
-use super::shard::{size, Names, Record};
-use super::{Keyspace, Life, Lifetime, Name, NoRoom, Value, KEEPERS};
+use super::shard::{size, Record, Writer};
+use super::{Keyspace, Life, Lifetime, Name, NoRoom, Value};
 use crate::clock::Tick;
-use crate::handle::Handle;
-use hontkhale::owner::{CoreError, Key};
+use hontkhale::delay_queue::{Key, KeyError};
 
 /// A name in its shard, which is held: a live key, or a place for one.
-pub struct Place<'a> {
+pub struct Place<'a, 'b> {
     pub(super) keyspace: &'a Keyspace,
-    pub(super) handle: &'a mut Handle,
-    pub(super) names: &'a mut Names,
-    pub(super) shard: usize,
+    pub(super) names: &'a mut Writer<'b>,
     pub(super) name: &'a [u8],
     pub(super) now: Tick,
     pub(super) life: Option<Life>,
 }
 
-impl Place<'_> {
+impl Place<'_, '_> {
     pub fn now(&self) -> Tick {
         self.now
     }
@@ -29,10 +26,6 @@ impl Place<'_> {
 
     pub fn value(&self) -> Option<&Value> {
         self.names.records.get(self.name).map(|record| &record.value)
-    }
-
-    fn record(&mut self) -> Option<&mut Record> {
-        self.names.records.get_mut(self.name)
     }
 
     /// Sets the key, or takes it off where it would be over. Nothing is changed where it is refused.
@@ -55,84 +48,82 @@ impl Place<'_> {
     fn put(&mut self, value: &[u8], lifetime: Lifetime) -> Result<(), NoRoom> {
         let old = self.names.records.get_key_value(self.name);
         let (name, old) = old.map_or_else(|| (self.name.into(), None), |it| (it.0.clone(), it.1.entry));
-        let entry = match lifetime {
-            Lifetime::Until(when) => Some(self.entry_until(name.clone(), old, when)?),
-            Lifetime::Kept => old,
-            Lifetime::Endless => {
+        let entry = match (lifetime, old) {
+            (Lifetime::Kept, old) => old,
+            (Lifetime::Endless, old) => {
                 self.drop_entry(old);
                 None
             }
+            (Lifetime::Until(when), None) => Some(self.insert(&name, when)?),
+            (Lifetime::Until(when), Some(old)) => match self.postpone(&old, when)? {
+                // It came to its deadline just now. It was set before.
+                None => Some(self.insert(&name, when)?),
+                entry => entry,
+            },
         };
         self.names.records.insert(name, Record { value: value.into(), entry });
         Ok(())
     }
 
-    /// Gives a live key a deadline, or takes it off where that is over.
-    pub fn expire(&mut self, when: Tick) -> Result<(), NoRoom> {
+    /// Gives a live key a deadline, or takes it off where that is over. False where there is none, or it came to its own
+    /// deadline just now.
+    pub fn expire(&mut self, when: Tick) -> Result<bool, NoRoom> {
         if when <= self.now {
-            self.remove();
-        } else if let Some((name, record)) = self.names.records.get_key_value(self.name) {
-            let (name, old) = (name.clone(), record.entry);
-            let entry = self.entry_until(name, old, when)?;
-            self.record().expect("it was there").entry = Some(entry);
+            return Ok(self.remove());
         }
-        Ok(())
-    }
-
-    /// The entry of a name that has this deadline: the old one, the same with another stamp, or a new one.
-    fn entry_until(&mut self, name: Name, old: Option<Key>, when: Tick) -> Result<Key, NoRoom> {
+        let Some((name, record)) = self.names.records.get_key_value(self.name) else { return Ok(false) };
+        let (name, old) = (name.clone(), record.entry);
         let entry = match old {
-            // An extend wears no slot. One that was later already, by another client too, isn't made earlier by it.
-            Some(old) if self.handle.extend(&old, when) == Ok(when) => return Ok(old),
-            Some(old) => match self.names.queue.reset(&old.entry(), when) {
-                // The slot has no stamp left: in a fresh queue it has.
-                Err(CoreError::Worn) => {
-                    self.names.renew(self.keyspace.last_stamp, self.now).map_err(|_| NoRoom::Deadlines)?;
-                    self.names.tell(self.handle);
-                    let moved = self.record().and_then(|record| record.entry).expect("a renewal moves each entry");
-                    self.names.queue.reset(&moved.entry(), when).map_err(|_| NoRoom::Deadlines)?
-                }
-                other => other.map_err(|_| NoRoom::Deadlines)?,
-            },
-            None => self.insert(name, when)?,
+            None => Some(self.insert(&name, when)?),
+            Some(old) => self.postpone(&old, when)?,
         };
-        self.names.due = self.names.due.min(when);
-        self.keyspace.alarm(self.shard % KEEPERS).ring_before(when);
-        Ok(entry)
-    }
-
-    /// A new entry, for which the queue is renewed where its slots are worn.
-    fn insert(&mut self, name: Name, when: Tick) -> Result<Key, NoRoom> {
-        if self.names.is_worn() {
-            // Where the machine refuses the memory the old one has to do.
-            let _ = self.names.renew(self.keyspace.last_stamp, self.now);
-            self.names.tell(self.handle);
+        if entry.is_none() {
+            self.names.expire(&name);
+        } else if let Some(record) = self.names.records.get_mut(self.name) {
+            record.entry = entry;
         }
-        self.names.queue.insert_or_drop(name, when).map_err(|_| NoRoom::Deadlines)
+        Ok(entry.is_some())
     }
 
-    /// Takes the deadline off a live key. False where it has none.
+    /// Gives an entry another deadline, and answers its key; none where it is over.
+    fn postpone(&self, old: &Key, when: Tick) -> Result<Option<Key>, NoRoom> {
+        // An extend wears no slot. One that was later already, by another client too, isn't made earlier by it.
+        if self.keyspace.extend(old, when) == Some(when) {
+            return Ok(Some(*old));
+        }
+        match self.keyspace.queue.reset_at(old, self.keyspace.clock.moment(when)) {
+            Ok(entry) => Ok(Some(entry)),
+            Err(KeyError::Ended) => Ok(None),
+            Err(_) => Err(NoRoom::Deadlines),
+        }
+    }
+
+    fn insert(&self, name: &Name, when: Tick) -> Result<Key, NoRoom> {
+        let moment = self.keyspace.clock.moment(when);
+        self.keyspace.queue.insert_at(name.clone(), moment).map_err(|_| NoRoom::Deadlines)
+    }
+
+    /// Takes the deadline off a live key. False where it has none, or came to it just now.
     pub fn persist(&mut self) -> bool {
-        let entry = self.record().and_then(|record| record.entry.take());
-        self.drop_entry(entry);
-        entry.is_some()
+        let Some(Record { entry: Some(entry), .. }) = self.names.records.get(self.name) else { return false };
+        let is_live = self.drop_entry(Some(*entry));
+        match self.names.records.get_mut(self.name) {
+            Some(record) if is_live => record.entry = None,
+            _ => drop(self.names.expire(self.name)),
+        }
+        is_live
     }
 
     /// Takes the key off. False where there is none.
     pub fn remove(&mut self) -> bool {
-        match self.names.take_off(self.name) {
-            None => false,
-            Some(record) => {
-                self.names.shrink();
-                self.drop_entry(record.entry);
-                true
-            }
-        }
+        let Some(record) = self.names.take_off(self.name) else { return false };
+        self.drop_entry(record.entry);
+        true
     }
 
-    fn drop_entry(&mut self, entry: Option<Key>) {
-        if let Some(entry) = entry {
-            self.names.queue.remove(&entry.entry()).expect("a record's entry is in the queue");
-        }
+    /// False where the entry came out just now, or there is none.
+    fn drop_entry(&self, entry: Option<Key>) -> bool {
+        self.names.begin_end();
+        entry.is_some_and(|entry| self.keyspace.queue.remove(&entry).is_ok())
     }
 }

@@ -100,22 +100,17 @@ fn expire_changes_what_its_conditions_allow() {
     says(&mut client, "EXPIRE a 80 XX => :1\nTTL a => :80\nPEXPIRE a 9999 => :1\nTTL a => :10");
 }
 
-/// A slot of the queue has so many stamps: where none is needed none is taken.
 #[test]
-fn a_later_deadline_wears_no_slot() {
+fn a_deadline_is_the_one_that_was_told_last() {
     let keyspace = keyspace();
-    let (mut client, mut handle) = (client(&keyspace), keyspace.handle().unwrap());
-    let mut stamp = || keyspace.view(&mut handle, b"a", |record, _| record.entry().unwrap().stamp()).unwrap();
+    let mut client = client(&keyspace);
     is_ok(&mut client, "SET a 1 PX 50000");
-    let first = stamp();
     for (at, later) in (60_000..=70_000).step_by(1_000).enumerate() {
         is_ok(&mut client, &format!("SET a {at} PX {later}"));
         assert_eq!(ask(&mut client, &format!("PEXPIRE a {}", later + 500)), Reply::Integer(1));
         assert!((later - 500..=later + 500).contains(&left(&mut client, "a")));
     }
-    assert_eq!(stamp(), first);
     is_ok(&mut client, "SET a 1 PX 40000");
-    assert_eq!(stamp(), first + 1);
     assert!((39_000..=40_000).contains(&left(&mut client, "a")));
 }
 
@@ -168,6 +163,8 @@ fn no_command_sees_a_key_that_is_over() {
         ("SET a 2 GET", "$-1"),
         ("SET a 2 KEEPTTL", "+OK"),
         ("DBSIZE", ":1"),
+        ("KEYS *", "*1 $1 b"),
+        ("SCAN 0", "*2 $1 0 *1 $1 b"),
     ];
     for (request, wanted) in cases {
         let keyspace = keyspace();
@@ -543,6 +540,28 @@ fn no_request_sees_half_of_a_transaction() {
     });
 }
 
+/// The clock goes on within a transaction, and keepers take off what is due: what is gone once is gone for the rest of it.
+#[test]
+fn a_key_that_ends_within_a_transaction_stays_gone() {
+    let keyspace = super::kept();
+    let (mut client, mut ended) = (client(&keyspace), 0);
+    for life in (1..=8).cycle().take(80) {
+        is_ok(&mut client, "MULTI");
+        let set = format!("SET a 1 PX {life}");
+        for request in [&set[..]].into_iter().chain(["EXISTS a", "DBSIZE"].repeat(1_500)) {
+            assert_eq!(said(&mut client, request), "+QUEUED ", "{request}");
+        }
+        let told = said(&mut client, "EXEC");
+        let told: Vec<_> = told.split_whitespace().skip(2).collect();
+        let gone = told.iter().position(|it| *it == ":0").unwrap_or(told.len());
+        assert_eq!(told.len(), 3_000);
+        assert!(told[..gone].iter().all(|it| *it == ":1") && told[gone..].iter().all(|it| *it == ":0"), "{told:?}");
+        ended += usize::from(gone < told.len());
+        said(&mut client, "DEL a");
+    }
+    assert!(ended > 0, "no key ended within its transaction");
+}
+
 #[test]
 fn what_a_transaction_holds_counts_as_memory() {
     let keyspace = keyspace();
@@ -664,7 +683,7 @@ fn a_scan_tells_what_its_pattern_fits_and_nothing_that_is_over() {
 fn info_tells_what_the_queue_holds() {
     let mut client = client(&keyspace());
     is_ok(&mut client, "SET a 1 PX 60000");
-    assert!(said(&mut client, "INFO").contains("waiting:1 cancelled_not_freed:0 slots_worn:0 late_ms:0 "));
+    assert!(said(&mut client, "INFO").contains("waiting:1 late_ms:0 "));
     is_ok(&mut client, "SET b 1 PX 2");
     thread::sleep(Duration::from_millis(20));
     // Nobody took it out, nor does INFO.
@@ -672,13 +691,13 @@ fn info_tells_what_the_queue_holds() {
     let late = told.split("late_ms:").nth(1).unwrap().split(' ').next().unwrap();
     assert!(told.contains("waiting:2 ") && late.parse::<u64>().unwrap() >= 18, "{told}");
     says(&mut client, "GET b => $-1");
-    assert!(said(&mut client, "INFO").contains("waiting:1 cancelled_not_freed:0 slots_worn:0 late_ms:0 "));
+    assert!(said(&mut client, "INFO").contains("waiting:1 late_ms:0 "));
 }
 
 /// Slots of few stamps, so that a queue is worn again and again: one name that comes and goes, and others that stay.
 #[test]
 fn a_worn_queue_is_renewed_while_it_serves() {
-    let keyspace = Arc::new(Keyspace::of(0, Room::new(64 << 20), 3).unwrap());
+    let keyspace = Arc::new(Keyspace::worn_after(3, 1_000, Room::new(64 << 20)));
     let (mut writer, mut other) = (client(&keyspace), client(&keyspace));
     for at in 0..500 {
         is_ok(&mut writer, &format!("SET stays:{at} 1 PX 600000"));

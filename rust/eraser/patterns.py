@@ -1,0 +1,83 @@
+"""The rules and tables of the file `rules`, and how a rule finds tokens and puts others in their place."""
+import re
+from pathlib import Path
+
+from lists import next_of
+from rattle import CLOSES, Refused, tokens_of
+
+
+def tables():
+    """Each table of the file by its name: pairs of what stands on both sides of an arrow."""
+    text = Path(__file__).with_name("rules").read_text(encoding="utf-8")
+    for found in re.finditer(r"^\[(\w+)\]\n((?:.+\n)*)", text, re.M):
+        yield found[1], [tuple(it.strip() for it in line.split(" =>", 1)) for line in found[2].splitlines()]
+
+
+TABLES = dict(tables())
+
+
+def parts_of(text):
+    """The tokens of one side of a rule, with its names as one token each."""
+    found = []
+    for token in tokens_of(text)[:-1]:
+        if found and found[-1].text == "$":
+            found[-1].text = "$" + token.text
+        else:
+            found.append(token)
+    return found
+
+
+def made(text, like, before=None):
+    """Tokens of a text, in the place of the token `like`."""
+    new = tokens_of(text)[:-1]
+    for token in new:
+        token.line = like.line
+    new[0].before = like.before if before is None else before
+    return new
+
+
+def matched(tokens, at, parts):
+    """What the names of a rule stand for where it stands at an index, and the index behind it; none where it doesn't."""
+    found = {}
+    for part, behind in zip(parts, [*parts[1:], None]):
+        end = at + 1
+        if part[0] == "$" and part[1].islower():
+            end = next_of(tokens, at, {behind} if behind in CLOSES else {behind, ";", "{", *CLOSES})
+        elif tokens[at].kind != "word" if part[0] == "$" else tokens[at].text != part:
+            return None
+        texts = [token.text for token in tokens[at:end]]
+        if part[0] == "$" and texts != [it.text for it in found.setdefault(part, tokens[at:end])]:
+            return None
+        at = end
+    return found, at
+
+
+def with_space(part, its):
+    """Tokens in the place of a part of a rule, with its space before them unless they have their own."""
+    for token in its[:1]:
+        token.before = token.before or part.before
+    return its
+
+
+def rewritten(tokens, name):
+    """Rewrites tokens by the rules of a table."""
+    by_first = {}
+    for old, new in TABLES[name]:
+        old = [part.text for part in parts_of(old)]
+        by_first.setdefault(old[0], []).append((old, new))
+    at = 0
+    while at < len(tokens):
+        step = 1
+        for old, new in by_first.get(tokens[at].text, ()):
+            its = matched(tokens, at, old)
+            if its and new.startswith("!"):
+                raise Refused(f"line {tokens[at].line}: {new[1:]}")
+            if its:
+                new, before = parts_of(new), tokens[at].before
+                tokens[at:its[1]] = [token for part in new for token in with_space(part, its[0].get(part.text, [part]))]
+                tokens[at].before = before
+                # past the rule's own words, and not past what it took over
+                step = next((place for place, part in enumerate(new) if part.text in its[0]), len(new)) or 1
+                break
+        at += step
+    return tokens

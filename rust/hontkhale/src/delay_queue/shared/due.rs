@@ -1,0 +1,61 @@
+//! The end of an entry by whoever comes upon it once its deadline is over.
+
+use super::{Moved, Shared, Step, Unmoved};
+use crate::core::Removed;
+use crate::delay_queue::errors::KeyError;
+use crate::delay_queue::key::Key;
+use std::sync::atomic::Ordering::SeqCst;
+
+impl<T> Shared<T> {
+    /// Takes a live entry out where its deadline isn't after the present tick.
+    pub fn remove_if_due(&self, key: &Key) -> Result<Option<T>, KeyError> {
+        let now = self.front.time.tick();
+        let deadline = match self.step(key, Step::Look) {
+            // Memory is for looks to come: the shard tells without.
+            Err(KeyError::NoMemory) => {
+                let deadline = self.at_entry(key, |shard, entry| shard.core_mut().deadline(entry));
+                deadline.map_err(|_| KeyError::Ended)?.1
+            }
+            deadline => deadline?,
+        };
+        if deadline > now {
+            return Ok(None);
+        }
+        self.remove_unless_extended(key, now)
+    }
+
+    /// The same of an entry that was due. An extend takes no lock: one that came since is seen only as the entry is taken out,
+    /// and then the entry goes on at another place.
+    fn remove_unless_extended(&self, key: &Key, now: u64) -> Result<Option<T>, KeyError> {
+        let mut is_tidy = false;
+        loop {
+            let grown = self.grown.load(SeqCst);
+            let mut moves = self.moves();
+            let place = moves.place(key).unwrap_or(*key);
+            let until = |deadline| Some(deadline).filter(|deadline| *deadline > now);
+            let moved = self.move_entry(&mut moves, &place, until);
+            drop(moves);
+            match moved {
+                Ok(Moved::Out(removed)) => return Ok(Some(self.ended(&place, removed))),
+                Ok(Moved::To(_, tick)) => {
+                    self.front.ring_before(tick);
+                    return Ok(None);
+                }
+                Err(Unmoved::Ended) => return Err(KeyError::Ended),
+                Err(Unmoved::NoRoom) if is_tidy => self.grow(grown).map_err(|_| KeyError::NoMemory)?,
+                Err(Unmoved::NoRoom) => self.tidy(),
+            }
+            is_tidy = true;
+        }
+    }
+
+    /// The value of an entry that was taken out of its place, and is counted so.
+    fn ended(&self, place: &Key, removed: Removed<T>) -> T {
+        self.front.count_out();
+        let segment = self.segment(place.segment()).expect("a segment of the queue");
+        if place.segment() > 0 && segment.rows[segment.place_of(place.number())].linked() == 0 {
+            self.shrink();
+        }
+        removed.value
+    }
+}
