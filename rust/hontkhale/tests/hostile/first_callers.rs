@@ -20,7 +20,11 @@ impl Fought {
     fn new() -> Fought {
         let mut queue = shared_queue(1).expect("a queue");
         let key = queue.insert_or_drop(0, FAR).expect("room");
-        Fought { queue, key, cancelled: 0 }
+        Fought {
+            queue,
+            key,
+            cancelled: 0,
+        }
     }
 
     fn call(&mut self, number: u64) {

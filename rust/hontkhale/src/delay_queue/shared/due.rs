@@ -12,10 +12,7 @@ impl<T> Shared<T> {
         let now = self.front.time.tick();
         let deadline = match quick_step(&self.front, key, Step::Look) {
             Some(deadline) => deadline?,
-            None => {
-                let deadline = self.at_entry(key, |shard, entry| shard.core_mut().deadline(entry));
-                deadline.map_err(|_| KeyError::Ended)?.1
-            }
+            None => self.deadline(key).map_err(|_| KeyError::Ended)?,
         };
         if deadline > now {
             return Ok(None);
