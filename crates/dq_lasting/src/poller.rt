@@ -9,10 +9,10 @@ ghost use Rattle.dq_lasting.specs.Polling.{ParksLeftWaker, RingsParked, PollsOrP
 ghost use Rattle.dq_lasting.specs.Polling.{no_memory, with_parked, with_none_parked};
 
 use crate::errors::LastingError;
-use crate::queue::{LastingQueue, unlock};
+use crate::queue::LastingQueue;
 use crate::shard::LastingShard;
 use dq_core::{CoreError, Expired, Turn};
-use dq_parking::{Parked, let_sleep};
+use dq_parking::{Parked, let_sleep, unlock};
 use futures::task::{Poll, Waker};
 use std::alloc::Allocator;
 use std::sync::Wait;

@@ -79,8 +79,8 @@ impl<N: Drop> Parked<N> {
     }
 }
 
-/// Lets a poller go that was taken out, and doesn't wake its task. True where there is one. Its waker is the user's: where
-/// letting it go may call the queue, the shard's lock is to be free.
+/// Lets a poller go that was taken out, and doesn't wake its task. True where there is one. Its waker is the user's:
+/// where letting it go may call the queue, the shard's lock is to be free.
 pub fn let_sleep<N: Drop>(taken: Option<Parked<N>>) -> bool
     ensures { result ≡ is_some taken }
 {
@@ -93,8 +93,8 @@ pub fn let_sleep<N: Drop>(taken: Option<Parked<N>>) -> bool
     }
 }
 
-/// A poller that has left its shard, if one has. It isn't `Drop`: whoever has it has to wake it, once the shard's lock is
-/// free.
+/// A poller that has left its shard, if one has. It isn't `Drop`: whoever has it has to wake it, once the shard's lock
+/// is free.
 pub struct Leaver<N = u64> {
     /// The poller; none where none has left.
     pub poller: Option<Parked<N>>,
@@ -133,13 +133,9 @@ pub fn keep_until<N: Until>(parked: &mut Option<Parked<N>>, next_wake: Option<u6
     ensures stays { parked.new ≡ still_parked N.lasts parked.old next_wake }
     ensures leaves { Leaves parked.old result.poller parked.new }
 {
-    let Some(poller) = parked else {
-        return Leaver { poller: None };
-    };
-    if poller.next.lasts_until(next_wake) {
-        Leaver { poller: None }
-    } else {
-        take(parked)
+    match parked {
+        Some(poller) if !poller.next.lasts_until(next_wake) => take(parked),
+        _ => Leaver { poller: None },
     }
 }
 
@@ -149,12 +145,8 @@ pub fn ring<N: Until>(parked: &mut Option<Parked<N>>, tick: u64) -> Leaver<N>
     ensures stays { parked.new ≡ after_ring N.ends parked.old tick }
     ensures leaves { Leaves parked.old result.poller parked.new }
 {
-    let Some(poller) = parked else {
-        return Leaver { poller: None };
-    };
-    if poller.next.ends_by(tick) {
-        take(parked)
-    } else {
-        Leaver { poller: None }
+    match parked {
+        Some(poller) if poller.next.ends_by(tick) => take(parked),
+        _ => Leaver { poller: None },
     }
 }

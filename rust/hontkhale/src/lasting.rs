@@ -19,7 +19,6 @@ mod names;
 mod numbered;
 mod opening;
 mod paced;
-mod parts;
 mod poller;
 mod queue;
 mod shard;

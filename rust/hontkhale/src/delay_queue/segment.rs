@@ -238,7 +238,7 @@ impl<T> Segment<T> {
     fn put_in(&self, capacity: usize, takes: bool) -> bool {
         let by = self.rows.len() as u32;
         let next = |place| {
-            let shard = self.queue.lock(place).number().checked_add(by)?;
+            let shard = self.queue.lock(place).attended.core.shard().checked_add(by)?;
             let last_stamp = self.config.last_stamp;
             numbered_queue(CoreConfig {
                 shard,

@@ -2,9 +2,9 @@
 
 use crate::core::{CoreError, Expired, Turn};
 use crate::lasting::errors::LastingError;
-use crate::lasting::queue::{unlock, LastingQueue};
+use crate::lasting::queue::LastingQueue;
 use crate::lasting::shard::LastingShard;
-use crate::parking::{let_sleep, Parked};
+use crate::parking::{let_sleep, unlock, Parked};
 use core::task::{Poll, Waker};
 
 /// What the poller waits for that is parked in a shard.

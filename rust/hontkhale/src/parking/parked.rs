@@ -57,8 +57,8 @@ impl<N> Parked<N> {
     }
 }
 
-/// Lets a poller go that was taken out, and doesn't wake its task. True where there is one. Its waker is the user's: where
-/// letting it go may call the queue, the shard's lock is to be free.
+/// Lets a poller go that was taken out, and doesn't wake its task. True where there is one. Its waker is the user's:
+/// where letting it go may call the queue, the shard's lock is to be free.
 pub fn let_sleep<N>(taken: Option<Parked<N>>) -> bool {
     match taken {
         Some(poller) => {
@@ -69,8 +69,8 @@ pub fn let_sleep<N>(taken: Option<Parked<N>>) -> bool {
     }
 }
 
-/// A poller that has left its shard, if one has. It isn't `Drop`: whoever has it has to wake it, once the shard's lock is
-/// free.
+/// A poller that has left its shard, if one has. It isn't `Drop`: whoever has it has to wake it, once the shard's lock
+/// is free.
 pub struct Leaver<N = u64> {
     /// The poller; none where none has left.
     pub poller: Option<Parked<N>>,
@@ -99,24 +99,16 @@ pub fn take<N>(parked: &mut Option<Parked<N>>) -> Leaver<N> {
 
 /// Takes the poller out unless it may go on waiting at this next wake.
 pub fn keep_until<N: Until>(parked: &mut Option<Parked<N>>, next_wake: Option<u64>) -> Leaver<N> {
-    let Some(poller) = parked else {
-        return Leaver { poller: None };
-    };
-    if poller.next.lasts_until(next_wake) {
-        Leaver { poller: None }
-    } else {
-        take(parked)
+    match parked {
+        Some(poller) if !poller.next.lasts_until(next_wake) => take(parked),
+        _ => Leaver { poller: None },
     }
 }
 
 /// Takes the poller out where its wait is over at a tick.
 pub fn ring<N: Until>(parked: &mut Option<Parked<N>>, tick: u64) -> Leaver<N> {
-    let Some(poller) = parked else {
-        return Leaver { poller: None };
-    };
-    if poller.next.ends_by(tick) {
-        take(parked)
-    } else {
-        Leaver { poller: None }
+    match parked {
+        Some(poller) if poller.next.ends_by(tick) => take(parked),
+        _ => Leaver { poller: None },
     }
 }
