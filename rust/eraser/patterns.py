@@ -6,14 +6,9 @@ from lists import next_of
 from rattle import CLOSES, Refused, tokens_of
 
 
-def tables():
-    """Each table of the file by its name: pairs of what stands on both sides of an arrow."""
-    text = Path(__file__).with_name("rules").read_text(encoding="utf-8")
-    for found in re.finditer(r"^\[(\w+)\]\n((?:.+\n)*)", text, re.M):
-        yield found[1], [tuple(it.strip() for it in line.split(" =>", 1)) for line in found[2].splitlines()]
-
-
-TABLES = dict(tables())
+# Each table of the file by its name: pairs of what stands on both sides of an arrow.
+TABLES = {name: [tuple(map(str.strip, line.split(" =>", 1))) for line in lines.splitlines()] for name, lines in re.findall(
+    r"^\[(\w+)\]\n((?:.+\n)*)", Path(__file__).with_name("rules").read_text(encoding="utf-8"), re.M)}
 
 
 def parts_of(text):
