@@ -41,17 +41,12 @@ def matched(tokens, at, parts):
         elif tokens[at].kind != "word" if part[0] == "$" else tokens[at].text != part:
             return None
         texts = [token.text for token in tokens[at:end]]
+        # what it follows in its new place may be a word
+        tokens[at].before = tokens[at].before or " " * (part[0] == "$")
         if part[0] == "$" and texts != [it.text for it in found.setdefault(part, tokens[at:end])]:
             return None
         at = end
     return found, at
-
-
-def with_space(part, its):
-    """Tokens in the place of a part of a rule, with its space before them unless they have their own."""
-    for token in its[:1]:
-        token.before = token.before or part.before
-    return its
 
 
 def rewritten(tokens, name):
@@ -69,7 +64,7 @@ def rewritten(tokens, name):
                 raise Refused(f"line {tokens[at].line}: {new[1:]}")
             if its:
                 new, before = parts_of(new), tokens[at].before
-                tokens[at:its[1]] = [token for part in new for token in with_space(part, its[0].get(part.text, [part]))]
+                tokens[at:its[1]] = [token for part in new for token in its[0].get(part.text, [part])]
                 tokens[at].before = before
                 # past the rule's own words, and not past what it took over
                 step = next((place for place, part in enumerate(new) if part.text in its[0]), len(new)) or 1
