@@ -32,9 +32,9 @@ def edits():
     return [(path, path.stem, [it for line in OF_EDIT.findall(text_of(path)) for it in line.split()]) for path in paths]
 
 
-def filled(text, faults):
-    """The page with its last column made anew; adds to `faults` each file, and what it says of no promise."""
-    carriers = {found[2]: ([], []) for found in ROW.finditer(text)}
+def filled(text):
+    """The page with its last column made anew, and the faults: each file, and what it says of no promise."""
+    carriers, faults = {found[2]: ([], []) for found in ROW.finditer(text)}, []
     for place, its in enumerate((tests(), edits())):
         for path, name, promises in its:
             if not promises:
@@ -51,4 +51,4 @@ def filled(text, faults):
             faults.append((PAGE, f"{found[2]} has no test and no edit, and says neither `proved alone` nor `by inspection`"))
         return f"{found[1]} {told} |" if told else f"{found[1]} |"
 
-    return ROW.sub(row, text)
+    return ROW.sub(row, text), faults

@@ -38,7 +38,7 @@ def erased_types(tokens):
 
 
 def kept_type(element, types, is_where):
-    """An element of a list of types without the bound `Drop`; nothing of one of those types, or of what has no bound left."""
+    """An element of a list of types without the bound `Drop`; nothing of those types, or of what has no bound left."""
     has_bounds = texts_of(element[1:2]) == [":"]
     if element[0].text in types and (has_bounds or len(element) == 1):
         return []
@@ -52,7 +52,7 @@ def kept_type(element, types, is_where):
 
 
 def without_types(tokens, types):
-    """Takes those types out of each list of types, with their bounds, and the bound `Drop`, which each type of Rust meets."""
+    """Takes those types out of each list of types, with their bounds, and the bound `Drop`, which all of Rust meets."""
     for at, end in type_lists(tokens):
         its = list(elements(tokens, at + 1, end))
         kept = [kept_type(it, types, tokens[at].text == "where") for it in its]

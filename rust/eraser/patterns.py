@@ -7,8 +7,9 @@ from rattle import CLOSES, Refused, tokens_of
 
 
 # Each table of the file by its name: pairs of what stands on both sides of an arrow.
-TABLES = {name: [tuple(map(str.strip, line.split(" =>", 1))) for line in lines.splitlines()] for name, lines in re.findall(
-    r"^\[(\w+)\]\n((?:.+\n)*)", Path(__file__).with_name("rules").read_text(encoding="utf-8"), re.M)}
+TEXT = Path(__file__).with_name("rules").read_text(encoding="utf-8")
+TABLES = {name: [tuple(map(str.strip, line.split(" =>", 1))) for line in lines.splitlines()]
+          for name, lines in re.findall(r"^\[(\w+)\]\n((?:.+\n)*)", TEXT, re.M)}
 
 
 def parts_of(text):
@@ -32,7 +33,7 @@ def made(text, like, before=None):
 
 
 def matched(tokens, at, parts):
-    """What the names of a rule stand for where it stands at an index, and the index behind it; none where it doesn't."""
+    """What the names of a rule stand for if it stands at an index, and the index behind it; none if it doesn't."""
     found = {}
     for part, behind in zip(parts, [*parts[1:], None]):
         end = at + 1

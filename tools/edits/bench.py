@@ -65,10 +65,9 @@ class Bench:
         built = lambda it: TOP / "crates" / it / "out" / "rlib"
         root = "src/main.rt" if (folder / "src" / "main.rt").is_file() else "src/lib.rt"
         words = [f"{kit}/bin/rattle", "check", "--crate-name", name, root, "-L", f"dependency={kit}/rlibs"]
-        for it in ("std", *of_kit):
-            words += ["--extern", f"{it}={kit}/rlibs/{it}.rlib"]
-        for it in self.graph[name]:
-            words += ["--extern", f"{it}={built(it) / it}.rlib"]
+        of_kit = {it: f"{kit}/rlibs/{it}" for it in ("std", *of_kit)}
+        for it, library in {**of_kit, **{it: built(it) / it for it in self.graph[name]}}.items():
+            words += ["--extern", f"{it}={library}.rlib"]
         for it in self.below(name)[:-1]:
             words += ["-L", f"dependency={built(it)}"]
         words += ["--crate-type", "staticlib"] if "staticlib" in kind else []
