@@ -262,7 +262,7 @@ def name_of_impl(words):
     arguments = type_name.partition("<")[2].rpartition(">")[0]
     is_own = lambda it: not it or it.startswith("'") or re.search(rf"(?:^|,)\s*(?:const )?{re.escape(it)}\b", own)
     if not of and not all(is_own(it.strip()) for it in arguments.split(",")):
-        return "+".join([last(type_name), *re.findall(r"\w+", arguments)])
+        return "+".join([last(type_name), *re.findall(r"(?<!')\b\w+", arguments)])
     # of the type's own arguments the check names those that are no parameters, as in `OptionU64`
     plain = re.findall(r"(?<!')\b[a-z]\w*\b(?!::)", type_name.partition("<")[2])
     name = "".join(it[:1].upper() + it[1:] for it in (last(type_name), *plain))

@@ -90,7 +90,7 @@ def defined_names(tokens):
     return found
 
 
-TRAITS = {"Read", "Write", "Deref", "DerefMut", "Hash", "TickSource"}
+TRAITS = {"Read", "Write", "Deref", "DerefMut", "Hash", "TickSource", "Shard", "Until"}
 
 
 def is_gone(source, path, gone):

@@ -39,15 +39,16 @@ def erased_types(tokens):
 
 def kept_type(element, types, is_where):
     """An element of a list of types without the bound `Drop`; nothing of those types, or of what has no bound left."""
-    has_bounds = texts_of(element[1:2]) == [":"]
-    if element[0].text in types and (has_bounds or len(element) == 1):
+    texts = texts_of(element)
+    colon = texts.index(":") if ":" in texts else len(texts)
+    if element[0].text in types and (colon == 1 or len(element) == 1):
         return []
-    if has_bounds and "Drop" in texts_of(element):
-        at = texts_of(element).index("Drop")
+    if "Drop" in texts[colon:]:
+        at = texts.index("Drop")
         first = at - (element[at - 1].text == "+")
         element = element[:first] + element[max(at, first + 2):]
-        if len(element) == 2:
-            return [] if is_where else element[:1]
+        if len(element) == colon + 1:
+            return [] if is_where else element[:colon]
     return element
 
 

@@ -1,5 +1,5 @@
 -- The steps of a poll in pieces: each keeps the shard law, goes the machine's way, and leaves a step less.
-use Rattle.std.proofs.Common.{◌≡◌, ◌≢◌, ℕ, ◌+◌, ◌-◌, ◌*◌, ◌<◌, ◌≤◌, max, Bool, List, [], ◌∷◌, ◌++◌, length, get_or, set, Option, Some, None, MatchOption, MatchBool, true, false, refl, sym, ap, ◌∙◌, subst, inl, inr, ◌⊎◌, arith}
+use Rattle.std.proofs.Common.{◌≡◌, ◌≢◌, ℕ, ◌+◌, ◌-◌, ◌*◌, ◌<◌, ◌≤◌, max, Bool, List, [], ◌∷◌, ◌++◌, length, get_or, set, Option, Some, None, IfSome, MatchOption, MatchBool, true, false, refl, sym, ap, ◌∙◌, subst, inl, inr, ◌⊎◌, arith}
 use Rattle.std.specs.List.{sum_by}
 use Rattle.std.proofs.lemmas.List.{length-map, length-set, length-append, get_or-set_same, set-get_or}
 use Rattle.std.proofs.lemmas.List.Sums.{sum_by-set, sum_by-le}
@@ -11,7 +11,7 @@ use Rattle.dq_ticks.specs.declared.words.Parts.{Parts}
 use Rattle.dq_ticks.specs.declared.TheConstants.{LAST_TICK}
 use Rattle.dq_ticks.specs.Units.{lap}
 use Rattle.dq_ticks.specs.declared.words.Mark.TheVariants.{LiveMark, CancelledMark}
-use Rattle.dq_wheel.specs.State.{Filing, WheelState, filed_at, linked, unlinked}
+use Rattle.dq_wheel.specs.State.{Filing, WheelState, filed_at, linked, unlinked, OthersStayFiled}
 use Rattle.dq_wheel.specs.Moves.{ReachesLimit}
 use Rattle.dq_wheel.specs.Arrivals.{arrives, ArrivesAtWake, AreFiledByThen}
 use Rattle.dq_core.specs.declared.slots.Held.{Held}
@@ -30,7 +30,7 @@ use Rattle.dq_core.specs.Machine.{Machine, Pass, RunOf, IsOnTheWay, NoneLiveBefo
 use Rattle.dq_core.specs.Core.{Core, machine, IsPlaced, IsLawfulCore, filing_for}
 use Rattle.dq_core.specs.TableRows.{machine_of}
 use Rattle.dq_core.specs.Calls.{SameCore, LooksOver, IsFiledOver, IsUnderWay, IsAnswered, IsOut, IsTurn, TurnRow, turn_counts, TellsWake, WakesAhead, work, noting}
-use Rattle.dq_core.specs.Pieces.{ArrivesOn, PieceStep, ComesThrough, WheelComes, IsFiledByThen, IsComing, IsAnsweredBy, due_step, steps_left, LeavesFewer, IsPieceStep, IsPieceBy, IsPolledSome, IsStepAt}
+use Rattle.dq_core.specs.Pieces.{ArrivesOn, PieceStep, ComesThrough, WheelComes, IsFiledByThen, IsComing, IsAnsweredBy, due_step, steps_left, LeavesFewer, IsPieceStep, IsPieceBy, SettlesByLook, LooksOn, IfDue, IsPolledSome, IsStepAt}
 use Rattle.dq_core.proofs.Looks.{looks_none, looks_more, learned_more}
 use Rattle.dq_core.proofs.Law.{filed_is, force_learned}
 use Rattle.dq_core.proofs.Steps.{IsAtRest, relinked, step_later, later_lawful, step_cancelled, cancelled_lawful}
@@ -438,14 +438,14 @@ IsOnPiece shared b t turns cur =
     × (steps_left cur + turns ≤ steps_left (noting b t))
 
 pub piece_more : {T W : Type 0} (shared : Bool) (b cur c : Core T W) (t turns made : ℕ) → IsOnPiece shared b t turns cur → 0 < made → SameCore cur c → c.noted ≡ cur.noted →
-    IsComing shared 1 cur c × (steps_left c + made ≤ steps_left cur) → IsOnPiece shared b t (turns + made) c
+    IsComing shared made cur c × (steps_left c + made ≤ steps_left cur) → IsOnPiece shared b t (turns + made) c
 piece_more shared b cur c t turns made on some same noted way =
     let fewer : steps_left c + made ≤ steps_left cur = way.1 in
     let left : steps_left cur + turns ≤ steps_left (noting b t) = on.4 in (
       on.0,
       (same.0 ∙ on.1.0, same.1 ∙ on.1.1, same.2 ∙ on.1.2),
       noted ∙ on.2,
-      coming_fewer shared (turns + 1) (turns + made) (noting b t) c (omega arith) (coming_more shared turns 1 (noting b t) cur c on.1.1 on.2 on.3 way.0),
+      coming_more shared turns made (noting b t) cur c on.1.1 on.2 on.3 way.0,
       omega arith,
     )
 
@@ -572,7 +572,7 @@ piece_by_one shared b Rests c step = step
 piece_beside : {T W : Type 0} (shared : Bool) (b : Core T W) (w : W) (i : ℕ) (made : Progress T) (c : Core T W) → filed_at b.wheel.filing.filed i ≡ Some b.wheel.filing.tick →
     IsPieceStep shared (record b { words = w }) made c → IsPieceBy shared b 2 made c
 piece_beside shared b w i (Gave x) c due step = answered_beside shared b c (Out x) w step
-piece_beside shared b w i Went c due step = (coming_beside shared b c w step.0, step.1.1 (i, due))
+piece_beside shared b w i Went c due step = (coming_fewer shared 1 2 b c (omega arith) (coming_beside shared b c w step.0), step.1.1 (i, due))
 piece_beside {T} {W} shared b w i Rests c due step =
     let F : Core T W → Type 0 = λ q. filed_at q.wheel.filing.filed i ≡ Some q.wheel.filing.tick in
     absurd (step.3 i (subst F (sym step.0) due))
@@ -582,3 +582,53 @@ pub piece_by_two : {T W : Type 0} (shared : Bool) (b n : Core T W) (i : ℕ) (ma
 piece_by_two {T} {W} shared b n i made c due same step =
     let P : Core T W → Type 0 = λ q. IsPieceStep shared q made c in
     piece_beside shared b n.words i made c due (subst P same step)
+
+-- an index that is due
+pub due_next : (w : Filing) (o : Option ℕ) → IfSome o (λ j. filed_at w.filed j ≡ Some w.tick) → IfSome o (λ j. j < length w.filed) → IfDue w o
+due_next w None due inside = tt
+due_next w (Some j) due inside = (inside, due)
+
+-- what is due next stays so where another index was filed anew
+pub due_beside : (v w : Filing) (i : ℕ) (o : Option ℕ) → OthersStayFiled v.filed w.filed i → w.tick ≡ v.tick → length w.filed ≡ length v.filed →
+    IfSome o (λ j. filed_at v.filed j ≡ Some v.tick) → IfSome o (λ j. j < length v.filed) → IfSome o (λ j. j ≢ i) → IfDue w o
+due_beside v w i None others tick size due inside other = tt
+due_beside v w i (Some j) others tick size due inside other = (rw size inside, others j other ∙ (due ∙ ap Some (sym tick)))
+
+-- looks that settle one due index after the other
+abbrev pub IsOnLooks : {T W : Type 0} → Bool → Core T W → ℕ → Core T W → Type 0
+IsOnLooks shared b made cur = SameCore b cur × (cur.noted ≡ b.noted) × IsComing shared made b cur × (steps_left cur + 2 * made ≤ steps_left b)
+
+pub looks_init : {T W : Type 0} (shared : Bool) (b : Core T W) → IsOnLooks shared b 0 b
+looks_init shared b = ((refl, refl, refl), refl, coming_none shared b, omega arith)
+
+pub looks_on : {T W : Type 0} (shared : Bool) (b cur c : Core T W) (made : ℕ) → IsOnLooks shared b made cur → SameCore cur c → c.noted ≡ cur.noted →
+    SettlesByLook shared cur true c → IsOnLooks shared b (made + 1) c
+looks_on shared b cur c made on same noted way =
+    let fewer : steps_left c + 2 ≤ steps_left cur = way.1 in
+    let left : steps_left cur + 2 * made ≤ steps_left b = on.3 in (
+      (same.0 ∙ on.0.0, same.1 ∙ on.0.1, same.2 ∙ on.0.2),
+      noted ∙ on.1,
+      coming_more shared made 1 b cur c on.0.1 on.1 on.2 way.0,
+      omega arith,
+    )
+
+pub looks_done : {T W : Type 0} (shared : Bool) (b cur : Core T W) (made : ℕ) → IsOnLooks shared b made cur → LooksOn shared b made cur
+looks_done shared b cur made on = let left : steps_left cur + 2 * made ≤ steps_left b = on.3 in (on.2, omega arith)
+
+-- the last one settles none
+coming_looked : {T W : Type 0} (shared : Bool) (n : ℕ) (b c : Core T W) (w : W) → IsComing shared n b c → IsComing shared n b (record c { words = w })
+coming_looked shared n b c w x = record { way = x.way; looks = x.looks; wheel = x.wheel; ticks = x.ticks; filed = x.filed; counts = x.counts }
+
+pub looks_stop : {T W : Type 0} (shared : Bool) (b cur c : Core T W) (made : ℕ) → IsOnLooks shared b made cur → SettlesByLook shared cur false c → LooksOn shared b (made + 1) c
+looks_stop {T} {W} shared b cur c made on same =
+    let P : Core T W → Type 0 = λ q. LooksOn shared b (made + 1) q in
+    let left : steps_left cur + 2 * made ≤ steps_left b = on.3 in
+    subst P (sym same) (coming_looked shared (made + 1) b cur c.words (coming_fewer shared made (made + 1) b cur (omega arith) on.2), omega arith)
+
+-- after a look that settled its own
+pub piece_by_looks : {T W : Type 0} (shared : Bool) (b n c : Core T W) (more : ℕ) → SameCore b n → n.noted ≡ b.noted → SettlesByLook shared b true n → LooksOn shared n more c →
+    IsPieceBy shared b (1 + more) Went c
+piece_by_looks shared b n c more same noted way looks =
+    let fewer : steps_left n + 2 ≤ steps_left b = way.1 in
+    let left : steps_left c + more ≤ steps_left n + 1 = looks.1 in
+    (coming_more shared 1 more b n c same.1 noted way.0 looks.0, omega arith)

@@ -109,10 +109,10 @@ IsPieceStep shared b Rests c =
     (c ≡ b) × (c.wheel.filing.tick ≡ c.noted) × NoneLiveBefore (machine c) (c.noted + 1)
     × ((i : ℕ) → filed_at c.wheel.filing.filed i ≢ Some c.wheel.filing.tick)
 
--- what one step does, where so many are made over the words
+-- what steps do of which so many are made over the words
 abbrev pub IsPieceBy : {T W : Type 0} → Bool → Core T W → ℕ → Progress T → Core T W → Type 0
 IsPieceBy shared b made (Gave x) c = IsAnsweredBy shared 1 b (Out x) c
-IsPieceBy shared b made Went c = IsComing shared 1 b c × (steps_left c + made ≤ steps_left b)
+IsPieceBy shared b made Went c = IsComing shared made b c × (steps_left c + made ≤ steps_left b)
 IsPieceBy shared b made Rests c = IsPieceStep shared b Rests c
 
 -- a due index is settled by a look at its word, which is one step; or its word is live at the tick,
@@ -120,6 +120,15 @@ IsPieceBy shared b made Rests c = IsPieceStep shared b Rests c
 abbrev pub SettlesByLook : {T W : Type 0} → Bool → Core T W → Bool → Core T W → Type 0
 SettlesByLook shared b true c = IsComing shared 1 b c × (steps_left c + 2 ≤ steps_left b)
 SettlesByLook shared b false c = c ≡ record b { words = c.words }
+
+-- so many looks at due indexes: each settled its own, but for the last one, which may have settled none
+abbrev pub LooksOn : {T W : Type 0} → Bool → Core T W → ℕ → Core T W → Type 0
+LooksOn shared b made c = IsComing shared made b c × (steps_left c + made ≤ steps_left b + 1)
+
+-- an index, where there is one, is due
+abbrev pub IfDue : Filing → Option ℕ → Type 0
+IfDue w None = Unit {0}
+IfDue w (Some i) = (i < length w.filed) × (filed_at w.filed i ≡ Some w.tick)
 
 -- what one step does at that pace
 abbrev pub IsStepAt : {T W : Type 0} → Bool → Pace → Core T W → Progress T → Core T W → Type 0

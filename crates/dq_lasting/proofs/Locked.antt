@@ -1,5 +1,6 @@
 -- A call under a lock, and what loops over such calls keep.
-use Rattle.std.proofs.Common.{◌≡◌, ℕ, ◌+◌, ◌<◌, ◌≤◌, ◌%◌, List, [], ◌∷◌, ◌++◌, length, Bool, true, false, Result, Ok, Err, refl, sym, ap, ◌∙◌, subst, inl, ⊎_elim, arith}
+use Rattle.std.proofs.Common.{◌≡◌, ℕ, ◌+◌, ◌-◌, ◌<◌, ◌≤◌, ◌%◌, List, [], ◌∷◌, ◌++◌, length, Bool, true, false, Result, Ok, Err, refl, sym, ap, ◌∙◌, subst, ⊎_elim, arith}
+use Rattle.std.specs.Prelude.{if◌then◌else◌}
 use Rattle.std.proofs.lemmas.List.{length-set}
 use Rattle.std.proofs.lemmas.Bool.{cases_eq, cases_lt}
 use Rattle.dq_lasting.specs.declared.errors.LastingError.TheVariants.{Core, Closed, Unknown}
@@ -10,6 +11,10 @@ use Rattle.dq_lasting.specs.Answers.{IsOfPlace, AtPlace, InsertsAtPlace, PassedO
 use Rattle.dq_lasting.specs.Handles.{IssuedAt, IssuedFrom, TakesOn}
 use Rattle.dq_lasting.specs.Keeping.{AtEach}
 use Rattle.dq_lasting.specs.Numbered.{Numbered}
+
+-- the shard at a place of a row
+pub of_place : {T : Type 0} (n p : ℕ) (s : LastingView T) → IsLasting s → s.core.shard % n ≡ p → IsOfPlace n p s
+of_place n p s law at = record { lasting = law; number = at }
 
 -- a call that goes by the guard of a lock
 pub at_place : {T R : Type 0} (n p : ℕ) (gives : LastingView T → R → LastingView T → Type 0) (result : R) (held was now read : LastingView T) → IsOfPlace n p held → was ≡ held → IsLasting read → read ≡ now → gives was result now → AtPlace n p gives result
@@ -43,6 +48,21 @@ told_more {T} n p many when value (Core told) e before goes one =
     let at = before.1 in
     (before.0, (at.0, omega (arith, at.1), at.2), each_turn (λ t. PassedOnAt n ((p + t) % n) value when) many before.2 (e, goes, one))
 told_more {T} n p many when value Unknown e before goes one = absurd before
+
+-- one turn more: at first the shards are drawn and tell nothing, then each is asked in turn
+pub told_next : {T : Type 0} (n p turn when : ℕ) (value : T) (told e : LastingError) (counts : Bool)
+    → (counts ≡ true → n ≤ turn) → (counts ≡ false → turn < n)
+    → TellsOfAll n p (turn - n) value when told → (turn ≤ n → told ≡ Closed) → goes_on e ≡ true
+    → (n ≤ turn → InsertsAtPlace n ((p + (turn - n)) % n) value when (Err (e, value)))
+    → TellsOfAll n p (turn + 1 - n) value when (if counts then told_of told e else told) × (turn + 1 ≤ n → (if counts then told_of told e else told) ≡ Closed)
+told_next {T} n p turn when value told e true late early before at_first goes one =
+    let from : n ≤ turn = late refl in
+    let more : turn - n + 1 ≡ turn + 1 - n = omega (arith, from) in
+    (subst (λ (m : ℕ). TellsOfAll n p m value when (told_of told e)) more (told_more n p (turn - n) when value told e before goes (one from)), λ below. absurd (omega (arith, from, below)))
+told_next {T} n p turn when value told e false late early before at_first goes one =
+    let below : turn < n = early refl in
+    let same : turn - n ≡ turn + 1 - n = omega (arith, below) in
+    (subst (λ (m : ℕ). TellsOfAll n p m value when told) same before, λ b. at_first (omega (arith, b)))
 
 -- an insert of one value, of which another is told, that are both the same
 pub same_value : {T : Type 0} (n p when : ℕ) (value v w : T) (e : LastingError) → v ≡ value → w ≡ value → InsertsAtPlace n p v when (Err (e, w)) → InsertsAtPlace n p value when (Err (e, value))

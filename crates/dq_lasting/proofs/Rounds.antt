@@ -1,5 +1,5 @@
 -- What one look at each place finds.
-use Rattle.std.proofs.Common.{◌≡◌, ◌≢◌, ℕ, ◌+◌, ◌<◌, ◌≤◌, Bool, true, false, Option, Some, None, Result, Ok, Err, refl, sym, subst, inl, inr, arith}
+use Rattle.std.proofs.Common.{◌≡◌, ◌≢◌, ℕ, ◌+◌, ◌<◌, ◌≤◌, true, false, Option, Some, None, Result, Ok, Err, refl, sym, subst, inl, arith}
 use Rattle.std.specs.Prelude.{IfSome, if◌then◌else◌, is_some}
 use Rattle.dq_lasting.specs.declared.errors.ReopenError.{ReopenError}
 use Rattle.dq_lasting.specs.declared.keeping.Kept.{Kept}
@@ -7,7 +7,7 @@ use Rattle.dq_lasting.specs.declared.keeping.Kept.TheVariants as Step
 use Rattle.dq_lasting.specs.declared.keeping.Round.{Round}
 use Rattle.dq_lasting.specs.declared.keeping.Seen.{Seen}
 use Rattle.dq_lasting.specs.declared.keeping.Seen.TheVariants.{Drained, Draining, Fresh, HalfWorn, FarWorn}
-use Rattle.dq_lasting.specs.declared.keeping.Wear.TheVariants.{Half, Far}
+use Rattle.dq_lasting.specs.declared.keeping.Wear.TheVariants.{Half}
 use Rattle.dq_lasting.specs.Answers.{AtPlace}
 use Rattle.dq_lasting.specs.Shard.{LastingView}
 use Rattle.dq_lasting.specs.Keeping.{KeepsGoing, GoesOnAt, AtEach, TellsSeen, TellsDrained, TellsTakes, ClosesWorn, WasDue, AnotherTakes, IsFirstClosed, IsFirstWorn, TakesBeside, IsRound, first_of, round_with}

@@ -1,6 +1,6 @@
 -- What a lasting queue answers: of a shard behind its lock no more is known than what every shard
 -- keeps, and that its number is one of its place.
-use Rattle.std.specs.Prelude.{◌≡◌, ℕ, ◌+◌, ◌<◌, ◌≤◌, ◌%◌, ◌⊎◌, Bool, true, false, Result, Ok, Err, IfErr}
+use Rattle.std.specs.Prelude.{◌≡◌, ℕ, ◌+◌, ◌<◌, ◌≤◌, ◌%◌, ◌⊎◌, Bool, true, false, Result, Ok, Err}
 use Rattle.dq_ticks.specs.declared.TheConstants.{CAPACITY_LIMIT, LAST_STAMP}
 use Rattle.dq_ticks.specs.declared.keys.Key.{Key}
 use Rattle.dq_core.specs.declared.errors.CoreError.{CoreError}
@@ -14,8 +14,6 @@ use Rattle.dq_lasting.specs.declared.config.BadLastingNumber.TheVariants.{BadLas
 use Rattle.dq_lasting.specs.declared.config.LastingConfig.{LastingConfig}
 use Rattle.dq_lasting.specs.declared.errors.LastingError.{LastingError}
 use Rattle.dq_lasting.specs.declared.errors.LastingError.TheVariants.{Core, Closed, Unknown}
-use Rattle.dq_lasting.specs.declared.parts.Tried.{Tried}
-use Rattle.dq_lasting.specs.declared.parts.Tried.TheVariants.{Answered, Crowded}
 use Rattle.dq_lasting.specs.Queues.{QueueView}
 use Rattle.dq_lasting.specs.Shard.{LastingView, IsLasting}
 use Rattle.dq_lasting.specs.Changes.{LastingInserts}
@@ -100,13 +98,6 @@ module _ {T : Type 0} where
   abbrev pub InsertsAtPlace : ℕ → ℕ → T → ℕ → Result Key (LastingError × T) → Type 0
   InsertsAtPlace shards place value when result =
       AtPlace shards place (λ old r new. LastingInserts old value when r new) result
-
-  -- What an insert at a place came to: the shard's answer, or the value comes back since another has to
-  -- be dropped first. Refused the value comes back too.
-  abbrev pub IsTried : ℕ → ℕ → T → ℕ → Tried T → Type 0
-  IsTried shards place value when (Answered result crowded) =
-      IfErr result (λ e. e.1 ≡ value) × InsertsAtPlace shards place value when result
-  IsTried shards place value when (Crowded back crowded) = back ≡ value
 
   -- a shard of that place refused an insert, and it goes on
   abbrev pub PassedOnAt : ℕ → ℕ → T → ℕ → Type 0

@@ -2,7 +2,7 @@
 use Rattle.std.specs.Prelude.{◌≡◌, ◌≢◌, ℕ, ◌*◌, ◌<◌, ◌≤◌, ◌⊎◌, Bool, true, false, Result}
 use Rattle.std.specs.Prelude.{Ok, Err, length, Option, Some, None, IfSome, is_some, if◌then◌else◌}
 use Rattle.std.specs.List.{count_by}
-use Rattle.dq_core.specs.Renewals.{UnusedRows, AreUnused, IsOfSize}
+use Rattle.dq_core.specs.Renewals.{UnusedRows, AreUnused}
 use Rattle.dq_core.specs.Slots.{is_held, is_worn}
 use Rattle.dq_words.specs.AtTheCall.{KnowsNothing}
 use Rattle.dq_words.specs.Seats.{Sat}
@@ -22,6 +22,11 @@ use Rattle.dq_lasting.specs.declared.opening.ShardSize.{ShardSize}
 use Rattle.dq_lasting.specs.Shard.{LastingView}
 use Rattle.dq_lasting.specs.Answers.{AtPlace}
 use Rattle.dq_lasting.specs.Changes.{LastingSweepsOn, Closes, Reopens}
+
+-- where a shard was opened
+abbrev pub IfReopened : Begun → Type 0 → Type 0
+IfReopened (Answered (Ok (Reopened p))) P = P
+IfReopened b P = Unit {0}
 
 module _ {T : Type 0} where
   -- at least half of the slots are worn, or three quarters
@@ -87,22 +92,21 @@ module _ {T : Type 0} where
   IsOfShardSize s size =
       (size.capacity ≡ length s.core.slots.rows) × (size.last_stamp ≡ s.core.slots.last_stamp)
 
-  -- The first of two locks: the step was made, or the shard is drained and is to be opened over
-  -- rows of its size.
+  -- The step was made, or the shard is drained and is to be opened over rows of its size.
   abbrev pub BeginsAt : ℕ → ℕ → LastingView T → Begun → LastingView T → Type 0
   BeginsAt shards place old (Answered r) new = GoesOnAt shards place old r new
   BeginsAt shards place old (Opens size) new =
       IsDrained old × IsOfShardSize old size × (new ≡ old)
 
-  -- rows of that size, of which none was ever used, and a keeper that knows nothing
+  -- rows of which none was ever used, and a keeper that knows nothing
+  abbrev pub IsUnknown : UnusedRows T Sat → Type 0
+  IsUnknown r = AreUnused r × KnowsNothing r.words
+
+  -- such rows of that size
   abbrev pub AreFreshRows : ShardSize → UnusedRows T Sat → Type 0
   AreFreshRows size r =
-      AreUnused r × (length r.slots.rows ≡ size.capacity) × (r.slots.last_stamp ≡ size.last_stamp)
-      × KnowsNothing r.words
-
-  -- such rows of a shard's own size
-  abbrev pub FitsShard : LastingView T → UnusedRows T Sat → Type 0
-  FitsShard s r = AreUnused r × IsOfSize s.core.slots r.slots × KnowsNothing r.words
+      IsUnknown r × (length r.slots.rows ≡ size.capacity)
+      × (r.slots.last_stamp ≡ size.last_stamp)
 
 -- at the shard of each place, one after the other, the call gave that answer
 abbrev pub AtEach :

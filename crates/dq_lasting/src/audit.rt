@@ -1,7 +1,8 @@
 //! The totals of all shards, over all of their generations.
 ghost use Rattle.std.specs.Prelude.{◌+◌, ◌≤◌};
 ghost use Rattle.dq_lasting.specs.declared.config.TheConstants.{SHARD_LIMIT};
-ghost use Rattle.dq_lasting.specs.Audits.{AllAddUp, FewEverInserted, IsOneMore, LastingQueueAudits, TallyAddsUp, most_tallied};
+ghost use Rattle.dq_lasting.specs.Audits.{AllAddUp, FewEverInserted, IsOneMore, LastingQueueAudits};
+ghost use Rattle.dq_lasting.specs.Audits.{TallyAddsUp, most_tallied};
 
 use crate::ended::{LastingTally, LastingTotals};
 use crate::queue::LastingQueue;

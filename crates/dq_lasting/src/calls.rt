@@ -10,8 +10,9 @@ ghost use Rattle.dq_lasting.specs.Changes.{LastingTells, Closes};
 
 use crate::ended::LastingTally;
 use crate::errors::LastingError;
-use crate::queue::{LastingQueue, unlock};
+use crate::queue::LastingQueue;
 use dq_core::{CoreError, Removed};
+use dq_parking::unlock;
 use dq_ticks::{EntryId, Key};
 use std::alloc::Allocator;
 use std::sync::Wait;
@@ -106,7 +107,7 @@ impl<T, A: Allocator> LastingQueue<T, A> {
             (λ old r new. LastingDeadline old entry.now r new) result }
     {
         let mut shard = self.lock(rt, self.place_of(entry.shard()));
-        let (answer, leaver) = shard.deadline(entry);
+        let (answer, leaver) = shard.attended.deadline(entry);
         unlock(shard, leaver);
         answer
     }
@@ -123,7 +124,7 @@ impl<T, A: Allocator> LastingQueue<T, A> {
             (λ old r new. TellsWake new.core r × (new ≡ old)) result }
     {
         let shard = self.entered(rt, place)?;
-        Ok(shard.next_wake())
+        Ok(shard.attended.core.next_wake())
     }
 
     /// Returns how many entries came to the shard at `place` and went, in all its generations, and how many it holds.
@@ -151,7 +152,7 @@ impl<T, A: Allocator> LastingQueue<T, A> {
             (λ old r new. TellsLeast new.core r × (new ≡ old)) result }
     {
         let shard = self.entered(rt, place)?;
-        Ok(shard.peek())
+        Ok(shard.attended.core.peek())
     }
 
     /// Returns how many values are set aside in the shard at `place`: those of freed entries that aren't dropped yet.

@@ -1,38 +1,42 @@
-//! The calls by name that let values go: what they reap, clear or make room for is dropped by them, while no lock is held.
+//! The calls by name that let values go: what they reap, clear or make room for is dropped by them, while no lock is
+//! held.
 //!
-//! A value's drop is a user's code: it may call the queue, and it may panic. What is reaped or cleared is set aside in its
-//! shard, and one thread takes it out and drops it behind the lock. Where a drop panics the shard is whole, and what is
-//! still set aside is dropped by a later call. No other impl says that a value may be dropped, so the checker refuses a
-//! drop anywhere else.
-ghost use Rattle.std.specs.Prelude.{◌≡◌, ◌%◌, ◌<◌, ◌≤◌, ◌↔◌, Err, IfErr, IsErrOf, OnErr, vec_capacity};
+//! A value's drop is a user's code: it may call the queue, and it may panic. What is reaped or cleared is set aside in
+//! its shard, and the row takes it out and drops it behind the lock. Where a drop panics the shard is whole, and what
+//! is still set aside is dropped by a later call. Beside the row no other impl says that a value may be dropped, so the
+//! checker refuses a drop anywhere else.
+ghost use Rattle.std.specs.Prelude.{◌≡◌, ◌+◌, ◌-◌, ◌*◌, ◌%◌, ◌<◌, ◌≤◌, ◌↔◌, if◌then◌else◌};
+ghost use Rattle.std.specs.Prelude.{false, Some, None, Err, IfErr, IsErrOf, OnErr, vec_capacity};
+ghost use Rattle.dq_lasting.specs.declared.config.TheConstants.{SHARD_LIMIT};
 ghost use Rattle.futures.specs.Task.{Covers, Keeps};
 ghost use Rattle.futures.specs.Poll.{OnPending};
 ghost use Rattle.dq_ticks.specs.declared.TheConstants.{LAST_TICK};
 ghost use Rattle.dq_core.specs.declared.errors.CoreError.TheVariants.{TickTooLarge};
 ghost use Rattle.dq_lasting.specs.declared.errors.LastingError.TheVariants.{Core, Unknown};
 ghost use Rattle.dq_lasting.specs.Answers.{AtPlace, AtPlaceOr, AtPlaceAll, InsertsAtPlace, LastingQueueInserts};
-ghost use Rattle.dq_lasting.specs.Answers.{InsertsElsewhere, goes_on, told_of, value_handed_back};
+ghost use Rattle.dq_lasting.specs.Answers.{InsertsElsewhere, LastingIsMade, goes_on, told_of, value_handed_back};
 ghost use Rattle.dq_lasting.specs.Changes.{LastingPolls, LastingPollsSome, LastingSweeps, LastingSweepsSome};
 ghost use Rattle.dq_lasting.specs.Changes.{LastingReaps, LastingClears};
 ghost use Rattle.dq_lasting.specs.Keeping.{KeepsGoing, GoesOnAt};
 ghost use Rattle.dq_lasting.specs.Many.{LastingPollsMany};
-ghost use Rattle.dq_lasting.specs.Paces.{PollsSomeOrParksAt};
 ghost use Rattle.dq_lasting.specs.Polling.{PollsOrParksAt};
 ghost use Rattle.dq_lasting.specs.Through.{LastingAnswersThrough};
 
+use crate::config::LastingConfig;
 use crate::errors::{LastingError, ReopenError};
 use crate::keeping::{Due, Kept};
 use crate::opening::{Begun, fresh_rows};
-use crate::parts::Tried;
+use crate::poller::{OneTick, told};
 use crate::queue::LastingQueue;
-use dq_core::{CoreError, Expired, Piece, ReapError, Swept, Turn};
-use dq_parking::{forget, let_sleep, register};
+use crate::shard::LastingShard;
+use dq_core::{CoreConfig, CoreError, Expired, Piece, ReapError, Swept, Turn};
+use dq_parking::{Parked, Row, Shards, TickSource, poll_place, unlock, waiting_row};
 use dq_ticks::{EntryId, Key};
-use dq_words::ManyTurn;
+use dq_words::{ManyTurn, locked_shards};
 use futures::task::{Context, Poll, Source};
 use std::alloc::Allocator;
 use std::num::NonZeroU32;
-use std::sync::Wait;
+use std::sync::{MutexGuard, Wait};
 
 // An odd number near 2^64 divided by the golden ratio: its multiples are spread evenly.
 const DRAWS: u64 = 0x9E37_79B9_7F4A_7C15;
@@ -47,30 +51,87 @@ fn passes_on(error: &LastingError) -> bool
     )
 }
 
-// What is told of several places: that the first that takes entries is full, and else that they are closed.
-fn first_told(told: LastingError, error: LastingError) -> LastingError
-    ensures { result ≡ told_of told error }
+// What is told of several places: that the first that takes entries is full, and else that they are closed. One that
+// doesn't count tells nothing.
+fn first_told(told: LastingError, error: LastingError, counts: bool) -> LastingError
+    ensures { result ≡ (if counts then told_of told error else told) }
 {
     match told {
-        LastingError::Closed => error,
-        LastingError::Core(_) => told,
-        LastingError::Unknown => told,
+        LastingError::Closed if counts => error,
+        _ => told,
     }
 }
 
-// The place of a route's try at a turn: each place as often as any other.
+// The place of a route's try at a turn: as many as there are places are drawn, each place as often as any other. Then
+// comes each in turn.
 #[inline]
-fn drawn(route: u64, turn: usize, shards: usize) -> usize
-    requires { 0 < shards }
-    ensures { result < shards }
+fn tried_place(route: u64, turn: usize, shards: usize) -> usize
+    requires some { (2 ≤ shards) × (shards ≤ SHARD_LIMIT) }
+    requires turn { turn < 2 * shards }
+    ensures range { result < shards }
+    ensures in_turn { shards ≤ turn → result ≡ (route % shards + (turn - shards)) % shards }
 {
+    let first = (route % shards as u64) as usize;
+    if turn >= shards {
+        return (first + (turn - shards)) % shards;
+    }
     let mixed = (route ^ (turn as u64).wrapping_add(1).wrapping_mul(DRAWS)).wrapping_mul(DRAWS);
     ((mixed >> 32) % shards as u64) as usize
 }
 
 impl<T: Drop, A: Allocator> LastingQueue<T, A> {
-    // An insert at a place. A value that is set aside where the entry might go is dropped before it: a drop that panics
-    // then loses no key.
+    /// Makes a queue of empty shards at tick 0, all of which accept entries. It takes time and memory in proportion
+    /// to the slots of all shards. Later only `handle` and its renewal, `keep_going`, `states`, and `poll_or_park`
+    /// for a waker take memory.
+    ///
+    /// # Errors
+    /// - `BadConfig` if a number of `config` is out of its range: [`LastingConfig::check`] tells which.
+    /// - `NoMemory` if memory is refused.
+    pub fn new(alloc: A, config: LastingConfig) -> Result<LastingQueue<T, A>, CoreError>
+    where
+        A: Clone + Drop,
+        ensures { LastingIsMade config 0 result }
+    {
+        LastingQueue::named(alloc, config, 0)
+    }
+
+    /// Makes a queue of empty shards at tick 0, with a name that the queue keeps and that its handles have. A handle
+    /// is renewed only by a queue of its name. It takes time and memory in proportion to the slots of all shards.
+    ///
+    /// # Errors
+    /// In this order:
+    /// - `BadConfig` if a number of `config` is out of its range.
+    /// - `NoMemory` if memory is refused.
+    pub fn named(
+        alloc: A,
+        config: LastingConfig,
+        name: u64,
+    ) -> Result<LastingQueue<T, A>, CoreError>
+    where
+        A: Clone + Drop,
+        ensures { LastingIsMade config name result }
+    {
+        let Ok(()) = config.check() else {
+            return Err(CoreError::BadConfig);
+        };
+        let core = CoreConfig {
+            shard: 0,
+            capacity: config.capacity,
+            last_stamp: config.last_stamp,
+        };
+        let Ok(waiting) = waiting_row(&alloc, config.shards) else {
+            return Err(CoreError::NoMemory);
+        };
+        match locked_shards(alloc, config.shards as u32, core) {
+            Ok(shards) => Ok(LastingQueue {
+                row: Row::new(shards, waiting),
+                name,
+            }),
+            Err(error) => Err(error),
+        }
+    }
+
+    // An insert at a place.
     fn insert_at<R: Wait>(
         &self,
         rt: &R,
@@ -82,47 +143,22 @@ impl<T: Drop, A: Allocator> LastingQueue<T, A> {
         ensures back { IfErr result (λ e. e.1 ≡ value) }
         ensures inserts { InsertsAtPlace self.now.shards place value when result }
     {
-        let mut value = value;
-        for _ in rt.forever() {
-            match self.try_insert_at(rt, place, value, when) {
-                Tried::Answered(answer, _crowded) => return answer,
-                Tried::Crowded(back, _crowded) => value = back,
-            }
+        let mut shard = self.row.lock_with_room(rt, place);
+        if !shard.takes {
+            shard.law();
+            return Err((LastingError::Closed, value));
         }
-        unreachable!()
+        // A value that waited for its drop where the entry is now is dropped once the lock is free.
+        let (answer, leaver, _crowded) = shard.attended.insert(value, when);
+        unlock(shard, leaver);
+        match answer {
+            Ok(key) => Ok(key),
+            Err((error, value)) => Err((LastingError::Core(error), value)),
+        }
     }
 
-    // The same at each place in turn from one on, until one takes it or refuses it for more than want of room.
-    fn insert_in_turn<R: Wait>(
-        &self,
-        rt: &R,
-        from: usize,
-        value: T,
-        when: u64,
-    ) -> Result<Key, (LastingError, T)>
-        requires { from < self.now.shards }
-        ensures { InsertsElsewhere self.now.shards from value when result }
-    {
-        let shards = self.shards();
-        let mut told = LastingError::Closed;
-        let mut value = value;
-        for turn in 0..shards {
-            match self.insert_at(rt, (from + turn) % shards, value, when) {
-                Ok(key) => return Ok(key),
-                Err((error, back)) => {
-                    if !passes_on(&error) {
-                        return Err((error, back));
-                    }
-                    told = first_told(told, error);
-                    value = back;
-                }
-            }
-        }
-        Err((told, value))
-    }
-
-    // The insert of a route whose own place has passed it on: at as many places as there are, drawn by the route, and
-    // then at each in turn.
+    // The insert of a route whose own place has passed it on: at the places that are drawn and then at each in turn,
+    // until one takes it or refuses it for more than want of room.
     fn insert_elsewhere<R: Wait>(
         &self,
         rt: &R,
@@ -133,19 +169,21 @@ impl<T: Drop, A: Allocator> LastingQueue<T, A> {
         ensures { InsertsElsewhere self.now.shards (route % self.now.shards) value when result }
     {
         let shards = self.shards();
+        let mut told = LastingError::Closed;
         let mut value = value;
-        for turn in 0..shards {
-            match self.insert_at(rt, drawn(route, turn, shards), value, when) {
+        for turn in 0..2 * shards {
+            match self.insert_at(rt, tried_place(route, turn, shards), value, when) {
                 Ok(key) => return Ok(key),
                 Err((error, back)) => {
                     if !passes_on(&error) {
                         return Err((error, back));
                     }
+                    told = first_told(told, error, turn >= shards);
                     value = back;
                 }
             }
         }
-        self.insert_in_turn(rt, (route % shards as u64) as usize, value, when)
+        Err((told, value))
     }
 
     /// Puts `value` in, to come out at the tick `when` of one millisecond, and returns its key. The entry goes to the
@@ -266,14 +304,14 @@ impl<T: Drop, A: Allocator> LastingQueue<T, A> {
         ensures answers { AtPlaceOr {T = T} self.now.shards place
             (λ old r new. LastingPolls old tick r new) result }
     {
-        self.in_range(place)?;
-        let (answer, aside) = self.poll_at(rt, place, tick);
-        let turn = answer?;
+        let mut shard = self.entered(rt, place)?;
+        let (answer, leaver) = shard.attended.poll(tick);
+        let aside = unlock(shard, leaver);
         // A drop that panics would lose what came out.
-        if !matches!(turn, Turn::Out(_)) {
-            self.drop_aside(rt, place, aside);
+        if !matches!(answer, Ok(Turn::Out(_))) {
+            self.row.drop_aside(rt, place, aside);
         }
-        Ok(turn)
+        Ok(answer?)
     }
 
     /// Notes `tick`, of one millisecond, in the shard at `place`, and does at most `most` steps of a poll there. It
@@ -327,14 +365,14 @@ impl<T: Drop, A: Allocator> LastingQueue<T, A> {
         ensures answers { AtPlaceOr {T = T} self.now.shards place
             (λ old r new. LastingPollsSome old tick most r new) result }
     {
-        self.in_range(place)?;
-        let (answer, aside) = self.poll_some_at(rt, place, tick, most);
-        let piece = answer?;
+        let mut shard = self.entered(rt, place)?;
+        let (answer, leaver) = shard.attended.poll_some(tick, most);
+        let aside = unlock(shard, leaver);
         // A drop that panics would lose what came out.
-        if !matches!(piece, Piece::Answer(Turn::Out(_))) {
-            self.drop_aside(rt, place, aside);
+        if !matches!(answer, Ok(Piece::Answer(Turn::Out(_)))) {
+            self.row.drop_aside(rt, place, aside);
         }
-        Ok(piece)
+        Ok(answer?)
     }
 
     /// Notes `tick`, of one millisecond, in the shard at `place`, and takes one entry out that is due there, in
@@ -392,6 +430,7 @@ impl<T: Drop, A: Allocator> LastingQueue<T, A> {
         }
         unreachable!()
     }
+
     /// Notes `tick`, of one millisecond, in the shard at `place`, and takes entries out that are due there, until
     /// `row` is full or nothing is due. They are appended to `row` in the order of their deadlines, as many as its
     /// capacity has room for. It returns `More` if entries may still be due, and else what a poll returns then. Empty
@@ -444,12 +483,13 @@ impl<T: Drop, A: Allocator> LastingQueue<T, A> {
             (λ old r new. LastingPollsMany old tick (vec_capacity row.old) row.old.items
             row.new.items r new) result }
     {
-        self.in_range(place)?;
         let before = row.len();
-        let (answer, aside) = self.poll_many_at(rt, place, tick, row);
+        let mut shard = self.entered(rt, place)?;
+        let (answer, leaver) = shard.attended.poll_many(tick, row);
+        let aside = unlock(shard, leaver);
         // A drop that panics would lose what came out.
         if row.len() == before {
-            self.drop_aside(rt, place, aside);
+            self.row.drop_aside(rt, place, aside);
         }
         Ok(answer?)
     }
@@ -473,7 +513,6 @@ impl<T: Drop, A: Allocator> LastingQueue<T, A> {
     /// - `Unknown` if there is no such place.
     /// - `TickTooLarge` if `tick` is beyond the last tick.
     /// - `NoMemory` if no waker can be made.
-    #[tactic(auto, using(crate::proofs::Polled::by_registering))]
     pub fn poll_or_park<R: Wait>(
         &self,
         rt: &R,
@@ -486,23 +525,13 @@ impl<T: Drop, A: Allocator> LastingQueue<T, A> {
         ensures registered { OnPending result (Covers cx.new (λ s. s ≡ name.now.id)) }
 
         // All that it answers.
-        ensures polls { PollsOrParksAt T self.now.shards place cx.old cx.new tick result }
+        ensures polls { PollsOrParksAt T self.now.shards place cx.old cx.new None tick result }
         ensures kept { Keeps cx.old cx.new }
     {
         if let Err(unknown) = self.in_range(place) {
             return Poll::Ready(Err(unknown));
         }
-        // The task's waker is made, and those that aren't parked are let go, while the lock is free.
-        let mut before = None;
-        let mut slot = register(name, cx);
-        let (answer, aside) = self.poll_or_park_at(rt, place, tick, &mut slot, &mut before);
-        let_sleep(before);
-        forget(slot);
-        // A drop that panics would lose what came out.
-        if answer.is_pending() {
-            self.drop_aside(rt, place, aside);
-        }
-        answer
+        told(poll_place(self, rt, place, &mut OneTick(tick), None, name, cx))
     }
 
     /// Polls the shard at `place` for a task, at `tick` of one millisecond, by at most `most` steps. It returns:
@@ -523,7 +552,6 @@ impl<T: Drop, A: Allocator> LastingQueue<T, A> {
     /// - `Unknown` if there is no such place.
     /// - `TickTooLarge` if `tick` is beyond the last tick.
     /// - `NoMemory` if no waker can be made.
-    #[tactic(auto, using(crate::proofs::Piecewise::by_registering_pieces))]
     pub fn poll_some_or_park<R: Wait>(
         &self,
         rt: &R,
@@ -537,35 +565,16 @@ impl<T: Drop, A: Allocator> LastingQueue<T, A> {
         ensures registered { OnPending result (Covers cx.new (λ s. s ≡ name.now.id)) }
 
         // All that it answers.
-        ensures polls { PollsSomeOrParksAt T self.now.shards place cx.old cx.new tick most result }
+        ensures polls { PollsOrParksAt T self.now.shards place cx.old cx.new (Some most) tick
+            result }
         ensures kept { Keeps cx.old cx.new }
     {
         if let Err(unknown) = self.in_range(place) {
             return Poll::Ready(Err(unknown));
         }
-        let mut before = None;
-        let mut slot = register(name, cx);
-        let (polled, aside) = self.poll_some_or_park_at(
-            rt,
-            place,
-            tick,
-            most,
-            &mut slot,
-            &mut before,
-        );
-        let_sleep(before);
-        forget(slot);
-        let Some(answer) = polled else {
-            let _woken: Poll<()> = cx.yield_now();
-            self.drop_aside(rt, place, aside);
-            return Poll::Pending;
-        };
-        // A drop that panics would lose what came out.
-        if answer.is_pending() {
-            self.drop_aside(rt, place, aside);
-        }
-        answer
+        told(poll_place(self, rt, place, &mut OneTick(tick), Some(most), name, cx))
     }
+
     /// Frees the slots of all cancelled entries of the shard at `place`, and returns how many these were. Their
     /// values are dropped after the lock is released.
     ///
@@ -578,9 +587,10 @@ impl<T: Drop, A: Allocator> LastingQueue<T, A> {
         ensures { AtPlaceAll {T = T} self.now.shards place
             (λ old r new. LastingSweeps old r new) result }
     {
-        self.in_range(place)?;
-        let (reaped, aside) = self.sweep_at(rt, place);
-        self.drop_aside(rt, place, aside);
+        let mut shard = self.entered(rt, place)?;
+        let (reaped, leaver) = shard.attended.sweep();
+        let aside = unlock(shard, leaver);
+        self.row.drop_aside(rt, place, aside);
         Ok(reaped)
     }
 
@@ -596,9 +606,10 @@ impl<T: Drop, A: Allocator> LastingQueue<T, A> {
         ensures { AtPlaceAll {T = T} self.now.shards place
             (λ old r new. LastingClears old r new) result }
     {
-        self.in_range(place)?;
-        let (removed, aside) = self.clear_at(rt, place);
-        self.drop_aside(rt, place, aside);
+        let mut shard = self.entered(rt, place)?;
+        let (removed, leaver) = shard.attended.clear();
+        let aside = unlock(shard, leaver);
+        self.row.drop_aside(rt, place, aside);
         Ok(removed)
     }
 
@@ -636,9 +647,10 @@ impl<T: Drop, A: Allocator> LastingQueue<T, A> {
         ensures { AtPlaceAll {T = T} self.now.shards place
             (λ old r new. LastingSweepsSome old from count r new) result }
     {
-        self.in_range(place)?;
-        let (swept, aside) = self.sweep_some_at(rt, place, from, count);
-        self.drop_aside(rt, place, aside);
+        let mut shard = self.entered(rt, place)?;
+        let (swept, leaver) = shard.attended.sweep_some(from, count);
+        let aside = unlock(shard, leaver);
+        self.row.drop_aside(rt, place, aside);
         Ok(swept)
     }
 
@@ -656,26 +668,11 @@ impl<T: Drop, A: Allocator> LastingQueue<T, A> {
             (λ old r new. LastingReaps old entry.now r new) result }
     {
         let place = self.place_of(entry.shard());
-        let (answer, aside) = self.reap_at(rt, place, entry);
-        self.drop_aside(rt, place, aside);
+        let mut shard = self.lock(rt, place);
+        let (answer, leaver) = shard.attended.reap(entry);
+        let aside = unlock(shard, leaver);
+        self.row.drop_aside(rt, place, aside);
         answer
-    }
-
-    // Drops what is set aside in the shard at a place until nothing is left, where no thread does so already.
-    #[inline(never)]
-    fn drop_all_aside<R: Wait>(&self, rt: &R, place: usize) {
-        let mut dropper = Dropper {
-            queue: self,
-            rt,
-            place,
-            is_at_it: false,
-        };
-        for _ in rt.forever() {
-            if !dropper.drops_one() {
-                return;
-            }
-        }
-        unreachable!()
     }
 
     /// Drops the values that are set aside in the shard at `place`, each while the shard's lock is free. `most` is
@@ -689,32 +686,31 @@ impl<T: Drop, A: Allocator> LastingQueue<T, A> {
     /// tells how many values are left.
     #[inline(always)]
     pub fn drop_aside<R: Wait>(&self, rt: &R, place: usize, most: usize) {
-        if most > 0 {
-            self.drop_all_aside(rt, place);
-        }
+        self.row.drop_aside(rt, place, most);
     }
-}
 
-impl<T: Drop, A: Allocator + Clone + Drop> LastingQueue<T, A> {
     // Opens the shard at a place again where it is drained, and else sweeps the next few slots of a closed one.
     fn go_on<R: Wait>(&self, rt: &R, alloc: A, place: usize) -> Result<Kept, ReopenError>
+    where
+        A: Clone + Drop,
         requires { place < self.now.shards }
         ensures { AtPlace {T = T} self.now.shards place (GoesOnAt self.now.shards place) result }
     {
-        let (begun, aside) = self.begin_at(rt, place);
-        self.drop_aside(rt, place, aside);
-        match begun {
-            Begun::Answered(answer) => answer,
-            Begun::Opens(size) => {
-                let Some(rows) = fresh_rows(alloc, size) else {
-                    return Err(ReopenError::NoMemory);
-                };
-                let (answer, left, aside) = self.end_at(rt, place, size, rows);
-                drop(left);
-                self.drop_aside(rt, place, aside);
-                answer
+        let mut rows = None;
+        for _ in rt.forever() {
+            let (begun, left, aside) = self.step_at(rt, place, rows);
+            drop(left);
+            self.row.drop_aside(rt, place, aside);
+            let size = match begun {
+                Begun::Answered(answer) => return answer,
+                Begun::Opens(size) => size,
+            };
+            rows = fresh_rows(&alloc, size);
+            if rows.is_none() {
+                return Err(ReopenError::NoMemory);
             }
         }
+        unreachable!()
     }
 
     /// Does the one step that is due next to keep the queue going for years, and returns which it was. Whoever polls
@@ -749,6 +745,8 @@ impl<T: Drop, A: Allocator + Clone + Drop> LastingQueue<T, A> {
     /// # }
     /// ```
     pub fn keep_going<R: Wait>(&self, rt: &R, alloc: A) -> Result<Kept, ReopenError>
+    where
+        A: Clone + Drop,
         ensures { KeepsGoing T self.now.shards result }
     {
         match self.due(rt) {
@@ -758,39 +756,48 @@ impl<T: Drop, A: Allocator + Clone + Drop> LastingQueue<T, A> {
     }
 }
 
-// The thread that drops what is set aside in the shard at a place. Where a value's drop panics, others may do it from then on.
-struct Dropper<'q, T: Drop, R: Wait, A: Allocator> {
-    queue: &'q LastingQueue<T, A>,
-    rt: &'q R,
-    place: usize,
-    is_at_it: bool,
-}
+/// A stream of a place asks its source before the shard's lock, and goes on after a refused tick.
+impl<T: Drop, A: Allocator> Shards for LastingQueue<T, A> {
+    type State = LastingShard<T, A>;
 
-impl<T: Drop, R: Wait, A: Allocator> Dropper<'_, T, R, A> {
-    // Drops a value once the lock is free. False where none was left to it.
-    fn drops_one(&mut self) -> bool {
-        if self.place >= self.queue.shards() {
-            return false;
-        }
-        let value = self
-            .queue
-            .take_one_at(self.rt, self.place, &mut self.is_at_it);
-        value.is_some()
+    type Error = LastingError;
+
+    ghost places = { λ queue. queue.shards };
+
+    ghost unknown = { Unknown };
+
+    ghost ends = { false };
+
+    fn places(&self) -> usize {
+        self.row.len()
     }
-}
 
-impl<T: Drop, R: Wait, A: Allocator> Drop for Dropper<'_, T, R, A> {
-    fn drop(self) {
-        let Dropper {
-            queue,
-            rt,
-            place,
-            mut is_at_it,
-        } = self;
-        if is_at_it {
-            if place < queue.shards() {
-                queue.end_dropping_at(rt, place, &mut is_at_it);
-            }
-        }
+    fn unknown() -> LastingError {
+        LastingError::Unknown
+    }
+
+    fn ends() -> bool {
+        false
+    }
+
+    fn give_way(&self, place: usize) {
+        self.row.give_way(place);
+    }
+
+    fn entered<S: TickSource, R: Wait>(
+        &self,
+        rt: &R,
+        place: usize,
+        source: &mut S,
+        before: &mut Option<Parked<Option<u64>>>,
+    ) -> (MutexGuard<'_, LastingShard<T, A>>, u64) {
+        let tick = source.now();
+        let mut shard = self.row.lock(rt, place);
+        *before = shard.take_parked();
+        (shard, tick)
+    }
+
+    fn drop_aside<R: Wait>(&self, rt: &R, place: usize, most: usize) {
+        self.row.drop_aside(rt, place, most);
     }
 }

@@ -1,7 +1,6 @@
 //! A handle extends and cancels entries of every shard, and looks at them, without a lock.
 ghost use Rattle.std.specs.Prelude.{◌≡◌, ◌≢◌, ◌%◌, ◌<◌, ◌≤◌, ◌↔◌, IfOk, IfErr, IsErrOf};
 ghost use Rattle.std.specs.Prelude.{length, vec_len};
-ghost use Rattle.dq_words.specs.Counts.{cancels_in, most_begins};
 ghost use Rattle.dq_words.specs.declared.keeper.WordsError.TheVariants.{BadConfig};
 ghost use Rattle.dq_lasting.specs.declared.config.TheConstants.{SHARD_LIMIT};
 ghost use Rattle.dq_lasting.specs.Numbered.{NumberedExtends, NumberedCancels, NumberedLooks};
@@ -246,7 +245,7 @@ impl<T, A: Allocator> LastingQueue<T, A> {
         requires { place < self.now.shards }
         ensures { NumberAt T self.now.shards place result }
     {
-        self.lock(rt, place).number()
+        self.lock(rt, place).attended.core.shard()
     }
 
     // One caller more of the shard at a place.
@@ -284,10 +283,7 @@ impl<T, A: Allocator + Clone + Drop> LastingQueue<T, A> {
         ensures { LastingQueueHandles T self.now result }
     {
         let shards = self.shards();
-        let Ok(alloc) = self.shards.allocator().clone() else {
-            return Err(HandleError::NoMemory);
-        };
-        let Ok(mut callers) = Vec::with_capacity(alloc, shards) else {
+        let Ok(mut callers) = self.row.room_for_each() else {
             return Err(HandleError::NoMemory);
         };
         for place in 0..shards {

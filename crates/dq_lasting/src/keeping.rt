@@ -4,7 +4,8 @@ ghost use Rattle.dq_lasting.specs.Answers.{AtPlace};
 ghost use Rattle.dq_lasting.specs.Keeping.{ClosesWorn, TellsSeen, TellsDrained, KeepsGoing};
 ghost use Rattle.dq_lasting.specs.Keeping.{first_of, round_with, IsRound, IsDue, NoneIsDue};
 
-use crate::queue::{LastingQueue, unlock};
+use crate::queue::LastingQueue;
+use dq_parking::unlock;
 use std::alloc::Allocator;
 use std::sync::Wait;
 

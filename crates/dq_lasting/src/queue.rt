@@ -1,20 +1,17 @@
 //! Shards behind locks, each renewed by itself.
-ghost use Rattle.std.specs.Prelude.{◌≡◌, ◌<◌, ◌≤◌, true, OnOk, IfOk, IfErr, vec_len};
+ghost use Rattle.std.specs.Prelude.{◌≡◌, ◌<◌, ◌≤◌, OnOk, IfOk, IfErr};
 ghost use Rattle.std.specs.Sync.Mutex.{mutex_guard_value};
 ghost use Rattle.dq_lasting.specs.declared.config.TheConstants.{SHARD_LIMIT};
 ghost use Rattle.dq_lasting.specs.declared.errors.LastingError.TheVariants.{Unknown};
-ghost use Rattle.dq_lasting.specs.Answers.{IsLastingConfig, LastingIsMade, IsOfPlace};
-ghost use Rattle.dq_lasting.specs.Shard.{IsLasting};
+ghost use Rattle.dq_lasting.specs.Answers.{IsOfPlace};
 
-use crate::config::{LastingConfig, SHARD_LIMIT};
+use crate::config::SHARD_LIMIT;
 use crate::errors::LastingError;
 use crate::shard::LastingShard;
-use dq_core::{CoreConfig, CoreError};
-use dq_parking::{Leaver, Waiting, waiting_row};
-use dq_words::locked_shards;
+use dq_parking::Row;
 use std::alloc::{Allocator, Global};
 use std::marker::Model;
-use std::sync::{Mutex, MutexGuard, Wait};
+use std::sync::{MutexGuard, Wait};
 
 /// A delay queue for many threads that runs for years. It has shards, each behind a lock of its own, which are
 /// renewed one by one while the others serve. Ticks are of one millisecond, and the program passes them in: the queue
@@ -60,73 +57,20 @@ use std::sync::{Mutex, MutexGuard, Wait};
 /// left to a later call.
 #[derive(Drop)]
 pub struct LastingQueue<T, A: Allocator = Global> {
-    pub(crate) shards: Vec<Mutex<LastingShard<T, A>>, A>,
-    // Of each shard, who waits for its lock.
-    waiting: Vec<Waiting, A>,
+    pub(crate) row: Row<LastingShard<T, A>, A>,
     pub(crate) name: u64,
 }
 
 impl<T, A: Allocator> Model for LastingQueue<T, A> {
-    ghost use Rattle.std.specs.Prelude.{◌≡◌, ◌≤◌, vec_len};
+    ghost use Rattle.std.specs.Prelude.{◌≤◌};
     ghost use Rattle.dq_lasting.specs.declared.config.TheConstants.{SHARD_LIMIT};
     ghost use Rattle.dq_lasting.specs.Queues.{QueueView};
 
     ghost Value = { QueueView };
 
-    ghost view = { λ q. record { shards = vec_len q.shards; name = q.name } };
+    ghost view = { λ q. record { shards = q.row; name = q.name } };
 
-    ghost invariant = { λ q. (2 ≤ vec_len q.shards) × (vec_len q.shards ≤ SHARD_LIMIT)
-        × (vec_len q.waiting ≡ vec_len q.shards) };
-}
-
-impl<T: Drop, A: Allocator + Clone + Drop> LastingQueue<T, A> {
-    /// Makes a queue of empty shards at tick 0, all of which accept entries. It takes time and memory in proportion
-    /// to the slots of all shards. Later only `handle` and its renewal, `keep_going`, `states`, and `poll_or_park`
-    /// for a waker take memory.
-    ///
-    /// # Errors
-    /// - `BadConfig` if a number of `config` is out of its range: [`LastingConfig::check`] tells which.
-    /// - `NoMemory` if memory is refused.
-    pub fn new(alloc: A, config: LastingConfig) -> Result<LastingQueue<T, A>, CoreError>
-        ensures { LastingIsMade config 0 result }
-    {
-        LastingQueue::named(alloc, config, 0)
-    }
-
-    /// Makes a queue of empty shards at tick 0, with a name that the queue keeps and that its handles have. A handle
-    /// is renewed only by a queue of its name. It takes time and memory in proportion to the slots of all shards.
-    ///
-    /// # Errors
-    /// In this order:
-    /// - `BadConfig` if a number of `config` is out of its range.
-    /// - `NoMemory` if memory is refused.
-    pub fn named(
-        alloc: A,
-        config: LastingConfig,
-        name: u64,
-    ) -> Result<LastingQueue<T, A>, CoreError>
-        ensures { LastingIsMade config name result }
-    {
-        let Ok(()) = config.check() else {
-            return Err(CoreError::BadConfig);
-        };
-        let core = CoreConfig {
-            shard: 0,
-            capacity: config.capacity,
-            last_stamp: config.last_stamp,
-        };
-        let Ok(waiting) = waiting_row(&alloc, config.shards) else {
-            return Err(CoreError::NoMemory);
-        };
-        match locked_shards(alloc, config.shards as u32, core) {
-            Ok(shards) => Ok(LastingQueue {
-                shards,
-                waiting,
-                name,
-            }),
-            Err(error) => Err(error),
-        }
-    }
+    ghost invariant = { λ q. (2 ≤ q.row) × (q.row ≤ SHARD_LIMIT) };
 }
 
 impl<T, A: Allocator> LastingQueue<T, A> {
@@ -135,7 +79,7 @@ impl<T, A: Allocator> LastingQueue<T, A> {
         ensures value { result ≡ self.now.shards }
         ensures range { (2 ≤ result) × (result ≤ SHARD_LIMIT) }
     {
-        self.shards.len()
+        self.row.len()
     }
 
     /// Returns the name that the queue was given when it was made. No other queue of the process has it.
@@ -144,19 +88,14 @@ impl<T, A: Allocator> LastingQueue<T, A> {
     {
         self.name
     }
-}
 
-impl<T, A: Allocator> LastingQueue<T, A> {
     /// Gives way to the threads that wait for the lock of the shard at `place`: it waits for a bounded while until
     /// none waits. It returns at once if none waits, or if there is no such place. It takes no lock.
     ///
     /// It is for a loop over [`LastingQueue::poll_some`]. A thread that releases a lock and takes it again at once
     /// gets it before a thread that sleeps.
     pub fn give_way(&self, place: usize) {
-        if place < self.shards.len() {
-            let waiting = &self.waiting[place];
-            waiting.give_way();
-        }
+        self.row.give_way(place);
     }
 
     // Whether there is such a place. Refused as Unknown out of range.
@@ -172,17 +111,13 @@ impl<T, A: Allocator> LastingQueue<T, A> {
         }
     }
 
-    // The shard at a place, with its lock held. The number is compared once: no call makes it another place's.
+    // The shard at a place, with its lock held.
     #[inline]
     pub(crate) fn lock<R: Wait>(&self, rt: &R, place: usize) -> MutexGuard<'_, LastingShard<T, A>>
         requires { place < self.now.shards }
         ensures { IsOfPlace self.now.shards place (mutex_guard_value result) }
     {
-        let waiting = &self.waiting[place];
-        let shard = waiting.taken(rt, &self.shards[place]);
-        goes_on_if(rt, shard.number() as usize % self.shards.len() == place);
-        shard.law();
-        shard
+        self.row.lock(rt, place)
     }
 
     // The same of a place that may be out of range: refused as Unknown then.
@@ -199,31 +134,4 @@ impl<T, A: Allocator> LastingQueue<T, A> {
         self.in_range(place)?;
         Ok(self.lock(rt, place))
     }
-}
-
-// Goes on where it is so. No call makes it otherwise, but no contract of a lock says so.
-#[inline]
-pub(crate) fn goes_on_if<R: Wait>(rt: &R, is_so: bool)
-    ensures { is_so ≡ true }
-{
-    if !is_so {
-        for _ in rt.forever() {}
-        unreachable!()
-    }
-}
-
-// Lets the lock go, and then wakes who has left: whoever is woken may call the queue at once. Returns how many values are
-// set aside.
-#[inline]
-pub(crate) fn unlock<T, A: Allocator>(
-    shard: MutexGuard<'_, LastingShard<T, A>>,
-    leaver: Leaver<Option<u64>>,
-) -> usize
-    ensures { IsLasting (mutex_guard_value shard.entry) }
-{
-    shard.law();
-    let aside = shard.aside();
-    drop(shard);
-    leaver.wake();
-    aside
 }

@@ -2,28 +2,22 @@
 //!
 //! Its calls are made while its lock is held, so they wake nobody and drop no value: who leaves is handed over, to be
 //! woken once the lock is free, and what is reaped or cleared is set aside.
-ghost use Rattle.std.specs.Prelude.{◌≡◌, ◌↔◌, ◌+◌, ◌<◌, ◌≤◌, true, false, None, OnOk, OnErr, IfErr, IfSome, IsErrAnd, length};
-ghost use Rattle.std.specs.List.{count_by};
-ghost use Rattle.dq_core.specs.Calls.{TellsWake};
-ghost use Rattle.dq_core.specs.Readers.{TellsLeast};
-ghost use Rattle.dq_core.specs.Slots.{is_held, is_worn};
+ghost use Rattle.std.specs.Prelude.{◌≡◌, ◌+◌, ◌%◌, ◌<◌, ◌≤◌, true, false, None};
+ghost use Rattle.std.specs.Prelude.{IfSome};
 ghost use Rattle.dq_parking.specs.Parking.{Leaves};
-ghost use Rattle.dq_lasting.specs.declared.errors.LastingError.TheVariants.{Closed};
 ghost use Rattle.dq_lasting.specs.Shard.{IsLasting, AddsUp};
-ghost use Rattle.dq_lasting.specs.Changes.{LastingInserts, LastingDeadline, LastingTells, LastingIssues};
+ghost use Rattle.dq_lasting.specs.Changes.{LastingTells, LastingIssues};
 ghost use Rattle.dq_lasting.specs.Changes.{Closes, IsWith, count_end};
 ghost use Rattle.dq_lasting.specs.Keeping.{IsWornBy, ClosesWorn, TellsDrained, TellsSeen};
 ghost use Rattle.dq_lasting.specs.Parking.{TellsParked};
 ghost use Rattle.dq_lasting.specs.Polling.{RingsParked, with_none_parked};
 
 use crate::ended::{Ended, LastingTally};
-use crate::errors::LastingError;
 use crate::keeping::{Seen, Wear};
 use crate::numbered::NumberedCaller;
 use crate::poller::ParkedPoller;
-use dq_core::{CoreError, DelayCore, Tally};
-use dq_parking::{Attended, Leaver, Parked, keep_or_leave, ring, take};
-use dq_ticks::{EntryId, Key};
+use dq_core::{DelayCore, Tally};
+use dq_parking::{Attended, Leaver, Parked, Shard, ring, take};
 use dq_words::{Keeper, WordsError};
 use std::alloc::{Allocator, Global};
 use std::marker::Model;
@@ -101,9 +95,6 @@ impl<T, A: Allocator> From<DelayCore<T, Keeper<A>, A>> for LastingShard<T, A> {
     }
 }
 
-// What an insert came to; refused, the value comes back.
-pub(crate) type Inserted<T> = Result<Key, (LastingError, T)>;
-
 impl<T, A: Allocator> LastingShard<T, A> {
     /// What every shard keeps. The call does nothing, and is for proofs.
     pub fn law(&self)
@@ -112,51 +103,6 @@ impl<T, A: Allocator> LastingShard<T, A> {
         self.attended.core.law();
         let _ = &self.past;
         let _ = &self.attended;
-    }
-
-    /// The number of this generation, which its keys carry.
-    #[inline]
-    pub fn number(&self) -> u32
-        ensures { result ≡ self.now.core.shard }
-    {
-        self.attended.core.shard()
-    }
-
-    /// Whether it takes entries.
-    pub fn takes(&self) -> bool
-        ensures { result ≡ self.now.takes }
-    {
-        self.takes
-    }
-
-    /// The number of linked entries, live or cancelled and not yet reaped.
-    pub fn len(&self) -> usize
-        ensures { result ≡ count_by is_held self.now.core.slots.rows }
-    {
-        self.attended.core.len()
-    }
-
-    /// The number of slots.
-    pub fn capacity(&self) -> usize
-        ensures { result ≡ length self.now.core.slots.rows }
-    {
-        self.attended.core.capacity()
-    }
-
-    /// The number of worn slots, which hold nothing and have no stamp left.
-    pub fn worn(&self) -> usize
-        ensures { result
-            ≡ count_by (is_worn self.now.core.slots.last_stamp) self.now.core.slots.rows }
-    {
-        self.attended.core.worn()
-    }
-
-    /// Returns the tick, of one millisecond, at which the queue has something to do next. It returns none if nothing
-    /// is linked.
-    pub fn next_wake(&self) -> Option<u64>
-        ensures { TellsWake self.now.core result }
-    {
-        self.attended.core.next_wake()
     }
 
     /// How many entries came and went, in this generation and in those before it.
@@ -176,14 +122,6 @@ impl<T, A: Allocator> LastingShard<T, A> {
         self.attended.core.aside()
     }
 
-    /// Returns the key of an entry that is scheduled first, possibly a cancelled one. It returns none if nothing is
-    /// linked. No live entry has a deadline before the tick at which that one is scheduled.
-    pub fn peek(&self) -> Option<Key>
-        ensures { TellsLeast self.now.core result }
-    {
-        self.attended.core.peek()
-    }
-
     /// What the poller waits for that is parked here.
     pub fn parked(&self) -> ParkedPoller
         ensures { TellsParked self.now.parked result }
@@ -195,63 +133,6 @@ impl<T, A: Allocator> LastingShard<T, A> {
             Some(tick) => ParkedPoller::UntilTick(tick),
             None => ParkedPoller::UntilInsert,
         }
-    }
-
-    // Takes out a value that is set aside where an insert, if one is taken, might have no place for it.
-    #[inline(always)]
-    pub(crate) fn take_crowded(&mut self) -> Option<T>
-        ensures { self.new ≡ self.old }
-    {
-        if self.takes {
-            self.attended.core.take_crowded()
-        } else {
-            None
-        }
-    }
-
-    // Puts an entry in, where the shard takes entries. What waited for its drop where the entry is now is handed over.
-    #[inline(always)]
-    pub(crate) fn insert(
-        &mut self,
-        value: T,
-        when: u64,
-    ) -> (Inserted<T>, Leaver<Option<u64>>, Option<T>)
-        // As closed exactly where it takes none. Refused, the value comes back and nothing changes.
-        ensures closed { IsErrAnd result.0 (λ e. e.0 ≡ Closed) ↔ (self.old.takes ≡ false) }
-        ensures refused { IfErr result.0 (λ e. (e.1 ≡ value) × (self.new ≡ self.old)) }
-
-        // All that it does, and who leaves.
-        ensures inserts { LastingInserts self.old value when result.0 self.new }
-        ensures leaves { Leaves self.old.parked result.1.poller self.new.parked }
-    {
-        if !self.takes {
-            return (
-                Err((LastingError::Closed, value)),
-                Leaver { poller: None },
-                None,
-            );
-        }
-        let (answer, leaver, crowded) = self.attended.insert(value, when);
-        match answer {
-            Ok(key) => (Ok(key), leaver, crowded),
-            Err((error, value)) => (Err((LastingError::Core(error), value)), leaver, crowded),
-        }
-    }
-
-    // The deadline of a live entry.
-    #[inline]
-    pub(crate) fn deadline(
-        &mut self,
-        entry: &EntryId,
-    ) -> (Result<u64, CoreError>, Leaver<Option<u64>>)
-        ensures tells { LastingDeadline self.old entry.now result.0 self.new }
-        ensures leaves { Leaves self.old.parked result.1.poller self.new.parked }
-    {
-        let answer = self.attended.core.deadline(entry);
-        (
-            answer,
-            keep_or_leave(&self.attended.core, &mut self.attended.parked),
-        )
     }
 
     // Takes no more entries until it is opened again. Those that are there stay until they end, and a reset still moves
@@ -289,18 +170,8 @@ impl<T, A: Allocator> LastingShard<T, A> {
         let worn = self.attended.core.worn();
         let capacity = self.attended.core.capacity();
         match wear {
-            Wear::Half => {
-                if worn < capacity - capacity / 2 {
-                    return false;
-                }
-                true
-            }
-            Wear::Far => {
-                if worn < capacity - capacity / 4 {
-                    return false;
-                }
-                true
-            }
+            Wear::Half => capacity - capacity / 2 <= worn,
+            Wear::Far => capacity - capacity / 4 <= worn,
         }
     }
 
@@ -309,10 +180,7 @@ impl<T, A: Allocator> LastingShard<T, A> {
         ensures closes { ClosesWorn wear self.old result.0 self.new }
         ensures leaves { Leaves self.old.parked result.1.poller self.new.parked }
     {
-        if !self.takes {
-            return (false, Leaver { poller: None });
-        }
-        if !self.is_worn_by(wear) {
+        if !self.takes || !self.is_worn_by(wear) {
             return (false, Leaver { poller: None });
         }
         (true, self.close())
@@ -360,5 +228,47 @@ impl<T, A: Allocator> LastingShard<T, A> {
             Ok(caller) => Ok(NumberedCaller::of(number, caller)),
             Err(refusal) => Err(refusal),
         }
+    }
+}
+
+impl<T, A: Allocator> Shard for LastingShard<T, A> {
+    type Value = T;
+
+    type Next = Option<u64>;
+
+    ghost keeps = { λ s. IsLasting s };
+
+    ghost stands = { λ s place places. s.core.shard % places ≡ place };
+
+    fn law(&self) {
+        LastingShard::law(self);
+    }
+
+    #[inline(always)]
+    fn stands_at(&self, place: usize, places: usize) -> bool {
+        self.attended.core.shard() as usize % places == place
+    }
+
+    #[inline(always)]
+    fn aside(&self) -> usize {
+        self.attended.core.aside()
+    }
+
+    // Where it takes no entries, an insert wants no place.
+    #[inline(always)]
+    fn take_crowded(&mut self) -> Option<T> {
+        if self.takes {
+            self.attended.core.take_crowded()
+        } else {
+            None
+        }
+    }
+
+    fn take_one(&mut self, is_mine: &mut bool) -> Option<T> {
+        self.attended.take_one(is_mine)
+    }
+
+    fn end_dropping(&mut self, is_mine: &mut bool) {
+        self.attended.end_dropping(is_mine);
     }
 }

@@ -1,5 +1,5 @@
 //! What a shard tells of itself under one lock, and what all shards tell in turn.
-ghost use Rattle.std.specs.Prelude.{◌≡◌, ◌<◌, ◌≤◌, ◌↔◌, IfOk, IsErrOf};
+ghost use Rattle.std.specs.Prelude.{◌<◌, ◌≤◌, ◌↔◌, IfOk, IsErrOf};
 ghost use Rattle.dq_lasting.specs.declared.errors.LastingError.TheVariants.{Unknown};
 ghost use Rattle.dq_lasting.specs.Answers.{AtPlace, AtPlaceAll};
 ghost use Rattle.dq_lasting.specs.States.{TellsState, LastingQueueStates};
@@ -37,19 +37,18 @@ pub struct PlaceState {
 
 impl<T, A: Allocator> LastingShard<T, A> {
     /// Its state. Constant time.
-    #[tactic(auto, using(crate::proofs::States::wake_bounds))]
     pub fn state(&self) -> PlaceState
         ensures { TellsState self.now result self.now }
     {
         self.law();
         PlaceState {
-            number: self.number(),
-            takes: self.takes(),
-            capacity: self.capacity(),
-            linked: self.len(),
-            worn: self.worn(),
+            number: self.attended.core.shard(),
+            takes: self.takes,
+            capacity: self.attended.core.capacity(),
+            linked: self.attended.core.len(),
+            worn: self.attended.core.worn(),
             noted: self.attended.core.noted(),
-            next_wake: self.next_wake(),
+            next_wake: self.attended.core.next_wake(),
             tally: self.tally(),
         }
     }

@@ -1,13 +1,14 @@
-//! A queue over shared words, and the poller that waits for it: the calls that may take the poller out, and wake nobody.
+//! A queue over shared words, and the poller that waits for it: the calls that may take the poller out, and wake
+//! nobody.
 //!
-//! It stands behind a lock, and whoever is woken may call the queue at once. So each call hands over who leaves by it, and
-//! that one is woken once the lock is free.
-ghost use Rattle.std.specs.Prelude.{◌≡◌, ◌↔◌, ◌+◌, ◌<◌, ◌≤◌, nat_lt, if◌then◌else◌, true, Some, None};
-ghost use Rattle.std.specs.Prelude.{length, vec_capacity, IfOk, IfErr, IsErr, OnErr, IsErrOf};
+//! It stands behind a lock, and whoever is woken may call the queue at once. So each call hands over who leaves by it,
+//! and that one is woken once the lock is free.
+ghost use Rattle.std.specs.Prelude.{◌≡◌, ◌↔◌, ◌+◌, ◌<◌, ◌≤◌, ◌⊎◌, nat_lt, if◌then◌else◌, true, false, Some, None};
+ghost use Rattle.std.specs.Prelude.{length, vec_capacity, IfOk, IfErr, IfSome, IsErr, OnErr, IsErrOf};
 ghost use Rattle.dq_ticks.specs.declared.TheConstants.{LAST_TICK};
 ghost use Rattle.dq_core.specs.AtTheCall.{IfOut, IfRests};
 ghost use Rattle.dq_core.specs.Core.{machine};
-ghost use Rattle.dq_core.specs.Calls.{Inserts, Resets, Removes, Polls, base_for, IsMissing};
+ghost use Rattle.dq_core.specs.Calls.{Inserts, Resets, Removes, Polls, TellsDeadline, base_for, IsMissing};
 ghost use Rattle.dq_core.specs.Machine.{NoneLinked, NoneLiveBefore};
 ghost use Rattle.dq_core.specs.Pieces.{PollsSome, IfAnswer};
 ghost use Rattle.dq_core.specs.Sweeps.{Sweeps, SweepsSome, Reaps, Clears};
@@ -16,8 +17,8 @@ ghost use Rattle.dq_words.specs.KeeperCalls.{HasBegun};
 ghost use Rattle.dq_words.specs.Many.{PollsInto};
 ghost use Rattle.dq_parking.specs.Attending.{MayWait, KeepsOrLeaves, Attends};
 ghost use Rattle.dq_parking.specs.Parking.{still_parked, Leaves};
+ghost use Rattle.dq_parking.specs.Streaming.{PollsBy};
 
-use crate::dropping::Dropping;
 use crate::parked::{Leaver, Parked, Until, keep_until};
 use dq_core::{CoreError, DelayCore, Expired, Piece, ReapError, Removed, Swept, Turn};
 use dq_ticks::{EntryId, Key};
@@ -34,12 +35,14 @@ pub struct Attended<T, N = u64, A: Allocator = Global> {
     pub core: DelayCore<T, Keeper<A>, A>,
     /// Who waits for it; none where nobody does.
     pub parked: Option<Parked<N>>,
-    /// Whether a thread drops what the queue has set aside.
-    pub dropping: Dropping,
+    /// Whether a thread drops what the queue has set aside. A value's drop is a user's code: it may call the queue, and
+    /// set more aside there. So one thread at a time drops them, while the lock is free, and whoever finds it at work
+    /// leaves its own to it. However many values call the queue where they are dropped, their drops don't nest.
+    pub is_dropping: bool,
 }
 
-/// Takes the poller out where it may not wait on, with the queue as it is now. Where none is parked, which is so in most
-/// calls, the next wake isn't asked for.
+/// Takes the poller out where it may not wait on, with the queue as it is now. Where none is parked, which is so in
+/// most calls, the next wake isn't asked for.
 #[inline(always)]
 pub fn keep_or_leave<T, N: Until, A: Allocator>(
     core: &DelayCore<T, Keeper<A>, A>,
@@ -66,7 +69,7 @@ impl<T, N, A: Allocator> Attended<T, N, A> {
         Attended {
             core,
             parked: None,
-            dropping: Dropping::by_nobody(),
+            is_dropping: false,
         }
     }
 }
@@ -118,6 +121,17 @@ impl<T, N: Until, A: Allocator> Attended<T, N, A> {
         (answer, keep_or_leave(&self.core, &mut self.parked))
     }
 
+    /// The deadline of a live entry, with who has left by it.
+    #[inline]
+    pub fn deadline(&mut self, entry: &EntryId) -> (Result<u64, CoreError>, Leaver<N>)
+        ensures tells { TellsDeadline true self.old.core entry.now result.0 self.new.core }
+        ensures attends { Attends N.lasts self.old.core self.old.parked result.1.poller
+            self.new.core self.new.parked }
+    {
+        let answer = self.core.deadline(entry);
+        (answer, keep_or_leave(&self.core, &mut self.parked))
+    }
+
     /// Notes a tick and takes one entry out that is due, or tells when to come again, with who has left by it. No
     /// value is dropped.
     #[inline(always)]
@@ -144,6 +158,21 @@ impl<T, N: Until, A: Allocator> Attended<T, N, A> {
     {
         let answer = self.core.poll_some_deferring(tick, most);
         (answer, keep_or_leave(&self.core, &mut self.parked))
+    }
+
+    /// Notes a tick and polls where none is parked, so nobody leaves: whole, or by at most `most` steps. No value is
+    /// dropped.
+    #[inline]
+    pub fn poll_unparked(&mut self, tick: u64, most: Option<u32>) -> Result<Piece<T>, CoreError>
+        requires { self.old.parked ≡ None }
+        ensures polls { PollsBy most self.old.core tick result self.new.core }
+        ensures attends { Attends N.lasts self.old.core None None self.new.core None }
+        ensures none { self.new.parked ≡ None }
+    {
+        match most {
+            Some(steps) => self.core.poll_some_deferring(tick, steps),
+            None => Ok(Piece::Answer(self.core.poll_deferring(tick)?)),
+        }
     }
 
     /// Notes a tick and appends what is due to `row`, as far as it has room, with who has left by it. No value is
@@ -210,5 +239,35 @@ impl<T, N: Until, A: Allocator> Attended<T, N, A> {
     {
         let removed = self.core.clear_deferring();
         (removed, keep_or_leave(&self.core, &mut self.parked))
+    }
+}
+
+impl<T, N: Drop, A: Allocator> Attended<T, N, A> {
+    /// Takes out a value for a thread that drops it once the lock is free, and then calls again. `is_mine` is false at
+    /// its first call, and tells whether it is at it. None where no more are set aside, and it is over; or where
+    /// another thread is at it, or this one further up: it drops these too.
+    pub fn take_one(&mut self, is_mine: &mut bool) -> Option<T>
+        ensures stays { (self.new.core ≡ self.old.core) × (self.new.parked ≡ self.old.parked) }
+        ensures alone { IfSome result (λ _. (self.new.is_dropping ≡ true) × (is_mine.new ≡ true)
+            × ((self.old.is_dropping ≡ false) ⊎ (is_mine.old ≡ true))) }
+        ensures over { (result ≡ None) → (is_mine.new ≡ false)
+            × ((self.new.is_dropping ≡ false) ⊎ (is_mine.old ≡ false)) }
+    {
+        if self.is_dropping && !*is_mine {
+            return None;
+        }
+        let value = self.core.take_aside();
+        self.is_dropping = value.is_some();
+        *is_mine = self.is_dropping;
+        value
+    }
+
+    /// Ends it before its time, where a value's drop panics. A later call drops what is left.
+    pub fn end_dropping(&mut self, is_mine: &mut bool)
+        ensures stays { (self.new.core ≡ self.old.core) × (self.new.parked ≡ self.old.parked) }
+        ensures ended { (self.new.is_dropping ≡ false) × (is_mine.new ≡ false) }
+    {
+        self.is_dropping = false;
+        *is_mine = false;
     }
 }

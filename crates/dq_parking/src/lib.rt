@@ -1,22 +1,23 @@
 //! What waits for a shard, of either queue: where a stream's ticks come from, why it gives no entry, the poller that is
-//! parked in a shard, the shard's queue with it, and its registration with the context of its task; and how many threads
-//! wait for the shard's lock.
+//! parked in a shard, the shard's queue with it, and its registration with the context of its task; and how many
+//! threads wait for the shard's lock.
 #![tactic(auto)]
 
 mod attended;
-mod dropping;
 mod fault;
 mod parked;
 mod registering;
 mod row;
+mod sleeping;
 mod source;
+mod streaming;
 mod waiting;
 
 pub use attended::{Attended, keep_or_leave};
-pub use dropping::Dropping;
 pub use fault::StreamFault;
 pub use parked::{Leaver, Parked, let_sleep, ring, take};
-pub use registering::{forget, register};
-pub use row::{Dropper, Row, Shard, unlock};
+pub use row::{Row, Shard, unlock};
+pub use sleeping::{Polled, Sleeps, park_with};
 pub use source::{MillisecondTicks, TickSource};
-pub use waiting::{Waiting, waiting_row};
+pub use streaming::{ShardStream, Shards, Whole, poll_place};
+pub use waiting::waiting_row;

@@ -1,5 +1,5 @@
 //! A poller that waits for a shard.
-ghost use Rattle.std.specs.Prelude.{◌≡◌, ℕ, Option, None, Bool, is_some};
+ghost use Rattle.std.specs.Prelude.{◌≡◌, ℕ, Option, Some, None, Bool, true, is_some, IfSome};
 ghost use Rattle.dq_parking.specs.Parking.{still_parked, after_ring, is_rung, Leaves};
 ghost use Rattle.dq_parking.specs.Waits.{lasts_until, lasts_or_idles, wait_ends_by, ends_by_tick};
 
@@ -7,12 +7,21 @@ use futures::task::Waker;
 use std::mem;
 
 /// What a poller waits for. Ticks are of one millisecond.
-pub trait Until: Drop {
+pub trait Until: Sized + Drop {
     /// Whether one that waits so may go on waiting at a next wake.
     ghost lasts: { Self → Option ℕ → Bool };
 
     /// Whether its wait is over at a tick.
     ghost ends: { Self → ℕ → Bool };
+
+    /// What one waits for who is parked at a next wake, none where nothing is linked; none if nobody may be parked so.
+    ghost waits: { Option ℕ → Option Self };
+
+    /// What one waits for who is parked at a next wake, none where nothing is linked; none if nobody may be parked so.
+    fn of_wake(next_wake: Option<u64>) -> Option<Self>
+        ensures value { result ≡ waits next_wake }
+        ensures may_wait { IfSome result (λ next. lasts next next_wake ≡ true) }
+        ensures linked { (result ≡ None) → next_wake ≡ None };
 
     /// Whether one that waits so may go on waiting at a next wake, none where nothing is linked.
     fn lasts_until(&self, next_wake: Option<u64>) -> bool
@@ -28,6 +37,12 @@ impl Until for u64 {
     ghost lasts = { λ next wake. lasts_until next wake };
 
     ghost ends = { λ next tick. ends_by_tick next tick };
+
+    ghost waits = { λ wake. wake };
+
+    fn of_wake(next_wake: Option<u64>) -> Option<u64> {
+        next_wake
+    }
 
     fn lasts_until(&self, next_wake: Option<u64>) -> bool {
         match next_wake {
@@ -46,6 +61,12 @@ impl Until for Option<u64> {
     ghost lasts = { λ next wake. lasts_or_idles next wake };
 
     ghost ends = { λ next tick. wait_ends_by next tick };
+
+    ghost waits = { λ wake. Some wake };
+
+    fn of_wake(next_wake: Option<u64>) -> Option<Option<u64>> {
+        Some(next_wake)
+    }
 
     fn lasts_until(&self, next_wake: Option<u64>) -> bool {
         match self {
@@ -79,8 +100,8 @@ impl<N: Drop> Parked<N> {
     }
 }
 
-/// Lets a poller go that was taken out, and doesn't wake its task. True where there is one. Its waker is the user's: where
-/// letting it go may call the queue, the shard's lock is to be free.
+/// Lets a poller go that was taken out, and doesn't wake its task. True where there is one. Its waker is the user's:
+/// where letting it go may call the queue, the shard's lock is to be free.
 pub fn let_sleep<N: Drop>(taken: Option<Parked<N>>) -> bool
     ensures { result ≡ is_some taken }
 {
@@ -93,8 +114,8 @@ pub fn let_sleep<N: Drop>(taken: Option<Parked<N>>) -> bool
     }
 }
 
-/// A poller that has left its shard, if one has. It isn't `Drop`: whoever has it has to wake it, once the shard's lock is
-/// free.
+/// A poller that has left its shard, if one has. It isn't `Drop`: whoever has it has to wake it, once the shard's lock
+/// is free.
 pub struct Leaver<N = u64> {
     /// The poller; none where none has left.
     pub poller: Option<Parked<N>>,
@@ -133,13 +154,9 @@ pub fn keep_until<N: Until>(parked: &mut Option<Parked<N>>, next_wake: Option<u6
     ensures stays { parked.new ≡ still_parked N.lasts parked.old next_wake }
     ensures leaves { Leaves parked.old result.poller parked.new }
 {
-    let Some(poller) = parked else {
-        return Leaver { poller: None };
-    };
-    if poller.next.lasts_until(next_wake) {
-        Leaver { poller: None }
-    } else {
-        take(parked)
+    match parked {
+        Some(poller) if !poller.next.lasts_until(next_wake) => take(parked),
+        _ => Leaver { poller: None },
     }
 }
 
@@ -149,12 +166,8 @@ pub fn ring<N: Until>(parked: &mut Option<Parked<N>>, tick: u64) -> Leaver<N>
     ensures stays { parked.new ≡ after_ring N.ends parked.old tick }
     ensures leaves { Leaves parked.old result.poller parked.new }
 {
-    let Some(poller) = parked else {
-        return Leaver { poller: None };
-    };
-    if poller.next.ends_by(tick) {
-        take(parked)
-    } else {
-        Leaver { poller: None }
+    match parked {
+        Some(poller) if poller.next.ends_by(tick) => take(parked),
+        _ => Leaver { poller: None },
     }
 }

@@ -1,18 +1,18 @@
 //! A row of shards behind locks, of either queue: the locks, who waits for them, and what is done once one is free.
 //!
-//! A front, as `SharedDelayQueue` and `LastingQueue`, has a `Row` of its own shards, and says in `impl Shard` what a call
-//! asks of one. A call by name of a front is then four lines:
+//! A front, as `SharedDelayQueue` and `LastingQueue`, has a `Row` of its own shards, and says in `impl Shard` what a
+//! call asks of one. A call by name of a front is then four lines:
 //!
 //! ```ignore
 //! let mut shard = self.row.lock(rt, place);
 //! let (answer, leaver) = shard.attended.poll(tick);
 //! let aside = unlock(shard, leaver);
-//! self.drop_aside(rt, place, aside);
+//! self.row.drop_aside(rt, place, aside);
 //! ```
 //!
-//! `lock` compares once whether the shard stands at the place, and waits for ever where another was put there. `unlock` lets
-//! the lock go, wakes who has left, and answers how many values are set aside. Nothing here drops a value: no impl says that
-//! one may be dropped, so whoever may drops what `Dropper::take_one` and the refusal of `lock_with_room` hand over.
+//! `lock` compares once whether the shard stands at the place, and waits for ever where another was put there. `unlock`
+//! lets the lock go, wakes who has left, and answers how many values are set aside. A value's drop is a user's code: it
+//! may call the queue, and it may panic. So it runs while the lock is free, and where it panics the shard is whole.
 ghost use Rattle.std.specs.Prelude.{◌≡◌, ℕ, ◌<◌, ◌≤◌, IfOk, IsTrue, vec_len, vec_capacity};
 ghost use Rattle.std.specs.Sync.Mutex.{mutex_guard_value};
 
@@ -42,6 +42,7 @@ pub trait Shard {
 
     /// Whether it stands at a place of so many.
     fn stands_at(&self, place: usize, places: usize) -> bool
+        requires { place < places }
         ensures { IsTrue result → stands self.now place places };
 
     /// How many values are set aside: those that were let go and aren't dropped yet. Constant time.
@@ -95,8 +96,8 @@ impl<S, A: Allocator> Row<S, A> {
         self.shards.len()
     }
 
-    /// Gives way to whoever waits for the lock of the shard at a place: it looks for a bounded while until nobody does, and
-    /// returns at once where nobody does. A place out of range has no lock.
+    /// Gives way to whoever waits for the lock of the shard at a place: it looks for a bounded while until nobody does,
+    /// and returns at once where nobody does. A place out of range has no lock.
     pub fn give_way(&self, place: usize) {
         if place < self.shards.len() {
             let waiting = &self.waiting[place];
@@ -133,29 +134,10 @@ impl<S: Shard, A: Allocator> Row<S, A> {
         shard.law();
         shard
     }
-
-    /// Takes a shard's lock for an insert, for which each value that is set aside has a place. If one has none, it is
-    /// returned as the error: drop it, and try again.
-    #[inline(always)]
-    pub fn lock_with_room<R: Wait>(
-        &self,
-        rt: &R,
-        place: usize,
-    ) -> Result<MutexGuard<'_, S>, S::Value>
-        requires { place < self.now }
-        ensures law { IfOk result (λ shard. S.keeps (mutex_guard_value shard)) }
-        ensures place { IfOk result (λ shard. S.stands (mutex_guard_value shard) place self.now) }
-    {
-        let mut shard = self.lock(rt, place);
-        match shard.take_crowded() {
-            None => Ok(shard),
-            Some(crowded) => Err(crowded),
-        }
-    }
 }
 
-/// Lets a shard's lock go, and then wakes who has left: whoever is woken may call the queue at once. Answers how many values
-/// are set aside.
+/// Lets a shard's lock go, and then wakes who has left: whoever is woken may call the queue at once. Answers how many
+/// values are set aside.
 #[inline(always)]
 pub fn unlock<S: Shard>(shard: MutexGuard<'_, S>, leaver: Leaver<S::Next>) -> usize
     ensures { S.keeps (mutex_guard_value shard.entry) }
@@ -167,34 +149,68 @@ pub fn unlock<S: Shard>(shard: MutexGuard<'_, S>, leaver: Leaver<S::Next>) -> us
     aside
 }
 
-/// The thread that drops what is set aside in a shard, one value at a time, while the lock is free. Where a value's drop
-/// panics, others may do it from then on.
-pub struct Dropper<'q, S: Shard, R: Wait, A: Allocator = Global> {
+// The one impl of a row that says that a value may be dropped. It does so while no lock is held.
+impl<S: Shard, A: Allocator> Row<S, A>
+where
+    S::Value: Drop,
+{
+    /// As `lock`, for an insert, for which each value that is set aside has a place. One that has none is dropped
+    /// before it: a drop that panics then loses no key.
+    #[inline(always)]
+    pub fn lock_with_room<R: Wait>(&self, rt: &R, place: usize) -> MutexGuard<'_, S>
+        requires { place < self.now }
+        ensures law { S.keeps (mutex_guard_value result) }
+        ensures place { S.stands (mutex_guard_value result) place self.now }
+    {
+        for _ in rt.forever() {
+            let mut shard = self.lock(rt, place);
+            let Some(crowded) = shard.take_crowded() else {
+                return shard;
+            };
+            drop(shard);
+            drop(crowded);
+        }
+        unreachable!()
+    }
+
+    /// Drops what is set aside in the shard at a place, where the caller has left so many there: nothing is done where
+    /// it has left none, or where there is no such place.
+    #[inline(always)]
+    pub fn drop_aside<R: Wait>(&self, rt: &R, place: usize, most: usize) {
+        if most > 0 && place < self.len() {
+            self.drop_all_aside(rt, place);
+        }
+    }
+
+    // Drops it until nothing is left, where no thread does so already.
+    #[inline(never)]
+    fn drop_all_aside<'q, R: Wait>(&'q self, rt: &'q R, place: usize)
+        requires { place < self.now }
+    {
+        let mut dropper = Dropper {
+            row: self,
+            rt,
+            place,
+            is_at_it: false,
+        };
+        for _ in rt.forever() {
+            let taken = self.lock(rt, place).take_one(&mut dropper.is_at_it);
+            let Some(value) = taken else {
+                return;
+            };
+            drop(value);
+        }
+        unreachable!()
+    }
+}
+
+// The thread that drops what is set aside in a shard, one value at a time, while the lock is free. Where a value's drop
+// panics, others may do it from then on.
+struct Dropper<'q, S: Shard, R: Wait, A: Allocator> {
     row: &'q Row<S, A>,
     rt: &'q R,
     place: usize,
     is_at_it: bool,
-}
-
-impl<'q, S: Shard, R: Wait, A: Allocator> Dropper<'q, S, R, A> {
-    /// One of the shard at a place, which hasn't begun. Out of range there is nothing to drop.
-    pub fn new(row: &'q Row<S, A>, rt: &'q R, place: usize) -> Dropper<'q, S, R, A> {
-        Dropper {
-            row,
-            rt,
-            place,
-            is_at_it: false,
-        }
-    }
-
-    /// Takes a value out, and lets the lock go. None where none was left to it.
-    pub fn take_one(&mut self) -> Option<S::Value> {
-        if self.place >= self.row.len() {
-            return None;
-        }
-        let mut shard = self.row.lock(self.rt, self.place);
-        shard.take_one(&mut self.is_at_it)
-    }
 }
 
 impl<S: Shard, R: Wait, A: Allocator> Drop for Dropper<'_, S, R, A> {

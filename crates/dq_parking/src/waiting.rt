@@ -79,18 +79,9 @@ fn tried<S>(lock: &Mutex<S>) -> Option<MutexGuard<'_, S>> {
         if let Some(guard) = lock.try_lock() {
             return Some(guard);
         }
-        pause = longer(pause);
+        pause = pause.saturating_mul(2).min(LONGEST_PAUSE);
     }
     None
-}
-
-// The pause behind one: twice as long, up to the longest.
-fn longer(pause: u32) -> u32 {
-    if pause < LONGEST_PAUSE {
-        pause * 2
-    } else {
-        pause
-    }
 }
 
 /// A number for each of so many shards, of whose locks nobody waits for one.

@@ -3,6 +3,7 @@ mod cases;
 mod keys;
 mod makings;
 mod memory;
+mod named;
 mod play;
 mod rows;
 mod shards;

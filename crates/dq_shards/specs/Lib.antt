@@ -6,6 +6,7 @@ pub mod ForCallers
 pub mod Handles
 pub mod Issuing
 pub mod Many
+pub mod Named
 pub mod Refusals
 pub mod Shard
 pub mod Sums

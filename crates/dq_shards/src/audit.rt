@@ -83,7 +83,7 @@ impl<T, A: Allocator> SharedDelayQueue<T, A> {
         requires { shard < self.now }
         ensures { OnNumbered {T = T} shard ShardAudits result }
     {
-        let mut shard = self.lock(rt, shard);
+        let mut shard = self.row.lock(rt, shard);
         let audited = shard.audit();
         shard.law();
         audited

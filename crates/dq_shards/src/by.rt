@@ -1,72 +1,85 @@
-//! A shard whose words have a name, and callers of those words: through the lock it is known that they are of one table.
-//!
-//! A poll by name of a [`NamedShard`] takes a caller, and tells of what comes out that no extend of that caller was lost.
-ghost use Rattle.std.specs.Prelude.{◌≡◌, ◌≤◌, IfSome};
+//! A shard whose words and history have names, and callers of it. So through its lock it is known that they are of one
+//! shard: a call by name is made once, on the shard that the caller's other calls were made on.
+ghost use Rattle.std.specs.Prelude.{◌≡◌, ◌≤◌, IfSome, IfOk, IfErr};
 ghost use Rattle.dq_core.specs.declared.errors.CoreError.{CoreError};
+ghost use Rattle.dq_journal.specs.Once.{IsTold};
+ghost use Rattle.dq_journal.specs.Views.{first_witness, new_witness};
 ghost use Rattle.dq_words.specs.CallerCalls.{CallerCancels, CallerExtends};
 ghost use Rattle.dq_shards.specs.ForCallers.{KeepsFor, no_table};
-ghost use Rattle.dq_shards.specs.Changes.{OnSome, ShardInserts, ShardPolls, ShardIssues};
-ghost use Rattle.dq_shards.specs.Shard.{IsShard};
-ghost use Rattle.dq_words.specs.Together.{IsBeside};
+ghost use Rattle.dq_shards.specs.Changes.{ShardInserts, ShardResets, ShardRemoves, ShardPolls};
+ghost use Rattle.dq_shards.specs.Named.{Once, IsHistory};
 
-use crate::endings;
+mod quiet;
+
 use crate::state::ShardState;
-use dq_core::{CallError, CoreError, Turn};
+use dq_core::{CallError, CoreError, Removed, Turn};
+use dq_journal::Witness;
 use dq_parking::Leaver;
-use dq_ticks::{Key, is_same_key};
+use dq_ticks::{EntryId, Key, is_same_key};
 use dq_words::{Caller, WordsError};
 use std::alloc::{Allocator, Global};
 use std::marker::{Brand, Model, PhantomData};
 use std::sync::{Mutex, Wait};
 
-/// Names the words of one shard.
+/// Names the words of one shard, and its history.
 pub trait Room {
     ghost use Rattle.atomic_table.specs.Seated.{TableId};
 
-    ghost table: { TableId };
+    ghost words: { TableId };
+
+    ghost history: { TableId };
 }
 
 impl Room for Brand {
-    ghost table = { no_table };
+    ghost words = { no_table };
+
+    ghost history = { no_table };
 }
 
-/// A shard whose words are the room's.
+/// A shard whose words and history are the room's.
 #[derive(Drop)]
 pub struct NamedShard<T, J: Room, A: Allocator = Global> {
     state: ShardState<T, A>,
+    history: Witness<ShardState<T, A>, A>,
     room: PhantomData<J>,
 }
 
 impl<T, J: Room, A: Allocator> Model for NamedShard<T, J, A> {
     ghost use Rattle.std.specs.Prelude.{◌≡◌};
-    ghost use Rattle.dq_shards.specs.Shard.{ShardView};
+    ghost use Rattle.dq_journal.specs.Once.{IsUnderLock};
+    ghost use Rattle.dq_shards.specs.Named.{NamedView, Follows, IsHistory};
 
-    ghost Value = { ShardView T };
+    ghost Value = { NamedView T };
 
-    ghost view = { λ s. s.state };
+    ghost view = { λ s. record { shard = s.state; history = s.history.view } };
 
-    ghost invariant = { λ s. s.state.core.words.table ≡ J.table };
+    ghost invariant = { λ s. (s.state.core.words.table ≡ J.words) × (s.history.table ≡ J.history)
+        × IsUnderLock s.history.view × Follows s.history.view.log s.state
+        × IsHistory s.history.view.log };
 }
 
-/// A caller of the room's words, in any thread.
+/// A caller of the room's shard, in any thread.
 #[derive(Drop)]
-pub struct NamedCaller<J: Room, A: Allocator = Global> {
+pub struct NamedCaller<T, J: Room, A: Allocator = Global> {
     caller: Caller<A>,
+    history: Witness<ShardState<T, A>, A>,
     room: PhantomData<J>,
 }
 
-impl<J: Room, A: Allocator> Model for NamedCaller<J, A> {
+impl<T, J: Room, A: Allocator> Model for NamedCaller<T, J, A> {
     ghost use Rattle.std.specs.Prelude.{◌≡◌};
-    ghost use Rattle.dq_words.specs.Seats.{Sat};
+    ghost use Rattle.dq_journal.specs.Once.{IsWithNumber};
+    ghost use Rattle.dq_shards.specs.Named.{NamedCallerView};
 
-    ghost Value = { Sat };
+    ghost Value = { NamedCallerView T };
 
-    ghost view = { λ c. c.caller };
+    ghost view = { λ c. record { caller = c.caller; history = c.history.view } };
 
-    ghost invariant = { λ c. c.caller.table ≡ J.table };
+    ghost invariant = { λ c. (c.caller.table ≡ J.words) × (c.history.table ≡ J.history)
+        × IsWithNumber c.history.view };
 }
 
-impl<J: Room, A: Allocator> NamedCaller<J, A> {
+impl<T, J: Room, A: Allocator> NamedCaller<T, J, A> {
     /// Raises the deadline of a live entry to `when`, a tick of one millisecond, and returns the deadline that is
     /// then in force: `when`, or a later one that the entry had. It takes constant time and no lock.
     ///
@@ -77,7 +90,9 @@ impl<J: Room, A: Allocator> NamedCaller<J, A> {
     /// - `Stale` if the slot has a later stamp.
     /// - `Ended` if the entry isn't live.
     pub fn extend(&mut self, key: &Key, when: u64) -> Result<u64, CallError>
-        ensures { CallerExtends self.old.view key.now when result self.new.view }
+        ensures extends { CallerExtends self.old.caller.view key.now when result
+            self.new.caller.view }
+        ensures history { self.new.history ≡ self.old.history }
     {
         self.caller.extend(key, when)
     }
@@ -91,28 +106,36 @@ impl<J: Room, A: Allocator> NamedCaller<J, A> {
     /// - `Stale` if the slot has a later stamp.
     /// - `Ended` if the entry isn't live.
     pub fn cancel(&mut self, key: &Key) -> Result<u64, CallError>
-        ensures { CallerCancels self.old.view key.now result self.new.view }
+        ensures cancels { CallerCancels self.old.caller.view key.now result self.new.caller.view }
+        ensures history { self.new.history ≡ self.old.history }
     {
         self.caller.cancel(key)
     }
 
     /// The caller alone, which may be given back.
     pub fn into_caller(self) -> Caller<A>
-        ensures { result ≡ self }
+        ensures { result ≡ self.caller }
     {
-        let NamedCaller { caller, room: _ } = self;
+        let NamedCaller {
+            caller,
+            history: _,
+            room: _,
+        } = self;
         caller
     }
 }
 
-impl<T: Drop, J: Room, A: Allocator> NamedShard<T, J, A> {
-    /// A shard's state under that name.
-    pub fn of(state: ShardState<T, A>) -> NamedShard<T, J, A>
-        requires { state.core.words.table ≡ J.table }
-        ensures { result ≡ state }
+impl<T, J: Room, A: Allocator> NamedShard<T, J, A> {
+    /// A shard's state and a history with nothing in it, under their names.
+    pub fn of(state: ShardState<T, A>, history: Witness<ShardState<T, A>, A>) -> NamedShard<T, J, A>
+        requires words { state.core.words.table ≡ J.words }
+        requires history { (history.table ≡ J.history) × (history.view ≡ first_witness) }
+        ensures shard { result.shard ≡ state }
+        ensures history { result.history ≡ first_witness }
     {
         NamedShard {
             state,
+            history,
             room: PhantomData,
         }
     }
@@ -121,145 +144,188 @@ impl<T: Drop, J: Room, A: Allocator> NamedShard<T, J, A> {
     ///
     /// # Errors
     /// In this order:
-    /// - `TooManyHandles` if 1,024 callers were made, given back or not.
     /// - `NoMemory` if memory is refused.
-    pub fn issue(&mut self) -> Result<NamedCaller<J, A>, WordsError>
-        ensures { ShardIssues self.old result self.new }
+    /// - `TooManyHandles` if 1,024 callers were made, given back or not.
+    pub fn issue(&mut self) -> Result<NamedCaller<T, J, A>, WordsError>
+        ensures { IfOk result (λ c. c.history ≡ new_witness self.old.history) }
     {
+        let Ok(history) = self.history.open() else {
+            return Err(WordsError::NoMemory);
+        };
         match self.state.issue() {
             Ok(caller) => Ok(NamedCaller {
                 caller,
+                history,
                 room: PhantomData,
             }),
             Err(refusal) => Err(refusal),
         }
     }
 
-    // As `ShardState::insert`, with who has left, and with the value that is to be dropped once the lock is free.
-    fn insert(&mut self, value: T, when: u64) -> (Result<Key, (CoreError, T)>, Leaver, Option<T>)
-        ensures { OnSome {T = T} (λ old r new. ShardInserts old value when r new) result.0 }
+    /// Tells a caller the whole history of the shard: of its own calls it has those that it made, each once.
+    pub fn tell(&mut self, me: &mut NamedCaller<T, J, A>)
+        ensures told { IsTold self.old.history me.old.history me.new.history }
+        ensures history { IsHistory self.old.history.log }
+        ensures same { (me.new.caller ≡ me.old.caller) × (self.new.shard ≡ self.old.shard)
+            × (self.new.history.log ≡ self.old.history.log) }
     {
-        self.state.insert_quietly(value, when)
+        self.history.tell(&mut me.history);
     }
 
-    // As `ShardState::poll`, with who has left; and what the caller was promised holds of what comes out.
-    fn poll_by(
+    fn insert(
         &mut self,
-        me: &mut NamedCaller<J, A>,
-        tick: u64,
-    ) -> (Result<Turn<T>, CoreError>, Leaver)
-        ensures kept { KeepsFor me.old.view result.0 }
-        ensures same { me.new ≡ me.old }
-        ensures polls { OnSome {T = T} (λ old r new. ShardPolls old tick r new) result.0 }
-    {
-        self.state.poll_for(&mut me.caller, tick)
-    }
-}
-
-// The calls that wake nobody: who has left is handed over.
-impl<T: Drop, A: Allocator> ShardState<T, A> {
-    fn insert_at_once(
-        &mut self,
+        me: &mut NamedCaller<T, J, A>,
         value: T,
         when: u64,
     ) -> (Result<Key, (CoreError, T)>, Leaver, Option<T>)
-        ensures { ShardInserts self.old value when result.0 self.new }
+        ensures once { Once (λ old new. ShardInserts old value when result.0 new)
+            me.old.history me.new.history }
+        ensures same { me.new.caller ≡ me.old.caller }
     {
-        self.attended.insert(value, when)
-    }
-
-    fn insert_quietly(
-        &mut self,
-        value: T,
-        when: u64,
-    ) -> (Result<Key, (CoreError, T)>, Leaver, Option<T>)
-        ensures shards { IsShard self.old × IsShard self.new }
-        ensures inserts { ShardInserts self.old value when result.0 self.new }
-    {
-        self.law();
-        let answered = self.insert_at_once(value, when);
-        self.law();
+        let answered = self.state.insert_quietly(value, when);
+        self.history.enter_for(&mut me.history, &self.state);
         answered
     }
 
-    fn poll_at_once(&mut self, tick: u64) -> (Result<Turn<T>, CoreError>, Leaver)
-        ensures { ShardPolls self.old tick result.0 self.new }
-    {
-        self.attended.poll(tick)
-    }
-
-    fn beside(&mut self, caller: &mut Caller<A>)
-        requires { self.old.core.words.table ≡ caller.old.table }
-        ensures together { IsBeside self.old.core.words caller.old }
-        ensures same { (self.new ≡ self.old) × (caller.new ≡ caller.old) }
-    {
-        self.attended.core.beside(caller);
-    }
-
-    // What the caller was promised holds of what comes out.
-    fn poll_for(
+    fn reset(
         &mut self,
-        caller: &mut Caller<A>,
+        me: &mut NamedCaller<T, J, A>,
+        entry: &EntryId,
+        when: u64,
+    ) -> (Result<Key, CoreError>, Leaver)
+        ensures once { Once (λ old new. ShardResets old entry.now when result.0 new)
+            me.old.history me.new.history }
+        ensures same { me.new.caller ≡ me.old.caller }
+    {
+        let answered = self.state.reset_quietly(entry, when);
+        self.history.enter_for(&mut me.history, &self.state);
+        answered
+    }
+
+    fn remove(
+        &mut self,
+        me: &mut NamedCaller<T, J, A>,
+        entry: &EntryId,
+    ) -> (Result<Removed<T>, CoreError>, Leaver)
+        ensures once { Once (λ old new. ShardRemoves old entry.now result.0 new)
+            me.old.history me.new.history }
+        ensures same { me.new.caller ≡ me.old.caller }
+    {
+        let answered = self.state.remove_quietly(entry);
+        self.history.enter_for(&mut me.history, &self.state);
+        answered
+    }
+
+    fn poll(
+        &mut self,
+        me: &mut NamedCaller<T, J, A>,
         tick: u64,
     ) -> (Result<Turn<T>, CoreError>, Leaver)
-        requires { self.old.core.words.table ≡ caller.old.table }
-        ensures kept { KeepsFor caller.old.view result.0 }
-        ensures same { caller.new ≡ caller.old }
-        ensures shards { IsShard self.old × IsShard self.new }
-        ensures polls { ShardPolls self.old tick result.0 self.new }
+        ensures kept { KeepsFor me.old.caller.view result.0 }
+        ensures once { Once (λ old new. ShardPolls old tick result.0 new)
+            me.old.history me.new.history }
+        ensures same { me.new.caller ≡ me.old.caller }
     {
-        self.law();
-        let answered = self.poll_at_once(tick);
-        self.beside(caller);
-        self.law();
-        endings::outs_are_in_force::<T>();
+        let answered = self.state.poll_for(&mut me.caller, tick);
+        self.history.enter_for(&mut me.history, &self.state);
         answered
     }
-}
-
-/// Takes the shard's lock, notes `tick`, of one millisecond, and takes one entry out that is due. It tells what the
-/// caller was promised of what comes out. Who has left is woken once the lock is free; values that were reaped stay
-/// set aside.
-///
-/// # Errors
-/// `TickTooLarge` if `tick` is beyond the last tick.
-pub fn poll_by<T: Drop, J: Room, A: Allocator, R: Wait>(
-    rt: &R,
-    shard: &Mutex<NamedShard<T, J, A>>,
-    me: &mut NamedCaller<J, A>,
-    tick: u64,
-) -> Result<Turn<T>, CoreError>
-    // No extend of the caller is lost: what comes out has a deadline before none that it was promised.
-    ensures kept { KeepsFor me.old.view result }
-    ensures same { me.new ≡ me.old }
-
-    // All that it answers.
-    ensures polls { OnSome {T = T} (λ old r new. ShardPolls old tick r new) result }
-{
-    let mut locked = shard.lock(rt);
-    let (answer, leaver) = locked.poll_by(me, tick);
-    drop(locked);
-    leaver.wake();
-    answer
 }
 
 /// Takes the shard's lock, puts `value` in, to come out at the tick `when` of one millisecond, and returns its key.
-/// Who has left is woken once the lock is free.
+/// Who has left is woken once the lock is free, and the value that waited for its drop in the entry's slot is dropped.
 ///
 /// # Errors
 /// `value` comes back. In this order:
 /// - `TooFar` if `when` is beyond the last tick.
 /// - `Full` if no slot is free.
-pub fn insert<T: Drop, J: Room, A: Allocator, R: Wait>(
+pub fn insert_by<T: Drop, J: Room, A: Allocator, R: Wait>(
     rt: &R,
     shard: &Mutex<NamedShard<T, J, A>>,
+    me: &mut NamedCaller<T, J, A>,
     value: T,
     when: u64,
 ) -> Result<Key, (CoreError, T)>
-    ensures { OnSome {T = T} (λ old r new. ShardInserts old value when r new) result }
+    ensures once { Once (λ old new. ShardInserts old value when result new)
+        me.old.history me.new.history }
+    ensures same { me.new.caller ≡ me.old.caller }
 {
     let mut locked = shard.lock(rt);
-    let (answer, leaver, _crowded) = locked.insert(value, when);
+    let (answer, leaver, _crowded) = locked.insert(me, value, when);
+    drop(locked);
+    leaver.wake();
+    answer
+}
+
+/// Takes the shard's lock, gives a live entry the deadline `when`, a tick of one millisecond, and returns its new key.
+/// Who has left is woken once the lock is free.
+///
+/// # Errors
+/// In this order:
+/// - `TooFar` if `when` is beyond the last tick.
+/// - `Missing` if the entry isn't linked here.
+/// - `WasCancelled` if the entry was cancelled.
+/// - `Worn` if the entry's slot has no stamp left for another key.
+pub fn reset_by<T, J: Room, A: Allocator, R: Wait>(
+    rt: &R,
+    shard: &Mutex<NamedShard<T, J, A>>,
+    me: &mut NamedCaller<T, J, A>,
+    entry: &EntryId,
+    when: u64,
+) -> Result<Key, CoreError>
+    ensures once { Once (λ old new. ShardResets old entry.now when result new)
+        me.old.history me.new.history }
+    ensures same { me.new.caller ≡ me.old.caller }
+{
+    let mut locked = shard.lock(rt);
+    let (answer, leaver) = locked.reset(me, entry, when);
+    drop(locked);
+    leaver.wake();
+    answer
+}
+
+/// Takes the shard's lock, takes a live entry out, and returns its value with its key and its current deadline, a tick
+/// of one millisecond. Who has left is woken once the lock is free.
+///
+/// # Errors
+/// In this order:
+/// - `Missing` if the entry isn't linked here.
+/// - `WasCancelled` if the entry was cancelled.
+pub fn remove_by<T, J: Room, A: Allocator, R: Wait>(
+    rt: &R,
+    shard: &Mutex<NamedShard<T, J, A>>,
+    me: &mut NamedCaller<T, J, A>,
+    entry: &EntryId,
+) -> Result<Removed<T>, CoreError>
+    ensures once { Once (λ old new. ShardRemoves old entry.now result new)
+        me.old.history me.new.history }
+    ensures same { me.new.caller ≡ me.old.caller }
+{
+    let mut locked = shard.lock(rt);
+    let (answer, leaver) = locked.remove(me, entry);
+    drop(locked);
+    leaver.wake();
+    answer
+}
+
+/// Takes the shard's lock, notes `tick`, of one millisecond, and takes one entry out that is due. Who has left is woken
+/// once the lock is free; values that were reaped stay set aside.
+///
+/// # Errors
+/// `TickTooLarge` if `tick` is beyond the last tick.
+pub fn poll_by<T, J: Room, A: Allocator, R: Wait>(
+    rt: &R,
+    shard: &Mutex<NamedShard<T, J, A>>,
+    me: &mut NamedCaller<T, J, A>,
+    tick: u64,
+) -> Result<Turn<T>, CoreError>
+    // No extend of the caller is lost: what comes out has a deadline before none that it was promised.
+    ensures kept { KeepsFor me.old.caller.view result }
+    ensures once { Once (λ old new. ShardPolls old tick result new) me.old.history me.new.history }
+    ensures same { me.new.caller ≡ me.old.caller }
+{
+    let mut locked = shard.lock(rt);
+    let (answer, leaver) = locked.poll(me, tick);
     drop(locked);
     leaver.wake();
     answer
@@ -271,7 +337,7 @@ pub fn insert<T: Drop, J: Room, A: Allocator, R: Wait>(
 pub fn extend_then_poll<T: Drop, J: Room, A: Allocator, R: Wait>(
     rt: &R,
     shard: &Mutex<NamedShard<T, J, A>>,
-    me: &mut NamedCaller<J, A>,
+    me: &mut NamedCaller<T, J, A>,
     key: &Key,
     when: u64,
     tick: u64,

@@ -1,5 +1,5 @@
-//! The calls of a queue of shards by name that let no value go: each takes one shard's lock and makes the state's call. Who
-//! leaves by it is woken once the lock is free.
+//! The calls of a queue of shards by name that let no value go: each takes one shard's lock and makes the state's call.
+//! Who leaves by it is woken once the lock is free.
 ghost use Rattle.std.specs.Prelude.{◌≡◌, ◌<◌, ◌≤◌, ◌↔◌, option_map, IsErrOf};
 ghost use Rattle.dq_ticks.specs.declared.TheConstants.{LAST_TICK};
 ghost use Rattle.dq_core.specs.declared.errors.CoreError.TheVariants.{TooFar};

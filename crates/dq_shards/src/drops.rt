@@ -1,28 +1,27 @@
-//! The calls of a queue of shards by name that may let a value go: each takes one shard's lock and makes the state's call. Who
-//! leaves by it is woken once the lock is free, and what it lets go is dropped then.
+//! The calls of a queue of shards by name that may let a value go: each takes one shard's lock and makes the state's
+//! call. Who leaves by it is woken once the lock is free, and what it lets go is dropped then.
 //!
-//! A value's drop is a user's code: it may call the queue, and it may panic. What is reaped or cleared is set aside in the
-//! shard, and one thread takes it out and drops it behind the lock. Where a drop panics the shard is whole, and what is still
-//! set aside is dropped by a later call. No other impl of a queue says that a value of it may be dropped, so the checker
-//! refuses a drop anywhere else.
-ghost use Rattle.std.specs.Prelude.{◌≡◌, ◌%◌, ◌<◌, ◌≤◌, ◌↔◌, vec_capacity, IfOk, IfErr, OnOk, OnErr, IsErrOf, IsErrAnd};
+//! A value's drop is a user's code: it may call the queue, and it may panic. What is reaped or cleared is set aside in
+//! the shard, and the row takes it out and drops it behind the lock. Where a drop panics the shard is whole, and what
+//! is still set aside is dropped by a later call. Beside the row no other impl of a queue says that a value of it may
+//! be dropped, so the checker refuses a drop anywhere else.
+ghost use Rattle.std.specs.Prelude.{◌≡◌, ◌%◌, ◌<◌, ◌≤◌, ◌↔◌, true, vec_capacity, IfOk, IfErr, OnOk, OnErr, IsErrOf, IsErrAnd};
 ghost use Rattle.std.specs.Fn.{FnOnceReturnsAtMut};
-ghost use Rattle.std.specs.Sync.Mutex.{mutex_guard_value};
 ghost use Rattle.dq_ticks.specs.declared.TheConstants.{LAST_TICK};
 ghost use Rattle.dq_core.specs.declared.errors.CoreError.TheVariants.{TooFar, TickTooLarge};
 ghost use Rattle.dq_shards.specs.declared.errors.QueueError.TheVariants.{Core, Unknown};
 ghost use Rattle.dq_shards.specs.Answers.{with_value_handed_back, OnShard, OnShardOr, QueueInserts, QueueIsMade};
 ghost use Rattle.dq_shards.specs.Changes.{OnNumbered};
-ghost use Rattle.dq_shards.specs.Changes.{ShardPolls, ShardPollsSome, ShardSweeps, ShardSweepsSome, ShardReaps, ShardClears};
+ghost use Rattle.dq_shards.specs.Changes.{ShardPolls, ShardPollsSome, ShardSweeps, ShardSweepsSome, ShardReaps};
+ghost use Rattle.dq_shards.specs.Changes.{ShardClears};
 ghost use Rattle.dq_shards.specs.Many.{ShardPollsMany};
-ghost use Rattle.dq_shards.specs.Shard.{IsShard};
 ghost use Rattle.dq_shards.specs.Through.{AnswersThrough};
 
 use crate::errors::{QueueConfig, QueueError};
-use crate::queue::{SharedDelayQueue, is_config};
+use crate::queue::SharedDelayQueue;
 use crate::state::ShardState;
 use dq_core::{CoreConfig, CoreError, Expired, Piece, ReapError, Swept, Turn};
-use dq_parking::{Dropper, Row, unlock, waiting_row};
+use dq_parking::{Parked, Row, Shards, TickSource, unlock, waiting_row};
 use dq_ticks::{EntryId, Key};
 use dq_words::{ManyTurn, locked_shards};
 use std::alloc::Allocator;
@@ -54,9 +53,9 @@ impl<T: Drop, A: Allocator> SharedDelayQueue<T, A> {
         A: Clone + Drop,
         ensures { QueueIsMade config result }
     {
-        if !is_config(&config) {
+        let Ok(()) = config.check() else {
             return Err(QueueError::Core(CoreError::BadConfig));
-        }
+        };
         let core = CoreConfig {
             shard: 0,
             capacity: config.capacity,
@@ -71,23 +70,6 @@ impl<T: Drop, A: Allocator> SharedDelayQueue<T, A> {
             }),
             Err(error) => Err(QueueError::Core(error)),
         }
-    }
-
-    // As `lock`, for an insert, which has a place for each value that is set aside. One that has none is dropped before it,
-    // while the lock is free: a drop that panics then loses no key.
-    #[inline(always)]
-    fn lock_with_room<R: Wait>(&self, rt: &R, shard: usize) -> MutexGuard<'_, ShardState<T, A>>
-        requires { shard < self.now }
-        ensures law { IsShard (mutex_guard_value result) }
-        ensures number { (mutex_guard_value result).core.shard ≡ shard }
-    {
-        for _ in rt.forever() {
-            match self.row.lock_with_room(rt, shard) {
-                Ok(locked) => return locked,
-                Err(crowded) => drop(crowded),
-            }
-        }
-        unreachable!()
     }
 
     /// Puts `value` into the shard `route` modulo the number of shards, to come out at the tick `when` of one
@@ -131,7 +113,7 @@ impl<T: Drop, A: Allocator> SharedDelayQueue<T, A> {
         ensures inserts { QueueInserts self.now route value when result }
     {
         let shard = routed_shard(route, self.shards() as u64);
-        let mut locked = self.lock_with_room(rt, shard as usize);
+        let mut locked = self.row.lock_with_room(rt, shard as usize);
         // A value that waited for its drop where the entry is now is dropped once the lock is free.
         let (answer, leaver, _crowded) = locked.attended.insert(value, when);
         unlock(locked, leaver);
@@ -224,7 +206,7 @@ impl<T: Drop, A: Allocator> SharedDelayQueue<T, A> {
         let aside = unlock(locked, leaver);
         // A drop that panics would lose what came out.
         if !matches!(answer, Ok(Turn::Out(_))) {
-            self.drop_aside(rt, shard, aside);
+            self.row.drop_aside(rt, shard, aside);
         }
         Ok(answer?)
     }
@@ -283,7 +265,7 @@ impl<T: Drop, A: Allocator> SharedDelayQueue<T, A> {
         let aside = unlock(locked, leaver);
         // A drop that panics would lose what came out.
         if !matches!(answer, Ok(Piece::Answer(Turn::Out(_)))) {
-            self.drop_aside(rt, shard, aside);
+            self.row.drop_aside(rt, shard, aside);
         }
         Ok(answer?)
     }
@@ -397,7 +379,7 @@ impl<T: Drop, A: Allocator> SharedDelayQueue<T, A> {
         let aside = unlock(locked, leaver);
         // A drop that panics would lose what came out.
         if row.len() == before {
-            self.drop_aside(rt, shard, aside);
+            self.row.drop_aside(rt, shard, aside);
         }
         Ok(answer?)
     }
@@ -418,7 +400,7 @@ impl<T: Drop, A: Allocator> SharedDelayQueue<T, A> {
         let mut locked = self.enter(rt, shard)?;
         let (reaped, leaver) = locked.attended.sweep();
         let aside = unlock(locked, leaver);
-        self.drop_aside(rt, shard, aside);
+        self.row.drop_aside(rt, shard, aside);
         Ok(reaped)
     }
 
@@ -458,7 +440,7 @@ impl<T: Drop, A: Allocator> SharedDelayQueue<T, A> {
         let mut locked = self.enter(rt, shard)?;
         let (swept, leaver) = locked.attended.sweep_some(from, count);
         let aside = unlock(locked, leaver);
-        self.drop_aside(rt, shard, aside);
+        self.row.drop_aside(rt, shard, aside);
         Ok(swept)
     }
 
@@ -485,7 +467,7 @@ impl<T: Drop, A: Allocator> SharedDelayQueue<T, A> {
         let mut locked = self.enter(rt, shard)?;
         let (answer, leaver) = locked.attended.reap(entry);
         let aside = unlock(locked, leaver);
-        self.drop_aside(rt, shard, aside);
+        self.row.drop_aside(rt, shard, aside);
         Ok(answer)
     }
 
@@ -504,7 +486,7 @@ impl<T: Drop, A: Allocator> SharedDelayQueue<T, A> {
         let mut locked = self.enter(rt, shard)?;
         let (cleared, leaver) = locked.attended.clear();
         let aside = unlock(locked, leaver);
-        self.drop_aside(rt, shard, aside);
+        self.row.drop_aside(rt, shard, aside);
         Ok(cleared)
     }
 
@@ -531,22 +513,53 @@ impl<T: Drop, A: Allocator> SharedDelayQueue<T, A> {
     /// ```
     #[inline(always)]
     pub fn drop_aside<R: Wait>(&self, rt: &R, shard: usize, most: usize) {
-        if most > 0 {
-            self.drop_all_aside(rt, shard);
-        }
+        self.row.drop_aside(rt, shard, most);
+    }
+}
+
+/// A stream of a shard asks its source under the shard's lock, and ends by a refused tick.
+impl<T: Drop, A: Allocator> Shards for SharedDelayQueue<T, A> {
+    type State = ShardState<T, A>;
+
+    type Error = QueueError;
+
+    ghost places = { λ shards. shards };
+
+    ghost unknown = { Unknown };
+
+    ghost ends = { true };
+
+    fn places(&self) -> usize {
+        self.row.len()
     }
 
-    // Drops what is set aside in a shard until nothing is left, where no thread does so already.
-    #[inline(never)]
-    fn drop_all_aside<R: Wait>(&self, rt: &R, shard: usize) {
-        let mut dropper = Dropper::new(&self.row, rt, shard);
-        for _ in rt.forever() {
-            let Some(value) = dropper.take_one() else {
-                return;
-            };
-            drop(value);
-        }
-        unreachable!()
+    fn unknown() -> QueueError {
+        QueueError::Unknown
+    }
+
+    fn ends() -> bool {
+        true
+    }
+
+    fn give_way(&self, place: usize) {
+        self.row.give_way(place);
+    }
+
+    fn entered<S: TickSource, R: Wait>(
+        &self,
+        rt: &R,
+        place: usize,
+        source: &mut S,
+        before: &mut Option<Parked>,
+    ) -> (MutexGuard<'_, ShardState<T, A>>, u64) {
+        let mut shard = self.row.lock(rt, place);
+        *before = shard.take_parked();
+        let tick = source.now();
+        (shard, tick)
+    }
+
+    fn drop_aside<R: Wait>(&self, rt: &R, place: usize, most: usize) {
+        SharedDelayQueue::drop_aside(self, rt, place, most);
     }
 }
 
@@ -594,7 +607,7 @@ impl<T: Drop> SharedDelayQueue<T> {
         locked.law();
         let aside = locked.aside();
         drop(locked);
-        self.drop_aside(rt, shard, aside);
+        self.row.drop_aside(rt, shard, aside);
         Ok(answer)
     }
 }

@@ -184,7 +184,7 @@ impl<T, A: Allocator> SharedDelayQueue<T, A> {
         requires { shard < self.now }
         ensures { OnNumbered {T = T} shard ShardIssues result }
     {
-        let mut shard = self.lock(rt, shard);
+        let mut shard = self.row.lock(rt, shard);
         let issued = shard.issue();
         shard.law();
         issued

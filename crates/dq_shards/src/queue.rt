@@ -1,15 +1,13 @@
 //! Shards behind locks.
-ghost use Rattle.std.specs.Prelude.{◌≡◌, ◌↔◌, ◌<◌, ◌≤◌, IsTrue, IfOk, IfErr};
+ghost use Rattle.std.specs.Prelude.{◌≡◌, ◌<◌, ◌≤◌, IfOk, IfErr};
 ghost use Rattle.std.specs.Sync.Mutex.{mutex_guard_value};
 ghost use Rattle.dq_shards.specs.declared.errors.TheConstants.{SHARD_LIMIT};
 ghost use Rattle.dq_shards.specs.declared.errors.QueueError.TheVariants.{Unknown};
 ghost use Rattle.dq_shards.specs.Shard.{IsShard};
-ghost use Rattle.dq_shards.specs.Answers.{IsQueueConfig};
 
-use crate::errors::{QueueConfig, QueueError, SHARD_LIMIT};
+use crate::errors::{QueueError, SHARD_LIMIT};
 use crate::state::ShardState;
 use dq_parking::Row;
-use dq_ticks::{CAPACITY_LIMIT, LAST_STAMP};
 use std::alloc::{Allocator, Global};
 use std::marker::Model;
 use std::sync::{MutexGuard, Wait};
@@ -64,17 +62,6 @@ impl<T, A: Allocator> Model for SharedDelayQueue<T, A> {
     ghost view = { λ q. q.row };
 
     ghost invariant = { λ q. (0 < q.row) × (q.row ≤ SHARD_LIMIT) };
-}
-
-pub(crate) fn is_config(config: &QueueConfig) -> bool
-    ensures { IsTrue result ↔ IsQueueConfig config.now }
-{
-    0 < config.shards
-        && config.shards <= SHARD_LIMIT
-        && 0 < config.capacity
-        && config.capacity <= CAPACITY_LIMIT
-        && 0 < config.last_stamp
-        && config.last_stamp <= LAST_STAMP
 }
 
 impl<T, A: Allocator> SharedDelayQueue<T, A> {
@@ -132,15 +119,6 @@ impl<T, A: Allocator> SharedDelayQueue<T, A> {
         if shard >= self.row.len() {
             return Err(QueueError::Unknown);
         }
-        Ok(self.lock(rt, shard))
-    }
-
-    #[inline(always)]
-    pub(crate) fn lock<R: Wait>(&self, rt: &R, shard: usize) -> MutexGuard<'_, ShardState<T, A>>
-        requires { shard < self.now }
-        ensures law { IsShard (mutex_guard_value result) }
-        ensures number { (mutex_guard_value result).core.shard ≡ shard }
-    {
-        self.row.lock(rt, shard)
+        Ok(self.row.lock(rt, shard))
     }
 }

@@ -36,8 +36,8 @@ use std::marker::Model;
 pub struct ShardState<T, A: Allocator = Global> {
     // What works under the lock has no line with the lock itself, which others look at while they wait for it.
     _apart: [u64; 7],
-    // Shards stand in one row. Each is, behind its lock, a whole number of cache lines, and no line has what two of them
-    // write. A test tells: where a field is added, some room has to be.
+    // Shards stand in one row. Each is, behind its lock, a whole number of cache lines, and no line has what two of
+    // them write. A test tells: where a field is added, some room has to be.
     pub(crate) attended: Attended<T, u64, A>,
     _room: [u64; 5],
 }

@@ -5,7 +5,7 @@ use Rattle.std.proofs.Math.ListN.{length-set}
 use Rattle.std.proofs.lemmas.List.{get_or-set_same, get_or-set_other, get_or-take, length-map}
 use Rattle.std.proofs.Math.Seq.{take-set-lt}
 use Rattle.dq_wheel.specs.Circle.{Node, IsCircles}
-use Rattle.dq_wheel.specs.Lists.{CirclesState, IsListEmpty, IsListFilled}
+use Rattle.dq_wheel.specs.Lists.{CirclesState, IsListEmpty, IsListFilled, StandsBeside}
 use Rattle.dq_wheel.specs.Seen.{home_seen, number_seen, homes_seen, numbers_seen}
 use Rattle.dq_wheel.specs.Rows.{nexts, prevs, homes, filed_numbers, moves_made, shown_homes, shown_numbers, shown_filed, entry_homes, entry_filed, entry_moves, AreCircles, AreSeenCircles, HasNeighbours}
 use Rattle.dq_wheel.specs.declared.row.Row.{Row}
@@ -51,6 +51,25 @@ module _ (cap : ℕ) (o : Option ℕ) (old : List Row) (r : AreSeenCircles cap o
         back = node.back;
         forth = node.forth;
       }
+
+  -- what follows an entry in its list, as callers see it
+  pub after_seen : (i x : ℕ) (now : List ℕ) → take cap (homes_seen cap o (homes old)) ≡ now → i < length now → 0 < get_or now i 0 →
+      x ≡ get_or (nexts old) i 0 → x < cap → StandsBeside now i x
+  after_seen i x now now_is i_in on x_is x_in =
+      let all = homes_seen cap o (homes old) in
+      let len : length now ≡ cap = capacity_is cap all now (omega (arith, r.homes_len)) now_is in
+      let i_cap : i < cap = omega arith in
+      let i_seen : get_or now i 0 ≡ get_or all i 0 = seen_home cap all now i now_is i_cap in
+      let x_seen : get_or now x 0 ≡ get_or all x 0 = seen_home cap all now x now_is x_in in
+      let linked : 0 < get_or all i 0 = omega arith in
+      let node = node_at i (omega arith) linked in
+      let beside : get_or all (get_or (nexts old) i 0) 0 ≡ get_or all i 0 = node.next_home in
+      let same : get_or all x 0 ≡ get_or all i 0 = rw x_is beside in
+      let back : get_or (prevs old) (get_or (nexts old) i 0) 0 ≡ i = node.back in
+      let before : get_or (prevs old) x 0 ≡ i = rw x_is back in
+      let falls : r.rank (get_or (prevs old) x 0) < r.rank x = r.circle.falls x x_in (omega arith) in
+      let later : r.rank i < r.rank x = rw before at falls in
+      (omega arith, x_seen ∙ (same ∙ sym i_seen), λ e. let less : r.rank i < r.rank i = rw e at later in omega arith)
 
   head_on : (p : ℕ) → p < LISTS → 0 < get_or (homes_seen cap o (homes old)) (cap + p) 0
   head_on p p_in = omega (arith, r.circle.head_home p p_in)

@@ -135,6 +135,14 @@ module _ (e : ℕ) (filed : List (Option ℕ)) (moves homes : List ℕ) (ok : Is
   pub due_stands : (i : ℕ) → StandsIn homes (digit_of e 0) i → filed_at filed i ≡ Some e
   due_stands i stands = home_due e (filed_at filed i) _ _ (ok.home i stands.0) stands.1
 
+  -- what is filed at the tick stands on the due list
+  pub stands_due : (i : ℕ) → filed_at filed i ≡ Some e → (i < length homes) × (get_or homes i 0 ≡ digit_of e 0 + 1)
+  stands_due i is =
+      let home = filed_home i e is in
+      let at : IsAt e e (get_or homes i 0) (get_or moves i 0) = home.1 in
+      let due : list_number e e ≡ digit_of e 0 = number_same e e refl in
+      (home.0, at.number ∙ ap (λ k. k + 1) due)
+
   -- nothing is due where no index stands on the due list
   pub none_due : IsListEmpty homes (digit_of e 0) → (i f : ℕ) → filed_at filed i ≡ Some f → e < f
   none_due empty i f is =

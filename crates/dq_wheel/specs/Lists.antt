@@ -28,6 +28,11 @@ pub record ListsState : Type 0 where
 abbrev pub StandsIn : List ℕ → ℕ → ℕ → Type 0
 StandsIn homes p x = (x < length homes) × (slice_index homes x ≡ p + 1)
 
+-- index x stands in the list of index i, and is another
+abbrev pub StandsBeside : List ℕ → ℕ → ℕ → Type 0
+StandsBeside homes i x =
+    (x < length homes) × (slice_index homes x ≡ slice_index homes i) × (x ≢ i)
+
 -- index x stands in no list
 abbrev pub IsLoose : List ℕ → ℕ → Type 0
 IsLoose homes x = (x < length homes) × (slice_index homes x ≡ 0)

@@ -1,7 +1,7 @@
 //! Lists of indexes, linked both ways, in a fixed row, with what is kept of each index.
 
 ghost use Rattle.std.specs.Prelude.{◌≡◌, ◌≢◌, ◌⊎◌, if◌then◌else◌, ℕ, ◌+◌, ◌<◌, ◌≤◌, length, map, slice_index, slice_set, replicate, IfOk, MatchOption, IfSome, Option, None, Some};
-ghost use Rattle.dq_wheel.specs.Lists.{IsLeastIn, IsListEmpty, IsListFilled, IsListOf, IsLoose, StandsIn, TakesMore};
+ghost use Rattle.dq_wheel.specs.Lists.{IsLeastIn, IsListEmpty, IsListFilled, IsListOf, IsLoose, StandsBeside, StandsIn, TakesMore};
 ghost use Rattle.dq_wheel.specs.Seen.{home_seen, number_seen, numbers_seen};
 ghost use Rattle.dq_wheel.specs.Maps.{IsOccupied};
 ghost use Rattle.dq_wheel.specs.Homes.{CanGo, IsOpened};
@@ -157,6 +157,21 @@ impl<A: Allocator> Circles<A> {
         let first = row_at(&self.rows, self.capacity + list).next as usize;
         if first < self.capacity {
             Some(first)
+        } else {
+            None
+        }
+    }
+
+    /// The index that follows another in its list, or none where that is the last.
+    #[inline]
+    pub fn after(&self, index: usize) -> Option<usize>
+        requires index_in { index < length self.now.homes }
+        requires linked { 0 < slice_index self.now.homes index }
+        ensures { IfSome result (λ x. StandsBeside self.now.homes index x) }
+    {
+        let after = row_at(&self.rows, index).next as usize;
+        if after < self.capacity {
+            Some(after)
         } else {
             None
         }

@@ -2,7 +2,7 @@
 
 ghost use Rattle.std.specs.Prelude.{◌≡◌, ◌≢◌, ℕ, ◌+◌, ◌*◌, ◌<◌, ◌≤◌, ◌↔◌, length, slice_index, slice_set, map, replicate, IfOk, MatchOption, IfSome, Option, None, Some};
 ghost use Rattle.std.specs.Int.{bit_at};
-ghost use Rattle.dq_wheel.specs.Lists.{IsLeastIn, IsListEmpty, IsListFilled, IsListOf, IsLoose, StandsIn, TakesMore};
+ghost use Rattle.dq_wheel.specs.Lists.{IsLeastIn, IsListEmpty, IsListFilled, IsListOf, IsLoose, StandsBeside, StandsIn, TakesMore};
 ghost use Rattle.dq_wheel.specs.Seen.{home_seen, numbers_seen};
 ghost use Rattle.dq_wheel.specs.Walks.{bit_of};
 ghost use Rattle.dq_wheel.specs.Maps.{IsFirstFilled, IsOccupied, IsOccupiedBut};
@@ -135,6 +135,17 @@ impl<A: Allocator> Lists<A> {
     {
         let first = self.circles.first_open(list)?;
         Some(first)
+    }
+
+    /// The index that follows another in its list, or none where that is the last.
+    #[inline]
+    pub fn after(&self, index: usize) -> Option<usize>
+        requires index_in { index < length self.now.homes }
+        requires linked { 0 < slice_index self.now.homes index }
+        ensures { IfSome result (λ x. StandsBeside self.now.homes index x) }
+    {
+        let after = self.circles.after(index)?;
+        Some(after)
     }
 
     /// An index of a list that is filed least there.

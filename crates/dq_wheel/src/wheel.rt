@@ -277,6 +277,22 @@ impl<A: Allocator> Wheel<A> {
         Some(index)
     }
 
+    /// The index that follows a due one among those that are due, or none where that is the last.
+    #[inline]
+    pub fn next_due(&self, index: usize) -> Option<usize>
+        requires index_in { index < length self.now.filing.filed }
+        requires due { filed_at self.now.filing.filed index ≡ Some self.now.filing.tick }
+        ensures due { IfSome result (λ i.
+            filed_at self.now.filing.filed i ≡ Some self.now.filing.tick) }
+        ensures in_range { IfSome result (λ i. i < length self.now.filing.filed) }
+        ensures other { IfSome result (λ i. i ≢ index) }
+    {
+        let Some(next) = self.lists.after(index) else {
+            return None;
+        };
+        Some(next)
+    }
+
     /// Files a loose index at a tick from the wheel's own on, at most [`REACH`] ticks ahead. It has not moved then.
     pub fn link(&mut self, index: usize, filed: u64)
         requires index_in { index < length self.old.filing.filed }

@@ -7,7 +7,7 @@
 //! which are those within `Stopwatch::time`.
 
 use std::hint::black_box;
-use std::sync::atomic::{AtomicBool, Ordering::Relaxed};
+use std::sync::atomic::{AtomicBool, AtomicUsize, Ordering::Relaxed, Ordering::SeqCst};
 use std::sync::{Arc, Mutex, MutexGuard};
 use std::task::{Context, Poll, Wake, Waker};
 use std::time::Duration;
@@ -219,46 +219,154 @@ fn extend(entries: usize, _clock: &Clock, dice: &mut Dice, watch: &mut Stopwatch
     }
 }
 
-/// The same as `peers::idle` where any thread may touch the entries: what the peer wants a `Mutex` for.
-fn idle_by_mutex(entries: usize, clock: &Clock, dice: &mut Dice, watch: &mut Stopwatch) {
+/// Until when a connection that was heard of may be silent.
+#[derive(Clone, Copy)]
+enum Until {
+    /// For that long: each touch reads the clock.
+    After(Duration),
+    /// Until a moment that was reckoned once for all touches of a second.
+    At(Instant),
+}
+
+/// The same as `peers::idle` where any thread may touch the entries: what the peer wants a `Mutex` for. The clock is read before
+/// it is locked.
+fn idle_by_mutex<const THREADS: usize, const READS_ONCE: bool>(
+    entries: usize,
+    clock: &Clock,
+    dice: &mut Dice,
+    watch: &mut Stopwatch,
+) {
     let (queue, keys) = peers::filled(entries, dice);
     let queue = Mutex::new(queue);
-    let task = Task::new();
-    keys.iter().for_each(|key| locked(&queue).reset(key, Duration::from_secs(30)));
-    let mut at = 0;
-    while watch.calls < CALLS.max(2 * entries) {
-        clock.pass(1_000);
-        let part = entries / 20;
-        watch.time(part, || {
-            for _ in 0..part {
-                at = (at + 1) % keys.len();
-                locked(&queue).reset(&keys[at], Duration::from_secs(30));
+    let touch = |at: usize, until: Until| {
+        let when = match until {
+            Until::After(idle) => Instant::now() + idle,
+            Until::At(when) => when,
+        };
+        locked(&queue).reset_at(&keys[at], when);
+    };
+    let poll = |cx: &mut Context<'_>| assert!(locked(&queue).poll_expired(cx).is_pending());
+    Idle::new(entries, THREADS, READS_ONCE).run(clock, touch, poll, watch);
+}
+
+fn locked<T>(it: &Mutex<T>) -> MutexGuard<'_, T> {
+    it.lock().expect("nobody panics under the lock")
+}
+
+fn idle_by_handle<const THREADS: usize, const READS_ONCE: bool>(
+    entries: usize,
+    clock: &Clock,
+    dice: &mut Dice,
+    watch: &mut Stopwatch,
+) {
+    let (mut queue, keys) = ours::filled(entries, dice);
+    let handle = queue.handle();
+    let touch = |at: usize, until: Until| {
+        let extended = match until {
+            Until::After(idle) => handle.extend(&keys[at], idle),
+            Until::At(when) => handle.extend_at(&keys[at], when),
+        };
+        black_box(extended.is_ok());
+    };
+    let poll = |cx: &mut Context<'_>| assert!(queue.poll_expired(cx).is_pending());
+    Idle::new(entries, THREADS, READS_ONCE).run(clock, touch, poll, watch);
+}
+
+/// Connections with 30 s of idle time, of which each of some threads has its own. Each second the threads hear of a twentieth of
+/// theirs at once, and then the first polls the queue. They touch outside of the runtime, and so read the clock that servers have.
+struct Idle {
+    start: Instant,
+    threads: usize,
+    reads_once: bool,
+    /// The connections of a thread.
+    own: usize,
+    meeting: Meeting,
+    /// When the threads began in a second, and their nanoseconds.
+    spans: Mutex<Vec<(std::time::Instant, f64)>>,
+}
+
+/// How far apart threads begin at most that are at work at once. Where they are further apart, one had no processor.
+const AT_ONCE: Duration = Duration::from_micros(5);
+
+impl Idle {
+    const TIME: Duration = Duration::from_secs(30);
+
+    fn new(entries: usize, threads: usize, reads_once: bool) -> Idle {
+        let (meeting, own) = (Meeting { threads, came: AtomicUsize::new(0) }, entries / threads);
+        Idle { start: Instant::now(), threads, reads_once, own, meeting, spans: Mutex::default() }
+    }
+
+    /// A call costs what the touches of a second did at least, and its part of all polls.
+    fn run<Touch, Poll>(&self, clock: &Clock, touch: Touch, mut poll: Poll, watch: &mut Stopwatch)
+    where
+        Touch: Fn(usize, Until) + Sync,
+        Poll: FnMut(&mut Context<'_>) + Send,
+    {
+        (0..self.threads * self.own).for_each(|at| touch(at, Until::At(self.start + Idle::TIME)));
+        let part = self.threads * (self.own / 20);
+        let seconds = 1..=CALLS.max(2 * self.threads * self.own) / part;
+        let (task, touch, mut least) = (Task::new(), &touch, f64::INFINITY);
+        std::thread::scope(|scope| {
+            for thread in 1..self.threads {
+                let seconds = seconds.clone();
+                scope.spawn(move || seconds.for_each(|second| self.hear(thread, second, touch)));
             }
-            task.run(|cx| assert!(locked(&queue).poll_expired(cx).is_pending()));
+            scope.spawn(|| {
+                for second in seconds {
+                    clock.pass(1_000);
+                    self.hear(0, second, touch);
+                    least = least.min(self.nanos() / part as f64);
+                    let _context = clock.0.enter();
+                    watch.time(part, || task.run(&mut poll));
+                }
+            });
         });
+        watch.nanos += watch.calls as f64 * least;
+    }
+
+    /// A thread hears of connections in a second.
+    fn hear(&self, thread: usize, second: usize, touch: &impl Fn(usize, Until)) {
+        let (part, first) = (self.own / 20, thread * self.own);
+        let when = self.start + Duration::from_secs(second as u64) + Idle::TIME;
+        let until = if self.reads_once { Until::At(when) } else { Until::After(when - Instant::now()) };
+        let mut watch = Stopwatch { nanos: 0.0, calls: 0 };
+        self.meeting.meet();
+        let start = std::time::Instant::now();
+        watch.time(part, || (second * part..(second + 1) * part).for_each(|at| touch(first + at % self.own, until)));
+        locked(&self.spans).push((start, watch.nanos));
+        self.meeting.meet();
+    }
+
+    /// What the threads needed together in the last second, which doesn't count where they weren't at work at once.
+    fn nanos(&self) -> f64 {
+        let spans = std::mem::take(&mut *locked(&self.spans));
+        let starts = || spans.iter().map(|span| span.0);
+        if starts().max() > starts().min().map(|first| first + AT_ONCE) {
+            return f64::INFINITY;
+        }
+        spans.iter().map(|span| span.1).sum()
     }
 }
 
-fn locked<Q>(queue: &Mutex<Q>) -> MutexGuard<'_, Q> {
-    queue.lock().expect("nobody panics under the lock")
+/// Where threads wait for each other, without sleep, so that they go on at once.
+struct Meeting {
+    threads: usize,
+    came: AtomicUsize,
 }
 
-fn idle_by_handle(entries: usize, clock: &Clock, dice: &mut Dice, watch: &mut Stopwatch) {
-    let (mut queue, keys) = ours::filled(entries, dice);
-    let handle = queue.handle();
-    let task = Task::new();
-    keys.iter().for_each(|key| assert!(handle.extend(key, Duration::from_secs(30)).is_ok()));
-    let mut at = 0;
-    while watch.calls < CALLS.max(2 * entries) {
-        clock.pass(1_000);
-        let part = entries / 20;
-        watch.time(part, || {
-            for _ in 0..part {
-                at = (at + 1) % keys.len();
-                black_box(handle.extend(&keys[at], Duration::from_secs(30)).is_ok());
+impl Meeting {
+    fn meet(&self) {
+        let nth = self.came.fetch_add(1, SeqCst) / self.threads + 1;
+        for turn in 1_u64.. {
+            if self.came.load(SeqCst) >= nth * self.threads {
+                return;
             }
-            task.run(|cx| assert!(queue.poll_expired(cx).is_pending()));
-        });
+            // Another may need the processor to come here.
+            if turn % 1_000 == 0 {
+                std::thread::yield_now();
+            }
+            std::hint::spin_loop();
+        }
     }
 }
 
@@ -317,7 +425,7 @@ fn timed(row: Row, entries: usize, round: usize) -> Stopwatch {
 
 fn main() {
     let asked = Asked::read();
-    let rows: [(&str, Row, Row); 8] = [
+    let rows: [(&str, Row, Row); 13] = [
         ("insert_at", peers::insert, ours::insert),
         ("reset_at", peers::reset, ours::reset),
         ("remove", peers::remove, ours::remove),
@@ -325,14 +433,19 @@ fn main() {
         ("poll_expired, no limit", peers::poll, poll_whole),
         ("reset_at / handle.extend_at", peers::reset, extend),
         ("idle timeouts by reset", peers::idle, ours::idle),
-        ("idle timeouts by handle", idle_by_mutex, idle_by_handle),
+        ("idle timeouts by handle", idle_by_mutex::<1, false>, idle_by_handle::<1, false>),
+        ("idle timeouts by handle, one moment", idle_by_mutex::<1, true>, idle_by_handle::<1, true>),
+        ("idle timeouts by handle, 2 threads", idle_by_mutex::<2, false>, idle_by_handle::<2, false>),
+        ("idle timeouts by handle, 2 threads, one moment", idle_by_mutex::<2, true>, idle_by_handle::<2, true>),
+        ("idle timeouts by handle, 4 threads", idle_by_mutex::<4, false>, idle_by_handle::<4, false>),
+        ("idle timeouts by handle, 4 threads, one moment", idle_by_mutex::<4, true>, idle_by_handle::<4, true>),
     ];
-    println!("{:28} {:>8} {:>8} {:>8} {:>6} {:>9}", "row", "entries", "peer ns", "ours ns", "ratio", "calls");
+    println!("{:46} {:>8} {:>8} {:>8} {:>6} {:>9}", "row", "entries", "peer ns", "ours ns", "ratio", "calls");
     let is_asked = |name: &str| asked.row.is_empty() || asked.row == name;
     for (name, peer, own) in rows.into_iter().filter(|row| is_asked(row.0)) {
         for &entries in &asked.sizes {
             let ([peer, own], calls) = asked.least(entries, [("peer", peer), ("ours", own)]);
-            println!("{name:28} {entries:>8} {peer:>8.1} {own:>8.1} {:>6.1} {calls:>9}", peer / own);
+            println!("{name:46} {entries:>8} {peer:>8.1} {own:>8.1} {:>6.1} {calls:>9}", peer / own);
         }
     }
 }

@@ -24,11 +24,15 @@ impl Clock {
         millis_up(moment.saturating_duration_since(self.start))
     }
 
-    /// The tick that is reached that long after now, none where no moment is.
+    /// The tick that is reached that long after now. Tick 0 may be to come by the clock of another runtime, or of none.
     #[inline]
-    pub fn tick_after(&self, timeout: Duration) -> Option<u64> {
-        let since = Instant::now().saturating_duration_since(self.start);
-        since.checked_add(timeout).map(millis_up)
+    pub fn tick_after(&self, timeout: Duration) -> u64 {
+        let now = Instant::now();
+        let since = match now.checked_duration_since(self.start) {
+            Some(since) => since.saturating_add(timeout),
+            None => timeout.saturating_sub(self.start.duration_since(now)),
+        };
+        millis_up(since)
     }
 
     /// The tick that is over now: milliseconds since the start, rounded down.

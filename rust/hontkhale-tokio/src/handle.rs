@@ -1,6 +1,7 @@
 use crate::key::Key;
 use crate::shared::Shared;
 use crate::shared_state::{Refusal, Step};
+use hontkhale::owner::LAST_TICK;
 use std::error::Error;
 use std::fmt;
 use std::sync::Arc;
@@ -53,35 +54,45 @@ impl Handle {
         Handle { shared }
     }
 
-    /// Raises the deadline of an entry to `timeout` from now, and answers the deadline that is then in force: that one, or
-    /// a later one that it had.
+    /// Raises the deadline of an entry to `timeout` from now, and returns the deadline that is then in force: that one, or
+    /// a later one that it had. No extend that was accepted is lost. It reads the clock, and makes one atomic step.
     ///
     /// # Errors
-    /// `TooFar`, `Ended`.
+    /// In this order:
+    /// - `TooFar` if the deadline would be more than 139 years after the queue's making.
+    /// - `Ended` if the entry came out, was removed or cancelled, or its queue has gone.
     #[inline]
     pub fn extend(&self, key: &Key, timeout: Duration) -> Result<Instant, EntryError> {
-        let tick = self.shared.clock.tick_after(timeout).ok_or(EntryError::TooFar)?;
-        let deadline = self.step(key, Step::Extend(tick))?;
-        Ok(self.shared.clock.moment(deadline))
+        self.extend_to(key, self.shared.clock.tick_after(timeout))
     }
 
-    /// Raises the deadline of an entry to `when`, and answers the deadline that is then in force: `when`, or a later one
-    /// that it had. No extend that was accepted is lost.
+    /// Raises the deadline of an entry to `when`, and returns the deadline that is then in force: `when`, or a later one
+    /// that it had. No extend that was accepted is lost. It makes one atomic step, and reads no clock: a moment that was read once
+    /// serves for many entries.
     ///
     /// # Errors
-    /// `TooFar`, `Ended`.
+    /// In this order:
+    /// - `TooFar` if `when` is more than 139 years after the queue's making.
+    /// - `Ended` if the entry came out, was removed or cancelled, or its queue has gone.
     #[inline]
     pub fn extend_at(&self, key: &Key, when: Instant) -> Result<Instant, EntryError> {
-        let tick = self.shared.clock.tick_at(when);
+        self.extend_to(key, self.shared.clock.tick_at(when))
+    }
+
+    #[inline]
+    fn extend_to(&self, key: &Key, tick: u64) -> Result<Instant, EntryError> {
+        if tick > LAST_TICK {
+            return Err(EntryError::TooFar);
+        }
         let deadline = self.step(key, Step::Extend(tick))?;
         Ok(self.shared.clock.moment(deadline))
     }
 
-    /// Cancels an entry, and answers the deadline that it gave up. It never comes out; the queue's next poll drops its value
-    /// and frees its place, and until then it counts in [`len`](crate::DelayQueue::len).
+    /// Cancels an entry, and returns the deadline that it gave up. It never comes out; the queue's next poll drops its value
+    /// and frees its place, and until then it counts in [`len`](crate::DelayQueue::len). It makes five atomic steps.
     ///
     /// # Errors
-    /// `Ended`.
+    /// `Ended` if the entry came out, was removed or cancelled, or its queue has gone.
     ///
     /// ```
     /// # #[tokio::main(flavor = "current_thread")]
@@ -120,14 +131,10 @@ impl Handle {
             },
             refused => refused,
         };
-        match refused {
-            Refusal::TooFar => Err(EntryError::TooFar),
-            Refusal::Over => {
-                self.shared.forget_callers();
-                Err(EntryError::Ended)
-            }
-            _ => Err(EntryError::Ended),
+        if refused == Refusal::Over {
+            self.shared.forget_callers();
         }
+        Err(EntryError::Ended)
     }
 }
 

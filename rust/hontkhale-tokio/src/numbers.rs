@@ -28,7 +28,7 @@ pub struct Numbers {
 #[derive(Default)]
 pub(crate) struct Latest {
     ticks: AtomicU64,
-    /// Whether anybody asks: the clock is read for those alone who do.
+    /// Whether anybody asks: the clock is read for those alone that do.
     is_asked_for: AtomicBool,
 }
 

@@ -78,7 +78,7 @@ impl<T> DelayQueue<T> {
     /// time that these are full.
     ///
     /// # Panics
-    /// Where that is more than 2³² entries, before any memory is taken; where memory is refused.
+    /// If that is more than 2³² entries, before any memory is taken; if memory is refused.
     ///
     /// ```
     /// # #[tokio::main(flavor = "current_thread")]
@@ -144,7 +144,7 @@ impl<T> DelayQueue<T> {
     /// Puts a value in that comes out at `when`, or at once where `when` is over. Constant time, but that the queue may grow.
     ///
     /// # Panics
-    /// Where `when` is more than 139 years after the queue's making, where it would hold 2³² entries, or memory is refused.
+    /// If `when` is more than 139 years after the queue's making, if the queue would hold 2³² entries, or if memory is refused.
     ///
     /// ```
     /// # #[tokio::main(flavor = "current_thread")]
@@ -168,10 +168,10 @@ impl<T> DelayQueue<T> {
         }
     }
 
-    /// Puts a value in that comes out after `timeout`: [`insert_at`](DelayQueue::insert_at) that long from now.
+    /// Puts a value in that comes out after `timeout`, by the clock of the runtime. Constant time, but that the queue may grow.
     ///
     /// # Panics
-    /// As `insert_at` does.
+    /// If that is more than 139 years after the queue's making, if the queue would hold 2³² entries, or if memory is refused.
     #[track_caller]
     pub fn insert(&mut self, value: T, timeout: Duration) -> Key {
         self.insert_at(value, Instant::now() + timeout)
@@ -290,7 +290,7 @@ impl<T> DelayQueue<T> {
     /// Takes an entry out. Constant time.
     ///
     /// # Panics
-    /// Where no entry is in the queue under that key: it came out, was removed, or a [`Handle`] cancelled it. See
+    /// If no entry is in the queue under that key: it came out, was removed, or a [`Handle`] cancelled it. See
     /// [`try_remove`](DelayQueue::try_remove).
     #[track_caller]
     pub fn remove(&mut self, key: &Key) -> Expired<T> {
@@ -300,7 +300,7 @@ impl<T> DelayQueue<T> {
         }
     }
 
-    /// Takes an entry out, where there is one under that key. Constant time.
+    /// Takes an entry out if there is one under that key. Constant time.
     ///
     /// ```
     /// # #[tokio::main(flavor = "current_thread")]
@@ -322,8 +322,8 @@ impl<T> DelayQueue<T> {
     /// Gives an entry another deadline, earlier or later, under the same key. Constant time.
     ///
     /// # Panics
-    /// Where `when` is too far ahead, as for `insert_at`, or no entry is in the queue under that key. See
-    /// [`try_reset_at`](DelayQueue::try_reset_at).
+    /// If `when` is more than 139 years after the queue's making, or if no entry is in the queue under that key: it came out, was
+    /// removed, or a [`Handle`] cancelled it. See [`try_reset_at`](DelayQueue::try_reset_at).
     ///
     /// ```
     /// # #[tokio::main(flavor = "current_thread")]
@@ -345,10 +345,13 @@ impl<T> DelayQueue<T> {
         }
     }
 
-    /// Gives an entry another deadline, where it is there yet: a [`Handle`] may have cancelled it.
+    /// Gives an entry another deadline, earlier or later, under the same key, if it is there yet: a [`Handle`] may have cancelled
+    /// it. Constant time.
     ///
     /// # Errors
-    /// `TooFar`, `Ended`.
+    /// In this order:
+    /// - `TooFar` if `when` is more than 139 years after the queue's making.
+    /// - `Ended` if no entry is in the queue under that key: it came out, was removed or cancelled.
     #[inline]
     pub fn try_reset_at(&mut self, key: &Key, when: Instant) -> Result<(), EntryError> {
         let tick = self.segments.shared().clock.tick_at(when);
@@ -363,19 +366,21 @@ impl<T> DelayQueue<T> {
         }
     }
 
-    /// Gives an entry the deadline `timeout` from now: [`reset_at`](DelayQueue::reset_at) that long from now.
+    /// Gives an entry the deadline `timeout` from now, earlier or later than it had, under the same key. Constant time.
     ///
     /// # Panics
-    /// As `reset_at` does.
+    /// If that is more than 139 years after the queue's making, or if no entry is in the queue under that key: it came out, was
+    /// removed, or a [`Handle`] cancelled it.
     #[track_caller]
     pub fn reset(&mut self, key: &Key, timeout: Duration) {
         self.reset_at(key, Instant::now() + timeout);
     }
 
-    /// The deadline of an entry, as handles left it.
+    /// The deadline of an entry, to which a handle may have extended it. Constant time.
     ///
     /// # Panics
-    /// Where no entry is in the queue under that key. See [`try_deadline`](DelayQueue::try_deadline).
+    /// If no entry is in the queue under that key: it came out, was removed, or a [`Handle`] cancelled it. See
+    /// [`try_deadline`](DelayQueue::try_deadline).
     #[track_caller]
     pub fn deadline(&self, key: &Key) -> Instant {
         match self.try_deadline(key) {
@@ -384,7 +389,8 @@ impl<T> DelayQueue<T> {
         }
     }
 
-    /// The deadline of an entry, where it is there yet.
+    /// The deadline of an entry, to which a handle may have extended it; none if no entry is in the queue under that key.
+    /// Constant time.
     pub fn try_deadline(&self, key: &Key) -> Option<Instant> {
         let tick = self.segments.deadline(key)?;
         Some(self.segments.shared().clock.moment(tick))
@@ -436,11 +442,11 @@ impl<T> DelayQueue<T> {
         self.segments.is_empty()
     }
 
-    /// Makes room for at least so many more entries, in one segment of the queue or several, for which memory is taken as in
-    /// [`with_capacity`](DelayQueue::with_capacity). No entry is moved.
+    /// Makes room for at least so many more entries, in one segment of the queue or several. It takes memory for 65,536 of them at
+    /// most, and for as many more each time that these are full. No entry is moved.
     ///
     /// # Panics
-    /// Where the queue would have room for more than 2³² entries, before any memory is taken; where memory is refused.
+    /// If the queue would have room for more than 2³² entries, before any memory is taken; if memory is refused.
     ///
     /// ```
     /// # #[tokio::main(flavor = "current_thread")]
@@ -481,8 +487,11 @@ impl<T> DelayQueue<T> {
         self.segments.shrink_to_fit();
     }
 
-    /// What a server watches, by one call: how much waits, how late it is, and what is held. It looks through the entries
-    /// as [`peek`](DelayQueue::peek) does. From the first call on each poll that gives an entry reads the clock once.
+    /// What a server watches, by one call: how much waits, how late it is, and what is held. From the first call on each poll that
+    /// gives an entry reads the clock once.
+    ///
+    /// It looks for the entry that comes next: in constant time while that one stays, else through the entries of one slot of the
+    /// wheels, or, where a handle extended or cancelled the first of them or a poll is amid a slot, through all.
     ///
     /// ```
     /// # #[tokio::main(flavor = "current_thread", start_paused = true)]

@@ -292,7 +292,7 @@ impl<T> Segment<T> {
         drop_all(&mut self.left_over);
     }
 
-    /// The same of those that handles noted since, at most so many. Answers how many it looked at.
+    /// The same of those that handles noted since, at most so many. Returns how many it looked at.
     pub fn reap(&mut self, most: u32) -> u32 {
         self.is_stale = true;
         drop_all(&mut self.left_over);

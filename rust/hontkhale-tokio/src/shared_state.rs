@@ -34,7 +34,6 @@ pub(crate) enum Step {
 /// Why a handle's step at a segment isn't made.
 #[derive(Clone, Copy, Debug, PartialEq, Eq)]
 pub(crate) enum Refusal {
-    TooFar,
     Ended,
     /// The entry went to another place, which only the queue's relocations tell.
     Moved,
@@ -152,18 +151,15 @@ impl SharedState {
             if seen.stamp == MOVED {
                 return Err(Refusal::Moved);
             }
-            let refused = match step.make(caller, &key.stamped(seen.stamp)) {
+            match step.make(caller, &key.stamped(seen.stamp)) {
                 Ok(deadline) => return Ok(self.made(key, step, deadline)),
                 // The owner is about to give the entry this stamp.
                 Err(CallError::Unknown) => match step.make(caller, &key.stamped(seen.stamp - 1)) {
                     Ok(deadline) => return Ok(self.made(key, step, deadline)),
                     Err(CallError::Stale { .. }) => continue,
-                    Err(refused) => refused,
+                    Err(_) => {}
                 },
-                Err(refused) => refused,
-            };
-            if let CallError::TooFar { .. } = refused {
-                return Err(Refusal::TooFar);
+                Err(_) => {}
             }
             if word.load() == seen {
                 return Err(Refusal::Ended);
@@ -191,8 +187,8 @@ impl SharedState {
         self.has_cancels.load(Ordering::SeqCst)
     }
 
-    /// Hands the slots over in which handles cancelled an entry since the last time, at most so many, and answers how many.
-    /// The rest is handed over the next time, also where `look` panics.
+    /// Hands the slots over in which handles cancelled an entry since the last time, at most so many, and returns how many.
+    /// The rest is handed over the next time, also if `look` panics.
     pub fn take_cancelled(&self, most: u32, mut look: impl FnMut(usize)) -> u32 {
         let mut taken = 0;
         if !self.has_cancels.swap(false, Ordering::SeqCst) {

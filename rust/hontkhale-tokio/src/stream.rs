@@ -108,7 +108,7 @@ impl<T> Stream for QueueStream<T> {
                 None => return Poll::Pending,
             }
         }
-        // The queue's clock isn't tokio's, and is behind it: who advances it may be a task of this thread.
+        // The queue's clock isn't tokio's, and is behind it: whoever advances it may be a task of this thread.
         cx.waker().wake_by_ref();
         Poll::Pending
     }

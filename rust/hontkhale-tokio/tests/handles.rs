@@ -11,7 +11,9 @@ use std::sync::{mpsc, Arc, Mutex};
 use std::task::{Context, Poll, Wake, Waker};
 use std::thread;
 use std::time::Duration;
-use tokio::time::{sleep, Instant};
+use tokio::time::{advance, sleep, Instant};
+
+const YEAR: Duration = Duration::from_secs(366 * 86_400);
 
 #[derive(Default)]
 struct Flag(AtomicBool);
@@ -110,7 +112,7 @@ fn handles_serve_while_another_thread_holds_the_queue() {
 }
 
 #[test]
-fn handles_serve_parts_that_came_later_and_moved_entries() {
+fn handles_serve_segments_that_came_later_and_moved_entries() {
     ends(|| {
         running().block_on(async {
             let mut queue = DelayQueue::new();
@@ -207,9 +209,37 @@ fn too_far_is_refused() {
             let mut queue = DelayQueue::new();
             let handle = queue.handle();
             let key = queue.insert("a", ms(60_000));
-            assert_eq!(handle.extend(&key, Duration::from_secs(140 * 366 * 86_400)), Err(EntryError::TooFar));
+            assert_eq!(handle.extend(&key, YEAR * 140), Err(EntryError::TooFar));
             assert_eq!(handle.extend(&key, Duration::MAX), Err(EntryError::TooFar));
-            assert!(handle.extend(&key, Duration::from_secs(130 * 365 * 86_400)).is_ok());
+            assert!(handle.extend(&key, YEAR * 130).is_ok());
+            // It is told first, of an entry that has ended too.
+            assert_eq!(queue.remove(&key).into_inner(), "a");
+            assert_eq!(handle.extend(&key, Duration::MAX), Err(EntryError::TooFar));
+            drop(queue);
+            assert_eq!(handle.extend_at(&key, Instant::now() + YEAR * 140), Err(EntryError::TooFar));
+            assert_eq!(handle.extend(&key, YEAR * 130), Err(EntryError::Ended));
+        });
+    });
+}
+
+/// A queue that was made by a paused clock, which was advanced, begins later than the machine's clock shows.
+#[test]
+fn a_timeout_runs_from_now_where_the_queue_begins_later() {
+    ends(|| {
+        paused().block_on(async {
+            advance(YEAR).await;
+            let mut queue = DelayQueue::new();
+            let (start, handle) = (Instant::now(), queue.handle());
+            let key = queue.insert("a", ms(10));
+            let outside = |timeout| {
+                thread::spawn({
+                    let handle = handle.clone();
+                    move || handle.extend(&key, timeout).unwrap()
+                })
+            };
+            assert_eq!(outside(ms(60_000)).join().unwrap(), start + ms(10), "that is over before it began");
+            let later = outside(YEAR + ms(60_000)).join().unwrap();
+            assert!((start + ms(60_000)..start + ms(120_000)).contains(&later), "{:?}", later - start);
         });
     });
 }

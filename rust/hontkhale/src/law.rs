@@ -213,7 +213,7 @@ impl<T> crate::lasting::LastingQueue<T> {
     pub fn check_law(&self, place: usize) -> Result<(), Broken> {
         let mut shard = self.lock(place);
         shard.attended.core.check_law()?;
-        let next_wake = shard.next_wake();
+        let next_wake = shard.attended.core.next_wake();
         let waits_lawfully = match &shard.attended.parked {
             None => true,
             Some(poller) => match (poller.next, next_wake) {

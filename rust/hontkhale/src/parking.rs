@@ -1,20 +1,24 @@
 //! What waits for a shard, of either queue: where a stream's ticks come from, why it gives no entry, the poller that is
-//! parked in a shard, the shard's queue with it, and its registration with the context of its task; and how many threads
-//! wait for the shard's lock.
+//! parked in a shard, the shard's queue with it, and its registration with the context of its task; and how many
+//! threads wait for the shard's lock.
 
 mod attended;
-mod dropping;
 mod fault;
 mod parked;
 mod registering;
 mod row;
+mod sleeping;
 mod source;
+mod streaming;
 mod waiting;
 
 pub use attended::{keep_or_leave, Attended};
 pub use fault::StreamFault;
 pub use parked::{let_sleep, ring, take, Leaver, Parked};
-pub use registering::{forget, register};
-pub use row::{unlock, Dropper, Row, Shard};
+pub use row::{unlock, Row, Shard};
+#[cfg(test)]
+pub use sleeping::park_with;
+pub use sleeping::{Polled, Sleeps};
 pub use source::{MillisecondTicks, TickSource};
-pub use waiting::{waiting_row, Waiting};
+pub use streaming::{poll_place, ShardStream, Shards, Whole};
+pub use waiting::waiting_row;

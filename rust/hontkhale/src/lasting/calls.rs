@@ -4,7 +4,8 @@
 use crate::core::{CoreError, Removed};
 use crate::lasting::ended::LastingTally;
 use crate::lasting::errors::LastingError;
-use crate::lasting::queue::{unlock, LastingQueue};
+use crate::lasting::queue::LastingQueue;
+use crate::parking::unlock;
 use crate::ticks::{EntryId, Key};
 
 impl<T> LastingQueue<T> {
@@ -85,7 +86,7 @@ impl<T> LastingQueue<T> {
     /// - `WasCancelled` if a handle cancelled the entry.
     pub fn deadline(&self, entry: &EntryId) -> Result<u64, CoreError> {
         let mut shard = self.lock(self.place_of(entry.shard()));
-        let (answer, leaver) = shard.deadline(entry);
+        let (answer, leaver) = shard.attended.deadline(entry);
         unlock(shard, leaver);
         answer
     }
@@ -99,7 +100,7 @@ impl<T> LastingQueue<T> {
     /// `Unknown` if there is no such place.
     pub fn next_wake(&self, place: usize) -> Result<Option<u64>, LastingError> {
         let shard = self.entered(place)?;
-        Ok(shard.next_wake())
+        Ok(shard.attended.core.next_wake())
     }
 
     /// Returns how many entries came to the shard at `place` and went, in all its generations, and how many it holds.
@@ -121,7 +122,7 @@ impl<T> LastingQueue<T> {
     /// `Unknown` if there is no such place.
     pub fn peek(&self, place: usize) -> Result<Option<Key>, LastingError> {
         let shard = self.entered(place)?;
-        Ok(shard.peek())
+        Ok(shard.attended.core.peek())
     }
 
     /// Returns how many values are set aside in the shard at `place`: those of freed entries that aren't dropped yet.

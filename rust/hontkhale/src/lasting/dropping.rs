@@ -1,19 +1,24 @@
-//! The calls by name that let values go: what they reap, clear or make room for is dropped by them, while no lock is held.
+//! The calls by name that let values go: what they reap, clear or make room for is dropped by them, while no lock is
+//! held.
 //!
-//! A value's drop is a user's code: it may call the queue, and it may panic. What is reaped or cleared is set aside in its
-//! shard, and one thread takes it out and drops it behind the lock. Where a drop panics the shard is whole, and what is
-//! still set aside is dropped by a later call. No other impl says that a value may be dropped, so the checker refuses a
-//! drop anywhere else.
+//! A value's drop is a user's code: it may call the queue, and it may panic. What is reaped or cleared is set aside in
+//! its shard, and the row takes it out and drops it behind the lock. Where a drop panics the shard is whole, and what
+//! is still set aside is dropped by a later call. Beside the row no other impl says that a value may be dropped, so the
+//! checker refuses a drop anywhere else.
 
-use crate::core::{CoreError, Expired, Piece, ReapError, Swept, Turn};
+use crate::core::{CoreConfig, CoreError, Expired, Piece, ReapError, Swept, Turn};
+use crate::lasting::config::LastingConfig;
 use crate::lasting::errors::{LastingError, ReopenError};
 use crate::lasting::keeping::{Due, Kept};
+use crate::lasting::names;
 use crate::lasting::opening::{fresh_rows, Begun};
-use crate::lasting::parts::Tried;
+use crate::lasting::poller::{told, OneTick};
 use crate::lasting::queue::LastingQueue;
-use crate::parking::{forget, let_sleep, register};
+use crate::lasting::shard::LastingShard;
+use crate::locks::MutexGuard;
+use crate::parking::{poll_place, unlock, waiting_row, Parked, Row, Shards, TickSource};
 use crate::ticks::{EntryId, Key};
-use crate::words::ManyTurn;
+use crate::words::{locked_shards, ManyTurn};
 use alloc::vec::Vec;
 use core::num::NonZeroU32;
 use core::task::{Context, Poll};
@@ -26,75 +31,104 @@ fn passes_on(error: &LastingError) -> bool {
     matches!(error, LastingError::Closed | LastingError::Core(CoreError::Full { .. }))
 }
 
-// What is told of several places: that the first that takes entries is full, and else that they are closed.
-fn first_told(told: LastingError, error: LastingError) -> LastingError {
+// What is told of several places: that the first that takes entries is full, and else that they are closed. One that
+// doesn't count tells nothing.
+fn first_told(told: LastingError, error: LastingError, counts: bool) -> LastingError {
     match told {
-        LastingError::Closed => error,
-        LastingError::Core(_) => told,
-        LastingError::Unknown => told,
+        LastingError::Closed if counts => error,
+        _ => told,
     }
 }
 
-// The place of a route's try at a turn: each place as often as any other.
+// The place of a route's try at a turn: as many as there are places are drawn, each place as often as any other. Then
+// comes each in turn.
 #[inline]
-fn drawn(route: u64, turn: usize, shards: usize) -> usize {
-    // requires 0 < shards
+fn tried_place(route: u64, turn: usize, shards: usize) -> usize {
+    // requires (2 ≤ shards) × (shards ≤ SHARD_LIMIT)
+    // requires turn < 2 * shards
+    let first = (route % shards as u64) as usize;
+    if turn >= shards {
+        return (first + (turn - shards)) % shards;
+    }
     let mixed = (route ^ (turn as u64).wrapping_add(1).wrapping_mul(DRAWS)).wrapping_mul(DRAWS);
     ((mixed >> 32) % shards as u64) as usize
 }
 
 impl<T> LastingQueue<T> {
-    // An insert at a place. A value that is set aside where the entry might go is dropped before it: a drop that panics
-    // then loses no key.
-    fn insert_at(&self, place: usize, value: T, when: u64) -> Result<Key, (LastingError, T)> {
-        // requires place < self.now.shards
-        let mut value = value;
-        loop {
-            match self.try_insert_at(place, value, when) {
-                Tried::Answered(answer, _crowded) => return answer,
-                Tried::Crowded(back, _crowded) => value = back,
-            }
+    /// Makes a queue of empty shards at tick 0, all of which accept entries. It takes time and memory in proportion
+    /// to the slots of all shards. Later only `handle` and its renewal, `keep_going`, `states`, and `poll_or_park`
+    /// for a waker take memory.
+    ///
+    /// # Errors
+    /// - `BadConfig` if a number of `config` is out of its range: [`LastingConfig::check`] tells which.
+    /// - `NoMemory` if memory is refused.
+    pub fn new(config: LastingConfig) -> Result<LastingQueue<T>, CoreError> {
+        LastingQueue::named(config, names::next())
+    }
+
+    /// Makes a queue of empty shards at tick 0, with a name that the queue keeps and that its handles have. A handle
+    /// is renewed only by a queue of its name. It takes time and memory in proportion to the slots of all shards.
+    ///
+    /// # Errors
+    /// In this order:
+    /// - `BadConfig` if a number of `config` is out of its range.
+    /// - `NoMemory` if memory is refused.
+    fn named(config: LastingConfig, name: u64) -> Result<LastingQueue<T>, CoreError> {
+        let Ok(()) = config.check() else {
+            return Err(CoreError::BadConfig);
+        };
+        let core = CoreConfig {
+            shard: 0,
+            capacity: config.capacity,
+            last_stamp: config.last_stamp,
+        };
+        let Ok(waiting) = waiting_row(config.shards) else {
+            return Err(CoreError::NoMemory);
+        };
+        match locked_shards(config.shards as u32, core) {
+            Ok(shards) => Ok(LastingQueue {
+                row: Row::new(shards, waiting),
+                name,
+            }),
+            Err(error) => Err(error),
         }
     }
 
-    // The same at each place in turn from one on, until one takes it or refuses it for more than want of room.
-    fn insert_in_turn(&self, from: usize, value: T, when: u64) -> Result<Key, (LastingError, T)> {
-        // requires from < self.now.shards
+    // An insert at a place.
+    fn insert_at(&self, place: usize, value: T, when: u64) -> Result<Key, (LastingError, T)> {
+        // requires place < self.now.shards
+        let mut shard = self.row.lock_with_room(place);
+        if !shard.takes {
+            return Err((LastingError::Closed, value));
+        }
+        // A value that waited for its drop where the entry is now is dropped once the lock is free.
+        let (answer, leaver, _crowded) = shard.attended.insert(value, when);
+        unlock(shard, leaver);
+        match answer {
+            Ok(key) => Ok(key),
+            Err((error, value)) => Err((LastingError::Core(error), value)),
+        }
+    }
+
+    // The insert of a route whose own place has passed it on: at the places that are drawn and then at each in turn,
+    // until one takes it or refuses it for more than want of room.
+    fn insert_elsewhere(&self, route: u64, value: T, when: u64) -> Result<Key, (LastingError, T)> {
         let shards = self.shards();
         let mut told = LastingError::Closed;
         let mut value = value;
-        for turn in 0..shards {
-            match self.insert_at((from + turn) % shards, value, when) {
+        for turn in 0..2 * shards {
+            match self.insert_at(tried_place(route, turn, shards), value, when) {
                 Ok(key) => return Ok(key),
                 Err((error, back)) => {
                     if !passes_on(&error) {
                         return Err((error, back));
                     }
-                    told = first_told(told, error);
+                    told = first_told(told, error, turn >= shards);
                     value = back;
                 }
             }
         }
         Err((told, value))
-    }
-
-    // The insert of a route whose own place has passed it on: at as many places as there are, drawn by the route, and
-    // then at each in turn.
-    fn insert_elsewhere(&self, route: u64, value: T, when: u64) -> Result<Key, (LastingError, T)> {
-        let shards = self.shards();
-        let mut value = value;
-        for turn in 0..shards {
-            match self.insert_at(drawn(route, turn, shards), value, when) {
-                Ok(key) => return Ok(key),
-                Err((error, back)) => {
-                    if !passes_on(&error) {
-                        return Err((error, back));
-                    }
-                    value = back;
-                }
-            }
-        }
-        self.insert_in_turn((route % shards as u64) as usize, value, when)
     }
 
     /// Puts `value` in, to come out at the tick `when` of one millisecond, and returns its key. The entry goes to the
@@ -193,14 +227,14 @@ impl<T> LastingQueue<T> {
     /// # }
     /// ```
     pub fn poll(&self, place: usize, tick: u64) -> Result<Turn<T>, LastingError> {
-        self.in_range(place)?;
-        let (answer, aside) = self.poll_at(place, tick);
-        let turn = answer?;
+        let mut shard = self.entered(place)?;
+        let (answer, leaver) = shard.attended.poll(tick);
+        let aside = unlock(shard, leaver);
         // A drop that panics would lose what came out.
-        if !matches!(turn, Turn::Out(_)) {
-            self.drop_aside(place, aside);
+        if !matches!(answer, Ok(Turn::Out(_))) {
+            self.row.drop_aside(place, aside);
         }
-        Ok(turn)
+        Ok(answer?)
     }
 
     /// Notes `tick`, of one millisecond, in the shard at `place`, and does at most `most` steps of a poll there. It
@@ -239,14 +273,14 @@ impl<T> LastingQueue<T> {
     /// # }
     /// ```
     pub fn poll_some(&self, place: usize, tick: u64, most: u32) -> Result<Piece<T>, LastingError> {
-        self.in_range(place)?;
-        let (answer, aside) = self.poll_some_at(place, tick, most);
-        let piece = answer?;
+        let mut shard = self.entered(place)?;
+        let (answer, leaver) = shard.attended.poll_some(tick, most);
+        let aside = unlock(shard, leaver);
         // A drop that panics would lose what came out.
-        if !matches!(piece, Piece::Answer(Turn::Out(_))) {
-            self.drop_aside(place, aside);
+        if !matches!(answer, Ok(Piece::Answer(Turn::Out(_)))) {
+            self.row.drop_aside(place, aside);
         }
-        Ok(piece)
+        Ok(answer?)
     }
 
     /// Notes `tick`, of one millisecond, in the shard at `place`, and takes one entry out that is due there, in
@@ -288,6 +322,7 @@ impl<T> LastingQueue<T> {
             }
         }
     }
+
     /// Notes `tick`, of one millisecond, in the shard at `place`, and takes entries out that are due there, until
     /// `row` is full or nothing is due. They are appended to `row` in the order of their deadlines, as many as its
     /// capacity has room for. It returns `More` if entries may still be due, and else what a poll returns then. Empty
@@ -319,12 +354,13 @@ impl<T> LastingQueue<T> {
     /// # }
     /// ```
     pub fn poll_many(&self, place: usize, tick: u64, row: &mut Vec<Expired<T>>) -> Result<ManyTurn, LastingError> {
-        self.in_range(place)?;
         let before = row.len();
-        let (answer, aside) = self.poll_many_at(place, tick, row);
+        let mut shard = self.entered(place)?;
+        let (answer, leaver) = shard.attended.poll_many(tick, row);
+        let aside = unlock(shard, leaver);
         // A drop that panics would lose what came out.
         if row.len() == before {
-            self.drop_aside(place, aside);
+            self.row.drop_aside(place, aside);
         }
         Ok(answer?)
     }
@@ -357,17 +393,7 @@ impl<T> LastingQueue<T> {
         if let Err(unknown) = self.in_range(place) {
             return Poll::Ready(Err(unknown));
         }
-        // The task's waker is made, and those that aren't parked are let go, while the lock is free.
-        let mut before = None;
-        let mut slot = register(cx);
-        let (answer, aside) = self.poll_or_park_at(place, tick, &mut slot, &mut before);
-        let_sleep(before);
-        forget(slot);
-        // A drop that panics would lose what came out.
-        if answer.is_pending() {
-            self.drop_aside(place, aside);
-        }
-        answer
+        told(poll_place(self, place, &mut OneTick(tick), None, cx))
     }
 
     /// Polls the shard at `place` for a task, at `tick` of one millisecond, by at most `most` steps. It returns:
@@ -398,22 +424,9 @@ impl<T> LastingQueue<T> {
         if let Err(unknown) = self.in_range(place) {
             return Poll::Ready(Err(unknown));
         }
-        let mut before = None;
-        let mut slot = register(cx);
-        let (polled, aside) = self.poll_some_or_park_at(place, tick, most, &mut slot, &mut before);
-        let_sleep(before);
-        forget(slot);
-        let Some(answer) = polled else {
-            cx.waker().wake_by_ref();
-            self.drop_aside(place, aside);
-            return Poll::Pending;
-        };
-        // A drop that panics would lose what came out.
-        if answer.is_pending() {
-            self.drop_aside(place, aside);
-        }
-        answer
+        told(poll_place(self, place, &mut OneTick(tick), Some(most), cx))
     }
+
     /// Frees the slots of all cancelled entries of the shard at `place`, and returns how many these were. Their
     /// values are dropped after the lock is released.
     ///
@@ -423,9 +436,10 @@ impl<T> LastingQueue<T> {
     /// # Errors
     /// `Unknown` if there is no such place.
     pub fn sweep(&self, place: usize) -> Result<usize, LastingError> {
-        self.in_range(place)?;
-        let (reaped, aside) = self.sweep_at(place);
-        self.drop_aside(place, aside);
+        let mut shard = self.entered(place)?;
+        let (reaped, leaver) = shard.attended.sweep();
+        let aside = unlock(shard, leaver);
+        self.row.drop_aside(place, aside);
         Ok(reaped)
     }
 
@@ -438,9 +452,10 @@ impl<T> LastingQueue<T> {
     /// # Errors
     /// `Unknown` if there is no such place.
     pub fn clear(&self, place: usize) -> Result<usize, LastingError> {
-        self.in_range(place)?;
-        let (removed, aside) = self.clear_at(place);
-        self.drop_aside(place, aside);
+        let mut shard = self.entered(place)?;
+        let (removed, leaver) = shard.attended.clear();
+        let aside = unlock(shard, leaver);
+        self.row.drop_aside(place, aside);
         Ok(removed)
     }
 
@@ -469,9 +484,10 @@ impl<T> LastingQueue<T> {
     /// # }
     /// ```
     pub fn sweep_some(&self, place: usize, from: usize, count: usize) -> Result<Swept, LastingError> {
-        self.in_range(place)?;
-        let (swept, aside) = self.sweep_some_at(place, from, count);
-        self.drop_aside(place, aside);
+        let mut shard = self.entered(place)?;
+        let (swept, leaver) = shard.attended.sweep_some(from, count);
+        let aside = unlock(shard, leaver);
+        self.row.drop_aside(place, aside);
         Ok(swept)
     }
 
@@ -486,24 +502,11 @@ impl<T> LastingQueue<T> {
     /// - `Live` if the entry wasn't cancelled. It stays.
     pub fn reap(&self, entry: &EntryId) -> Result<(), ReapError> {
         let place = self.place_of(entry.shard());
-        let (answer, aside) = self.reap_at(place, entry);
-        self.drop_aside(place, aside);
+        let mut shard = self.lock(place);
+        let (answer, leaver) = shard.attended.reap(entry);
+        let aside = unlock(shard, leaver);
+        self.row.drop_aside(place, aside);
         answer
-    }
-
-    // Drops what is set aside in the shard at a place until nothing is left, where no thread does so already.
-    #[inline(never)]
-    fn drop_all_aside(&self, place: usize) {
-        let mut dropper = Dropper {
-            queue: self,
-            place,
-            is_at_it: false,
-        };
-        loop {
-            if !dropper.drops_one() {
-                return;
-            }
-        }
     }
 
     /// Drops the values that are set aside in the shard at `place`, each while the shard's lock is free. `most` is
@@ -517,28 +520,24 @@ impl<T> LastingQueue<T> {
     /// tells how many values are left.
     #[inline(always)]
     pub fn drop_aside(&self, place: usize, most: usize) {
-        if most > 0 {
-            self.drop_all_aside(place);
-        }
+        self.row.drop_aside(place, most);
     }
-}
 
-impl<T> LastingQueue<T> {
     // Opens the shard at a place again where it is drained, and else sweeps the next few slots of a closed one.
     fn go_on(&self, place: usize) -> Result<Kept, ReopenError> {
         // requires place < self.now.shards
-        let (begun, aside) = self.begin_at(place);
-        self.drop_aside(place, aside);
-        match begun {
-            Begun::Answered(answer) => answer,
-            Begun::Opens(size) => {
-                let Some(rows) = fresh_rows(size) else {
-                    return Err(ReopenError::NoMemory);
-                };
-                let (answer, left, aside) = self.end_at(place, size, rows);
-                drop(left);
-                self.drop_aside(place, aside);
-                answer
+        let mut rows = None;
+        loop {
+            let (begun, left, aside) = self.step_at(place, rows);
+            drop(left);
+            self.row.drop_aside(place, aside);
+            let size = match begun {
+                Begun::Answered(answer) => return answer,
+                Begun::Opens(size) => size,
+            };
+            rows = fresh_rows(size);
+            if rows.is_none() {
+                return Err(ReopenError::NoMemory);
             }
         }
     }
@@ -582,28 +581,41 @@ impl<T> LastingQueue<T> {
     }
 }
 
-// The thread that drops what is set aside in the shard at a place. Where a value's drop panics, others may do it from then on.
-struct Dropper<'q, T> {
-    queue: &'q LastingQueue<T>,
-    place: usize,
-    is_at_it: bool,
-}
+/// A stream of a place asks its source before the shard's lock, and goes on after a refused tick.
+impl<T> Shards for LastingQueue<T> {
+    type State = LastingShard<T>;
 
-impl<T> Dropper<'_, T> {
-    // Drops a value once the lock is free. False where none was left to it.
-    fn drops_one(&mut self) -> bool {
-        if self.place >= self.queue.shards() {
-            return false;
-        }
-        let value = self.queue.take_one_at(self.place, &mut self.is_at_it);
-        value.is_some()
+    type Error = LastingError;
+
+    fn places(&self) -> usize {
+        self.row.len()
     }
-}
 
-impl<T> Drop for Dropper<'_, T> {
-    fn drop(&mut self) {
-        if self.is_at_it && self.place < self.queue.shards() {
-            self.queue.end_dropping_at(self.place, &mut self.is_at_it);
-        }
+    fn unknown() -> LastingError {
+        LastingError::Unknown
+    }
+
+    fn ends() -> bool {
+        false
+    }
+
+    fn give_way(&self, place: usize) {
+        self.row.give_way(place);
+    }
+
+    fn entered<S: TickSource>(
+        &self,
+        place: usize,
+        source: &mut S,
+        before: &mut Option<Parked<Option<u64>>>,
+    ) -> (MutexGuard<'_, LastingShard<T>>, u64) {
+        let tick = source.now();
+        let mut shard = self.row.lock(place);
+        *before = shard.take_parked();
+        (shard, tick)
+    }
+
+    fn drop_aside(&self, place: usize, most: usize) {
+        self.row.drop_aside(place, most);
     }
 }

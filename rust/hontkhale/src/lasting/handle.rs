@@ -5,7 +5,6 @@ use crate::index::{nth, nth_mut};
 use crate::lasting::errors::{HandleError, HandleRenewError};
 use crate::lasting::numbered::NumberedCaller;
 use crate::lasting::queue::LastingQueue;
-use crate::memory::room_for;
 use crate::ticks::Key;
 use crate::words::WordsError;
 use alloc::vec::Vec;
@@ -168,7 +167,7 @@ impl<T> LastingQueue<T> {
     // The number of the shard at a place.
     pub(crate) fn number_at(&self, place: usize) -> u32 {
         // requires place < self.now.shards
-        self.lock(place).number()
+        self.lock(place).attended.core.shard()
     }
 
     // One caller more of the shard at a place.
@@ -196,7 +195,7 @@ impl<T> LastingQueue<T> {
     ///   memory.
     pub fn handle(&self) -> Result<LastingHandle, HandleError> {
         let shards = self.shards();
-        let Ok(mut callers) = room_for(shards) else {
+        let Ok(mut callers) = self.row.room_for_each() else {
             return Err(HandleError::NoMemory);
         };
         for place in 0..shards {

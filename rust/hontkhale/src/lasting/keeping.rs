@@ -1,6 +1,7 @@
 //! What is due to keep a queue going for years: a worn shard is closed, drains, and is opened again.
 
-use crate::lasting::queue::{unlock, LastingQueue};
+use crate::lasting::queue::LastingQueue;
+use crate::parking::unlock;
 
 /// What a step of [`LastingQueue::keep_going`] did.
 #[derive(Clone, Copy, Debug, PartialEq, Eq)]

@@ -1,15 +1,9 @@
 //! Shards behind locks, each renewed by itself.
 
-use crate::core::{CoreConfig, CoreError};
-use crate::index::nth;
-use crate::lasting::config::LastingConfig;
 use crate::lasting::errors::LastingError;
-use crate::lasting::names;
 use crate::lasting::shard::LastingShard;
-use crate::locks::{Mutex, MutexGuard};
-use crate::parking::{waiting_row, Leaver, Waiting};
-use crate::words::locked_shards;
-use alloc::vec::Vec;
+use crate::locks::MutexGuard;
+use crate::parking::Row;
 
 /// A delay queue for many threads that runs for years. It has shards, each behind a lock of its own, which are
 /// renewed one by one while the others serve. Ticks are of one millisecond, and the program passes them in: the queue
@@ -54,73 +48,28 @@ use alloc::vec::Vec;
 /// Rust ends the process. A poll that returns an entry drops nothing, since a panic would lose the entry: that is
 /// left to a later call.
 pub struct LastingQueue<T> {
-    pub(crate) shards: Vec<Mutex<LastingShard<T>>>,
-    // Of each shard, who waits for its lock.
-    waiting: Vec<Waiting>,
+    pub(crate) row: Row<LastingShard<T>>,
     pub(crate) name: u64,
-}
-
-impl<T> LastingQueue<T> {
-    /// Makes a queue of empty shards at tick 0, all of which accept entries. It takes time and memory in proportion
-    /// to the slots of all shards. Later only `handle` and its renewal, `keep_going`, `states`, and `poll_or_park`
-    /// for a waker take memory.
-    ///
-    /// # Errors
-    /// - `BadConfig` if a number of `config` is out of its range: [`LastingConfig::check`] tells which.
-    /// - `NoMemory` if memory is refused.
-    pub fn new(config: LastingConfig) -> Result<LastingQueue<T>, CoreError> {
-        LastingQueue::named(config, names::next())
-    }
-
-    /// Makes a queue of empty shards at tick 0, with a name that the queue keeps and that its handles have. A handle
-    /// is renewed only by a queue of its name. It takes time and memory in proportion to the slots of all shards.
-    ///
-    /// # Errors
-    /// In this order:
-    /// - `BadConfig` if a number of `config` is out of its range.
-    /// - `NoMemory` if memory is refused.
-    fn named(config: LastingConfig, name: u64) -> Result<LastingQueue<T>, CoreError> {
-        let Ok(()) = config.check() else {
-            return Err(CoreError::BadConfig);
-        };
-        let core = CoreConfig {
-            shard: 0,
-            capacity: config.capacity,
-            last_stamp: config.last_stamp,
-        };
-        let Ok(waiting) = waiting_row(config.shards) else {
-            return Err(CoreError::NoMemory);
-        };
-        match locked_shards(config.shards as u32, core) {
-            Ok(shards) => Ok(LastingQueue { shards, waiting, name }),
-            Err(error) => Err(error),
-        }
-    }
 }
 
 impl<T> LastingQueue<T> {
     /// Returns the number of shards, from 2 to [`SHARD_LIMIT`](crate::shards::SHARD_LIMIT).
     pub fn shards(&self) -> usize {
-        self.shards.len()
+        self.row.len()
     }
 
     /// Returns the name that the queue was given when it was made. No other queue of the process has it.
     pub fn name(&self) -> u64 {
         self.name
     }
-}
 
-impl<T> LastingQueue<T> {
     /// Gives way to the threads that wait for the lock of the shard at `place`: it waits for a bounded while until
     /// none waits. It returns at once if none waits, or if there is no such place. It takes no lock.
     ///
     /// It is for a loop over [`LastingQueue::poll_some`]. A thread that releases a lock and takes it again at once
     /// gets it before a thread that sleeps.
     pub fn give_way(&self, place: usize) {
-        if place < self.shards.len() {
-            let waiting = nth(&self.waiting, place);
-            waiting.give_way();
-        }
+        self.row.give_way(place);
     }
 
     // Whether there is such a place. Refused as Unknown out of range.
@@ -133,14 +82,11 @@ impl<T> LastingQueue<T> {
         }
     }
 
-    // The shard at a place, with its lock held. The number is compared once: no call makes it another place's.
+    // The shard at a place, with its lock held.
     #[inline]
     pub(crate) fn lock(&self, place: usize) -> MutexGuard<'_, LastingShard<T>> {
         // requires place < self.now.shards
-        let waiting = nth(&self.waiting, place);
-        let shard = waiting.taken(nth(&self.shards, place));
-        goes_on_if(shard.number() as usize % self.shards.len() == place);
-        shard
+        self.row.lock(place)
     }
 
     // The same of a place that may be out of range: refused as Unknown then.
@@ -149,22 +95,4 @@ impl<T> LastingQueue<T> {
         self.in_range(place)?;
         Ok(self.lock(place))
     }
-}
-
-// Goes on where it is so. No call makes it otherwise, but no contract of a lock says so.
-#[inline]
-pub(crate) fn goes_on_if(is_so: bool) {
-    if !is_so {
-        panic!("the state of another shard was put here");
-    }
-}
-
-// Lets the lock go, and then wakes who has left: whoever is woken may call the queue at once. Returns how many values are
-// set aside.
-#[inline]
-pub(crate) fn unlock<T>(shard: MutexGuard<'_, LastingShard<T>>, leaver: Leaver<Option<u64>>) -> usize {
-    let aside = shard.aside();
-    drop(shard);
-    leaver.wake();
-    aside
 }

@@ -3,14 +3,12 @@
 //! Its calls are made while its lock is held, so they wake nobody and drop no value: who leaves is handed over, to be
 //! woken once the lock is free, and what is reaped or cleared is set aside.
 
-use crate::core::{CoreError, DelayCore, Tally};
+use crate::core::{DelayCore, Tally};
 use crate::lasting::ended::{Ended, LastingTally};
-use crate::lasting::errors::LastingError;
 use crate::lasting::keeping::{Seen, Wear};
 use crate::lasting::numbered::NumberedCaller;
 use crate::lasting::poller::ParkedPoller;
-use crate::parking::{keep_or_leave, ring, take, Attended, Leaver, Parked};
-use crate::ticks::{EntryId, Key};
+use crate::parking::{ring, take, Attended, Leaver, Parked, Shard};
 use crate::words::{Keeper, WordsError};
 
 /// The value behind a shard's lock: a queue over shared words, whether it takes entries, what became of the entries of
@@ -56,42 +54,7 @@ impl<T> From<DelayCore<T, Keeper>> for LastingShard<T> {
     }
 }
 
-// What an insert came to; refused, the value comes back.
-pub(crate) type Inserted<T> = Result<Key, (LastingError, T)>;
-
 impl<T> LastingShard<T> {
-    /// The number of this generation, which its keys carry.
-    #[inline]
-    pub fn number(&self) -> u32 {
-        self.attended.core.shard()
-    }
-
-    /// Whether it takes entries.
-    pub fn takes(&self) -> bool {
-        self.takes
-    }
-
-    /// The number of linked entries, live or cancelled and not yet reaped.
-    pub fn len(&self) -> usize {
-        self.attended.core.len()
-    }
-
-    /// The number of slots.
-    pub fn capacity(&self) -> usize {
-        self.attended.core.capacity()
-    }
-
-    /// The number of worn slots, which hold nothing and have no stamp left.
-    pub fn worn(&self) -> usize {
-        self.attended.core.worn()
-    }
-
-    /// Returns the tick, of one millisecond, at which the queue has something to do next. It returns none if nothing
-    /// is linked.
-    pub fn next_wake(&self) -> Option<u64> {
-        self.attended.core.next_wake()
-    }
-
     /// How many entries came and went, in this generation and in those before it.
     pub fn tally(&self) -> LastingTally {
         LastingTally {
@@ -107,12 +70,6 @@ impl<T> LastingShard<T> {
         self.attended.core.aside()
     }
 
-    /// Returns the key of an entry that is scheduled first, possibly a cancelled one. It returns none if nothing is
-    /// linked. No live entry has a deadline before the tick at which that one is scheduled.
-    pub fn peek(&self) -> Option<Key> {
-        self.attended.core.peek()
-    }
-
     /// What the poller waits for that is parked here.
     pub fn parked(&self) -> ParkedPoller {
         let Some(poller) = &self.attended.parked else {
@@ -122,36 +79,6 @@ impl<T> LastingShard<T> {
             Some(tick) => ParkedPoller::UntilTick(tick),
             None => ParkedPoller::UntilInsert,
         }
-    }
-
-    // Takes out a value that is set aside where an insert, if one is taken, might have no place for it.
-    #[inline(always)]
-    pub(crate) fn take_crowded(&mut self) -> Option<T> {
-        if self.takes {
-            self.attended.core.take_crowded()
-        } else {
-            None
-        }
-    }
-
-    // Puts an entry in, where the shard takes entries. What waited for its drop where the entry is now is handed over.
-    #[inline(always)]
-    pub(crate) fn insert(&mut self, value: T, when: u64) -> (Inserted<T>, Leaver<Option<u64>>, Option<T>) {
-        if !self.takes {
-            return (Err((LastingError::Closed, value)), Leaver { poller: None }, None);
-        }
-        let (answer, leaver, crowded) = self.attended.insert(value, when);
-        match answer {
-            Ok(key) => (Ok(key), leaver, crowded),
-            Err((error, value)) => (Err((LastingError::Core(error), value)), leaver, crowded),
-        }
-    }
-
-    // The deadline of a live entry.
-    #[inline]
-    pub(crate) fn deadline(&mut self, entry: &EntryId) -> (Result<u64, CoreError>, Leaver<Option<u64>>) {
-        let answer = self.attended.core.deadline(entry);
-        (answer, keep_or_leave(&self.attended.core, &mut self.attended.parked))
     }
 
     // Takes no more entries until it is opened again. Those that are there stay until they end, and a reset still moves
@@ -177,27 +104,14 @@ impl<T> LastingShard<T> {
         let worn = self.attended.core.worn();
         let capacity = self.attended.core.capacity();
         match wear {
-            Wear::Half => {
-                if worn < capacity - capacity / 2 {
-                    return false;
-                }
-                true
-            }
-            Wear::Far => {
-                if worn < capacity - capacity / 4 {
-                    return false;
-                }
-                true
-            }
+            Wear::Half => capacity - capacity / 2 <= worn,
+            Wear::Far => capacity - capacity / 4 <= worn,
         }
     }
 
     // Closes it where it takes entries and is worn so far, and tells whether it did.
     pub(crate) fn close_worn(&mut self, wear: Wear) -> (bool, Leaver<Option<u64>>) {
-        if !self.takes {
-            return (false, Leaver { poller: None });
-        }
-        if !self.is_worn_by(wear) {
+        if !self.takes || !self.is_worn_by(wear) {
             return (false, Leaver { poller: None });
         }
         (true, self.close())
@@ -239,5 +153,39 @@ impl<T> LastingShard<T> {
             Ok(caller) => Ok(NumberedCaller::of(number, caller)),
             Err(refusal) => Err(refusal),
         }
+    }
+}
+
+impl<T> Shard for LastingShard<T> {
+    type Value = T;
+
+    type Next = Option<u64>;
+
+    #[inline(always)]
+    fn stands_at(&self, place: usize, places: usize) -> bool {
+        self.attended.core.shard() as usize % places == place
+    }
+
+    #[inline(always)]
+    fn aside(&self) -> usize {
+        self.attended.core.aside()
+    }
+
+    // Where it takes no entries, an insert wants no place.
+    #[inline(always)]
+    fn take_crowded(&mut self) -> Option<T> {
+        if self.takes {
+            self.attended.core.take_crowded()
+        } else {
+            None
+        }
+    }
+
+    fn take_one(&mut self, is_mine: &mut bool) -> Option<T> {
+        self.attended.take_one(is_mine)
+    }
+
+    fn end_dropping(&mut self, is_mine: &mut bool) {
+        self.attended.end_dropping(is_mine);
     }
 }

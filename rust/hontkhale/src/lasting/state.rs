@@ -35,13 +35,13 @@ impl<T> LastingShard<T> {
     /// Its state. Constant time.
     pub fn state(&self) -> PlaceState {
         PlaceState {
-            number: self.number(),
-            takes: self.takes(),
-            capacity: self.capacity(),
-            linked: self.len(),
-            worn: self.worn(),
+            number: self.attended.core.shard(),
+            takes: self.takes,
+            capacity: self.attended.core.capacity(),
+            linked: self.attended.core.len(),
+            worn: self.attended.core.worn(),
             noted: self.attended.core.noted(),
-            next_wake: self.next_wake(),
+            next_wake: self.attended.core.next_wake(),
             tally: self.tally(),
         }
     }

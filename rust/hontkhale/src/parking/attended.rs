@@ -1,10 +1,10 @@
-//! A queue over shared words, and the poller that waits for it: the calls that may take the poller out, and wake nobody.
+//! A queue over shared words, and the poller that waits for it: the calls that may take the poller out, and wake
+//! nobody.
 //!
-//! It stands behind a lock, and whoever is woken may call the queue at once. So each call hands over who leaves by it, and
-//! that one is woken once the lock is free.
+//! It stands behind a lock, and whoever is woken may call the queue at once. So each call hands over who leaves by it,
+//! and that one is woken once the lock is free.
 
 use crate::core::{CoreError, DelayCore, Expired, Piece, ReapError, Removed, Swept, Turn};
-use crate::parking::dropping::Dropping;
 use crate::parking::parked::{keep_until, Leaver, Parked, Until};
 use crate::ticks::{EntryId, Key};
 use crate::words::{poll_into, Keeper, ManyTurn};
@@ -19,12 +19,14 @@ pub struct Attended<T, N = u64> {
     pub core: DelayCore<T, Keeper>,
     /// Who waits for it; none where nobody does.
     pub parked: Option<Parked<N>>,
-    /// Whether a thread drops what the queue has set aside.
-    pub dropping: Dropping,
+    /// Whether a thread drops what the queue has set aside. A value's drop is a user's code: it may call the queue, and
+    /// set more aside there. So one thread at a time drops them, while the lock is free, and whoever finds it at work
+    /// leaves its own to it. However many values call the queue where they are dropped, their drops don't nest.
+    pub is_dropping: bool,
 }
 
-/// Takes the poller out where it may not wait on, with the queue as it is now. Where none is parked, which is so in most
-/// calls, the next wake isn't asked for.
+/// Takes the poller out where it may not wait on, with the queue as it is now. Where none is parked, which is so in
+/// most calls, the next wake isn't asked for.
 #[inline(always)]
 pub fn keep_or_leave<T, N: Until>(core: &DelayCore<T, Keeper>, parked: &mut Option<Parked<N>>) -> Leaver<N> {
     if parked.is_some() {
@@ -40,7 +42,7 @@ impl<T, N> Attended<T, N> {
         Attended {
             core,
             parked: None,
-            dropping: Dropping::by_nobody(),
+            is_dropping: false,
         }
     }
 }
@@ -73,6 +75,13 @@ impl<T, N: Until> Attended<T, N> {
         (answer, keep_or_leave(&self.core, &mut self.parked))
     }
 
+    /// The deadline of a live entry, with who has left by it.
+    #[inline]
+    pub fn deadline(&mut self, entry: &EntryId) -> (Result<u64, CoreError>, Leaver<N>) {
+        let answer = self.core.deadline(entry);
+        (answer, keep_or_leave(&self.core, &mut self.parked))
+    }
+
     /// Notes a tick and takes one entry out that is due, or tells when to come again, with who has left by it. No
     /// value is dropped.
     #[inline(always)]
@@ -86,6 +95,17 @@ impl<T, N: Until> Attended<T, N> {
     pub fn poll_some(&mut self, tick: u64, most: u32) -> (Result<Piece<T>, CoreError>, Leaver<N>) {
         let answer = self.core.poll_some_deferring(tick, most);
         (answer, keep_or_leave(&self.core, &mut self.parked))
+    }
+
+    /// Notes a tick and polls where none is parked, so nobody leaves: whole, or by at most `most` steps. No value is
+    /// dropped.
+    #[inline]
+    pub fn poll_unparked(&mut self, tick: u64, most: Option<u32>) -> Result<Piece<T>, CoreError> {
+        // requires self.old.parked ≡ None
+        match most {
+            Some(steps) => self.core.poll_some_deferring(tick, steps),
+            None => Ok(Piece::Answer(self.core.poll_deferring(tick)?)),
+        }
     }
 
     /// Notes a tick and appends what is due to `row`, as far as it has room, with who has left by it. No value is
@@ -119,5 +139,26 @@ impl<T, N: Until> Attended<T, N> {
     pub fn clear(&mut self) -> (usize, Leaver<N>) {
         let removed = self.core.clear_deferring();
         (removed, keep_or_leave(&self.core, &mut self.parked))
+    }
+}
+
+impl<T, N> Attended<T, N> {
+    /// Takes out a value for a thread that drops it once the lock is free, and then calls again. `is_mine` is false at
+    /// its first call, and tells whether it is at it. None where no more are set aside, and it is over; or where
+    /// another thread is at it, or this one further up: it drops these too.
+    pub fn take_one(&mut self, is_mine: &mut bool) -> Option<T> {
+        if self.is_dropping && !*is_mine {
+            return None;
+        }
+        let value = self.core.take_aside();
+        self.is_dropping = value.is_some();
+        *is_mine = self.is_dropping;
+        value
+    }
+
+    /// Ends it before its time, where a value's drop panics. A later call drops what is left.
+    pub fn end_dropping(&mut self, is_mine: &mut bool) {
+        self.is_dropping = false;
+        *is_mine = false;
     }
 }

@@ -3,7 +3,10 @@
 use core::task::Waker;
 
 /// What a poller waits for. Ticks are of one millisecond.
-pub trait Until {
+pub trait Until: Sized {
+    /// What one waits for who is parked at a next wake, none where nothing is linked; none if nobody may be parked so.
+    fn of_wake(next_wake: Option<u64>) -> Option<Self>;
+
     /// Whether one that waits so may go on waiting at a next wake, none where nothing is linked.
     fn lasts_until(&self, next_wake: Option<u64>) -> bool;
 
@@ -13,6 +16,10 @@ pub trait Until {
 
 /// It waits for a tick, which isn't after the next wake.
 impl Until for u64 {
+    fn of_wake(next_wake: Option<u64>) -> Option<u64> {
+        next_wake
+    }
+
     fn lasts_until(&self, next_wake: Option<u64>) -> bool {
         match next_wake {
             Some(wake) => *self <= wake,
@@ -27,6 +34,10 @@ impl Until for u64 {
 
 /// It waits for a tick, or without one for an insert, while nothing is linked.
 impl Until for Option<u64> {
+    fn of_wake(next_wake: Option<u64>) -> Option<Option<u64>> {
+        Some(next_wake)
+    }
+
     fn lasts_until(&self, next_wake: Option<u64>) -> bool {
         match self {
             Some(next) => next.lasts_until(next_wake),
@@ -57,8 +68,8 @@ impl<N> Parked<N> {
     }
 }
 
-/// Lets a poller go that was taken out, and doesn't wake its task. True where there is one. Its waker is the user's: where
-/// letting it go may call the queue, the shard's lock is to be free.
+/// Lets a poller go that was taken out, and doesn't wake its task. True where there is one. Its waker is the user's:
+/// where letting it go may call the queue, the shard's lock is to be free.
 pub fn let_sleep<N>(taken: Option<Parked<N>>) -> bool {
     match taken {
         Some(poller) => {
@@ -69,8 +80,8 @@ pub fn let_sleep<N>(taken: Option<Parked<N>>) -> bool {
     }
 }
 
-/// A poller that has left its shard, if one has. It isn't `Drop`: whoever has it has to wake it, once the shard's lock is
-/// free.
+/// A poller that has left its shard, if one has. It isn't `Drop`: whoever has it has to wake it, once the shard's lock
+/// is free.
 pub struct Leaver<N = u64> {
     /// The poller; none where none has left.
     pub poller: Option<Parked<N>>,
@@ -99,24 +110,16 @@ pub fn take<N>(parked: &mut Option<Parked<N>>) -> Leaver<N> {
 
 /// Takes the poller out unless it may go on waiting at this next wake.
 pub fn keep_until<N: Until>(parked: &mut Option<Parked<N>>, next_wake: Option<u64>) -> Leaver<N> {
-    let Some(poller) = parked else {
-        return Leaver { poller: None };
-    };
-    if poller.next.lasts_until(next_wake) {
-        Leaver { poller: None }
-    } else {
-        take(parked)
+    match parked {
+        Some(poller) if !poller.next.lasts_until(next_wake) => take(parked),
+        _ => Leaver { poller: None },
     }
 }
 
 /// Takes the poller out where its wait is over at a tick.
 pub fn ring<N: Until>(parked: &mut Option<Parked<N>>, tick: u64) -> Leaver<N> {
-    let Some(poller) = parked else {
-        return Leaver { poller: None };
-    };
-    if poller.next.ends_by(tick) {
-        take(parked)
-    } else {
-        Leaver { poller: None }
+    match parked {
+        Some(poller) if poller.next.ends_by(tick) => take(parked),
+        _ => Leaver { poller: None },
     }
 }

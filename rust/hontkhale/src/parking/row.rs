@@ -1,18 +1,18 @@
 //! A row of shards behind locks, of either queue: the locks, who waits for them, and what is done once one is free.
 //!
-//! A front, as `SharedDelayQueue` and `LastingQueue`, has a `Row` of its own shards, and says in `impl Shard` what a call
-//! asks of one. A call by name of a front is then four lines:
+//! A front, as `SharedDelayQueue` and `LastingQueue`, has a `Row` of its own shards, and says in `impl Shard` what a
+//! call asks of one. A call by name of a front is then four lines:
 //!
 //! ```ignore
 //! let mut shard = self.row.lock(rt, place);
 //! let (answer, leaver) = shard.attended.poll(tick);
 //! let aside = unlock(shard, leaver);
-//! self.drop_aside(rt, place, aside);
+//! self.row.drop_aside(rt, place, aside);
 //! ```
 //!
-//! `lock` compares once whether the shard stands at the place, and waits for ever where another was put there. `unlock` lets
-//! the lock go, wakes who has left, and answers how many values are set aside. Nothing here drops a value: no impl says that
-//! one may be dropped, so whoever may drops what `Dropper::take_one` and the refusal of `lock_with_room` hand over.
+//! `lock` compares once whether the shard stands at the place, and waits for ever where another was put there. `unlock`
+//! lets the lock go, wakes who has left, and answers how many values are set aside. A value's drop is a user's code: it
+//! may call the queue, and it may panic. So it runs while the lock is free, and where it panics the shard is whole.
 
 use crate::index::nth;
 use crate::locks::{Mutex, MutexGuard};
@@ -65,8 +65,8 @@ impl<S> Row<S> {
         self.shards.len()
     }
 
-    /// Gives way to whoever waits for the lock of the shard at a place: it looks for a bounded while until nobody does, and
-    /// returns at once where nobody does. A place out of range has no lock.
+    /// Gives way to whoever waits for the lock of the shard at a place: it looks for a bounded while until nobody does,
+    /// and returns at once where nobody does. A place out of range has no lock.
     pub fn give_way(&self, place: usize) {
         if place < self.shards.len() {
             let waiting = nth(&self.waiting, place);
@@ -95,22 +95,10 @@ impl<S: Shard> Row<S> {
         }
         shard
     }
-
-    /// Takes a shard's lock for an insert, for which each value that is set aside has a place. If one has none, it is
-    /// returned as the error: drop it, and try again.
-    #[inline(always)]
-    pub fn lock_with_room(&self, place: usize) -> Result<MutexGuard<'_, S>, S::Value> {
-        // requires place < self.now
-        let mut shard = self.lock(place);
-        match shard.take_crowded() {
-            None => Ok(shard),
-            Some(crowded) => Err(crowded),
-        }
-    }
 }
 
-/// Lets a shard's lock go, and then wakes who has left: whoever is woken may call the queue at once. Answers how many values
-/// are set aside.
+/// Lets a shard's lock go, and then wakes who has left: whoever is woken may call the queue at once. Answers how many
+/// values are set aside.
 #[inline(always)]
 pub fn unlock<S: Shard>(shard: MutexGuard<'_, S>, leaver: Leaver<S::Next>) -> usize {
     let aside = shard.aside();
@@ -119,32 +107,57 @@ pub fn unlock<S: Shard>(shard: MutexGuard<'_, S>, leaver: Leaver<S::Next>) -> us
     aside
 }
 
-/// The thread that drops what is set aside in a shard, one value at a time, while the lock is free. Where a value's drop
-/// panics, others may do it from then on.
-pub struct Dropper<'q, S: Shard> {
+// The one impl of a row that says that a value may be dropped. It does so while no lock is held.
+impl<S: Shard> Row<S> {
+    /// As `lock`, for an insert, for which each value that is set aside has a place. One that has none is dropped
+    /// before it: a drop that panics then loses no key.
+    #[inline(always)]
+    pub fn lock_with_room(&self, place: usize) -> MutexGuard<'_, S> {
+        // requires place < self.now
+        loop {
+            let mut shard = self.lock(place);
+            let Some(crowded) = shard.take_crowded() else {
+                return shard;
+            };
+            drop(shard);
+            drop(crowded);
+        }
+    }
+
+    /// Drops what is set aside in the shard at a place, where the caller has left so many there: nothing is done where
+    /// it has left none, or where there is no such place.
+    #[inline(always)]
+    pub fn drop_aside(&self, place: usize, most: usize) {
+        if most > 0 && place < self.len() {
+            self.drop_all_aside(place);
+        }
+    }
+
+    // Drops it until nothing is left, where no thread does so already.
+    #[inline(never)]
+    fn drop_all_aside(&self, place: usize) {
+        // requires place < self.now
+        let mut dropper = Dropper {
+            row: self,
+            place,
+            is_at_it: false,
+        };
+        loop {
+            let taken = self.lock(place).take_one(&mut dropper.is_at_it);
+            let Some(value) = taken else {
+                return;
+            };
+            drop(value);
+        }
+    }
+}
+
+// The thread that drops what is set aside in a shard, one value at a time, while the lock is free. Where a value's drop
+// panics, others may do it from then on.
+struct Dropper<'q, S: Shard> {
     row: &'q Row<S>,
     place: usize,
     is_at_it: bool,
-}
-
-impl<'q, S: Shard> Dropper<'q, S> {
-    /// One of the shard at a place, which hasn't begun. Out of range there is nothing to drop.
-    pub fn new(row: &'q Row<S>, place: usize) -> Dropper<'q, S> {
-        Dropper {
-            row,
-            place,
-            is_at_it: false,
-        }
-    }
-
-    /// Takes a value out, and lets the lock go. None where none was left to it.
-    pub fn take_one(&mut self) -> Option<S::Value> {
-        if self.place >= self.row.len() {
-            return None;
-        }
-        let mut shard = self.row.lock(self.place);
-        shard.take_one(&mut self.is_at_it)
-    }
 }
 
 impl<S: Shard> Drop for Dropper<'_, S> {

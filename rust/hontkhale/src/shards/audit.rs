@@ -56,7 +56,7 @@ impl<T> SharedDelayQueue<T> {
     // The totals of one shard.
     fn audit_of(&self, shard: usize) -> Result<Totals, HandlesOut> {
         // requires shard < self.now
-        let mut shard = self.lock(shard);
+        let mut shard = self.row.lock(shard);
         shard.audit()
     }
 

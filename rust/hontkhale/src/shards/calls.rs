@@ -1,5 +1,5 @@
-//! The calls of a queue of shards by name that let no value go: each takes one shard's lock and makes the state's call. Who
-//! leaves by it is woken once the lock is free.
+//! The calls of a queue of shards by name that let no value go: each takes one shard's lock and makes the state's call.
+//! Who leaves by it is woken once the lock is free.
 
 use crate::core::{Removed, Tally};
 use crate::parking::{ring, unlock};

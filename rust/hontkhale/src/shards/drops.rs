@@ -1,16 +1,16 @@
-//! The calls of a queue of shards by name that may let a value go: each takes one shard's lock and makes the state's call. Who
-//! leaves by it is woken once the lock is free, and what it lets go is dropped then.
+//! The calls of a queue of shards by name that may let a value go: each takes one shard's lock and makes the state's
+//! call. Who leaves by it is woken once the lock is free, and what it lets go is dropped then.
 //!
-//! A value's drop is a user's code: it may call the queue, and it may panic. What is reaped or cleared is set aside in the
-//! shard, and one thread takes it out and drops it behind the lock. Where a drop panics the shard is whole, and what is still
-//! set aside is dropped by a later call. No other impl of a queue says that a value of it may be dropped, so the checker
-//! refuses a drop anywhere else.
+//! A value's drop is a user's code: it may call the queue, and it may panic. What is reaped or cleared is set aside in
+//! the shard, and the row takes it out and drops it behind the lock. Where a drop panics the shard is whole, and what
+//! is still set aside is dropped by a later call. Beside the row no other impl of a queue says that a value of it may
+//! be dropped, so the checker refuses a drop anywhere else.
 
 use crate::core::{CoreConfig, CoreError, Expired, Piece, ReapError, Swept, Turn};
 use crate::locks::MutexGuard;
-use crate::parking::{unlock, waiting_row, Dropper, Row};
+use crate::parking::{unlock, waiting_row, Parked, Row, Shards, TickSource};
 use crate::shards::errors::{QueueConfig, QueueError};
-use crate::shards::queue::{is_config, SharedDelayQueue};
+use crate::shards::queue::SharedDelayQueue;
 use crate::shards::state::ShardState;
 use crate::ticks::{EntryId, Key};
 use crate::words::{locked_shards, ManyTurn};
@@ -36,9 +36,9 @@ impl<T> SharedDelayQueue<T> {
     /// - `BadConfig` if a number of `config` is out of its range: [`QueueConfig::check`] tells which.
     /// - `NoMemory` if memory is refused.
     pub fn new(config: QueueConfig) -> Result<SharedDelayQueue<T>, QueueError> {
-        if !is_config(&config) {
+        let Ok(()) = config.check() else {
             return Err(QueueError::Core(CoreError::BadConfig));
-        }
+        };
         let core = CoreConfig {
             shard: 0,
             capacity: config.capacity,
@@ -52,19 +52,6 @@ impl<T> SharedDelayQueue<T> {
                 row: Row::new(shards, waiting),
             }),
             Err(error) => Err(QueueError::Core(error)),
-        }
-    }
-
-    // As `lock`, for an insert, which has a place for each value that is set aside. One that has none is dropped before it,
-    // while the lock is free: a drop that panics then loses no key.
-    #[inline(always)]
-    fn lock_with_room(&self, shard: usize) -> MutexGuard<'_, ShardState<T>> {
-        // requires shard < self.now
-        loop {
-            match self.row.lock_with_room(shard) {
-                Ok(locked) => return locked,
-                Err(crowded) => drop(crowded),
-            }
         }
     }
 
@@ -93,7 +80,7 @@ impl<T> SharedDelayQueue<T> {
     /// ```
     pub fn insert(&self, route: u64, value: T, when: u64) -> Result<Key, (QueueError, T)> {
         let shard = routed_shard(route, self.shards() as u64);
-        let mut locked = self.lock_with_room(shard as usize);
+        let mut locked = self.row.lock_with_room(shard as usize);
         // A value that waited for its drop where the entry is now is dropped once the lock is free.
         let (answer, leaver, _crowded) = locked.attended.insert(value, when);
         unlock(locked, leaver);
@@ -164,7 +151,7 @@ impl<T> SharedDelayQueue<T> {
         let aside = unlock(locked, leaver);
         // A drop that panics would lose what came out.
         if !matches!(answer, Ok(Turn::Out(_))) {
-            self.drop_aside(shard, aside);
+            self.row.drop_aside(shard, aside);
         }
         Ok(answer?)
     }
@@ -208,7 +195,7 @@ impl<T> SharedDelayQueue<T> {
         let aside = unlock(locked, leaver);
         // A drop that panics would lose what came out.
         if !matches!(answer, Ok(Piece::Answer(Turn::Out(_)))) {
-            self.drop_aside(shard, aside);
+            self.row.drop_aside(shard, aside);
         }
         Ok(answer?)
     }
@@ -285,7 +272,7 @@ impl<T> SharedDelayQueue<T> {
         let aside = unlock(locked, leaver);
         // A drop that panics would lose what came out.
         if row.len() == before {
-            self.drop_aside(shard, aside);
+            self.row.drop_aside(shard, aside);
         }
         Ok(answer?)
     }
@@ -302,7 +289,7 @@ impl<T> SharedDelayQueue<T> {
         let mut locked = self.enter(shard)?;
         let (reaped, leaver) = locked.attended.sweep();
         let aside = unlock(locked, leaver);
-        self.drop_aside(shard, aside);
+        self.row.drop_aside(shard, aside);
         Ok(reaped)
     }
 
@@ -332,7 +319,7 @@ impl<T> SharedDelayQueue<T> {
         let mut locked = self.enter(shard)?;
         let (swept, leaver) = locked.attended.sweep_some(from, count);
         let aside = unlock(locked, leaver);
-        self.drop_aside(shard, aside);
+        self.row.drop_aside(shard, aside);
         Ok(swept)
     }
 
@@ -351,7 +338,7 @@ impl<T> SharedDelayQueue<T> {
         let mut locked = self.enter(shard)?;
         let (answer, leaver) = locked.attended.reap(entry);
         let aside = unlock(locked, leaver);
-        self.drop_aside(shard, aside);
+        self.row.drop_aside(shard, aside);
         Ok(answer)
     }
 
@@ -366,7 +353,7 @@ impl<T> SharedDelayQueue<T> {
         let mut locked = self.enter(shard)?;
         let (cleared, leaver) = locked.attended.clear();
         let aside = unlock(locked, leaver);
-        self.drop_aside(shard, aside);
+        self.row.drop_aside(shard, aside);
         Ok(cleared)
     }
 
@@ -393,21 +380,46 @@ impl<T> SharedDelayQueue<T> {
     /// ```
     #[inline(always)]
     pub fn drop_aside(&self, shard: usize, most: usize) {
-        if most > 0 {
-            self.drop_all_aside(shard);
-        }
+        self.row.drop_aside(shard, most);
+    }
+}
+
+/// A stream of a shard asks its source under the shard's lock, and ends by a refused tick.
+impl<T> Shards for SharedDelayQueue<T> {
+    type State = ShardState<T>;
+
+    type Error = QueueError;
+
+    fn places(&self) -> usize {
+        self.row.len()
     }
 
-    // Drops what is set aside in a shard until nothing is left, where no thread does so already.
-    #[inline(never)]
-    fn drop_all_aside(&self, shard: usize) {
-        let mut dropper = Dropper::new(&self.row, shard);
-        loop {
-            let Some(value) = dropper.take_one() else {
-                return;
-            };
-            drop(value);
-        }
+    fn unknown() -> QueueError {
+        QueueError::Unknown
+    }
+
+    fn ends() -> bool {
+        true
+    }
+
+    fn give_way(&self, place: usize) {
+        self.row.give_way(place);
+    }
+
+    fn entered<S: TickSource>(
+        &self,
+        place: usize,
+        source: &mut S,
+        before: &mut Option<Parked>,
+    ) -> (MutexGuard<'_, ShardState<T>>, u64) {
+        let mut shard = self.row.lock(place);
+        *before = shard.take_parked();
+        let tick = source.now();
+        (shard, tick)
+    }
+
+    fn drop_aside(&self, place: usize, most: usize) {
+        SharedDelayQueue::drop_aside(self, place, most);
     }
 }
 
@@ -443,7 +455,7 @@ impl<T> SharedDelayQueue<T> {
         let answer = f(&mut locked);
         let aside = locked.aside();
         drop(locked);
-        self.drop_aside(shard, aside);
+        self.row.drop_aside(shard, aside);
         Ok(answer)
     }
 }

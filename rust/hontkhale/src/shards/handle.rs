@@ -133,7 +133,7 @@ impl<T> SharedDelayQueue<T> {
     // One caller more of a shard.
     fn issue_of(&self, shard: usize) -> Result<Caller, WordsError> {
         // requires shard < self.now
-        let mut shard = self.lock(shard);
+        let mut shard = self.row.lock(shard);
         shard.issue()
     }
 }

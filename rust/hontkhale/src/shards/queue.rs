@@ -2,9 +2,8 @@
 
 use crate::locks::MutexGuard;
 use crate::parking::Row;
-use crate::shards::errors::{QueueConfig, QueueError, SHARD_LIMIT};
+use crate::shards::errors::QueueError;
 use crate::shards::state::ShardState;
-use crate::ticks::{CAPACITY_LIMIT, LAST_STAMP};
 
 /// A delay queue in shards, each behind a lock of its own, so that many threads may fill and poll it. A call takes
 /// the lock of one shard. Ticks are of one millisecond, and the program passes them in: the queue reads no clock.
@@ -46,17 +45,8 @@ pub struct SharedDelayQueue<T> {
     pub(crate) row: Row<ShardState<T>>,
 }
 
-pub(crate) fn is_config(config: &QueueConfig) -> bool {
-    0 < config.shards
-        && config.shards <= SHARD_LIMIT
-        && 0 < config.capacity
-        && config.capacity <= CAPACITY_LIMIT
-        && 0 < config.last_stamp
-        && config.last_stamp <= LAST_STAMP
-}
-
 impl<T> SharedDelayQueue<T> {
-    /// Returns the number of shards, from 1 to [`SHARD_LIMIT`].
+    /// Returns the number of shards, from 1 to [`SHARD_LIMIT`](crate::shards::SHARD_LIMIT).
     pub fn shards(&self) -> usize {
         self.row.len()
     }
@@ -98,12 +88,6 @@ impl<T> SharedDelayQueue<T> {
         if shard >= self.row.len() {
             return Err(QueueError::Unknown);
         }
-        Ok(self.lock(shard))
-    }
-
-    #[inline(always)]
-    pub(crate) fn lock(&self, shard: usize) -> MutexGuard<'_, ShardState<T>> {
-        // requires shard < self.now
-        self.row.lock(shard)
+        Ok(self.row.lock(shard))
     }
 }

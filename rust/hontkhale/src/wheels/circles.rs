@@ -100,6 +100,19 @@ impl Circles {
         }
     }
 
+    /// The index that follows another in its list, or none where that is the last.
+    #[inline]
+    pub fn after(&self, index: usize) -> Option<usize> {
+        // requires index < length self.now.homes
+        // requires 0 < slice_index self.now.homes index
+        let after = row_at(&self.rows, index).next as usize;
+        if after < self.capacity {
+            Some(after)
+        } else {
+            None
+        }
+    }
+
     /// The first index of a list while a slot is open, or none, which tells nothing.
     #[inline]
     pub fn first_open(&self, list: usize) -> Option<usize> {

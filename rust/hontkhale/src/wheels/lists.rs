@@ -75,6 +75,14 @@ impl Lists {
         self.circles.first_open(list)
     }
 
+    /// The index that follows another in its list, or none where that is the last.
+    #[inline]
+    pub fn after(&self, index: usize) -> Option<usize> {
+        // requires index < length self.now.homes
+        // requires 0 < slice_index self.now.homes index
+        self.circles.after(index)
+    }
+
     /// An index of a list that is filed least there.
     pub fn least_in(&self, list: usize) -> Option<usize> {
         // requires list < LISTS

@@ -181,6 +181,14 @@ impl Wheel {
         self.lists.first_open(due_list(self.tick))
     }
 
+    /// The index that follows a due one among those that are due, or none where that is the last.
+    #[inline]
+    pub fn next_due(&self, index: usize) -> Option<usize> {
+        // requires index < length self.now.filing.filed
+        // requires filed_at self.now.filing.filed index ≡ Some self.now.filing.tick
+        self.lists.after(index)
+    }
+
     /// Files a loose index at a tick from the wheel's own on, at most [`REACH`] ticks ahead. It has not moved then.
     ///
     /// [`REACH`]: crate::wheel::REACH

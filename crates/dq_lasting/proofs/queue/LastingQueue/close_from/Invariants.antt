@@ -1,4 +1,3 @@
-use Rattle.std.proofs.Common.{◌≤◌}
 use Rattle.dq_lasting.specs.Keeping.{NoneIsDue}
 use Rattle.dq_lasting.proofs.queue.LastingQueue.close_from.Given as goal
 

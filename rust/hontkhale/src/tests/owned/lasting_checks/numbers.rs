@@ -31,9 +31,11 @@ fn reopens(number: u32, by: u32, answer: Result<u32, ReopenError>) -> Result<(),
     let Ok(rows) = FreshRows::new(keeper, LAST_STAMP) else {
         panic!("the rows are refused");
     };
-    let answered = shard.end(rows, 0, by).answer;
-    same(number, answered, answer.map(|_| Kept::Reopened { place: 0 }));
-    let left = (shard.number(), shard.takes());
+    let (begun, leaver, _left) = shard.step(Some(rows), 0, by);
+    leaver.wake();
+    let answered = answer.map(|_| Kept::Reopened { place: 0 });
+    same(number, format!("{begun:?}"), format!("Answered({answered:?})"));
+    let left = (shard.attended.core.shard(), shard.takes);
     same(number, left, (answer.unwrap_or(number), answer.is_ok()));
     Ok(())
 }

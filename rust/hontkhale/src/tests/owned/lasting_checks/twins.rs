@@ -35,17 +35,17 @@ struct State {
 
 fn state(queue: &LastingQueue<u64>, place: usize) -> State {
     let shard = queue.lock(place);
-    assert_eq!(shard.capacity(), 4);
-    assert_eq!(shard.peek().is_some(), shard.next_wake().is_some());
+    assert_eq!(shard.attended.core.capacity(), 4);
+    assert_eq!(shard.attended.core.peek().is_some(), shard.attended.core.next_wake().is_some());
     State {
-        number: shard.number(),
-        takes: shard.takes(),
-        worn: shard.worn(),
-        len: shard.len(),
-        next_wake: shard.next_wake(),
+        number: shard.attended.core.shard(),
+        takes: shard.takes,
+        worn: shard.attended.core.worn(),
+        len: shard.attended.core.len(),
+        next_wake: shard.attended.core.next_wake(),
         tally: shard.tally(),
-        peek: shard.peek(),
-        filed: shard.peek().and_then(|key| shard.attended.core.filed(&key.entry())),
+        peek: shard.attended.core.peek(),
+        filed: shard.attended.core.peek().and_then(|key| shard.attended.core.filed(&key.entry())),
         noted: shard.attended.core.noted(),
         parked: shard.parked(),
     }
@@ -80,9 +80,12 @@ fn woken<R>((answer, leaver): (R, Leaver<Option<u64>>)) -> R {
 }
 
 fn inserted(shard: &mut LastingShard<u64>, when: u64) -> Result<Key, LastingError> {
-    let (answer, leaver, _crowded) = shard.insert(when, when);
+    if !shard.takes {
+        return Err(LastingError::Closed);
+    }
+    let (answer, leaver, _crowded) = shard.attended.insert(when, when);
     leaver.wake();
-    answer.map_err(|refused| refused.0)
+    answer.map_err(|refused| LastingError::Core(refused.0))
 }
 
 /// A fixed generator.
@@ -130,7 +133,7 @@ fn call(
             ),
             5 => (
                 format!("{:?}", named.deadline(&entry)),
-                format!("{:?}", woken(shard.deadline(&entry))),
+                format!("{:?}", woken(shard.attended.deadline(&entry))),
             ),
             _ => (format!("{:?}", named.reap(&entry)), format!("{:?}", woken(shard.attended.reap(&entry)))),
         };

@@ -1,0 +1,37 @@
+-- What witnesses know.
+use Rattle.std.specs.Prelude.{◌+◌, if◌then◌else◌, [], true, false}
+use Rattle.dq_journal.specs.declared.views.View.{View}
+
+module _ {E : Type 0} where
+  -- a witness that knows nothing
+  abbrev pub nobody : View E
+  nobody = record { keeps = false; made = 0; holds = false; number = 0; mine = []; log = []; told = [] }
+
+  -- the witness under the lock, at the start
+  abbrev pub first_witness : View E
+  first_witness = record { keeps = true; made = 0; holds = false; number = 0; mine = []; log = []; told = [] }
+
+  -- it made one caller more, and that caller's, which has seen as much and entered nothing
+  abbrev pub with_one_more : View E → View E
+  with_one_more v = record v { made = v.made + 1 }
+
+  abbrev pub new_witness : View E → View E
+  new_witness v = record { keeps = false; made = 0; holds = true; number = v.made; mine = []; log = v.log; told = [] }
+
+  -- a witness that gave its number and entries away, and what carries them
+  abbrev pub left : View E → View E
+  left v = record v { holds = false; mine = [] }
+
+  abbrev pub lent : View E → View E
+  lent v = record { keeps = false; made = 0; holds = v.holds; number = v.number; mine = v.mine; log = v.log; told = [] }
+
+  -- a witness that took them in: a caller's has then seen what they have, and the one under the lock was told of it
+  abbrev pub taken : View E → View E → View E
+  taken v t =
+      record v {
+        holds = t.holds;
+        number = t.number;
+        mine = t.mine;
+        log = if v.keeps then v.log else t.log;
+        told = t.log;
+      }

@@ -1,8 +1,0 @@
-use Rattle.std.proofs.Common.{◌≡◌}
-use Rattle.dq_lasting.specs.Answers.{TellsOfAll}
-use Rattle.dq_lasting.proofs.queue.LastingQueue.insert_in_turn.Given as goal
-
-abbrev pub invariant-loop-turn : goal.invariant-loop-turn
-invariant-loop-turn g l =
-    (l.value ≡ l.fn.value) × (l.shards ≡ l.fn.self.shards)
-    × TellsOfAll {T = g.row.T.Denot} l.fn.self.shards l.fn.from l.turn l.fn.value l.fn.when l.told

@@ -1,0 +1,11 @@
+use Rattle.std.proofs.Common.{refl, ◌∙◌, Ok}
+use Rattle.dq_lasting.specs.Changes.{LastingPolls}
+use Rattle.dq_lasting.proofs.Locked.{at_place}
+use Rattle.dq_lasting.proofs.queue.LastingQueue.poll.Goals as goal
+
+pub returns-clause-answers : goal.returns-clause-answers
+returns-clause-answers g c =
+    let entered = c.in_ok-shard.ensures.entered in
+    let told = c.poll-answer.ensures in
+    let does = rw c.in_ok-answer.was at told.polls in
+    (entered.0, at_place c.args.self.now.shards c.args.place (λ old r new. LastingPolls old c.args.tick r new) (Ok c.in_ok-answer.field-0) _ _ _ _ entered.1 (c.behind-shard.view_is ∙ c.deref_mut.ensures.value) c.unlock-aside.ensures refl (does, (told.attends.0, refl, refl, told.attends.3, refl)))

@@ -1,9 +1,0 @@
-use Rattle.std.proofs.Common.{refl, ◌∙◌}
-use Rattle.dq_lasting.specs.Changes.{LastingReaps}
-use Rattle.dq_lasting.proofs.Locked.{at_place}
-use Rattle.dq_lasting.proofs.queue.LastingQueue.reap_at.Goals as goal
-
-pub returns : goal.returns
-returns g c =
-    let told = c.reap-answer.ensures in
-    at_place c.args.self.now.shards c.args.place (λ old r new. LastingReaps old c.args.entry.now r new) c.reap-answer.result.0 _ _ _ _ c.lock-shard.ensures (c.behind-shard.view_is ∙ c.deref_mut.ensures.value) c.unlock.ensures refl (told.reaps, (told.attends.0, refl, refl, told.attends.3, refl))
