@@ -19,9 +19,9 @@ ALONE = re.compile(r"proved alone|by inspection", re.I)
 
 def tests():
     """Each test that has to name its promise, or does: its file, its name, and what it names."""
-    wanted = {(path, name) for it in tree.crates() for path in it.sources for name in tree.TEST.findall(text_of(path))}
-    wanted |= {(path, name) for folder in tree.PLAIN for path in files(folder, ".rs") for name in tree.TEST.findall(text_of(path))}
-    paths = {path for path, _ in wanted} | {it for part in ("src", "tests") for it in files(TOP / "rust" / "hontkhale" / part, ".rs")}
+    ours = [path for it in tree.crates() for path in it.sources] + [it for folder in tree.PLAIN for it in files(folder, ".rs")]
+    wanted = {(path, name) for path in ours for name in tree.TEST.findall(text_of(path))}
+    paths = {*ours, *(it for part in ("src", "tests") for it in files(TOP / "rust" / "hontkhale" / part, ".rs"))}
     named = {(path, name): ids.split() for path in paths for ids, name in OF_TEST.findall(text_of(path))}
     return [(path, name, named.get((path, name), [])) for path, name in sorted(wanted | named.keys())]
 

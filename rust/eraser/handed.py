@@ -145,9 +145,8 @@ def without_handed(tokens, fields_of_crate):
     types = erased_types(tokens)
     # From the last function to the first, so that what was found before stays where it is.
     for _, at, _, head, body in reversed(functions(tokens)):
-        end = tokens[close_of(tokens, body)] if tokens[body].text == "{" else None
-        body_token = tokens[body]
+        start, end = tokens[body], tokens[close_of(tokens, body)] if tokens[body].text == "{" else None
         names = without_members(tokens, head, types)
         if end is not None:
-            without_values(tokens, tokens.index(body_token, at) + 1, end, names, fields_of_crate)
+            without_values(tokens, tokens.index(start, at) + 1, end, names, fields_of_crate)
     return without_types(tokens, types)

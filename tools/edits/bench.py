@@ -78,10 +78,7 @@ class Bench:
     def begin(self, name):
         """The folder of a new copy of a crate, in a tree of its own."""
         folder = self.room / f"round-{next(self.numbers)}" / "crates" / name
-        for part in ("src", "specs", "proofs"):
-            if (TOP / "crates" / name / part).is_dir():
-                shutil.copytree(TOP / "crates" / name / part, folder / part)
-        return folder
+        return shutil.copytree(TOP / "crates" / name, folder, ignore=shutil.ignore_patterns("out", "edits"))
 
     def check(self, crate, edits):
         """Checks a copy of a crate with these edits in it, over what earlier checks kept; where it only takes the contracts
