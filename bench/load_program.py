@@ -11,6 +11,7 @@ import pathlib
 import re
 import shutil
 import subprocess
+import tempfile
 
 TOP = pathlib.Path(__file__).resolve().parents[1]
 SOURCES = TOP / "bench" / "load"
@@ -47,9 +48,11 @@ def build():
     return "" if is_stored else "our load program prints something else than bench/load/stdout has"
 
 
-def faults(tree):
+def faults():
     """Lays the sources out in an empty folder, and tells which modules aren't there as rt wants them. Nothing is compiled."""
-    lay_out(tree)
-    texts = {it.stem: it.read_text(encoding="utf-8") for it in sorted((tree / "crates" / NAME / "src").glob("*.rt"))}
+    with tempfile.TemporaryDirectory(prefix="hontkhale-load-") as folder:
+        lay_out(pathlib.Path(folder))
+        sources = pathlib.Path(folder, "crates", NAME, "src").glob("*.rt")
+        texts = {it.stem: it.read_text(encoding="utf-8") for it in sources}
     named = {it for text in texts.values() for it in re.findall(r"^ *(?:pub(?:\([a-z]+\))? )?mod (\w+);", text, re.M)}
     return [f"{it} is a module that isn't there, or a file that none names" for it in sorted(named ^ (texts.keys() - {"main"}))]

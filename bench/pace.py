@@ -1,7 +1,7 @@
 """Whether processors run at full speed just now.
 
-A machine that is shared with others has phases in which the same instructions take up to two and a half times as long. So a sample
-is taken on processors that run at full speed before and after it, and else it is taken anew.
+A machine that is shared with others has phases in which the same instructions take up to two and a half times as long. So a
+sample is taken on processors that run at full speed before and after it, and else it is taken anew.
 """
 
 import os
@@ -33,10 +33,9 @@ class Pace:
     def __init__(self, alone):
         self.threads = "one thread" if alone else "several threads"
         self.processors = sorted(os.sched_getaffinity(0))
-        self.choices = [{processor} for processor in self.processors] if alone else [set(self.processors)]
-        self.least = float("inf")
+        self.choices = [{it} for it in self.processors] if alone else [set(self.processors)]
+        self.least, self.waited = float("inf"), 0.0
         self.samples = self.anew = self.slow = 0
-        self.waited = 0.0
         until = time.monotonic() + 2
         while time.monotonic() < until:
             self.are_fast(self.processors)
@@ -49,18 +48,17 @@ class Pace:
         return took <= NEAR * self.least
 
     def are_fast(self, processors):
-        return all([self.is_fast(processor) for processor in processors])
+        return all([self.is_fast(it) for it in processors])
 
     def fast_processors(self):
         """Processors at full speed, or any where none are found in time."""
         since = time.monotonic()
-        while True:
+        while time.monotonic() - since <= WAIT and self.waited <= PATIENCE:
             for processors in self.choices:
                 if self.are_fast(processors):
                     return processors
-            if time.monotonic() - since > WAIT or self.waited > PATIENCE:
-                return self.choices[0]
             time.sleep(0.05)
+        return self.choices[0]
 
     def sample(self, take):
         """Takes a sample, anew where its processors slowed down."""
@@ -70,15 +68,14 @@ class Pace:
             processors = self.fast_processors()
             begun = time.monotonic()
             found = take(processors)
-            if self.are_fast(processors):
-                self.waited += begun - since
-                return found
-            self.waited += time.monotonic() - since
-            if tried + 1 == TRIES or self.waited > PATIENCE:
-                self.slow += 1
+            is_good = self.are_fast(processors)
+            self.waited += (begun if is_good else time.monotonic()) - since
+            is_last = tried + 1 == TRIES or self.waited > PATIENCE
+            if is_good or is_last:
+                self.slow += not is_good
                 return found
             self.anew += 1
 
     def told(self):
-        return (f"Pace: of {self.samples} runs of {self.threads} {self.samples - self.slow} were on processors at full speed before "
-                f"and after, {self.anew} were made anew, and {self.slow} stand though a processor had slowed down")
+        return (f"Pace: of {self.samples} runs of {self.threads} {self.samples - self.slow} were on processors at full speed "
+                f"before and after, {self.anew} were made anew, and {self.slow} stand though a processor had slowed down")

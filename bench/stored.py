@@ -35,7 +35,6 @@ class Case:
         self.row, self.entries, self.threads = row, entries, threads
         self.call, _, shards = row.partition("/")
         self.shards = int(shards or 0)
-        self.is_own = self.call.startswith(OWN)
         self.is_life = self.shards > 0 and self.call.removeprefix(OWN) in WHOLE_ROWS
         self.is_full = self.shards == FULL_SHARDS and entries == FULL_ENTRIES
         self.is_longest = row in LONGEST_ROWS
@@ -72,37 +71,30 @@ class Case:
     def median(self, peer):
         return statistics.median(self.samples[peer])
 
-    def best(self, peer):
-        return min(self.samples[peer])
-
 
 def write_samples(all_cases, about):
     """Stores what was timed."""
     RESULTS.mkdir(exist_ok=True)
-    lines = [f"# {line}" for line in about]
-    lines.append("peer\trow\tentries\tthreads\tnanoseconds an operation, one number for each round")
+    lines = [*(f"# {line}" for line in about), "peer\trow\tentries\tthreads\tnanoseconds an operation, one number for each round"]
     spreads = ["peer\trow\tentries\tcall\tcalls\tnanoseconds that " + ", ".join(SHARES) + " of the calls take at most"]
     for case in all_cases:
         for peer, taken in case.samples.items():
             numbers = " ".join(f"{sample:.2f}" for sample in taken)
             lines.append(f"{peer}\t{case.row}\t{case.entries}\t{case.threads}\t{numbers}")
         for (peer, call), (calls, *taken) in case.spreads.items():
-            numbers = " ".join(map(str, taken))
-            spreads.append(f"{peer}\t{case.row}\t{case.entries}\t{call}\t{calls}\t{numbers}")
-    for path, its_lines in zip((STORED, LONGEST), (lines, spreads)):
-        path.write_text("\n".join(its_lines) + "\n")
+            spreads.append(f"{peer}\t{case.row}\t{case.entries}\t{call}\t{calls}\t{' '.join(map(str, taken))}")
+    STORED.write_text("\n".join(lines) + "\n")
+    LONGEST.write_text("\n".join(spreads) + "\n")
 
 
 def read():
     """The cases of the stored run, and what is said about it."""
-    found, about = {}, []
-    for line in STORED.read_text().splitlines():
-        if line.startswith("# "):
-            about.append(line[2:])
-        elif not line.startswith("peer\t"):
-            peer, row, entries, threads, samples = line.split("\t")
-            case = found.setdefault((row, int(entries), int(threads)), Case(row, int(entries), int(threads)))
-            case.samples[peer] = [float(sample) for sample in samples.split()]
+    lines = STORED.read_text().splitlines()
+    about, found = [line[2:] for line in lines if line.startswith("# ")], {}
+    for line in lines[len(about) + 1:]:
+        peer, row, entries, threads, samples = line.split("\t")
+        case = found.setdefault((row, int(entries), int(threads)), Case(row, int(entries), int(threads)))
+        case.samples[peer] = list(map(float, samples.split()))
     for line in LONGEST.read_text().splitlines()[1:]:
         peer, row, entries, call, calls, taken = line.split("\t")
         found[row, int(entries), 1].spreads[peer, call] = [int(calls), *map(int, taken.split())]

@@ -254,18 +254,15 @@ def name_of_impl(words):
     with some arguments alone has them all in its name, as in `Queue+T+VecWords+A`."""
     words, own = re.sub(r"\bwhere\b.*", "", words, flags=re.S).strip(), ""
     if words.startswith("<"):
-        depth, at = 0, 0
-        for at, it in enumerate(words):
-            depth += (it == "<") - (it == ">" and words[at - 1] != "-")
-            if not depth:
-                break
-        own, words = words[1:at], words[at + 1:].strip()
+        tokens = tokens_of(words)
+        end = tokens[angle_close_of(tokens, 0)].place
+        own, words = words[1:end], words[end + 1:].strip()
     of, _, type_name = words.rpartition(" for ")
     last = lambda path: re.sub(r"^.*::", "", re.match(r"[^<]*", path)[0]).strip()
     arguments = type_name.partition("<")[2].rpartition(">")[0]
     is_own = lambda it: not it or it.startswith("'") or re.search(rf"(?:^|,)\s*(?:const )?{re.escape(it)}\b", own)
     if not of and not all(is_own(it.strip()) for it in arguments.split(",")):
-        return "+".join([last(type_name), *re.findall(r"\w+", arguments)])
+        return "+".join([last(type_name), *re.findall(r"(?<!')\b\w+", arguments)])
     # of the type's own arguments the check names those that are no parameters, as in `OptionU64`
     plain = re.findall(r"(?<!')\b[a-z]\w*\b(?!::)", type_name.partition("<")[2])
     name = "".join(it[:1].upper() + it[1:] for it in (last(type_name), *plain))

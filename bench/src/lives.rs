@@ -7,7 +7,7 @@ use std::sync::atomic::{AtomicBool, AtomicUsize, Ordering};
 use std::thread;
 use std::time::Instant;
 
-use crate::plan::{part, shard_passes, steps, SplitMix64, BEAT, BEATS, HEARTBEATS, IDLE, KEPT};
+use crate::plan::{part, shard_passes, steps, SplitMix64, BEAT, BEATS, HEARTBEATS, IDLE, KEPT, UNANSWERED};
 use crate::queue::Sharded;
 use crate::rows::{Clock, Sample};
 use crate::shards::{Begun, Gone, ShardLoad};
@@ -21,16 +21,25 @@ pub enum Life {
     Mixed,
     Churn,
     Heartbeat,
+    /// Requests that all have the same time limit, and end before it.
+    Fixed,
+    /// Sessions of which few are touched often, by Zipf's law.
+    Zipf,
+    /// Requests of which one in twenty isn't answered in time.
+    Requests,
 }
 
 impl Life {
-    pub const ALL: [(&'static str, Life); 6] = [
+    pub const ALL: [(&'static str, Life); 9] = [
         ("insert+poll", Life::InsertPoll),
         ("reset+poll", Life::ResetPoll),
         ("remove+poll", Life::RemovePoll),
         ("mixed", Life::Mixed),
         ("churn", Life::Churn),
         ("heartbeat", Life::Heartbeat),
+        ("fixed", Life::Fixed),
+        ("zipf", Life::Zipf),
+        ("requests", Life::Requests),
     ];
 
     /// Whether the sessions begin in one beat and are called once in each of the beats after it. A round is then one pass.
@@ -42,7 +51,7 @@ impl Life {
         match self {
             Life::InsertPoll | Life::ResetPoll | Life::RemovePoll => 0,
             Life::Mixed => BEATS,
-            Life::Churn | Life::Heartbeat => HEARTBEATS,
+            _ => HEARTBEATS,
         }
     }
 
@@ -51,7 +60,7 @@ impl Life {
         match self {
             Life::InsertPoll | Life::ResetPoll | Life::RemovePoll => IDLE,
             Life::Mixed => (BEATS + 1) * BEAT + IDLE,
-            Life::Churn | Life::Heartbeat => HEARTBEATS * BEAT + 2 * IDLE,
+            _ => HEARTBEATS * BEAT + 2 * IDLE,
         }
     }
 }
@@ -119,7 +128,7 @@ impl<S: Sharded> Member<'_, S> {
             Life::InsertPoll => self.timed(self.now, self.begun.len(), Self::begin),
             Life::ResetPoll => self.reset(),
             Life::RemovePoll => self.remove(),
-            Life::Mixed | Life::Churn | Life::Heartbeat => self.beats(life),
+            _ => self.beats(life),
         }
         let end = self.now + life.end();
         self.timed(end, 0, |member| member.poll(end));
@@ -184,7 +193,10 @@ impl<S: Sharded> Member<'_, S> {
         self.timed(self.now, self.begun.len(), Self::begin);
         let steps = steps(self.begun.len());
         for beat in 1..=life.beats() {
-            self.beat(life, &steps, self.now + beat * BEAT);
+            match life {
+                Life::Requests => self.answer(&steps, beat),
+                _ => self.beat(life, &steps, self.now + beat * BEAT),
+            }
         }
         if life == Life::Mixed {
             self.cancel(self.now + (BEATS + 1) * BEAT);
@@ -194,7 +206,10 @@ impl<S: Sharded> Member<'_, S> {
     /// Every session is called once, in a fresh order, and then the shards are polled. Nothing expires yet, whatever
     /// another thread has done of its beat.
     fn beat(&mut self, life: Life, steps: &[u64], begin: u64) {
-        let order = self.draws.shuffled(self.keys.len());
+        let order = match life {
+            Life::Zipf => self.draws.zipf(self.keys.len()),
+            _ => self.draws.shuffled(self.keys.len()),
+        };
         let mut deadlines = match life {
             Life::Churn => self.draws.deadlines(begin + 2 * BEAT, order.len()),
             _ => vec![begin + IDLE; order.len()],
@@ -205,8 +220,8 @@ impl<S: Sharded> Member<'_, S> {
         let tick = begin + BEAT;
         self.timed(tick, order.len(), |member| {
             match life {
-                Life::Mixed => member.extend_all(&order, &deadlines),
-                Life::Churn => member.replace_all(&order, &deadlines),
+                Life::Mixed | Life::Zipf => member.extend_all(&order, &deadlines),
+                Life::Churn | Life::Fixed => member.replace_all(&order, &deadlines),
                 _ => member.reset_all(&order, &deadlines),
             }
             member.poll(tick);
@@ -240,6 +255,29 @@ impl<S: Sharded> Member<'_, S> {
         }
         self.count_removes(order.len(), values);
         self.sample.counts.inserts += order.len() as u64;
+    }
+
+    /// The requests of the beat before that weren't answered came due in it, and are taken out. The others end, and another
+    /// begins in the place of each.
+    fn answer(&mut self, steps: &[u64], beat: u64) {
+        let begin = self.now + beat * BEAT;
+        self.timed(begin, 0, |member| member.poll(begin));
+        let order = self.draws.shuffled(self.keys.len());
+        self.timed(begin, order.len(), |member| {
+            let (mut removes, mut values) = (0, 0u64);
+            for (index, step) in order.iter().zip(steps) {
+                let is_answered = index % UNANSWERED > 0;
+                if is_answered || beat == 1 {
+                    removes += 1;
+                    values = values.wrapping_add(member.queue.remove(member.keys[*index]));
+                }
+                let limit = if is_answered { IDLE } else { 1 };
+                let begun = Begun { deadline: begin + limit + step, ..member.begun[*index] };
+                member.keys[*index] = member.queue.insert(&begun);
+            }
+            member.count_removes(removes, values);
+            member.sample.counts.inserts += order.len() as u64;
+        });
     }
 
     /// Most sessions are cancelled. The others expire at the last poll, which reaps these too.

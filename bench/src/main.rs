@@ -19,13 +19,19 @@ mod heap;
 mod indexed;
 #[cfg(feature = "rust")]
 mod keeps;
+#[cfg(feature = "rust")]
+mod lasting;
 mod lives;
 mod longest;
 mod plan;
+#[cfg(feature = "rust")]
+mod product;
 mod queue;
 mod rows;
 mod shards;
 mod sleep;
+#[cfg(feature = "rust")]
+mod table;
 #[cfg(feature = "rust")]
 mod through;
 mod tokio_queue;
@@ -43,9 +49,13 @@ use floor::Floor;
 use hashed::HashedWheel;
 use heap::{Extending, HeapQueue};
 use indexed::IndexedHeap;
+#[cfg(feature = "rust")]
+use lasting::Lasting;
 use lives::Life;
 use longest::Touched;
 use plan::shard_room;
+#[cfg(feature = "rust")]
+use product::{By, Product, Standing};
 use queue::{Locked, Queue, Sharded, Shared};
 use rows::{Clock, Counts, Load, NoClock, Row, Sample};
 use shards::{Call, Route, ShardLoad, Shards};
@@ -56,12 +66,14 @@ const USAGE: &str = "usage: peers time ROW ENTRIES THREADS ROUNDS [PEER..]
 rows: insert extend reset remove cancel poll insert+poll reset+poll remove+poll mixed churn heartbeat callers,
 longest-extend longest-reset longest-cancel,
 and over 1 to 64 shards insert/SHARDS extend/SHARDS reset/SHARDS remove/SHARDS poll/SHARDS insert-burst/SHARDS poll-burst/SHARDS
-and whole lives insert+poll/SHARDS reset+poll/SHARDS remove+poll/SHARDS mixed/SHARDS churn/SHARDS heartbeat/SHARDS;
+and whole lives insert+poll/SHARDS reset+poll/SHARDS remove+poll/SHARDS mixed/SHARDS churn/SHARDS heartbeat/SHARDS
+and of servers fixed/SHARDS zipf/SHARDS requests/SHARDS;
 with own- before all of these but the bursts, each of as many threads has a shard of its own
 entries: 1 to 65536, of each shard; threads: 1, and 1 to 64 for callers and over shards
        peers beside ENTRIES ROUNDS, where it was built with our crates: a poll in pieces beside another thread's inserts
        peers fair ENTRIES ROUNDS, likewise: what these inserts wait, for some ways to be fair
-       peers keeps ENTRIES ROUNDS, likewise: how long the calls take that keep a lasting queue going";
+       peers keeps ENTRIES ROUNDS, likewise: how long the calls take that keep a lasting queue going
+       peers queue ENTRIES THREADS ROUNDS, likewise: a table of `DelayQueue` beside what it is made of and beside its peers";
 
 /// What is timed: a row of one queue, the calls of a row one by one, or a row of shards, of bare calls or of whole lives, and their number.
 #[derive(Clone, Copy, Debug, PartialEq, Eq)]
@@ -149,15 +161,16 @@ fn peers_of(timed: Timed) -> Vec<&'static str> {
 }
 
 /// Our own queue as plain Rust has it, with the bounds checks or without. Only a handle is shared by callers. The adapter is timed
-/// with the checks, as a program has it that asks for nothing.
+/// with the checks, as a program has it that asks for nothing. So is `DelayQueue` but over shards, where it stands in one table
+/// with what it is made of.
 fn mine_of(timed: Timed) -> &'static [&'static str] {
     let is_unchecked = cfg!(feature = "proved-bounds");
     match timed {
-        Timed::Shards(..) | Timed::Lives(..) if is_unchecked => &["rust-shards"],
-        Timed::Shards(..) | Timed::Lives(..) => &["rust-checked-shards"],
+        Timed::Shards(..) | Timed::Lives(..) if is_unchecked => &["queue", "queue-at", "lasting-shards", "rust-shards"],
+        Timed::Shards(..) | Timed::Lives(..) => &["queue", "queue-at", "lasting-shards", "rust-checked-shards"],
         _ if is_unchecked => &["rust"],
-        Timed::One(Row::Callers) => &["rust-checked", "adapter-handle"],
-        _ => &["rust-checked", "adapter", "adapter-handle"],
+        Timed::One(Row::Callers) => &["rust-checked", "adapter-handle", "queue"],
+        _ => &["rust-checked", "adapter", "adapter-handle", "queue"],
     }
 }
 
@@ -269,13 +282,15 @@ fn shard_rounds<'a, S: Sharded + 'a>(
 struct Clocks<'a> {
     paused: &'a PausedClock,
     within: TurnedWithin<'a>,
+    #[cfg(feature = "rust")]
+    standing: &'a Standing,
 }
 
 fn rounds_of<'a>(asked: &'a Asked, peer: &str, clocks: &'a Clocks<'a>) -> Rounds<'a> {
     if asked.timed.is_of_one() {
         rounds_of_one(asked, peer, clocks)
     } else {
-        rounds_of_shards(asked, peer, clocks.paused)
+        rounds_of_shards(asked, peer, clocks)
     }
 }
 
@@ -300,12 +315,17 @@ fn rounds_of_one<'a>(asked: &'a Asked, peer: &str, clocks: &'a Clocks<'a>) -> Ro
         "adapter" => owned(asked, Adapter::new(clock, entries, Touching::Owner), clock),
         #[cfg(feature = "rust")]
         "adapter-handle" => shared(asked, Adapter::new(clock, entries, Touching::Handle), clock),
+        #[cfg(feature = "rust")]
+        "queue" => shared(asked, Product::new(clocks.standing, 4, 1, By::Duration), clocks.standing),
         _ => shared(asked, Floor::new(entries), &NoClock),
     }
 }
 
-fn rounds_of_shards<'a>(asked: &'a Asked, peer: &str, clock: &'a PausedClock) -> Rounds<'a> {
-    let room = shard_room(asked.entries);
+fn rounds_of_shards<'a>(asked: &'a Asked, peer: &str, clocks: &'a Clocks<'a>) -> Rounds<'a> {
+    let (room, clock) = (shard_room(asked.entries), clocks.paused);
+    #[cfg(feature = "rust")]
+    let product =
+        |by| sharded(asked, move |shards| Product::new(clocks.standing, shards, asked.threads, by), clocks.standing);
     match peer {
         "delay-queue-locked" => locked_shards(asked, || TokioQueue::new(clock, room), clock),
         "heap-best-locked" => locked_shards(asked, || BestHeap::new(room), &NoClock),
@@ -313,6 +333,12 @@ fn rounds_of_shards<'a>(asked: &'a Asked, peer: &str, clock: &'a PausedClock) ->
         "hashed-wheel-locked" => locked_shards(asked, || HashedWheel::new(room), &NoClock),
         #[cfg(feature = "rust")]
         "rust-shards" | "rust-checked-shards" => sharded(asked, |shards| ErasedShards::new(shards, room), &NoClock),
+        #[cfg(feature = "rust")]
+        "lasting-shards" => sharded(asked, |shards| Lasting::new(shards, room), &NoClock),
+        #[cfg(feature = "rust")]
+        "queue" => product(By::Duration),
+        #[cfg(feature = "rust")]
+        "queue-at" => product(By::Moment),
         _ => locked_shards(asked, || HeapQueue::new(Extending::Note, room), &NoClock),
     }
 }
@@ -339,7 +365,15 @@ fn print_sample(asked: &Asked, peer: &str, round: usize, sample: &Sample) {
 fn time(asked: &Asked) {
     let names: Vec<&str> = peers_of(asked.timed).into_iter().filter(|peer| asked.wants(peer)).collect();
     let paused: Vec<PausedClock> = names.iter().map(|_| PausedClock::new()).collect();
-    let clocks: Vec<Clocks> = paused.iter().map(|paused| Clocks { paused, within: TurnedWithin(paused) }).collect();
+    #[cfg(feature = "rust")]
+    let standing: Vec<Standing> = names.iter().map(|_| Standing::new()).collect();
+    let clocks = paused.iter().enumerate().map(|(_at, paused)| Clocks {
+        paused,
+        within: TurnedWithin(paused),
+        #[cfg(feature = "rust")]
+        standing: &standing[_at],
+    });
+    let clocks: Vec<Clocks> = clocks.collect();
     let mut peers: Vec<(&str, Rounds)> =
         names.iter().zip(&clocks).map(|(name, clock)| (*name, rounds_of(asked, name, clock))).collect();
     for round in 1..=asked.rounds {
@@ -383,6 +417,14 @@ fn main() -> ExitCode {
     ] {
         if let Some((entries, rounds)) = asked_beside(name, &args) {
             print(entries, rounds);
+            return ExitCode::SUCCESS;
+        }
+    }
+    #[cfg(feature = "rust")]
+    if let [name, numbers @ ..] = &args[..] {
+        let numbers: Vec<usize> = numbers.iter().filter_map(|number| number.parse().ok()).collect();
+        if let ("queue", &[entries, threads @ 1..=64, rounds]) = (name.as_str(), &numbers[..]) {
+            table::print(entries, threads, rounds.max(1));
             return ExitCode::SUCCESS;
         }
     }
@@ -491,6 +533,10 @@ mod tests {
             for touching in [Touching::Owner, Touching::Handle] {
                 let clock = PausedClock::new();
                 keeps_deadlines(Adapter::new(&clock, 4, touching), &clock);
+            }
+            for by in [By::Duration, By::Moment] {
+                let clock = Standing::new();
+                keeps_deadlines(Product::new(&clock, 2, 1, by), &clock);
             }
         }
     }

@@ -20,6 +20,9 @@ pub const BEAT: u64 = 1_000;
 /// Of so many sessions one is left to expire, the others are cancelled.
 pub const KEPT: usize = 10;
 
+/// Of so many requests one isn't answered in time.
+pub const UNANSWERED: usize = 20;
+
 /// The ticks from the start of one pass to the start of the next.
 pub const PASS: u64 = 1_300_021;
 
@@ -112,6 +115,13 @@ impl SplitMix64 {
     /// For each entry a deadline of 1 to `IDLE` ticks after `now`.
     pub fn deadlines(&mut self, now: u64, entries: usize) -> Vec<u64> {
         (0..entries).map(|_| now + 1 + self.below(IDLE)).collect()
+    }
+
+    /// As many indexes below `count`, by Zipf's law: the one at place r is drawn as often as 1 in r.
+    pub fn zipf(&mut self, count: usize) -> Vec<usize> {
+        let parts = |drawn: u64| (drawn >> 11) as f64 / (1u64 << 53) as f64;
+        let place = |share: f64| (count as f64).powf(share) as usize;
+        (0..count).map(|_| place(parts(self.draw())).clamp(1, count) - 1).collect()
     }
 
     /// So many indexes below `entries`, one as likely as another.

@@ -11,117 +11,71 @@ import re
 import tomllib
 
 KNOWN = tomllib.loads(pathlib.Path(__file__).with_name("instructions.toml").read_text(encoding="utf-8"))
-FLAGS, FLAG_CALLS = set(KNOWN["flags"].split()), set(KNOWN["flag_calls"].split())
 ORDERS, SIGNS = KNOWN["orders"], KNOWN["signs"]
 FORMS = {**KNOWN["forms"], **dict.fromkeys(SIGNS, ["o , v"])}
 CASTS = [it for it, forms in FORMS.items() if forms == ["o to t"]]
 HEAP = ("rattle_alloc", "rattle_realloc", "rattle_dealloc")
 WIDTHS = (8, 16, 32, 64, 128)
 NAME = r'(?:"[^"]*"|[-\w.$]+)'
-TOKEN = re.compile(r'\s*(%s|[%%@]%s|[a-zA-Z_][\w.]*|-?\d+|\S)' % (r'"[^"]*"', NAME))
-# The names of metadata, alignments and groups of attributes.
+TYPE = r"(?:ptr|void|i\d+|\{ [^{}]* \}|\[\d+ x [^\[\]]+\])"
+VALUE = rf"(?:[%@]{NAME}|-?\d+|[a-z]+|\{{ [^{{}}]* \}})"
+OPERAND = f"({TYPE}) ({VALUE})"
 ARRAY = re.compile(r"(?:(?:private|internal|unnamed_addr) )*constant \[(\d+) x i(\d+)\] \[(.*)\](?:, align \d+)?")
+# What narrows a meaning only, beside names in quotes; and the names of metadata, alignments and groups of attributes.
+FLAG = re.compile(r'("[^"]*")|(?<![%%@\w.-])(?:(?:%s|align \d+)(?![\w.-])|(?:%s)\((?:[^()]|\([^()]*\))*\)) ?' % tuple(
+    "|".join(KNOWN[it].split()) for it in ("flags", "flag_calls")))
 BESIDE = re.compile(r", ![\w.]+ !\d+|, align \d+(?=,|$)| #\d+(?=,|$)|\s+; preds = .*")
+MARKS = ("atomic", "weak", "inbounds")
+# What the letters of a form stand for.
+LETTERS = {"o": OPERAND, "t": f"({TYPE})", "v": f"({VALUE})", "w": rf"([%@]?{NAME})", "*": "(.*)"}
 
 
 class Unknown(Exception):
     """Something in the module that no line here gives a meaning."""
 
 
-class Text:
-    """The words of a line, from its front, without what narrows its meaning only."""
+def without_flags(text):
+    return FLAG.sub(lambda it: it[1] or "", text)
 
-    def __init__(self, line):
-        self.words, self.at, self.line = [], 0, line
-        depth = 0
-        for word in TOKEN.findall(line):
-            is_group = depth or self.words[-1:] and self.words[-1] in FLAG_CALLS and word == "("
-            if is_group:
-                depth += {"(": 1, ")": -1}.get(word, 0)
-                if not depth:
-                    self.words.pop()
-            elif word not in FLAGS and not (self.words[-1:] == ["align"] and self.words.pop()):
-                self.words.append(word)
 
-    def peek(self):
-        return self.words[self.at] if self.at < len(self.words) else ""
+def groups(pattern, text):
+    """The groups of a pattern in a text that has to have no other form."""
+    found = re.fullmatch(pattern, text)
+    if not found:
+        raise Unknown(text.strip())
+    return found.groups()
 
-    def next(self):
-        word = self.peek()
-        if not word:
-            raise Unknown(f"the line ends too soon: {self.line.strip()}")
-        self.at += 1
-        return word
 
-    def take(self, word):
-        if self.peek() == word:
-            self.at += 1
-            return True
-        return False
+def kind_of(text):
+    """A type: a width, `ptr` or `void`, a pair of types, or an array with its length."""
+    if text.startswith("{"):
+        return tuple(map(kind_of, text.strip("{ }").split(", ")))
+    if text.startswith("["):
+        count, _, part = text[1:-1].partition(" x ")
+        return "array", int(count), kind_of(part)
+    return int(text[1:]) if text.startswith("i") else text
 
-    def want(self, *words):
-        for word in words:
-            if not self.take(word):
-                raise Unknown(f"'{word}' is missing: {self.line.strip()}")
 
-    def type(self):
-        word = self.next()
-        if word in ("ptr", "void"):
-            return word
-        if re.fullmatch(r"i\d+", word):
-            return int(word[1:])
-        if word == "{":
-            parts = [self.type()]
-            while self.take(","):
-                parts.append(self.type())
-            self.want("}")
-            return tuple(parts)
-        if word == "[":
-            count = int(self.next())
-            self.want("x")
-            part = self.type()
-            self.want("]")
-            return ("array", count, part)
-        raise Unknown(f"the type {word}: {self.line.strip()}")
+def operands(text):
+    """All types and values of a list."""
+    found = re.findall(OPERAND, text)
+    if ", ".join(map(" ".join, found)) != text:
+        raise Unknown(f"the operands {text}")
+    return [(kind_of(kind), value) for kind, value in found]
 
-    def value(self):
-        """A word, or the operands of a pair."""
-        word = self.next()
-        if word == "{":
-            parts = [self.operand()]
-            while self.take(","):
-                parts.append(self.operand())
-            self.want("}")
+
+def parts_of(op, text):
+    """What stands behind an instruction's name, by the form that fits."""
+    for form in FORMS.get(op, ()):
+        pattern = " ".join(LETTERS.get(it, re.escape(it)) for it in form.split()).replace(" ,", ",")
+        if found := re.fullmatch(pattern, text):
+            words, parts, kind = iter(found.groups()), [it for it in form.split()[:1] if it in MARKS], None
+            for it in form.split():
+                kind = kind_of(next(words)) if it in ("o", "t") else kind
+                if it in LETTERS:
+                    parts.append(kind if it == "t" else (kind, next(words)) if it in ("o", "v") else next(words))
             return parts
-        return word
-
-    def operand(self):
-        """A type and a value."""
-        return self.type(), self.value()
-
-    def parts(self, op):
-        """What stands behind an instruction's name, by its form."""
-        forms = FORMS.get(op)
-        if forms is None:
-            raise Unknown(f"the instruction {op}: {self.line.strip()}")
-        form = next((it for it in forms if it.split()[:1] == [self.peek()]), forms[-1])
-        found, kind = [], None
-        for it in form.split():
-            if it == "t":
-                found.append(self.type())
-            elif it == "o":
-                found.append(self.operand())
-                kind = found[-1][0]
-            elif it == "v":
-                found.append((kind, self.value()))
-            elif it == "w":
-                found.append(self.next())
-            elif it != "*":
-                self.want(it)
-                found += [it] if it in ("atomic", "weak", "inbounds") else []
-        if self.peek() and "*" not in form:
-            raise Unknown(f"'{' '.join(self.words[self.at:])}' at the end: {self.line.strip()}")
-        return found
+    raise Unknown(f"the instruction {op} {text}")
 
 
 def size(kind):
@@ -212,23 +166,17 @@ class Step:
 
     def __init__(self, line):
         self.line, self.align = BESIDE.sub("", line), re.search(r"(?<=, align )\d+", line)
-        made = re.match(r"\s*(%%%s) = (.*)" % NAME, self.line)
-        self.name, text = made and made[1], Text(made[2] if made else self.line)
-        self.op = text.next()
-        self.parts, self.text = text.parts(self.op), text
+        self.name, self.op, text = groups(rf"\s*(?:(%{NAME}) = )?(\w+) ?(.*)", without_flags(self.line))
+        self.parts = parts_of(self.op, text)
 
 
 class Function:
     def __init__(self, module, head, lines):
         self.module = module
-        text = Text(re.sub(r"\b(dso_local|hidden|local_unnamed_addr)\b", "", head))
-        text.want("define")
-        self.is_export = not (text.take("internal") or text.take("private"))
-        self.answer, self.name, self.parameters = text.type(), text.next(), []
-        text.want("(")
-        while not text.take(")"):
-            self.parameters.append((text.type(), text.next()))
-            text.take(",")
+        head = without_flags(re.sub(r"\b(dso_local|hidden|local_unnamed_addr) ", "", head))
+        pattern = rf"define ((?:internal |private )?)({TYPE}) (@{NAME})\((.*)\)"
+        inside, answer, self.name, parameters = groups(pattern, head)
+        self.is_export, self.answer, self.parameters = not inside, kind_of(answer), operands(parameters)
         self.kinds = {name: kind for kind, name in self.parameters}
         self.names = {name: f"a{i}" for i, (_, name) in enumerate(self.parameters)}
         self.count = collections.Counter(re.findall(r"%" + NAME, "\n".join(lines)))
@@ -254,8 +202,8 @@ class Function:
     def of(self, operand):
         """An operand in C."""
         kind, value = operand
-        if isinstance(value, list):
-            return f"{cast_to(kind)}{{{', '.join(map(self.of, value))}}}"
+        if value.startswith("{"):
+            return f"{cast_to(kind)}{{{', '.join(map(self.of, operands(value.strip('{ }'))))}}}"
         if value in ("undef", "poison", "zeroinitializer"):
             return f"{cast_to(kind)}{{0}}" if is_pair(kind) else "NULL" if kind == "ptr" else number(kind, 0)
         if value in ("null", "true", "false"):
@@ -282,7 +230,7 @@ class Function:
             values = {block: value for value, block in re.findall(r"\[ (.*?), (%%%s) \]" % NAME, step.line)}
             if self.here not in values:
                 raise Unknown(f"a phi without {self.here}: {step.line.strip()}")
-            steps.append(f"{self.names[step.name]}_in = {self.of((step.parts[0], Text(values[self.here]).value()))};")
+            steps.append(f"{self.names[step.name]}_in = {self.of((step.parts[0], values[self.here]))};")
         return " ".join([*steps, f"goto {self.labels[there]};"])
 
     def declare_all(self):
@@ -331,8 +279,6 @@ class Function:
             self.say(f"{to} = {self.cast(op, *parts)};")
         elif op in KNOWN["lines"]:
             self.say(KNOWN["lines"][op].format(*(self.of(it) if isinstance(it, tuple) else it for it in parts), to=to))
-        elif op in ("switch", "call"):
-            getattr(self, "do_" + op)(step, to, *parts)
         else:
             getattr(self, "do_" + op)(to, *parts)
 
@@ -411,33 +357,22 @@ class Function:
             self.say(f"if ({self.of(first)}) {{ {self.jump(rest[0])} }}")
         self.say(self.jump(rest[1] if rest else first))
 
-    def do_switch(self, step, to, value, other):
+    def do_switch(self, to, value, other, cases):
         self.say(f"switch ({self.of(value)}) {{")
-        while not step.text.take("]"):
-            case = self.of(step.text.operand())
-            step.text.want(",", "label")
-            self.say(f"case {case}: {self.jump(step.text.next())}")
+        for kind, case, there in re.findall(rf"{OPERAND}, label (%{NAME})", cases):
+            self.say(f"case {self.of((kind_of(kind), case))}: {self.jump(there)}")
         self.say(f"default: {self.jump(other)}")
         self.say("}")
 
     def do_ret(self, to, value=None):
         self.say(f"return {self.of(value)};" if value else "return;")
 
-    def do_call(self, step, to, answer):
-        text = step.text
-        if text.peek() == "asm":
-            if 'asm sideeffect "", "~{memory}"()' not in step.line:
-                raise Unknown(f"assembly: {step.line.strip()}")
+    def do_call(self, to, answer, text):
+        if text == 'asm sideeffect "", "~{memory}"()':
             self.say("__atomic_signal_fence(__ATOMIC_SEQ_CST);")
             return
-        name = text.next()
-        text.want("(")
-        given = []
-        while not text.take(")"):
-            given.append(self.of(text.operand()))
-            text.take(",")
-        if text.peek():
-            raise Unknown(f"'{text.peek()}' at the end: {step.line.strip()}")
+        name, given = groups(rf"(@{NAME})\((.*)\)", text)
+        given = list(map(self.of, operands(given)))
         call = self.intrinsic(name, answer, given) if name.startswith("@llvm.") else (
             f"{self.module.function(name)}({', '.join(given)})")
         if call:

@@ -36,12 +36,9 @@ def bad_links(page):
     """The links of a page that lead nowhere."""
     for link in LINK.findall(text_of(page)):
         path, _, anchor = link.partition("#")
-        if re.match(r"[a-z]+:", link):
-            continue
         target = (page.parent / path).resolve() if path else page
-        if not target.exists():
-            yield link
-        elif anchor and target.suffix == ".md" and anchor not in headings(text_of(target)):
+        is_dead = not target.exists() or anchor and target.suffix == ".md" and anchor not in headings(text_of(target))
+        if is_dead and not re.match(r"[a-z]+:", link):
             yield link
 
 
@@ -64,15 +61,15 @@ def is_built(path):
     return path.endswith(".rs") and home is not None and (TOP / path).relative_to(home).parts[0] in BUILT
 
 
-def rust_blocks(page):
-    """Each block of Rust of a page: its line, and what builds it, or None. What is quoted stands in that file, as the quotes tell."""
+def unbuilt_blocks(page):
+    """The lines of the blocks of Rust of a page that nothing builds. What is quoted stands in that file, as the quotes tell."""
     text = text_of(page)
     quoted = {found.end(1): found[2] for found in QUOTE.finditer(text)}
     for found in BLOCK.finditer(text):
         kind = re.split(r"\W", found[1], maxsplit=1)[0]
-        if kind in {"rust", "ignore", "no_run", "should_panic", "compile_fail"} or not kind and is_documentation(page):
-            path = quoted.get(found.start(2))
-            yield text.count("\n", 0, found.start()) + 1, path if path and is_built(path) else None
+        is_rust = kind in {"rust", "ignore", "no_run", "should_panic", "compile_fail"} or not kind and is_documentation(page)
+        if is_rust and not is_built(quoted.get(found.start(2), "")):
+            yield text.count("\n", 0, found.start()) + 1
 
 
 PATH = re.compile(r"`([\w./-]+/[\w.-]+\.(?:rt|antt|md|rs|tsv|py|txt))`")

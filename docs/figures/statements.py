@@ -11,26 +11,27 @@ HEAD = r"(?:pub (?:record|data) |(?:abbrev|unfoldable) pub ){}(?=[ :]|$)"
 NAME = re.compile(r"[A-Za-z_][A-Za-z0-9_]*")
 
 
+def parts(path):
+    """The parts of a file of specs/ between blank lines, each with the name that it defines."""
+    for part in re.split(r"\n\s*\n", text_of(TOP / path)):
+        head = re.search(rf"(?m)^\s*{HEAD.format(f'({NAME.pattern})')}", part)
+        if head:
+            yield head[1], part, head.start()
+
+
 def definition(path, name, clause=None):
     """A definition of specs/ with the comment above it; of its clauses, where one is asked for, that one alone."""
-    lines = text_of(TOP / path).splitlines()
-    at = next((n for n, line in enumerate(lines) if re.match(r"\s*" + HEAD.format(re.escape(name)), line)), None)
-    if at is None:
+    part = next((part for its, part, _ in parts(path) if its == name), None)
+    if part is None:
         raise LookupError(f"{path} defines no {name}")
-    first = at
-    while first and lines[first - 1].lstrip().startswith("--"):
-        first -= 1
-    last = at + 1
-    while last < len(lines) and lines[last].strip():
-        last += 1
-    lines = textwrap.dedent("\n".join(lines[first:last])).splitlines()
+    part = textwrap.dedent(part.strip("\n"))
     if clause is None:
-        return "\n".join(lines)
-    head, body = lines[: at + 1 - first], lines[at + 1 - first:]
-    heads = [n for n, line in enumerate(body) if line and not line[0].isspace()]
-    for n, end in zip(heads, [*heads[1:], len(body)]):
-        if re.search(rf"\({re.escape(clause)}\b", body[n].partition(" =")[0]):
-            return "\n".join([*head, *body[n:end]])
+        return part
+    lines = re.split(r"\n(?=\S)", part)
+    head = next(at for at, it in enumerate(lines, 1) if not it.startswith("--"))
+    for it in lines[head:]:
+        if re.search(rf"\({re.escape(clause)}\b", it.partition(" =")[0]):
+            return "\n".join([*lines[:head], it])
     raise LookupError(f"{path}: {name} has no clause of {clause}")
 
 
@@ -53,14 +54,9 @@ def stands_in(path, quote):
 def all_definitions():
     """The words that each name of specs/ is defined by, over all crates."""
     known = {}
-    for path in files(CRATES, ".antt"):
-        if "specs" not in path.parts:
-            continue
-        for part in re.split(r"\n\s*\n", text_of(path)):
-            head = re.search(rf"(?m)^\s*{HEAD.format('([A-Za-z_][A-Za-z0-9_]*)')}", part)
-            if head:
-                body = re.sub(r"(?m)^\s*--.*$", "", part[head.start():])
-                known.setdefault(head[1], set()).update(NAME.findall(body))
+    for path in (it for it in files(CRATES, ".antt") if "specs" in it.parts):
+        for name, part, start in parts(path):
+            known.setdefault(name, set()).update(NAME.findall(re.sub(r"(?m)^\s*--.*$", "", part[start:])))
     return known
 
 

@@ -15,16 +15,14 @@ RESULTS = TOP / "bench" / "results"
 SIZES, TOUCHES = ("1000", "10000", "65536"), ("extend", "reset", "cancel")
 PIECE_WAYS = ("whole", "pieces-16", "pieces-64", "pieces-256")
 # The rows and the peers of the tables, by the table.
-PLAN = tomllib.loads(text_of(TOP / "bench" / "plan.toml"))["tables"]
-
-
-def row(*cells):
-    return "| " + " | ".join(map(str, cells)) + " |"
+BENCH = tomllib.loads(text_of(TOP / "bench" / "plan.toml"))
+PLAN, LIVES = BENCH["tables"], BENCH["rows"]["whole"]
 
 
 def grid(heads, rows, left=1):
     """A table, of whose columns so many are words and the others numbers."""
-    return "\n".join([row(*heads), "|---" * left + "|--:" * (len(heads) - left) + "|", *(row(*it) for it in rows)])
+    lines = ["| " + " | ".join(map(str, it)) + " |" for it in (heads, *rows)]
+    return "\n".join([lines[0], "|---" * left + "|--:" * (len(heads) - left) + "|", *lines[1:]])
 
 
 def rows_of(name):
@@ -98,8 +96,7 @@ def beside_delay_queue():
 
 
 # Rows in which a peer pays for all that its calls leave behind.
-WHOLE = ("cancel", "poll", "mixed", "insert+poll", "reset+poll", "remove+poll", "churn", "heartbeat")
-LIVES = ("insert+poll", "reset+poll", "remove+poll", "mixed", "churn", "heartbeat")
+WHOLE = ("cancel", "poll", *LIVES)
 
 
 def is_life(name):

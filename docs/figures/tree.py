@@ -23,6 +23,8 @@ ROLES = {"dq_load": "bench", "refusing_heap": "tests", "draws": "tests", "exampl
 # The bench's load, which is no crate of crates.txt: its sources have an ending of their own.
 LOAD, LOAD_ENDING = TOP / "bench" / "load", ".rattle"
 TEST = re.compile(r"#\[test\]\s*(?:(?:#\[.*\]|//.*)\s*)*(?:pub )?fn (\w+)")
+# A row of the table of crates in docs/ARCHITECTURE.md.
+ROW = re.compile(r"^\| `(\w+)` \|[^|\n]*\|$", re.M)
 # a definition in a module with parameters is indented
 DEFINITION = re.compile(r"^( *)(?:pub (?:record|data) |(?:abbrev|unfoldable) pub )(\S+)", re.M)
 
@@ -122,18 +124,14 @@ class Crate:
         """Its wrong bodies, which `tools/test-edits` tries."""
         return files(self.folder / "edits", ".edit")
 
+    def words(self):
+        """The words before `::` in its code, and the libraries that its contracts and proofs import."""
+        paths = [*self.sources, *(it for part in ("specs", "proofs") for it in files(self.folder / part, ".antt"))]
+        return {word for it in paths for pair in re.findall(r"\b(\w+)::|\bRattle\.(\w+)\.", text_of(it)) for word in pair}
+
     def stale_edits(self):
         """The edits that can't be applied, which is told here in seconds, each with the reason."""
-        for edit in self.edits():
-            pairs = source.read(edit).pairs
-            paths = {it[0] for it in pairs if (self.folder / it[0]).is_file()}
-            try:
-                source.applied(pairs, {it: text_of(self.folder / it) for it in paths})
-                why = "" if pairs else "it changes nothing"
-            except source.Fault as fault:
-                why = str(fault)
-            if why:
-                yield edit.stem, why
+        return [(it.name, it.why) for it in source.Crate(self.name).edits if it.came_to] if self.edits() else []
 
 
 @functools.lru_cache(maxsize=None)
@@ -181,3 +179,26 @@ def shared_definitions():
         for _, name in crate.definitions():
             homes[name].add(crate.name)
     return {name: sorted(found) for name, found in sorted(homes.items()) if len(found) > 1}
+
+
+def listed(text):
+    """Each crate of a crates.txt, with what it lists."""
+    return {name: libraries for name, (_, libraries) in source.lines_of_crates(text).items()}
+
+
+def wrong_uses():
+    """Pairs of a file and what it says wrongly."""
+    ours = listed(text_of(TOP / "crates.txt"))
+    load = listed(text_of(LOAD / "crates.line"))
+    for crate in crates():
+        words = crate.words()
+        for part in {**ours, **load}[crate.name]:
+            if part not in words:
+                yield "crates.txt", f"{crate.name} lists {part}, which none of its sources names"
+    page = text_of(TOP / "docs" / "ARCHITECTURE.md").partition("## The crates")[2].partition("\n## ")[0]
+    for crate in sorted(set(ours) ^ set(ROW.findall(page))):
+        yield "docs/ARCHITECTURE.md", f"its table and crates.txt don't both have `{crate}`"
+    for block in re.findall(r"^```text\n(dq_ticks:.*?)^```", text_of(TOP / "docs" / "USING.md"), re.M | re.S):
+        for crate, parts in listed(block).items():
+            if crate in ours and parts != ours[crate]:
+                yield "docs/USING.md", f"its crates.txt has `{crate}:{' '.join(['', *parts])}`, and ours `{' '.join(ours[crate])}`"

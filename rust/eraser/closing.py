@@ -83,17 +83,11 @@ def bodies(tokens):
 
 def requirements(tokens):
     """The functions of a file that require something and that are public: their owner, their name, line and body."""
-    inside = list(bodies(tokens))
-    found = []
+    inside, found = list(bodies(tokens)), []
     for _, at, name, head, body in functions(tokens):
-        behind = close_of(tokens, head) + 1
-        clauses = range(behind, body)
-        if not any(tokens[index].text == "requires" and clause(tokens, index) is not None for index in clauses):
-            continue
-        owner, is_trait = "", False
-        for opening, close, of, trait in inside:
-            if opening < at < close:
-                owner, is_trait = of, trait
-        if owner is not None and (is_trait or tokens[at - 1].text == "pub"):
-            found.append((owner, name, tokens[at].line, body))
+        clauses = range(close_of(tokens, head) + 1, body)
+        if any(tokens[it].text == "requires" and clause(tokens, it) is not None for it in clauses):
+            owner, is_trait = next((it[2:] for it in reversed(inside) if it[0] < at < it[1]), ("", False))
+            if owner is not None and (is_trait or tokens[at - 1].text == "pub"):
+                found.append((owner, name, tokens[at].line, body))
     return found

@@ -7,7 +7,6 @@ import handed
 import indexes
 import kit
 import laws
-import links
 import paths
 from patterns import TABLES, made
 from rattle import Refused, item_start, text_of, tokens_of
@@ -90,7 +89,7 @@ def defined_names(tokens):
     return found
 
 
-TRAITS = {"Read", "Write", "Deref", "DerefMut", "Hash", "TickSource"}
+TRAITS = {"Read", "Write", "Deref", "DerefMut", "Hash", "TickSource", "Shard", "Until"}
 
 
 def is_gone(source, path, gone):
@@ -166,5 +165,5 @@ def erased(hand, closed):
     for source in found:
         guarded(source, erase_modules, source, gone)
         rebuilt_uses(source, gone, names)
-        guarded(source, links.with_links, source.tokens, MODULES[source.crate], closed.given)
+        guarded(source, paths.with_links, source.tokens, MODULES[source.crate], closed.given)
     return {it.out(): text_of(it.tokens) for it in found if (it.crate, it.module_path()) not in gone}

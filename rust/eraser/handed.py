@@ -1,4 +1,6 @@
 """Rules for what each call is handed and std needs not: the runtime, the allocator, the name of a source of wakes."""
+import re
+
 from lists import elements, joined, next_of, type_lists
 from rattle import Refused, close_of, functions
 
@@ -7,6 +9,9 @@ RUNTIME = {"Wait"}
 ALLOCATOR = {"Allocator", "Clone", "Copy", "Drop", "Global"}
 # The name of an allocator's type, in all crates.
 ALLOC_TYPE = "A"
+
+# A path, by reference or not, and what copies of it or the allocator behind it are taken by.
+HANDED = re.compile(r"(?:& |mut )*(\w+(?: \. \w+)*?)((?: \. (?:clone|alloc|allocator) \( \))*)(?: \?)?")
 
 
 def texts_of(tokens):
@@ -90,19 +95,11 @@ def without_fields(tokens):
 
 def is_handed(value, names, fields):
     """Whether a value is one of those names or fields, a reference to it or a copy of it."""
-    texts = texts_of(value)
-    while texts and texts[0] in ("&", "mut"):
-        texts = texts[1:]
-    if texts[-1:] == ["?"]:
-        texts = texts[:-1]
-    for maker in ("clone", "alloc", "allocator"):
-        if texts[-4:] == [".", maker, "(", ")"]:
-            texts = texts[:-4]
-            if texts[:1] == ["self"] and maker == "allocator":
-                return True
-    if len(texts) == 1:
-        return texts[0] in names
-    return len(texts) >= 3 and texts[0] == "self" and texts[-1] in fields and set(texts[1::2]) == {"."}
+    found = HANDED.fullmatch(" ".join(texts_of(value)))
+    path = found[1].split(" . ") if found else [""]
+    if path[0] == "self":
+        return "allocator" in found[2] or len(path) > 1 and path[-1] in fields
+    return len(path) == 1 and path[0] in names
 
 
 def is_handed_field(element, names, fields):

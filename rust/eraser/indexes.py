@@ -10,12 +10,8 @@ CHANGES = {"extend", "cancel", "look"}
 
 def references(tokens, head):
     """The parameters of a function that are references."""
-    close = close_of(tokens, head)
-    return {
-        tokens[at].text
-        for at in range(head + 1, close)
-        if tokens[at].kind == "word" and tokens[at + 1].text == ":" and tokens[at + 2].text == "&"
-    }
+    words = [token.text for token in tokens[head:close_of(tokens, head)]]
+    return {name for name, *behind in zip(words, words[1:], words[2:]) if behind == [":", "&"]}
 
 
 def is_index(tokens, at):
@@ -54,31 +50,19 @@ def base_start(tokens, at):
 
 
 def one_index(tokens, at, refs):
-    start = base_start(tokens, at)
-    close = close_of(tokens, at)
-    base = tokens[start:at]
-    inner = tokens[at + 1:close]
-    is_ref = len(base) == 1 and base[0].text in refs
-    before, after = tokens[start - 1].text, tokens[close + 1].text
-    borrowed = before == "&" or (before == "mut" and tokens[start - 2].text == "&")
-    from_ = start
-    if borrowed and after != ".":
-        call = "nth_mut" if before == "mut" else "nth"
-        from_ = start - (2 if before == "mut" else 1)
-        star = ""
-    elif after in ASSIGNS:
-        call, star = "nth_mut", "*"
-    elif after == "." and tokens[close + 3].text in ASSIGNS:
-        call, star = "nth_mut", ""
-    elif after == "." and tokens[close + 3].text == "(":
-        method = tokens[close + 2].text
-        if method not in READS | CHANGES:
+    start, close = base_start(tokens, at), close_of(tokens, at)
+    base, inner = tokens[start:at], tokens[at + 1:close]
+    before, after, method, behind = tokens[start - 1].text, *(token.text for token in tokens[close + 1:close + 4])
+    from_, changes, star = start, after in ASSIGNS, "*"
+    if after == ".":
+        if behind == "(" and method not in READS | CHANGES:
             raise Refused(f"line {tokens[at].line}: `{method}` of an index, which no rule knows")
-        call, star = ("nth_mut" if method in CHANGES else "nth"), ""
-    else:
-        call, star = "nth", "" if after == "." else "*"
-    mark = "" if is_ref else "&mut " if call == "nth_mut" else "&"
-    head = made(f"{star}{call}({mark}", tokens[from_])
+        changes, star = behind in ASSIGNS or behind == "(" and method in CHANGES, ""
+    elif before == "&" or before == "mut" and tokens[start - 2].text == "&":
+        changes, star = before == "mut", ""
+        from_ = start - 1 - changes
+    mark = "" if len(base) == 1 and base[0].text in refs else "&mut " if changes else "&"
+    head = made(f"{star}{'nth_mut' if changes else 'nth'}({mark}", tokens[from_])
     base[0].before = " " if mark == "&mut " else ""
     tokens[from_:close + 1] = head + base + made(", ", base[0], "") + inner + made(")", base[0], "")
     inner[0].before = " "

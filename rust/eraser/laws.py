@@ -22,54 +22,36 @@ def is_law(tokens, name, head, body, laws):
 def law_names(files):
     """The names of all laws of some files: those that call other laws are found once those are."""
     parts = [(tokens, functions(tokens)) for tokens in files]
-    laws = set()
-    while True:
-        more = {
-            name
-            for tokens, found in parts
-            for _, _, name, head, body in found
-            if is_law(tokens, name, head, body, laws)
-        }
-        if more == laws:
-            return laws
+    laws, more = None, set()
+    while laws != more:
         laws = more
+        more = {name for tokens, found in parts for _, _, name, *its in found if is_law(tokens, name, *its, laws)}
+    return laws
 
 
 def without_laws(tokens, laws):
     """The tokens without functions of those names, and without statements that only call one or look at a field."""
-    spans = []
+    ends, kept, at = {}, [], 0
     for start, _, name, head, body in functions(tokens):
         if name in laws:
             if not is_law(tokens, name, head, body, laws) and not empty_but_calls(tokens, body, laws):
                 raise Refused(f"line {tokens[start].line}: `{name}` is a law elsewhere, and does something here")
-            end = close_of(tokens, body) if tokens[body].text == "{" else body
-            spans.append((start, end + 1))
-    kept = []
-    at = 0
-    ends = dict(spans)
+            ends[start] = (close_of(tokens, body) if tokens[body].text == "{" else body) + 1
     while at < len(tokens):
-        if at in ends:
-            at = ends[at]
-            continue
-        if kept and kept[-1].text in STARTS:
+        behind = ends.get(at)
+        if behind is None and kept and kept[-1].text in STARTS:
             behind = idle_statement(tokens, at, laws)
-            if behind is not None:
-                at = behind
-                continue
-        kept.append(tokens[at])
-        at += 1
+        if behind is None:
+            kept.append(tokens[at])
+        at = behind or at + 1
     return kept
 
 
 def empty_but_calls(tokens, body, laws):
-    at = body + 1
-    end = close_of(tokens, body)
-    while at < end:
-        behind = idle_statement(tokens, at, laws)
-        if behind is None:
-            return False
-        at = behind
-    return True
+    at, end = body + 1, close_of(tokens, body)
+    while at is not None and at < end:
+        at = idle_statement(tokens, at, laws)
+    return at is not None
 
 
 def idle_statement(tokens, at, laws):

@@ -1,5 +1,6 @@
 """The copies in which crates are checked, each with some edits in it, over what was built of the crates below."""
 
+import contextlib
 import itertools
 import os
 import pathlib
@@ -34,10 +35,8 @@ class Bench:
         with self.lock:
             self.is_over = True
         for it in list(self.checks):
-            try:
+            with contextlib.suppress(ProcessLookupError):
                 os.killpg(it.pid, signal.SIGKILL)
-            except ProcessLookupError:
-                pass
 
     def ran(self, name, folder, words):
         """Runs a check in a crate's folder: its status and what it said. A killed one runs again."""
@@ -51,7 +50,7 @@ class Bench:
                 self.checks.add(ran)
             said = ran.stdout.read()
             _, status, used = os.wait4(ran.pid, 0)
-            ran.returncode = -os.WTERMSIG(status) if os.WIFSIGNALED(status) else os.WEXITSTATUS(status)
+            ran.returncode = os.waitstatus_to_exitcode(status)
             self.checks.discard(ran)
             with self.lock:
                 self.seconds[name] = self.seconds.get(name, 0) + used.ru_utime + used.ru_stime
@@ -185,9 +184,6 @@ def link(one, other):
 
 
 def has_room(checks, room):
-    """Whether there is memory for so many checks beside those that run; so it is where nothing tells."""
-    try:
-        found = re.search(r"^MemAvailable: +(\d+) kB", pathlib.Path("/proc/meminfo").read_text(), re.M)
-    except OSError:
-        return True
-    return found is None or int(found[1]) >= checks * room
+    """Whether there is memory for so many checks beside those that run."""
+    found = re.search(r"^MemAvailable: +(\d+) kB", pathlib.Path("/proc/meminfo").read_text(), re.M)
+    return int(found[1]) >= checks * room

@@ -62,9 +62,7 @@ class Edit:
 def read(path, crate=""):
     """An edit as its file says it: `pairs` are of a file, a function if one is named, an old text and a new one."""
     edit, file, function, old = Edit(crate, path.stem), None, "", None
-    for line in path.read_text(encoding="utf-8").split("\n"):
-        word, _, rest = line.partition(":")
-        rest = rest.removeprefix(" ")
+    for word, rest in re.findall(r"^(\w+): ?(.*)$", path.read_text(encoding="utf-8"), re.M):
         if word == "file":
             file, function = rest.strip(), ""
         elif word == "in":
@@ -179,8 +177,7 @@ class Crate:
             edit.came_to, edit.why = "bad", str(fault)
             return
         try:
-            edit.bodies, added, more = self.changed(texts)
-            edit.added = set(added)
+            edit.bodies, edit.added, more = self.changed(texts)
             edit.reaches_further = bool(more or not edit.bodies)
         except Fault:
             edit.reaches_further = True
@@ -244,12 +241,11 @@ class Crate:
     def function_at(self, edits, unread):
         """The function in whose text, with these edits in it, a line stands that isn't read."""
         _, path, line = unread
-        if path not in self.sources:
-            return None
-        text = self.texts_with(edits)[path]
-        begun = [0, *(it.end() for it in re.finditer("\n", text))][line - 1]
-        found = file_of(path, text).function_at(begun)
-        return found and found.name
+        if path in self.sources:
+            text = self.texts_with(edits)[path]
+            found = file_of(path, text).function_at(len("".join(text.splitlines(True)[:line - 1])))
+            return found and found.name
+        return None
 
     def rounds(self, edits):
         """Packs edits into rounds in which no function is edited twice in its place, each into the first that takes it: first

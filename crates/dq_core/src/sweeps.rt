@@ -116,8 +116,8 @@ impl<T, W: Words, A: Allocator> DelayCore<T, W, A> {
         let first = from.min(capacity);
         let end = first + count.min(capacity - first);
         let mut reaped = 0;
-        for slot in first..end {
-            if self.reap_at(slot) {
+        for index in first..end {
+            if self.reap_at(index) {
                 reaped += 1;
             }
         }
@@ -156,10 +156,10 @@ impl<T, W: Words, A: Allocator> DelayCore<T, W, A> {
         ensures begun { StillBegun W.begun self.old.words self.new.words }
     {
         self.law();
-        let Some(at) = self.find(entry) else {
+        let Some(index) = self.find(entry) else {
             return Err(ReapError::Missing);
         };
-        if self.reap_at(at) {
+        if self.reap_at(index) {
             Ok(())
         } else {
             Err(ReapError::Live)

@@ -5,11 +5,9 @@ pub mod Handles
 pub mod Keeping
 pub mod Many
 pub mod Numbered
-pub mod Paces
 pub mod Parking
 pub mod Polling
 pub mod Queues
 pub mod Shard
 pub mod States
-pub mod Streams
 pub mod Through

@@ -6,7 +6,7 @@
 //! is still set aside is dropped by a later call. Beside the row no other impl says that a value may be dropped, so the
 //! checker refuses a drop anywhere else.
 ghost use Rattle.std.specs.Prelude.{◌≡◌, ◌+◌, ◌-◌, ◌*◌, ◌%◌, ◌<◌, ◌≤◌, ◌↔◌, if◌then◌else◌};
-ghost use Rattle.std.specs.Prelude.{Err, IfErr, IsErrOf, OnErr, vec_capacity};
+ghost use Rattle.std.specs.Prelude.{false, Some, None, Err, IfErr, IsErrOf, OnErr, vec_capacity};
 ghost use Rattle.dq_lasting.specs.declared.config.TheConstants.{SHARD_LIMIT};
 ghost use Rattle.futures.specs.Task.{Covers, Keeps};
 ghost use Rattle.futures.specs.Poll.{OnPending};
@@ -19,7 +19,6 @@ ghost use Rattle.dq_lasting.specs.Changes.{LastingPolls, LastingPollsSome, Lasti
 ghost use Rattle.dq_lasting.specs.Changes.{LastingReaps, LastingClears};
 ghost use Rattle.dq_lasting.specs.Keeping.{KeepsGoing, GoesOnAt};
 ghost use Rattle.dq_lasting.specs.Many.{LastingPollsMany};
-ghost use Rattle.dq_lasting.specs.Paces.{PollsSomeOrParksAt};
 ghost use Rattle.dq_lasting.specs.Polling.{PollsOrParksAt};
 ghost use Rattle.dq_lasting.specs.Through.{LastingAnswersThrough};
 
@@ -27,15 +26,17 @@ use crate::config::LastingConfig;
 use crate::errors::{LastingError, ReopenError};
 use crate::keeping::{Due, Kept};
 use crate::opening::{Begun, fresh_rows};
+use crate::poller::{OneTick, told};
 use crate::queue::LastingQueue;
+use crate::shard::LastingShard;
 use dq_core::{CoreConfig, CoreError, Expired, Piece, ReapError, Swept, Turn};
-use dq_parking::{Row, forget, let_sleep, register, unlock, waiting_row};
+use dq_parking::{Parked, Row, Shards, TickSource, poll_place, unlock, waiting_row};
 use dq_ticks::{EntryId, Key};
 use dq_words::{ManyTurn, locked_shards};
 use futures::task::{Context, Poll, Source};
 use std::alloc::Allocator;
 use std::num::NonZeroU32;
-use std::sync::Wait;
+use std::sync::{MutexGuard, Wait};
 
 // An odd number near 2^64 divided by the golden ratio: its multiples are spread evenly.
 const DRAWS: u64 = 0x9E37_79B9_7F4A_7C15;
@@ -512,7 +513,6 @@ impl<T: Drop, A: Allocator> LastingQueue<T, A> {
     /// - `Unknown` if there is no such place.
     /// - `TickTooLarge` if `tick` is beyond the last tick.
     /// - `NoMemory` if no waker can be made.
-    #[tactic(auto, using(crate::proofs::Polled::by_registering))]
     pub fn poll_or_park<R: Wait>(
         &self,
         rt: &R,
@@ -525,23 +525,13 @@ impl<T: Drop, A: Allocator> LastingQueue<T, A> {
         ensures registered { OnPending result (Covers cx.new (λ s. s ≡ name.now.id)) }
 
         // All that it answers.
-        ensures polls { PollsOrParksAt T self.now.shards place cx.old cx.new tick result }
+        ensures polls { PollsOrParksAt T self.now.shards place cx.old cx.new None tick result }
         ensures kept { Keeps cx.old cx.new }
     {
         if let Err(unknown) = self.in_range(place) {
             return Poll::Ready(Err(unknown));
         }
-        // The task's waker is made, and those that aren't parked are let go, while the lock is free.
-        let mut before = None;
-        let mut slot = register(name, cx);
-        let (answer, aside) = self.poll_or_park_at(rt, place, tick, &mut slot, &mut before);
-        let_sleep(before);
-        forget(slot);
-        // A drop that panics would lose what came out.
-        if answer.is_pending() {
-            self.row.drop_aside(rt, place, aside);
-        }
-        answer
+        told(poll_place(self, rt, place, &mut OneTick(tick), None, name, cx))
     }
 
     /// Polls the shard at `place` for a task, at `tick` of one millisecond, by at most `most` steps. It returns:
@@ -562,7 +552,6 @@ impl<T: Drop, A: Allocator> LastingQueue<T, A> {
     /// - `Unknown` if there is no such place.
     /// - `TickTooLarge` if `tick` is beyond the last tick.
     /// - `NoMemory` if no waker can be made.
-    #[tactic(auto, using(crate::proofs::Piecewise::by_registering_pieces))]
     pub fn poll_some_or_park<R: Wait>(
         &self,
         rt: &R,
@@ -576,34 +565,14 @@ impl<T: Drop, A: Allocator> LastingQueue<T, A> {
         ensures registered { OnPending result (Covers cx.new (λ s. s ≡ name.now.id)) }
 
         // All that it answers.
-        ensures polls { PollsSomeOrParksAt T self.now.shards place cx.old cx.new tick most result }
+        ensures polls { PollsOrParksAt T self.now.shards place cx.old cx.new (Some most) tick
+            result }
         ensures kept { Keeps cx.old cx.new }
     {
         if let Err(unknown) = self.in_range(place) {
             return Poll::Ready(Err(unknown));
         }
-        let mut before = None;
-        let mut slot = register(name, cx);
-        let (polled, aside) = self.poll_some_or_park_at(
-            rt,
-            place,
-            tick,
-            most,
-            &mut slot,
-            &mut before,
-        );
-        let_sleep(before);
-        forget(slot);
-        let Some(answer) = polled else {
-            let _woken: Poll<()> = cx.yield_now();
-            self.row.drop_aside(rt, place, aside);
-            return Poll::Pending;
-        };
-        // A drop that panics would lose what came out.
-        if answer.is_pending() {
-            self.row.drop_aside(rt, place, aside);
-        }
-        answer
+        told(poll_place(self, rt, place, &mut OneTick(tick), Some(most), name, cx))
     }
 
     /// Frees the slots of all cancelled entries of the shard at `place`, and returns how many these were. Their
@@ -784,5 +753,51 @@ impl<T: Drop, A: Allocator> LastingQueue<T, A> {
             Due::Made(kept) => Ok(kept),
             Due::At(place) => self.go_on(rt, alloc, place),
         }
+    }
+}
+
+/// A stream of a place asks its source before the shard's lock, and goes on after a refused tick.
+impl<T: Drop, A: Allocator> Shards for LastingQueue<T, A> {
+    type State = LastingShard<T, A>;
+
+    type Error = LastingError;
+
+    ghost places = { λ queue. queue.shards };
+
+    ghost unknown = { Unknown };
+
+    ghost ends = { false };
+
+    fn places(&self) -> usize {
+        self.row.len()
+    }
+
+    fn unknown() -> LastingError {
+        LastingError::Unknown
+    }
+
+    fn ends() -> bool {
+        false
+    }
+
+    fn give_way(&self, place: usize) {
+        self.row.give_way(place);
+    }
+
+    fn entered<S: TickSource, R: Wait>(
+        &self,
+        rt: &R,
+        place: usize,
+        source: &mut S,
+        before: &mut Option<Parked<Option<u64>>>,
+    ) -> (MutexGuard<'_, LastingShard<T, A>>, u64) {
+        let tick = source.now();
+        let mut shard = self.row.lock(rt, place);
+        *before = shard.take_parked();
+        (shard, tick)
+    }
+
+    fn drop_aside<R: Wait>(&self, rt: &R, place: usize, most: usize) {
+        self.row.drop_aside(rt, place, most);
     }
 }

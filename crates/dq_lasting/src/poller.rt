@@ -1,18 +1,17 @@
 //! The poller that waits for a shard: one at a time.
-ghost use Rattle.std.specs.Prelude.{◌≡◌, ◌<◌, None, Err};
-ghost use Rattle.futures.specs.Poll.{IfReady, OnPending};
-ghost use Rattle.dq_core.specs.Calls.{TellsWake};
-ghost use Rattle.dq_lasting.specs.Answers.{AtPlace, AtPlaceAll};
-ghost use Rattle.dq_lasting.specs.Changes.{LastingPolls, LastingUnparks};
+ghost use Rattle.std.specs.Prelude.{◌≡◌};
+ghost use Rattle.std.proofs.Common.{refl};
+ghost use Rattle.dq_parking.specs.Items.{OnEnd};
+ghost use Rattle.dq_lasting.specs.Answers.{AtPlaceAll};
+ghost use Rattle.dq_lasting.specs.Changes.{Keeps, LastingUnparks};
 ghost use Rattle.dq_lasting.specs.Parking.{TellsParked};
-ghost use Rattle.dq_lasting.specs.Polling.{ParksLeftWaker, RingsParked, PollsOrParksWith};
-ghost use Rattle.dq_lasting.specs.Polling.{no_memory, with_parked, with_none_parked};
+ghost use Rattle.dq_lasting.specs.Polling.{RingsParked, IsToldAs};
 
 use crate::errors::LastingError;
 use crate::queue::LastingQueue;
 use crate::shard::LastingShard;
-use dq_core::{CoreError, Expired, Turn};
-use dq_parking::{Parked, let_sleep, unlock};
+use dq_core::{CoreError, Expired, Piece};
+use dq_parking::{Parked, Polled, Sleeps, StreamFault, TickSource, let_sleep, unlock};
 use futures::task::{Poll, Waker};
 use std::alloc::Allocator;
 use std::sync::Wait;
@@ -28,83 +27,65 @@ pub enum ParkedPoller {
     UntilInsert,
 }
 
-impl<T, A: Allocator> LastingShard<T, A> {
-    // Parks a poller, in the place of one that was parked before, which isn't woken.
-    fn park(&mut self, next: Option<u64>, waker: Waker)
-        requires { TellsWake self.old.core next }
-        ensures { self.new ≡ with_parked self.old next waker }
-    {
+/// A poller waits for a tick, or for an insert where nothing is linked.
+impl<T, A: Allocator> Sleeps for LastingShard<T, A> {
+    ghost core = { λ s. s.core };
+
+    ghost parked = { λ s. s.parked };
+
+    ghost parks = { λ s p. record s { parked = p } };
+
+    ghost changes = { λ s t. Keeps s t };
+
+    fn take_parked(&mut self) -> Option<Parked<Option<u64>>> {
+        LastingShard::take_parked(self)
+    }
+
+    fn park(&mut self, next: Option<u64>, waker: Waker) {
         let_sleep(self.take_parked());
         self.attended.parked = Some(Parked { next, waker });
     }
 
-    // Parks the waker that a registration left, if it left one.
-    pub(crate) fn wait(
-        &mut self,
-        next: Option<u64>,
-        slot: &mut Option<Waker>,
-    ) -> Poll<Result<Expired<T>, LastingError>>
-        requires { TellsWake self.old.core next }
-        ensures parks { OnPending result (ParksLeftWaker slot.old self.old next self.new) }
-        ensures refused { IfReady result (λ r. (r ≡ Err no_memory)
-            × (slot.old ≡ None) × (self.new ≡ self.old)) }
-    {
-        let Some(waker) = slot.take() else {
-            return Poll::Ready(Err(LastingError::Core(CoreError::NoMemory)));
-        };
-        self.park(next, waker);
-        Poll::Pending
+    fn poll_piece(&mut self, tick: u64, most: Option<u32>) -> Result<Piece<T>, CoreError> {
+        self.attended.poll_unparked(tick, most)
     }
 
-    // A poll of a shard where none is parked, by a task that left its waker: where nothing is due that is parked, until the
-    // next wake or, where nothing is linked, until an insert.
-    fn poll_or_park(
-        &mut self,
-        tick: u64,
-        slot: &mut Option<Waker>,
-    ) -> Poll<Result<Expired<T>, LastingError>>
-        requires { self.old.parked ≡ None }
-        ensures { PollsOrParksWith self.old tick slot.old result self.new }
-    {
-        match self.poll_unparked(tick) {
-            Ok(Turn::Out(expired)) => Poll::Ready(Ok(expired)),
-            Ok(Turn::Waiting { next }) => self.wait(Some(next), slot),
-            Ok(Turn::Idle) => self.wait(None, slot),
-            Err(error) => Poll::Ready(Err(LastingError::Core(error))),
+    ghost is_parked = { λ s p. refl };
+
+    ghost same_core = { λ s p. refl };
+}
+
+// The source of one poll: it tells the tick that it is handed.
+#[derive(Drop)]
+pub(crate) struct OneTick(pub(crate) u64);
+
+impl TickSource for OneTick {
+    ghost tells = { λ old tick new. tick ≡ old.0 };
+
+    fn now(&mut self) -> u64 {
+        self.0
+    }
+}
+
+// What a poll of a place for a task answers, by what a stream of the place would give.
+pub(crate) fn told<T>(given: Polled<T>) -> Poll<Result<Expired<T>, LastingError>>
+    requires { OnEnd given ⊥ }
+    ensures { IsToldAs given result }
+{
+    match given {
+        Poll::Pending => Poll::Pending,
+        Poll::Ready(Some(Ok(expired))) => Poll::Ready(Ok(expired)),
+        Poll::Ready(Some(Err(StreamFault::TickTooLarge { limit }))) => {
+            Poll::Ready(Err(LastingError::Core(CoreError::TickTooLarge { limit })))
         }
-    }
-
-    // A poll where none is parked, so nobody leaves.
-    fn poll_unparked(&mut self, tick: u64) -> Result<Turn<T>, CoreError>
-        requires { self.old.parked ≡ None }
-        ensures { LastingPolls self.old tick result self.new }
-    {
-        self.attended.core.poll_deferring(tick)
+        Poll::Ready(Some(Err(StreamFault::NoMemory))) => {
+            Poll::Ready(Err(LastingError::Core(CoreError::NoMemory)))
+        }
+        Poll::Ready(None) => unreachable!(),
     }
 }
 
 impl<T, A: Allocator> LastingQueue<T, A> {
-    // The poll of a task that left its waker, under the lock of the shard at a place. What was parked there before it goes
-    // out with the answer, and so does how many values are set aside.
-    pub(crate) fn poll_or_park_at<R: Wait>(
-        &self,
-        rt: &R,
-        place: usize,
-        tick: u64,
-        slot: &mut Option<Waker>,
-        before: &mut Option<Parked<Option<u64>>>,
-    ) -> (Poll<Result<Expired<T>, LastingError>>, usize)
-        requires { place < self.now.shards }
-        ensures { AtPlace {T = T} self.now.shards place
-            (λ old r new. PollsOrParksWith (with_none_parked old) tick slot.old r new) result.0 }
-    {
-        let mut shard = self.lock(rt, place);
-        *before = shard.take_parked();
-        let answer = shard.poll_or_park(tick, slot);
-        shard.law();
-        (answer, shard.aside())
-    }
-
     /// Returns what the task waits for that is parked in the shard at `place`. It takes the shard's lock for constant
     /// time, and no memory.
     ///

@@ -9,10 +9,14 @@ use Rattle.dq_parking.specs.declared.parked.Parked.{Parked}
 use Rattle.dq_parking.specs.Parking.{still_parked, Leaves}
 
 module _ {T N : Type 0} (lasts : N → Option ℕ → Bool) where
+  -- one that waits so may be parked, at the next wake as it is now
+  abbrev pub MayWaitSo : Core T Sat → N → Type 0
+  MayWaitSo c next = (wake : Option ℕ) × TellsWake c wake × (lasts next wake ≡ true)
+
   -- the parked law: where a poller is parked it may wait on, at the next wake as it is now
   abbrev pub MayWait : Core T Sat → Option (Parked N) → Type 0
   MayWait c None = Unit {0}
-  MayWait c (Some p) = (wake : Option ℕ) × TellsWake c wake × (lasts p.next wake ≡ true)
+  MayWait c (Some p) = MayWaitSo c p.next
 
   -- the poller stays parked exactly where the parked law holds with the queue as it is now
   abbrev pub KeepsOrLeaves : Core T Sat → Option (Parked N) → Option (Parked N) → Type 0

@@ -17,6 +17,7 @@ ghost use Rattle.dq_words.specs.KeeperCalls.{HasBegun};
 ghost use Rattle.dq_words.specs.Many.{PollsInto};
 ghost use Rattle.dq_parking.specs.Attending.{MayWait, KeepsOrLeaves, Attends};
 ghost use Rattle.dq_parking.specs.Parking.{still_parked, Leaves};
+ghost use Rattle.dq_parking.specs.Streaming.{PollsBy};
 
 use crate::parked::{Leaver, Parked, Until, keep_until};
 use dq_core::{CoreError, DelayCore, Expired, Piece, ReapError, Removed, Swept, Turn};
@@ -157,6 +158,21 @@ impl<T, N: Until, A: Allocator> Attended<T, N, A> {
     {
         let answer = self.core.poll_some_deferring(tick, most);
         (answer, keep_or_leave(&self.core, &mut self.parked))
+    }
+
+    /// Notes a tick and polls where none is parked, so nobody leaves: whole, or by at most `most` steps. No value is
+    /// dropped.
+    #[inline]
+    pub fn poll_unparked(&mut self, tick: u64, most: Option<u32>) -> Result<Piece<T>, CoreError>
+        requires { self.old.parked ≡ None }
+        ensures polls { PollsBy most self.old.core tick result self.new.core }
+        ensures attends { Attends N.lasts self.old.core None None self.new.core None }
+        ensures none { self.new.parked ≡ None }
+    {
+        match most {
+            Some(steps) => self.core.poll_some_deferring(tick, steps),
+            None => Ok(Piece::Answer(self.core.poll_deferring(tick)?)),
+        }
     }
 
     /// Notes a tick and appends what is due to `row`, as far as it has room, with who has left by it. No value is

@@ -1,5 +1,5 @@
 //! A poller that waits for a shard.
-ghost use Rattle.std.specs.Prelude.{◌≡◌, ℕ, Option, None, Bool, is_some};
+ghost use Rattle.std.specs.Prelude.{◌≡◌, ℕ, Option, Some, None, Bool, true, is_some, IfSome};
 ghost use Rattle.dq_parking.specs.Parking.{still_parked, after_ring, is_rung, Leaves};
 ghost use Rattle.dq_parking.specs.Waits.{lasts_until, lasts_or_idles, wait_ends_by, ends_by_tick};
 
@@ -7,12 +7,21 @@ use futures::task::Waker;
 use std::mem;
 
 /// What a poller waits for. Ticks are of one millisecond.
-pub trait Until: Drop {
+pub trait Until: Sized + Drop {
     /// Whether one that waits so may go on waiting at a next wake.
     ghost lasts: { Self → Option ℕ → Bool };
 
     /// Whether its wait is over at a tick.
     ghost ends: { Self → ℕ → Bool };
+
+    /// What one waits for who is parked at a next wake, none where nothing is linked; none if nobody may be parked so.
+    ghost waits: { Option ℕ → Option Self };
+
+    /// What one waits for who is parked at a next wake, none where nothing is linked; none if nobody may be parked so.
+    fn of_wake(next_wake: Option<u64>) -> Option<Self>
+        ensures value { result ≡ waits next_wake }
+        ensures may_wait { IfSome result (λ next. lasts next next_wake ≡ true) }
+        ensures linked { (result ≡ None) → next_wake ≡ None };
 
     /// Whether one that waits so may go on waiting at a next wake, none where nothing is linked.
     fn lasts_until(&self, next_wake: Option<u64>) -> bool
@@ -28,6 +37,12 @@ impl Until for u64 {
     ghost lasts = { λ next wake. lasts_until next wake };
 
     ghost ends = { λ next tick. ends_by_tick next tick };
+
+    ghost waits = { λ wake. wake };
+
+    fn of_wake(next_wake: Option<u64>) -> Option<u64> {
+        next_wake
+    }
 
     fn lasts_until(&self, next_wake: Option<u64>) -> bool {
         match next_wake {
@@ -46,6 +61,12 @@ impl Until for Option<u64> {
     ghost lasts = { λ next wake. lasts_or_idles next wake };
 
     ghost ends = { λ next tick. wait_ends_by next tick };
+
+    ghost waits = { λ wake. Some wake };
+
+    fn of_wake(next_wake: Option<u64>) -> Option<Option<u64>> {
+        Some(next_wake)
+    }
 
     fn lasts_until(&self, next_wake: Option<u64>) -> bool {
         match self {

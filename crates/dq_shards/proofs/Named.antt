@@ -37,20 +37,6 @@ module _ {T : Type 0} where
         enters.5,
       )
 
-  pub issued_is : (s t : ShardView T) (r : Result Sat WordsError) → ShardIssues s r t → t ≡ with_issued s (keeper_of t).issued
-  issued_is s t (Ok c) h =
-      let table : t.core.words.table ≡ s.core.words.table = h.0.3 in
-      let view : (keeper_of t) ≡ record (keeper_of s) { issued = (keeper_of t).issued } = h.0.2 ∙ ap (λ (n : ℕ). record (keeper_of s) { issued = n }) (sym (ap (λ (v : WordsView). v.issued) h.0.2)) in
-      h.1 ∙ (λ k. with_keeper s (record { table = table k; view = view k }))
-  issued_is s t (Err e) h =
-      let same : t.core.words ≡ s.core.words = h.0.0 in
-      h.1 ∙ ap (λ (w : Sat). with_keeper s w) same ∙ ap (λ (n : ℕ). with_issued s n) (sym (ap (λ (w : Sat). w.view.issued) same))
-
-  -- a shard that issued callers follows what it followed
-  pub still_follows : (log : List (Entry (ShardView T))) (s t : ShardView T) → t ≡ with_issued s (keeper_of t).issued → Follows log s → Follows log t
-  still_follows [] s t is follows = tt
-  still_follows (e ∷ es) s t is (m, left, here) = (m, left, is ∙ ap (λ (x : ShardView T). with_issued x (keeper_of t).issued) here)
-
   -- once a caller is told the history, its call stands there
   pub one_more : (gives : ShardView T → ShardView T → Type 0) (h v w u : View (ShardView T)) → Once gives v w → IsTold h w u → HasOneMore gives v h.log
   one_more gives h v w u (between, old, new, log, follows, before, after, is, mine, by, history, number) told =

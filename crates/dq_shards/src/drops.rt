@@ -5,7 +5,7 @@
 //! the shard, and the row takes it out and drops it behind the lock. Where a drop panics the shard is whole, and what
 //! is still set aside is dropped by a later call. Beside the row no other impl of a queue says that a value of it may
 //! be dropped, so the checker refuses a drop anywhere else.
-ghost use Rattle.std.specs.Prelude.{◌≡◌, ◌%◌, ◌<◌, ◌≤◌, ◌↔◌, vec_capacity, IfOk, IfErr, OnOk, OnErr, IsErrOf, IsErrAnd};
+ghost use Rattle.std.specs.Prelude.{◌≡◌, ◌%◌, ◌<◌, ◌≤◌, ◌↔◌, true, vec_capacity, IfOk, IfErr, OnOk, OnErr, IsErrOf, IsErrAnd};
 ghost use Rattle.std.specs.Fn.{FnOnceReturnsAtMut};
 ghost use Rattle.dq_ticks.specs.declared.TheConstants.{LAST_TICK};
 ghost use Rattle.dq_core.specs.declared.errors.CoreError.TheVariants.{TooFar, TickTooLarge};
@@ -21,12 +21,12 @@ use crate::errors::{QueueConfig, QueueError};
 use crate::queue::SharedDelayQueue;
 use crate::state::ShardState;
 use dq_core::{CoreConfig, CoreError, Expired, Piece, ReapError, Swept, Turn};
-use dq_parking::{Row, unlock, waiting_row};
+use dq_parking::{Parked, Row, Shards, TickSource, unlock, waiting_row};
 use dq_ticks::{EntryId, Key};
 use dq_words::{ManyTurn, locked_shards};
 use std::alloc::Allocator;
 use std::num::NonZeroU32;
-use std::sync::Wait;
+use std::sync::{MutexGuard, Wait};
 
 // The shard of a route. A route that is a shard's number is spared the division.
 #[inline]
@@ -514,6 +514,52 @@ impl<T: Drop, A: Allocator> SharedDelayQueue<T, A> {
     #[inline(always)]
     pub fn drop_aside<R: Wait>(&self, rt: &R, shard: usize, most: usize) {
         self.row.drop_aside(rt, shard, most);
+    }
+}
+
+/// A stream of a shard asks its source under the shard's lock, and ends by a refused tick.
+impl<T: Drop, A: Allocator> Shards for SharedDelayQueue<T, A> {
+    type State = ShardState<T, A>;
+
+    type Error = QueueError;
+
+    ghost places = { λ shards. shards };
+
+    ghost unknown = { Unknown };
+
+    ghost ends = { true };
+
+    fn places(&self) -> usize {
+        self.row.len()
+    }
+
+    fn unknown() -> QueueError {
+        QueueError::Unknown
+    }
+
+    fn ends() -> bool {
+        true
+    }
+
+    fn give_way(&self, place: usize) {
+        self.row.give_way(place);
+    }
+
+    fn entered<S: TickSource, R: Wait>(
+        &self,
+        rt: &R,
+        place: usize,
+        source: &mut S,
+        before: &mut Option<Parked>,
+    ) -> (MutexGuard<'_, ShardState<T, A>>, u64) {
+        let mut shard = self.row.lock(rt, place);
+        *before = shard.take_parked();
+        let tick = source.now();
+        (shard, tick)
+    }
+
+    fn drop_aside<R: Wait>(&self, rt: &R, place: usize, most: usize) {
+        SharedDelayQueue::drop_aside(self, rt, place, most);
     }
 }
 

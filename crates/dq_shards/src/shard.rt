@@ -1,9 +1,13 @@
 //! What a queue's row asks of a shard behind its lock.
 ghost use Rattle.std.specs.Prelude.{◌≡◌};
 ghost use Rattle.dq_shards.specs.Shard.{IsShard};
+ghost use Rattle.dq_shards.specs.Changes.{Changes};
+ghost use Rattle.std.proofs.Common.{refl};
 
 use crate::state::ShardState;
-use dq_parking::Shard;
+use dq_core::{CoreError, Piece};
+use dq_parking::{Parked, Shard, Sleeps};
+use futures::task::Waker;
 use std::alloc::Allocator;
 
 impl<T, A: Allocator> ShardState<T, A> {
@@ -50,4 +54,31 @@ impl<T, A: Allocator> Shard for ShardState<T, A> {
     fn end_dropping(&mut self, is_mine: &mut bool) {
         self.attended.end_dropping(is_mine);
     }
+}
+
+/// A poller waits for a tick: where nothing is linked none is parked.
+impl<T, A: Allocator> Sleeps for ShardState<T, A> {
+    ghost core = { λ s. s.core };
+
+    ghost parked = { λ s. s.parked };
+
+    ghost parks = { λ s p. record s { parked = p } };
+
+    ghost changes = { λ s t. Changes s t };
+
+    fn take_parked(&mut self) -> Option<Parked> {
+        ShardState::take_parked(self)
+    }
+
+    fn park(&mut self, next: u64, waker: Waker) {
+        ShardState::park(self, next, waker);
+    }
+
+    fn poll_piece(&mut self, tick: u64, most: Option<u32>) -> Result<Piece<T>, CoreError> {
+        self.attended.poll_unparked(tick, most)
+    }
+
+    ghost is_parked = { λ s p. refl };
+
+    ghost same_core = { λ s p. refl };
 }

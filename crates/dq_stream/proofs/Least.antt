@@ -1,40 +1,23 @@
--- What is given is due, and least.
-use Rattle.std.proofs.Common.{◌≡◌, ℕ, ◌<◌, Option, length, Some, None, Ok, sym, ap, ◌∙◌, subst, get_or-set_same, inl, inr}
-use Rattle.std.proofs.lemmas.List.{get_or-set_other}
-use Rattle.std.proofs.lemmas.Bool.{cases_eq}
+-- What is given is least and in force.
+use Rattle.std.proofs.Common.{ℕ, ◌∙◌, Option, Some, None, Ok}
 use Rattle.dq_core.specs.declared.outcomes.Expired.{Expired}
+use Rattle.dq_core.specs.declared.outcomes.Piece.TheVariants.{Answer as Answered}
 use Rattle.dq_core.specs.declared.outcomes.Turn.TheVariants.{Out}
-use Rattle.dq_core.specs.Core.{machine}
-use Rattle.dq_core.specs.Machine.{TableRow, Machine, put, table_at, NoneLiveBefore}
-use Rattle.dq_shards.specs.Shard.{ShardView}
-use Rattle.dq_shards.specs.Changes.{ShardPolls}
-use Rattle.dq_shards.specs.Endings.{OutsAreInForce}
+use Rattle.dq_parking.specs.Streaming.{PollsBy}
+use Rattle.dq_shards.specs.Shard.{ShardView, IsShard}
+use Rattle.dq_shards.specs.Changes.{Changes}
+use Rattle.dq_shards.specs.Endings.{OutsAreInForce, PieceOutsAreInForce, IsOutInForce}
 use Rattle.dq_stream.specs.Endings.{ItemsAreInForce}
+use Rattle.dq_parking.proofs.Streamed.{least_due}
 
-none_some : {A : Type 0} (o : Option A) (a : A) → o ≡ None → o ≡ Some a → ⊥
-none_some o a none some = cc
+module _ (T : Type 0) (outs : OutsAreInForce T) (pieces : PieceOutsAreInForce T) where
+  in_force : (most : Option ℕ) (old new : ShardView T) (tick : ℕ) (x : Expired T) → IsShard new
+      → PollsBy most old.core tick (Ok (Answered (Out x))) new.core → Changes old new → IsOutInForce new x
+  in_force None old new tick x after polls keeps = outs old new tick x after (polls, keeps)
+  in_force (Some most) old new tick x after polls keeps = pieces old new tick most x after (polls, keeps)
 
--- no live entry is earlier where one entry less is linked
-pub none_live_left : {T : Type 0} (m : Machine T) (i s t : ℕ) → i < length m.table → NoneLiveBefore m t → NoneLiveBefore (put m i s None) t
-none_live_left {T} m i s t inside none j e d is live =
-    let unused : TableRow T = record { stamp = 0; entry = None } in
-    let left : TableRow T = record { stamp = s; entry = None } in
-    elim (cases_eq j i) [
-      | inl same ↦ absurd (none_some _ e (rw same (ap (λ r. r.entry) (get_or-set_same m.table i left unused inside))) is)
-      | inr other ↦ none j e d (sym (ap (λ r. r.entry) (get_or-set_other m.table i j left unused other)) ∙ is) live
-    ]
-
-module _ {T : Type 0} (old new : ShardView T) (tick : ℕ) (x : Expired T) (polled : ShardPolls old tick (Ok (Out x)) new) where
-  pub none_earlier : NoneLiveBefore (machine new.core) x.deadline
-  none_earlier =
-      let m = polled.0.2.run.0 in
-      let step = polled.0.2.run.2.0.0 in
-      let inside = polled.0.2.run.2.0.1.0 in
-      let i = x.key.entry.index in
-      let left = none_live_left m i (table_at m i).stamp x.deadline inside step.6 in
-      subst (λ (n : Machine T). NoneLiveBefore n x.deadline) (sym step.7) left
-
--- whatever entry is given was least and in force
-pub items : (T : Type 0) → OutsAreInForce T → ItemsAreInForce T
-items T in_force number x (tick, (old, new, before, after, (at, polled))) =
-    (new, polled.1.0.0 ∙ at, (after, in_force old new tick x after polled, none_earlier old new tick x polled))
+  -- whatever entry is given was least and in force
+  pub items : ItemsAreInForce T
+  items number shards x (most, tick, old, new, before, at, after, (polls, keeps, none)) =
+      let start : ShardView T = record old { parked = None } in
+      (new, keeps.0.0 ∙ at, (after, in_force most start new tick x after polls keeps, (least_due most start.core new.core tick x polls).2))

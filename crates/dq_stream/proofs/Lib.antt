@@ -1,4 +1,1 @@
-pub mod Giving
 pub mod Least
-pub mod Parked
-pub mod Piecewise

@@ -1,10 +1,1 @@
-pub mod Answers
-pub mod EachPoll
 pub mod Endings
-pub mod Gives
-pub mod Over
-pub mod PacedGives
-pub mod Paces
-pub mod Polls
-pub mod Refusals
-pub mod Wakers

@@ -20,7 +20,7 @@ use std::alloc::Allocator;
 /// # Errors
 /// - `BadConfig` if `capacity` isn't 1 to [`CAPACITY_LIMIT`].
 /// - `NoMemory` if memory is refused.
-pub fn shared_queue<T: Drop, A: Allocator + Clone + Drop>(
+pub fn shared_queue<T, A: Allocator + Clone + Drop>(
     alloc: A,
     capacity: usize,
 ) -> Result<DelayCore<T, Keeper<A>, A>, CoreError>
@@ -41,7 +41,7 @@ pub fn shared_queue<T: Drop, A: Allocator + Clone + Drop>(
 /// # Errors
 /// - `BadConfig` if the capacity isn't 1 to [`CAPACITY_LIMIT`], or the last stamp isn't 1 to [`LAST_STAMP`].
 /// - `NoMemory` if memory is refused.
-pub fn numbered_queue<T: Drop, A: Allocator + Clone + Drop>(
+pub fn numbered_queue<T, A: Allocator + Clone + Drop>(
     alloc: A,
     config: CoreConfig,
 ) -> Result<DelayCore<T, Keeper<A>, A>, CoreError>

@@ -10,7 +10,7 @@ use std::alloc::Allocator;
 use std::sync::Mutex;
 
 // One shard, made of a queue with nothing in it. The row's number stands in the place of the configuration's.
-fn numbered_shard<T: Drop, S: From<DelayCore<T, Keeper<A>, A>>, A: Allocator + Clone + Drop>(
+fn numbered_shard<T, S: From<DelayCore<T, Keeper<A>, A>>, A: Allocator + Clone + Drop>(
     alloc: A,
     number: u32,
     config: &CoreConfig,
@@ -37,11 +37,11 @@ fn numbered_shard<T: Drop, S: From<DelayCore<T, Keeper<A>, A>>, A: Allocator + C
 /// # Errors
 /// BadConfig where the capacity isn't 1 to [`dq_ticks::CAPACITY_LIMIT`] or the last stamp isn't 1 to
 /// [`dq_ticks::LAST_STAMP`], and else NoMemory.
-pub fn locked_shards<
-    T: Drop,
-    S: From<DelayCore<T, Keeper<A>, A>> + Drop,
-    A: Allocator + Clone + Drop,
->(alloc: A, shards: u32, config: CoreConfig) -> Result<Vec<Mutex<S>, A>, CoreError>
+pub fn locked_shards<T, S: From<DelayCore<T, Keeper<A>, A>> + Drop, A: Allocator + Clone + Drop>(
+    alloc: A,
+    shards: u32,
+    config: CoreConfig,
+) -> Result<Vec<Mutex<S>, A>, CoreError>
     ensures count { IfOk result (λ row. vec_len row ≡ shards) }
     ensures refused { IfErr result
         (λ e. NewRefused config.capacity config.last_stamp config.capacity e) }

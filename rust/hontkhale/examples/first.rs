@@ -10,7 +10,7 @@ fn main() -> Result<(), Box<dyn Error>> {
     let ann = queue.insert("ann", Duration::from_millis(30))?;
     queue.insert("bob", Duration::from_millis(50))?;
 
-    // Any thread may insert, extend and cancel. An insert that comes sooner wakes whoever waits below.
+    // Any thread may insert, extend and cancel. An insert with an earlier deadline wakes a waiting receiver.
     let clone = queue.clone();
     thread::spawn(move || clone.extend(&ann, Duration::from_millis(80)))
         .join()

@@ -98,10 +98,9 @@ impl<T> Debug for PlainQueue<T> {
 mod with_std {
     use super::{Debug, Formatter, Result};
     use crate::apps::{CountedCache, IdleSessions, Name, Seen, TtlCache};
-    use crate::lasting::{LastingHandle, LastingPacedStream, LastingQueue, LastingStream};
-    use crate::parking::{MillisecondTicks, Parked};
+    use crate::lasting::{LastingHandle, LastingQueue, LastingShard};
+    use crate::parking::{MillisecondTicks, Parked, ShardStream, Shards};
     use crate::shards::{Handle, ShardState, SharedDelayQueue};
-    use crate::stream::{ExpiredStream, PacedStream};
     use std::hash::{BuildHasher, Hash};
 
     impl<T> Debug for SharedDelayQueue<T> {
@@ -141,18 +140,12 @@ mod with_std {
         }
     }
 
-    impl<T, S> Debug for ExpiredStream<'_, T, S> {
+    impl<Q: Shards, S, P> Debug for ShardStream<'_, Q, S, P> {
         fn fmt(&self, f: &mut Formatter<'_>) -> Result {
-            f.debug_struct("ExpiredStream")
-                .field("shard", &self.shard)
+            f.debug_struct("ShardStream")
+                .field("place", &self.place)
                 .field("ended", &self.ended)
                 .finish_non_exhaustive()
-        }
-    }
-
-    impl<T, S> Debug for PacedStream<'_, T, S> {
-        fn fmt(&self, f: &mut Formatter<'_>) -> Result {
-            f.debug_struct("PacedStream").finish_non_exhaustive()
         }
     }
 
@@ -176,23 +169,17 @@ mod with_std {
         }
     }
 
+    impl<T> Debug for LastingShard<T> {
+        fn fmt(&self, f: &mut Formatter<'_>) -> Result {
+            f.debug_struct("LastingShard").finish_non_exhaustive()
+        }
+    }
+
     impl Debug for LastingHandle {
         fn fmt(&self, f: &mut Formatter<'_>) -> Result {
             f.debug_struct("LastingHandle")
                 .field("cancels", &self.cancels())
                 .finish_non_exhaustive()
-        }
-    }
-
-    impl<T, K> Debug for LastingStream<'_, T, K> {
-        fn fmt(&self, f: &mut Formatter<'_>) -> Result {
-            f.debug_struct("LastingStream").finish_non_exhaustive()
-        }
-    }
-
-    impl<T, K> Debug for LastingPacedStream<'_, T, K> {
-        fn fmt(&self, f: &mut Formatter<'_>) -> Result {
-            f.debug_struct("LastingPacedStream").finish_non_exhaustive()
         }
     }
 

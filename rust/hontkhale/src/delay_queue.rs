@@ -130,6 +130,7 @@ impl<T> DelayQueue<T> {
     /// assert_eq!(queue.remove(&key)?, "session");
     /// # Ok::<(), Box<dyn std::error::Error>>(())
     /// ```
+    #[inline]
     pub fn insert(&self, value: T, after: Duration) -> Result<Key, InsertError<T>> {
         let tick = self.shared.front.time.tick_in(after);
         self.shared
@@ -141,6 +142,7 @@ impl<T> DelayQueue<T> {
     ///
     /// # Errors
     /// As [`insert`](DelayQueue::insert) returns them.
+    #[inline]
     pub fn insert_at(&self, value: T, when: Instant) -> Result<Key, InsertError<T>> {
         let tick = self.shared.front.time.tick_at(when);
         self.shared
@@ -174,6 +176,7 @@ impl<T> DelayQueue<T> {
     ///
     /// # Errors
     /// WrongQueue, TooFar, Ended, and NoMemory.
+    #[inline]
     pub fn reset(&self, key: &Key, after: Duration) -> Result<Key, KeyError> {
         self.shared.reset(key, self.shared.front.time.tick_in(after))
     }
@@ -182,6 +185,7 @@ impl<T> DelayQueue<T> {
     ///
     /// # Errors
     /// As [`reset`](DelayQueue::reset) returns them.
+    #[inline]
     pub fn reset_at(&self, key: &Key, when: Instant) -> Result<Key, KeyError> {
         self.shared.reset(key, self.shared.front.time.tick_at(when))
     }

@@ -15,6 +15,8 @@ mod draw;
 mod extends;
 #[path = "hostile/fates.rs"]
 mod fates;
+#[path = "hostile/first_callers.rs"]
+mod first_callers;
 #[path = "hostile/forged.rs"]
 mod forged;
 #[path = "hostile/join.rs"]

@@ -8,7 +8,7 @@ use super::streams::{Letters, Task, TickOf, Told, fill, letters, letters_and_tas
 use dq_core::Expired;
 use dq_shards::ShardState;
 use dq_stream::StreamFault;
-use dq_stream::parking::park_with;
+use dq_stream::park_with;
 use futures::StreamExt;
 use futures::executor::block_on;
 use std::alloc::AllocGlobal;

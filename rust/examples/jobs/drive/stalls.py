@@ -5,13 +5,14 @@ Whoever isn't concerned goes on, and whoever is does so soon after it is over.
 import contextlib
 import os
 import selectors
+import signal
 import socket
 import subprocess
 import threading
 import time
 
 from cluster import EFFECT, cluster, end, free_port, wait_for
-from holder import Connection, Holder
+from holder import Connection, Holder, Refusal
 from hostile import empty, exactly_once
 
 
@@ -201,6 +202,49 @@ def vanished_host(it):
     print(f"stalls: a host vanished while jobs were sent to it; another gave {given}, {took:.1f} s later", flush=True)
 
 
+def frozen_host(it):
+    """A worker stands still in the middle of a take, and goes on later: the jobs that it gave are given again, and whoever
+    has its late answer ends none of them."""
+    empty(it)
+    ports = [free_port() for _ in range(2)]
+    frozen, other = (f"127.0.0.1:{port}" for port in ports)
+    worker = it.spawn("worker", "--name", "frozen", "--listen", frozen, "--lease", "6000", "--write-every", "1000")
+    it.wait_for_owners(1)
+    it.sql(
+        "INSERT INTO jobs (payload) SELECT (SELECT string_agg(md5((i * j)::text), '') FROM generate_series(1, 10000) "
+        "j) FROM generate_series(1, 100) i"
+    )
+    time.sleep(2)
+    asks = Connection(frozen)
+    asks.socket.sendall(b"JOBS.TAKE 50\r\n")
+    # The rows are taken in the table, and on their way.
+    wait_for(lambda: it.number("SELECT count(*) FROM jobs WHERE state = 'running'") > 0, 10, every=0.001)
+    worker.send_signal(signal.SIGSTOP)
+    begun = time.monotonic()
+    workers = [worker, it.spawn("worker", "--name", "other", "--listen", other, "--lease", "6000", "--write-every", "1000")]
+    holder = Holder([other])
+    jobs = holder.take(60, seconds=25)
+    took = time.monotonic() - begun
+    assert took < 8, f"the partitions of a worker that stands still were served {took:.1f} s later"
+    jobs += holder.take(40, seconds=25, also=lambda: holder.beat(jobs))
+    assert not any(job.refused for job in jobs), "a holder that beats is replaced"
+    worker.send_signal(signal.SIGCONT)
+    late = asks.reply()
+    late = [] if isinstance(late, Refusal) else late
+    words = [asks.call("JOBS.DONE", id, attempt) for id, attempt, *_ in late]
+    assert all(isinstance(word, Refusal) for word in words), words
+    words = [holder.connection(other).call("JOBS.DONE", id, attempt) for id, attempt, *_ in late]
+    assert all(word.startswith("FENCED") for word in words), words
+    holder.say(jobs, "JOBS.DONE", lambda job, _: None)
+    it.wait_for_number("SELECT count(*) FROM jobs WHERE state = 'done'", 100, 30)
+    end(*workers)
+    print(
+        f"stalls: a worker stood still within a take; another gave what waits {took:.1f} s later, and of {len(late)} jobs in "
+        "its late answer none was ended by it",
+        flush=True,
+    )
+
+
 def locked_rows(it):
     """Somebody has locked three of many jobs and forgot it, in both ways of doing jobs; a worker drains meanwhile."""
     for effect in (True, False):
@@ -210,7 +254,8 @@ def locked_rows(it):
         worker = it.spawn("worker", *words)
         it.wait_for_owners(1)
         it.sql("INSERT INTO jobs (due) SELECT now() + interval '3 seconds' FROM generate_series(1, 1000)")
-        with held(it, "UPDATE jobs SET due = due + interval '1 ms' WHERE id % 300 = 0"):
+        three = "id - (SELECT min(id) FROM jobs) IN (300, 600, 900)"
+        with held(it, f"UPDATE jobs SET due = due + interval '1 ms' WHERE {three}"):
             if effect:
                 wait_for(lambda: done(it) >= 997, 15)
             else:
@@ -368,7 +413,7 @@ def main(quick):
         for case in apart:
             print(f"stalls: {case.__name__} isn't run, since only root makes network namespaces", flush=True)
         for case in [
-            *[vanished_host, locked_rows, locked_lease, told_deadline, two_schemas, expiry_behind_a_lock, old_snapshot],
+            *[vanished_host, frozen_host, locked_rows, locked_lease, told_deadline, two_schemas, expiry_behind_a_lock, old_snapshot],
             *[old_statistics, cut_link, slow_effect],
         ]:
             if case not in apart:

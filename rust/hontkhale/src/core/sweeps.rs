@@ -53,8 +53,8 @@ impl<T, W: Words> DelayCore<T, W> {
         let first = from.min(capacity);
         let end = first + count.min(capacity - first);
         let mut reaped = 0;
-        for slot in first..end {
-            if self.reap_at(slot) {
+        for index in first..end {
+            if self.reap_at(index) {
                 reaped += 1;
             }
         }
@@ -70,10 +70,10 @@ impl<T, W: Words> DelayCore<T, W> {
     /// # Errors
     /// `Missing` where no entry is linked with that shard, index and birth stamp; `Live` where it is found live.
     pub fn reap_deferring(&mut self, entry: &EntryId) -> Result<(), ReapError> {
-        let Some(at) = self.find(entry) else {
+        let Some(index) = self.find(entry) else {
             return Err(ReapError::Missing);
         };
-        if self.reap_at(at) {
+        if self.reap_at(index) {
             Ok(())
         } else {
             Err(ReapError::Live)

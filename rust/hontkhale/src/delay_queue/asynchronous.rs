@@ -175,7 +175,7 @@ impl<T> AsyncReceiver<T> {
             shared.tidy();
             // It is asked first: what was put in before a close comes out.
             let is_closed = shared.front.bell.is_closed();
-            match shared.take_step() {
+            match shared.take_step(0) {
                 Step::Took(expired) => return Poll::Ready(Some(expired)),
                 Step::Works => {}
                 // What the step freed is dropped first.

@@ -81,6 +81,8 @@ pub(crate) struct Lane {
     cancels: AtomicU64,
     /// Where an insert of these threads found room last.
     pub room: AtomicU64,
+    /// Where one of them took an entry out last.
+    pub due: AtomicU64,
 }
 
 impl Bound {
@@ -297,12 +299,17 @@ impl Front {
     }
 
     /// Wakes the leader, and each task, that sleeps beyond a tick.
-    #[inline]
+    #[inline(always)]
     pub fn ring_before(&self, tick: u64) {
         if self.bell.sleeps_beyond(tick) {
-            self.bell.ring().iter().for_each(Thread::unpark);
+            self.wake_leader();
         }
         self.tasks.ring_before(tick);
+    }
+
+    #[cold]
+    fn wake_leader(&self) {
+        self.bell.ring().iter().for_each(Thread::unpark);
     }
 
     /// Wakes all who wait.

@@ -38,6 +38,8 @@ impl Drop for Dropping {
 pub(crate) struct LetGo<T> {
     values: Mutex<Vec<T>>,
     has_some: AtomicBool,
+    /// Whether values are set aside in a shard of the queue.
+    pub has_aside: AtomicBool,
 }
 
 impl<T> LetGo<T> {
@@ -45,6 +47,7 @@ impl<T> LetGo<T> {
         LetGo {
             values: Mutex::default(),
             has_some: AtomicBool::new(false),
+            has_aside: AtomicBool::new(false),
         }
     }
 

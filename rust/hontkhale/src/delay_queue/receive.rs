@@ -3,7 +3,7 @@
 use crate::core::{Expired as Out, Piece, Turn};
 use crate::delay_queue::key::Key;
 use crate::delay_queue::segment::Segment;
-use crate::delay_queue::shared::Shared;
+use crate::delay_queue::shared::{Room, Shared, TRIES};
 use crate::delay_queue::waking::{Todo, Wait};
 use crate::delay_queue::{DelayQueue, Expired};
 use std::fmt;
@@ -11,10 +11,11 @@ use std::sync::atomic::Ordering::{Relaxed, SeqCst};
 use std::thread;
 use std::time::{Duration, Instant};
 
-/// How many steps of a poll are made under one lock.
-const STEPS: u32 = 256;
 /// How many entries are taken out under one lock.
 const TAKEN_AT_ONCE: usize = 64;
+/// Up to how many entries of a shard a thread polls as a whole. In pieces an entry takes three times as long, and whoever waits
+/// for the lock gets it no sooner.
+const POLLED_WHOLE: usize = 8_192;
 
 /// What the steps under one lock came to.
 pub(crate) enum Step<T> {
@@ -119,14 +120,35 @@ impl<T> Shared<T> {
         least.1
     }
 
-    /// Takes an entry out that is due, by as many steps as are made under one lock.
-    pub fn take_step(&self) -> Step<T> {
+    /// A shard that may have something due: the one from which this thread took last, a few times, so that not all hints are
+    /// read each time.
+    #[inline]
+    fn due_place(&self, now: u64) -> Option<(usize, usize)> {
+        let noted = &self.front.lane().due;
+        let Room { left, at, place } = Room::of(noted.load(Relaxed));
+        let is_due = |segment: &Segment<T>| left > 0 && segment.rows[place].hint() <= now;
+        let room = if self.segment(at).is_some_and(is_due) {
+            Room {
+                left: left - 1,
+                at,
+                place,
+            }
+        } else {
+            let (at, place) = self.most_due(now)?;
+            Room { left: TRIES, at, place }
+        };
+        noted.store(room.packed(), Relaxed);
+        Some((room.at, room.place))
+    }
+
+    /// Takes an entry out that is due, by a poll that is a whole one of a shard of at most so many entries.
+    pub fn take_step(&self, whole: usize) -> Step<T> {
         let now = self.front.time.tick();
-        let Some((at, place)) = self.most_due(now) else {
+        let Some((at, place)) = self.due_place(now) else {
             return Step::Rests;
         };
         let mut out = None;
-        self.poll(at, place, now, |expired| {
+        self.poll(at, place, now, whole, |expired| {
             out = Some(expired);
             false
         });
@@ -139,7 +161,7 @@ impl<T> Shared<T> {
     /// An entry that is due.
     pub fn take_one(&self) -> Option<Expired<T>> {
         loop {
-            match self.take_step() {
+            match self.take_step(POLLED_WHOLE) {
                 Step::Took(out) => return Some(out),
                 Step::Works => {}
                 Step::Rests => return None,
@@ -158,7 +180,7 @@ impl<T> Shared<T> {
             let first = row.len();
             let until = first + TAKEN_AT_ONCE.min(most - (first - before));
             row.reserve(until - first);
-            self.poll(at, place, now, |expired| {
+            self.poll(at, place, now, POLLED_WHOLE, |expired| {
                 row.push(expired);
                 row.len() < until
             });
@@ -167,18 +189,14 @@ impl<T> Shared<T> {
         row.len() - before
     }
 
-    /// Takes out what is due in a shard while `more` says so, by a bounded number of steps.
+    /// Takes out what is due in a shard while `more` says so.
     #[inline]
-    fn poll(&self, at: usize, place: usize, now: u64, mut more: impl FnMut(Expired<T>) -> bool) {
+    fn poll(&self, at: usize, place: usize, now: u64, whole: usize, mut more: impl FnMut(Expired<T>) -> bool) {
         let segment = self.segment(at).expect("a segment of the queue");
         let mut shard = segment.enter(place);
         let mut latest = 0;
         let is_through = loop {
-            match shard
-                .core_mut()
-                .poll_some_deferring(now, STEPS)
-                .expect("a tick that isn't beyond the last")
-            {
+            match shard.poll(now, whole) {
                 Piece::Answer(Turn::Out(out)) => {
                     latest = latest.max(now.saturating_sub(out.deadline));
                     if !more(self.expired(at, out)) {

@@ -1,6 +1,6 @@
 //! A queue's rows of shards, which are made one after the other as entries come, and give their memory back once they go.
 
-use crate::core::{CoreConfig, CoreError, DelayCore};
+use crate::core::{CoreConfig, CoreError, DelayCore, Piece};
 use crate::delay_queue::dropping::{Dropping, LetGo};
 use crate::delay_queue::waking::NEVER;
 use crate::lasting::{with_ended, LastingConfig, LastingQueue, LastingShard};
@@ -14,6 +14,9 @@ use std::sync::atomic::{
 };
 use std::sync::Arc;
 use std::thread;
+
+/// How many steps of a poll in pieces are made under one lock.
+const STEPS: u32 = 256;
 
 /// What is known of a shard without its lock. Whoever holds the lock writes it.
 #[repr(align(128))]
@@ -41,8 +44,6 @@ pub(crate) struct Segment<T> {
     is_closed: AtomicBool,
     /// Whether a shard is worn, or drains.
     pub is_worn: AtomicBool,
-    /// Whether values are set aside in one of the shards.
-    pub has_aside: AtomicBool,
     let_go: Arc<LetGo<T>>,
     /// Held by the one thread that renews shards, or gives their memory back.
     is_claimed: AtomicBool,
@@ -86,7 +87,6 @@ impl<T> Segment<T> {
             config,
             is_closed: AtomicBool::new(false),
             is_worn: AtomicBool::new(false),
-            has_aside: AtomicBool::new(false),
             let_go: Arc::clone(let_go),
             is_claimed: AtomicBool::new(false),
             renew_at: AtomicU64::new(0),
@@ -114,7 +114,7 @@ impl<T> Segment<T> {
     }
 
     /// The shard at a place, with its lock held.
-    #[inline]
+    #[inline(always)]
     pub fn enter(&self, place: usize) -> Locked<'_, T> {
         Locked {
             row: &self.rows[place],
@@ -124,7 +124,7 @@ impl<T> Segment<T> {
     }
 
     /// The same once no value is set aside there: what was is dropped before, while the lock is free.
-    #[inline]
+    #[inline(always)]
     pub fn enter_clean(&self, place: usize) -> Locked<'_, T> {
         loop {
             let shard = self.enter(place);
@@ -156,7 +156,6 @@ impl<T> Segment<T> {
 
     /// The same in each shard.
     pub fn drop_all_aside(&self) {
-        self.has_aside.store(false, SeqCst);
         for place in 0..self.rows.len() {
             if self.rows[place].has_aside.load(SeqCst) {
                 self.drop_aside(place);
@@ -295,7 +294,7 @@ impl<T> Locked<'_, T> {
     }
 
     /// Puts an entry in where none of the values is set aside. The value comes back where there is no room.
-    #[inline]
+    #[inline(always)]
     pub fn insert(&mut self, value: T, tick: u64) -> Result<Key, T> {
         if !self.shard.takes {
             return Err(value);
@@ -312,6 +311,18 @@ impl<T> Locked<'_, T> {
         if tick < self.row.hint() {
             self.row.hint.store(tick, SeqCst);
         }
+    }
+
+    /// What a poll comes to at a tick: as a whole where the shard has at most so many entries, or else by 256 steps.
+    #[inline(always)]
+    pub fn poll(&mut self, now: u64, whole: usize) -> Piece<T> {
+        let core = self.core_mut();
+        let turn = if core.len() <= whole {
+            core.poll_deferring(now).map(Piece::Answer)
+        } else {
+            core.poll_some_deferring(now, STEPS)
+        };
+        turn.expect("a tick that isn't beyond the last")
     }
 
     /// Notes when something is due next, after a poll.
@@ -354,7 +365,7 @@ impl<T> Locked<'_, T> {
 
 impl<T> Drop for Locked<'_, T> {
     /// Notes, before the lock is let go, what its shard has come to.
-    #[inline]
+    #[inline(always)]
     fn drop(&mut self) {
         let core = self.core();
         let (len, worn, capacity) = (core.len(), core.worn(), core.capacity());
@@ -367,7 +378,7 @@ impl<T> Drop for Locked<'_, T> {
         }
         if core.aside() > 0 {
             self.row.has_aside.store(true, SeqCst);
-            self.segment.has_aside.store(true, SeqCst);
+            self.segment.let_go.has_aside.store(true, SeqCst);
         }
         if worn >= capacity - capacity / 2 && self.shard.takes {
             self.segment.is_worn.store(true, SeqCst);
@@ -387,7 +398,7 @@ impl<T> Drop for Left<'_, T> {
     fn drop(&mut self) {
         if thread::panicking() {
             // The other places weren't come to, and this one is noted as its lock is let go, where values are left there.
-            self.segment.has_aside.store(true, SeqCst);
+            self.segment.let_go.has_aside.store(true, SeqCst);
             drop(self.segment.enter(self.place));
         }
     }

@@ -33,8 +33,8 @@ const SWEPT: usize = 256;
 const SWEEPS: usize = 8;
 /// Ticks from one time that a worn shard is looked at to the next.
 const RENEW_PAUSE: u64 = 100;
-/// How often an insert goes where there was room before it looks for room anew.
-const TRIES: u8 = 64;
+/// How often an insert goes where there was room before it looks for room anew, and a receiver where something was due.
+pub(crate) const TRIES: u8 = 64;
 /// How many entries of a shard that drains are moved at once.
 const MOVED_AT_ONCE: usize = 16;
 
@@ -290,8 +290,9 @@ impl<T> Shared<T> {
 }
 
 impl<T> Shared<T> {
-    /// Puts an entry in that is due at a tick.
-    #[inline]
+    /// Puts an entry in that is due at a tick. It is inlined so that the key comes in registers: whoever reads it as a whole from
+    /// where its halves were just stored waits for them.
+    #[inline(always)]
     pub fn insert(&self, value: T, tick: Option<u64>) -> Result<Key, (InsertErrorKind, T)> {
         let Some(tick) = tick else {
             return Err((InsertErrorKind::TooFar, value));
@@ -310,7 +311,7 @@ impl<T> Shared<T> {
     }
 
     /// The same of an entry that is counted already, where this thread found room last.
-    #[inline]
+    #[inline(always)]
     fn insert_where_last(&self, value: T, tick: u64) -> Result<Key, (InsertErrorKind, T)> {
         let noted = &self.front.lane().room;
         let Room { left, at, place } = Room::of(noted.load(Relaxed));
@@ -361,7 +362,7 @@ impl<T> Shared<T> {
     }
 
     /// An insert at a place. The value comes back where there is no room.
-    #[inline]
+    #[inline(always)]
     fn insert_at(&self, at: usize, segment: &Segment<T>, place: usize, value: T, tick: u64) -> Result<Key, T> {
         // Values may be dropped here. Where a drop panics the entry isn't in yet, and no key of it is lost.
         self.renew_where_due(segment, at);
@@ -472,23 +473,30 @@ impl<T> Shared<T> {
 }
 
 impl<T> Shared<T> {
-    /// What a call makes of the entry of a key, under its shard's lock, and in which segment.
-    fn at_entry<R>(
-        &self,
-        key: &Key,
-        mut call: impl FnMut(&mut Locked<'_, T>, &EntryId) -> Result<R, CoreError>,
-    ) -> Result<(usize, R), CoreError> {
-        let mut call_at = |place: &Key| {
-            let segment = self.segment(place.segment()).ok_or(CoreError::Missing)?;
-            let mut shard = segment.enter(segment.place_of(place.number()));
-            call(&mut shard, &place.entry()).map(|made| (place.segment(), made))
-        };
-        match call_at(key) {
-            Err(CoreError::Missing) if self.moved.load(SeqCst) > 0 => {
-                let moves = self.moves();
-                call_at(&moves.place(key).ok_or(CoreError::Missing)?)
-            }
-            made => made,
+    /// The shard of a place, with its lock held.
+    #[inline(always)]
+    fn enter(&self, place: &Key) -> Result<Locked<'_, T>, CoreError> {
+        let segment = self.segment(place.segment()).ok_or(CoreError::Missing)?;
+        Ok(segment.enter(segment.place_of(place.number())))
+    }
+
+    /// Where an entry is missing at the place of its key: the same call at the place to which it was moved.
+    #[cold]
+    fn at_moved<R>(&self, key: &Key, call: impl FnOnce(&Key) -> Result<R, CoreError>) -> Result<R, CoreError> {
+        if self.moved.load(SeqCst) == 0 {
+            return Err(CoreError::Missing);
+        }
+        let moves = self.moves();
+        let place = moves.place(key).ok_or(CoreError::Missing)?;
+        call(&place)
+    }
+
+    /// The deadline of an entry, by its shard's lock.
+    pub fn deadline(&self, key: &Key) -> Result<u64, CoreError> {
+        let deadline_at = |place: &Key| self.enter(place)?.core_mut().deadline(&place.entry());
+        match deadline_at(key) {
+            Err(CoreError::Missing) => self.at_moved(key, deadline_at),
+            found => found,
         }
     }
 
@@ -500,17 +508,25 @@ impl<T> Shared<T> {
         }
     }
 
-    /// Gives an entry the deadline `tick`, and gives its key of the present stamp.
+    #[inline(always)]
+    fn reset_at(&self, place: &Key, tick: u64) -> Result<Key, CoreError> {
+        let mut shard = self.enter(place)?;
+        let renamed = shard.core_mut().reset(&place.entry(), tick)?;
+        shard.lower_hint(tick);
+        Ok(self.key(place.segment(), &renamed))
+    }
+
+    /// Gives an entry the deadline `tick`, and gives its key of the present stamp. It is inlined as the insert is.
+    #[inline(always)]
     pub fn reset(&self, key: &Key, tick: Option<u64>) -> Result<Key, KeyError> {
         self.own(key)?;
         let tick = tick.ok_or(KeyError::TooFar)?;
-        let reset = self.at_entry(key, |shard, entry| {
-            let renamed = shard.core_mut().reset(entry, tick)?;
-            shard.lower_hint(tick);
-            Ok(renamed)
-        });
+        let reset = match self.reset_at(key, tick) {
+            Err(CoreError::Missing) => self.at_moved(key, |place| self.reset_at(place, tick)),
+            reset => reset,
+        };
         let renamed = match reset {
-            Ok((at, renamed)) => self.key(at, &renamed),
+            Ok(renamed) => renamed,
             Err(CoreError::Worn) => self.reset_elsewhere(key, tick)?,
             Err(_) => return Err(KeyError::Ended),
         };
@@ -539,16 +555,29 @@ impl<T> Shared<T> {
         }
     }
 
+    /// The key of the entry as it stood there, what was taken out, and whether it was the last of its shard.
+    #[inline(always)]
+    fn remove_at(&self, place: &Key) -> Result<(Key, Removed<T>, bool), CoreError> {
+        let mut shard = self.enter(place)?;
+        let removed = shard.core_mut().remove(&place.entry())?;
+        Ok((
+            self.key(place.segment(), &removed.key),
+            removed,
+            shard.core().is_empty(),
+        ))
+    }
+
     /// Takes a live entry out.
     pub fn remove(&self, key: &Key) -> Result<Removed<T>, KeyError> {
         self.own(key)?;
-        let removed = self.at_entry(key, |shard, entry| {
-            Ok((shard.core_mut().remove(entry)?, shard.core().is_empty()))
-        });
-        let (at, (removed, is_last)) = removed.map_err(|_| KeyError::Ended)?;
-        self.key_of_user(self.key(at, &removed.key));
+        let removed = match self.remove_at(key) {
+            Err(CoreError::Missing) => self.at_moved(key, |place| self.remove_at(place)),
+            removed => removed,
+        };
+        let (place, removed, is_last) = removed.map_err(|_| KeyError::Ended)?;
+        self.key_of_user(place);
         self.front.count_out();
-        if is_last && at > 0 {
+        if is_last && place.segment() > 0 {
             self.shrink();
         }
         Ok(removed)
@@ -663,15 +692,15 @@ impl<T> Shared<T> {
         if self.let_go.has_some() {
             self.let_go.drop_all();
         }
-        for (_, segment) in self.segments().filter(|(_, segment)| segment.has_aside.load(SeqCst)) {
-            segment.drop_all_aside();
+        if self.let_go.has_aside.load(SeqCst) {
+            self.let_go.has_aside.store(false, SeqCst);
+            self.segments().for_each(|(_, segment)| segment.drop_all_aside());
         }
     }
 
     /// Whether there are no such values that this thread may drop now.
     pub fn is_tidy(&self) -> bool {
-        let has_some = || self.segments().any(|(_, segment)| segment.has_aside.load(SeqCst));
-        Dropping::is_begun() || !(self.let_go.has_some() || has_some())
+        Dropping::is_begun() || !(self.let_go.has_some() || self.let_go.has_aside.load(SeqCst))
     }
 
     /// A bounded part of what is done where nothing is due: cancelled entries are freed, and worn shards renewed.
@@ -797,15 +826,15 @@ impl Drop for Counted<'_> {
 }
 
 /// Where there was room, and how often it is tried there before it is looked for anew: the first segments are to be full
-/// before others are filled.
-struct Room {
-    left: u8,
-    at: usize,
-    place: usize,
+/// before others are filled. Or where something was due.
+pub(crate) struct Room {
+    pub left: u8,
+    pub at: usize,
+    pub place: usize,
 }
 
 impl Room {
-    fn of(packed: u64) -> Room {
+    pub fn of(packed: u64) -> Room {
         Room {
             left: packed as u8,
             at: (packed >> 16) as u8 as usize,
@@ -813,7 +842,7 @@ impl Room {
         }
     }
 
-    fn packed(&self) -> u64 {
+    pub fn packed(&self) -> u64 {
         (self.at as u64) << 16 | (self.place as u64) << 8 | u64::from(self.left)
     }
 }

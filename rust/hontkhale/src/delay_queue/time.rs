@@ -157,6 +157,7 @@ impl Time {
     }
 
     /// The moment at which a tick begins.
+    #[inline]
     pub fn moment(&self, tick: u64) -> Instant {
         self.start + Duration::from_millis(tick)
     }
@@ -189,8 +190,7 @@ fn rounded_down(length: Duration) -> u64 {
 
 #[inline]
 fn rounded_up(length: Duration) -> Option<u64> {
-    let rest = length.subsec_nanos();
-    let millis = u64::from(rest / 1_000_000) + u64::from(rest % 1_000_000 > 0);
+    let millis = u64::from((length.subsec_nanos() + 999_999) / 1_000_000);
     let tick = length.as_secs().checked_mul(1_000)?.checked_add(millis)?;
     Some(tick).filter(|tick| *tick <= LAST_TICK)
 }

@@ -12,8 +12,11 @@ use crate::lasting::errors::{LastingError, ReopenError};
 use crate::lasting::keeping::{Due, Kept};
 use crate::lasting::names;
 use crate::lasting::opening::{fresh_rows, Begun};
+use crate::lasting::poller::{told, OneTick};
 use crate::lasting::queue::LastingQueue;
-use crate::parking::{forget, let_sleep, register, unlock, waiting_row, Row};
+use crate::lasting::shard::LastingShard;
+use crate::locks::MutexGuard;
+use crate::parking::{poll_place, unlock, waiting_row, Parked, Row, Shards, TickSource};
 use crate::ticks::{EntryId, Key};
 use crate::words::{locked_shards, ManyTurn};
 use alloc::vec::Vec;
@@ -390,17 +393,7 @@ impl<T> LastingQueue<T> {
         if let Err(unknown) = self.in_range(place) {
             return Poll::Ready(Err(unknown));
         }
-        // The task's waker is made, and those that aren't parked are let go, while the lock is free.
-        let mut before = None;
-        let mut slot = register(cx);
-        let (answer, aside) = self.poll_or_park_at(place, tick, &mut slot, &mut before);
-        let_sleep(before);
-        forget(slot);
-        // A drop that panics would lose what came out.
-        if answer.is_pending() {
-            self.row.drop_aside(place, aside);
-        }
-        answer
+        told(poll_place(self, place, &mut OneTick(tick), None, cx))
     }
 
     /// Polls the shard at `place` for a task, at `tick` of one millisecond, by at most `most` steps. It returns:
@@ -431,21 +424,7 @@ impl<T> LastingQueue<T> {
         if let Err(unknown) = self.in_range(place) {
             return Poll::Ready(Err(unknown));
         }
-        let mut before = None;
-        let mut slot = register(cx);
-        let (polled, aside) = self.poll_some_or_park_at(place, tick, most, &mut slot, &mut before);
-        let_sleep(before);
-        forget(slot);
-        let Some(answer) = polled else {
-            cx.waker().wake_by_ref();
-            self.row.drop_aside(place, aside);
-            return Poll::Pending;
-        };
-        // A drop that panics would lose what came out.
-        if answer.is_pending() {
-            self.row.drop_aside(place, aside);
-        }
-        answer
+        told(poll_place(self, place, &mut OneTick(tick), Some(most), cx))
     }
 
     /// Frees the slots of all cancelled entries of the shard at `place`, and returns how many these were. Their
@@ -599,5 +578,44 @@ impl<T> LastingQueue<T> {
             Due::Made(kept) => Ok(kept),
             Due::At(place) => self.go_on(place),
         }
+    }
+}
+
+/// A stream of a place asks its source before the shard's lock, and goes on after a refused tick.
+impl<T> Shards for LastingQueue<T> {
+    type State = LastingShard<T>;
+
+    type Error = LastingError;
+
+    fn places(&self) -> usize {
+        self.row.len()
+    }
+
+    fn unknown() -> LastingError {
+        LastingError::Unknown
+    }
+
+    fn ends() -> bool {
+        false
+    }
+
+    fn give_way(&self, place: usize) {
+        self.row.give_way(place);
+    }
+
+    fn entered<S: TickSource>(
+        &self,
+        place: usize,
+        source: &mut S,
+        before: &mut Option<Parked<Option<u64>>>,
+    ) -> (MutexGuard<'_, LastingShard<T>>, u64) {
+        let tick = source.now();
+        let mut shard = self.row.lock(place);
+        *before = shard.take_parked();
+        (shard, tick)
+    }
+
+    fn drop_aside(&self, place: usize, most: usize) {
+        self.row.drop_aside(place, most);
     }
 }

@@ -1,10 +1,10 @@
 //! The poller that waits for a shard: one at a time.
 
-use crate::core::{CoreError, Expired, Turn};
+use crate::core::{CoreError, Expired, Piece};
 use crate::lasting::errors::LastingError;
 use crate::lasting::queue::LastingQueue;
 use crate::lasting::shard::LastingShard;
-use crate::parking::{let_sleep, unlock, Parked};
+use crate::parking::{let_sleep, unlock, Parked, Polled, Sleeps, StreamFault, TickSource};
 use core::task::{Poll, Waker};
 
 /// What the poller waits for that is parked in a shard.
@@ -18,64 +18,46 @@ pub enum ParkedPoller {
     UntilInsert,
 }
 
-impl<T> LastingShard<T> {
-    // Parks a poller, in the place of one that was parked before, which isn't woken.
+/// A poller waits for a tick, or for an insert where nothing is linked.
+impl<T> Sleeps for LastingShard<T> {
+    fn take_parked(&mut self) -> Option<Parked<Option<u64>>> {
+        LastingShard::take_parked(self)
+    }
+
     fn park(&mut self, next: Option<u64>, waker: Waker) {
-        // requires TellsWake self.old.core next
         let_sleep(self.take_parked());
         self.attended.parked = Some(Parked { next, waker });
     }
 
-    // Parks the waker that a registration left, if it left one.
-    pub(crate) fn wait(
-        &mut self,
-        next: Option<u64>,
-        slot: &mut Option<Waker>,
-    ) -> Poll<Result<Expired<T>, LastingError>> {
-        // requires TellsWake self.old.core next
-        let Some(waker) = slot.take() else {
-            return Poll::Ready(Err(LastingError::Core(CoreError::NoMemory)));
-        };
-        self.park(next, waker);
-        Poll::Pending
+    fn poll_piece(&mut self, tick: u64, most: Option<u32>) -> Result<Piece<T>, CoreError> {
+        self.attended.poll_unparked(tick, most)
     }
+}
 
-    // A poll of a shard where none is parked, by a task that left its waker: where nothing is due that is parked, until the
-    // next wake or, where nothing is linked, until an insert.
-    fn poll_or_park(&mut self, tick: u64, slot: &mut Option<Waker>) -> Poll<Result<Expired<T>, LastingError>> {
-        // requires self.old.parked ≡ None
-        match self.poll_unparked(tick) {
-            Ok(Turn::Out(expired)) => Poll::Ready(Ok(expired)),
-            Ok(Turn::Waiting { next }) => self.wait(Some(next), slot),
-            Ok(Turn::Idle) => self.wait(None, slot),
-            Err(error) => Poll::Ready(Err(LastingError::Core(error))),
+// The source of one poll: it tells the tick that it is handed.
+pub(crate) struct OneTick(pub(crate) u64);
+
+impl TickSource for OneTick {
+    fn now(&mut self) -> u64 {
+        self.0
+    }
+}
+
+// What a poll of a place for a task answers, by what a stream of the place would give.
+pub(crate) fn told<T>(given: Polled<T>) -> Poll<Result<Expired<T>, LastingError>> {
+    // requires OnEnd given ⊥
+    match given {
+        Poll::Pending => Poll::Pending,
+        Poll::Ready(Some(Ok(expired))) => Poll::Ready(Ok(expired)),
+        Poll::Ready(Some(Err(StreamFault::TickTooLarge { limit }))) => {
+            Poll::Ready(Err(LastingError::Core(CoreError::TickTooLarge { limit })))
         }
-    }
-
-    // A poll where none is parked, so nobody leaves.
-    fn poll_unparked(&mut self, tick: u64) -> Result<Turn<T>, CoreError> {
-        // requires self.old.parked ≡ None
-        self.attended.core.poll_deferring(tick)
+        Poll::Ready(Some(Err(StreamFault::NoMemory))) => Poll::Ready(Err(LastingError::Core(CoreError::NoMemory))),
+        Poll::Ready(None) => unreachable!(),
     }
 }
 
 impl<T> LastingQueue<T> {
-    // The poll of a task that left its waker, under the lock of the shard at a place. What was parked there before it goes
-    // out with the answer, and so does how many values are set aside.
-    pub(crate) fn poll_or_park_at(
-        &self,
-        place: usize,
-        tick: u64,
-        slot: &mut Option<Waker>,
-        before: &mut Option<Parked<Option<u64>>>,
-    ) -> (Poll<Result<Expired<T>, LastingError>>, usize) {
-        // requires place < self.now.shards
-        let mut shard = self.lock(place);
-        *before = shard.take_parked();
-        let answer = shard.poll_or_park(tick, slot);
-        (answer, shard.aside())
-    }
-
     /// Returns what the task waits for that is parked in the shard at `place`. It takes the shard's lock for constant
     /// time, and no memory.
     ///

@@ -97,6 +97,17 @@ impl<T, N: Until> Attended<T, N> {
         (answer, keep_or_leave(&self.core, &mut self.parked))
     }
 
+    /// Notes a tick and polls where none is parked, so nobody leaves: whole, or by at most `most` steps. No value is
+    /// dropped.
+    #[inline]
+    pub fn poll_unparked(&mut self, tick: u64, most: Option<u32>) -> Result<Piece<T>, CoreError> {
+        // requires self.old.parked ≡ None
+        match most {
+            Some(steps) => self.core.poll_some_deferring(tick, steps),
+            None => Ok(Piece::Answer(self.core.poll_deferring(tick)?)),
+        }
+    }
+
     /// Notes a tick and appends what is due to `row`, as far as it has room, with who has left by it. No value is
     /// dropped.
     #[inline]

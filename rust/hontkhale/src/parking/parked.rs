@@ -3,7 +3,10 @@
 use core::task::Waker;
 
 /// What a poller waits for. Ticks are of one millisecond.
-pub trait Until {
+pub trait Until: Sized {
+    /// What one waits for who is parked at a next wake, none where nothing is linked; none if nobody may be parked so.
+    fn of_wake(next_wake: Option<u64>) -> Option<Self>;
+
     /// Whether one that waits so may go on waiting at a next wake, none where nothing is linked.
     fn lasts_until(&self, next_wake: Option<u64>) -> bool;
 
@@ -13,6 +16,10 @@ pub trait Until {
 
 /// It waits for a tick, which isn't after the next wake.
 impl Until for u64 {
+    fn of_wake(next_wake: Option<u64>) -> Option<u64> {
+        next_wake
+    }
+
     fn lasts_until(&self, next_wake: Option<u64>) -> bool {
         match next_wake {
             Some(wake) => *self <= wake,
@@ -27,6 +34,10 @@ impl Until for u64 {
 
 /// It waits for a tick, or without one for an insert, while nothing is linked.
 impl Until for Option<u64> {
+    fn of_wake(next_wake: Option<u64>) -> Option<Option<u64>> {
+        Some(next_wake)
+    }
+
     fn lasts_until(&self, next_wake: Option<u64>) -> bool {
         match self {
             Some(next) => next.lasts_until(next_wake),

@@ -7,7 +7,8 @@
 //! be dropped, so the checker refuses a drop anywhere else.
 
 use crate::core::{CoreConfig, CoreError, Expired, Piece, ReapError, Swept, Turn};
-use crate::parking::{unlock, waiting_row, Row};
+use crate::locks::MutexGuard;
+use crate::parking::{unlock, waiting_row, Parked, Row, Shards, TickSource};
 use crate::shards::errors::{QueueConfig, QueueError};
 use crate::shards::queue::SharedDelayQueue;
 use crate::shards::state::ShardState;
@@ -380,6 +381,45 @@ impl<T> SharedDelayQueue<T> {
     #[inline(always)]
     pub fn drop_aside(&self, shard: usize, most: usize) {
         self.row.drop_aside(shard, most);
+    }
+}
+
+/// A stream of a shard asks its source under the shard's lock, and ends by a refused tick.
+impl<T> Shards for SharedDelayQueue<T> {
+    type State = ShardState<T>;
+
+    type Error = QueueError;
+
+    fn places(&self) -> usize {
+        self.row.len()
+    }
+
+    fn unknown() -> QueueError {
+        QueueError::Unknown
+    }
+
+    fn ends() -> bool {
+        true
+    }
+
+    fn give_way(&self, place: usize) {
+        self.row.give_way(place);
+    }
+
+    fn entered<S: TickSource>(
+        &self,
+        place: usize,
+        source: &mut S,
+        before: &mut Option<Parked>,
+    ) -> (MutexGuard<'_, ShardState<T>>, u64) {
+        let mut shard = self.row.lock(place);
+        *before = shard.take_parked();
+        let tick = source.now();
+        (shard, tick)
+    }
+
+    fn drop_aside(&self, place: usize, most: usize) {
+        SharedDelayQueue::drop_aside(self, place, most);
     }
 }
 

@@ -12,10 +12,7 @@ impl<T> Shared<T> {
         let now = self.front.time.tick();
         let deadline = match self.step(key, Step::Look) {
             // Memory is for looks to come: the shard tells without.
-            Err(KeyError::NoMemory) => {
-                let deadline = self.at_entry(key, |shard, entry| shard.core_mut().deadline(entry));
-                deadline.map_err(|_| KeyError::Ended)?.1
-            }
+            Err(KeyError::NoMemory) => self.deadline(key).map_err(|_| KeyError::Ended)?,
             deadline => deadline?,
         };
         if deadline > now {

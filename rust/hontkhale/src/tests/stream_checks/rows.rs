@@ -9,7 +9,7 @@ use super::streams::{Letters, Task, TickOf, Told, fill, letters, letters_and_tas
 use crate::core::Expired;
 use crate::shards::ShardState;
 use crate::stream::StreamFault;
-use crate::stream::parking::park_with;
+use crate::stream::park_with;
 
 // Ended for now it goes on, up to a tick that is refused. After that it gives not even what is due.
 // promise: shards.change-wakes stream.poll-next-does

@@ -6,7 +6,7 @@ use Rattle.dq_core.proofs.queue.DelayCore.reap_deferring.Goals as goal
 
 pub returns-then-reap_at-clause-missing : goal.returns-then-reap_at-clause-missing
 returns-then-reap_at-clause-missing g c =
-    (λ e. cc, λ missing. absurd (not_missing c.args.self.now c.law.ensures.shard c.args.entry.now c.in-Some.at c.in-Some.ensures missing))
+    (λ e. cc, λ missing. absurd (not_missing c.args.self.now c.law.ensures.shard c.args.entry.now c.in-Some.index c.in-Some.ensures missing))
 
 pub returns-then-reap_at-clause-reaps : goal.returns-then-reap_at-clause-reaps
 returns-then-reap_at-clause-reaps g c =
@@ -16,7 +16,7 @@ returns-then-reap_at-clause-reaps g c =
 
 pub returns-else-reap_at-clause-missing : goal.returns-else-reap_at-clause-missing
 returns-else-reap_at-clause-missing g c =
-    (λ e. cc, λ missing. absurd (not_missing c.args.self.now c.law.ensures.shard c.args.entry.now c.in-Some.at c.in-Some.ensures missing))
+    (λ e. cc, λ missing. absurd (not_missing c.args.self.now c.law.ensures.shard c.args.entry.now c.in-Some.index c.in-Some.ensures missing))
 
 pub returns-else-reap_at-clause-reaps : goal.returns-else-reap_at-clause-reaps
 returns-else-reap_at-clause-reaps g c =

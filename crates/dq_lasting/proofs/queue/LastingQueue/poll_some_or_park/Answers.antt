@@ -1,8 +1,9 @@
-use Rattle.std.proofs.Common.{rules, ◌<◌}
-use Rattle.dq_lasting.proofs.Piecewise.{worked_on}
+use Rattle.std.proofs.Common.{rules, ◌<◌, Some, inr, subst}
+use Rattle.dq_lasting.specs.Polling.{LastingAnswersAt}
 use Rattle.dq_lasting.proofs.queue.LastingQueue.poll_some_or_park.Goals as goal
 
-pub returns-in_default-polled-clause-polls : goal.returns-in_default-polled-clause-polls
-returns-in_default-polled-clause-polls g c =
+pub returns-clause-polls : goal.returns-clause-polls
+returns-clause-polls g c =
     let inside : c.args.place < c.args.self.now.shards = search rules in
-    worked_on c.args.cx.now c.yield_now-woken.new.self c.args.self.now.shards c.args.place c.args.tick c.args.most c.register-slot.result c.poll_some_or_park_at-polled.result.0 c.in_default-polled.not-Some inside c.yield_now-woken.ensures.woken c.poll_some_or_park_at-polled.ensures
+    let once = c.poll_place.ensures.polls in
+    inr (inside, c.poll_place.result, c.told.ensures, subst (λ t. LastingAnswersAt c.args.self.now.shards c.args.place c.args.cx.now c.poll_place.new.cx (Some c.args.most) t c.poll_place.result) once.1 once.2)

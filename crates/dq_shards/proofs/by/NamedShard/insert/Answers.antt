@@ -1,4 +1,4 @@
-use Rattle.std.proofs.Common.{ap, ◌∙◌, subst, inl}
+use Rattle.std.proofs.Common.{◌≡◌, ap, ◌∙◌, subst, inl}
 use Rattle.dq_journal.specs.declared.views.View.{View}
 use Rattle.dq_shards.specs.Changes.{ShardInserts}
 use Rattle.dq_shards.specs.Named.{NamedCallerView, IsCall, Once}
@@ -13,7 +13,8 @@ invariant_of-self g c =
     let e = c.enter_for.ensures in
     let call : IsCall c.self.inside.state made.new.self = inl (c.args.value, c.args.when, made.result.0, made.ensures.inserts) in
     let on = goes_on c.self.inside.history.view c.me.inside.history.view c.enter_for.new.caller.view c.enter_for.new.self.view.log c.self.inside.state made.new.self e.once e.log s.3 call s.4 in
-    (made.ensures.inserts.1.1 ∙ s.0, e.tables.0 ∙ s.1, e.keeper, on.0, on.1)
+    let table : made.new.self.core.words.table ≡ c.self.inside.state.core.words.table = made.ensures.inserts.1.1 in
+    (table ∙ s.0, e.tables.0 ∙ s.1, e.keeper, on.0, on.1)
 
 pub returns-clause-once : goal.returns-clause-once
 returns-clause-once g c =

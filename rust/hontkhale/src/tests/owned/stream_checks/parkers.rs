@@ -4,7 +4,7 @@ use super::same;
 use super::streams::{fill, letters, Letters};
 use crate::core::Turn;
 use crate::shards::{Parked, ShardState};
-use crate::stream::parking::park_with;
+use crate::stream::park_with;
 use crate::tests::kit::{Fail, MockTask};
 use std::task::{Context, Waker};
 
