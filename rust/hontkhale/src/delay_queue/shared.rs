@@ -395,11 +395,10 @@ impl<T> Shared<T> {
         unreachable!("a queue has so many segments at most")
     }
 
-    /// Frees what was cancelled and what is worn, by a bounded number of slots.
+    /// Frees what was cancelled, where anything was, and what is worn, by a bounded number of slots.
     fn make_room(&self) {
-        for _ in 0..SWEEPS {
-            self.sweep_next();
-        }
+        let sweeps = if self.front.cancels() > 0 { SWEEPS } else { 0 };
+        (0..sweeps).for_each(|_| self.sweep_next());
         for (at, segment) in self.segments() {
             if segment.is_worn.load(SeqCst) {
                 self.renew(segment, at);
